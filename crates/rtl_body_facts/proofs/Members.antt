@@ -1,15 +1,19 @@
 -- Whether numbers are in a list.
-use Rattle.std.proofs.Common.{◌≡◌, ℕ, ◌<◌, ◌≤◌, true, false, ◌||◌, ◌==◌, List, ◌++◌, length, get_or, sym, ◌∙◌, subst, arith, ◌⊎◌, inl, inr, Contains, Result, Ok, Err}
-use Rattle.std.specs.Prelude.{MatchResult}
+use Rattle.std.proofs.Common.{◌≡◌, ℕ, ◌+◌, ◌<◌, ◌≤◌, true, false, ◌||◌, ◌==◌, List, [], ◌∷◌, ◌++◌, length, get_or, sym, ◌∙◌, subst, arith, ◌⊎◌, inl, inr, Contains, Result, Ok, Err}
+use Rattle.std.specs.Prelude.{MatchResult, slice_index}
+use Rattle.std.specs.List.{range_with_len}
 use Rattle.std.specs.Result.{is_ok}
 use Rattle.std.specs.List.Sorted.{IsStrictlyIncreasing, IsBinarySearchResult}
 use Rattle.std.specs.Ordering.{nat_cmp}
 use Rattle.std.proofs.lemmas.List.{get_or_default}
 use Rattle.std.proofs.lemmas.Bool.{cases_Bool, cases_lt}
 use Rattle.std.proofs.lemmas.List.Folds.{list_any-append}
+use Rattle.std.proofs.lemmas.List.FromFn.{length-range_with_len, get_or-range_with_len}
 use Rattle.std.proofs.lemmas.List.Kept.{AllPairs-from_increasing}
 use Rattle.std.proofs.lemmas.List.Sorted.{searched}
+use Rattle.rtl_model.specs.basics.Lists.{RisesBy}
 use Rattle.rtl_model.proofs.basics.Lists.{in_contains, contains_in}
+use Rattle.rtl_model.proofs.basics.Rising.{same_elements}
 use Rattle.rtl_body_facts.specs.Reading.{is_in}
 
 pub in_append : (n : ℕ) (xs ys : List ℕ) → is_in n (xs ++ ys) ≡ (is_in n xs || is_in n ys)
@@ -37,6 +41,22 @@ same_members xs ys n to from = go (cases_Bool (is_in n xs))
     go : (is_in n xs ≡ true) ⊎ (is_in n xs ≡ false) → is_in n xs ≡ is_in n ys
     go (inl e) = e ∙ sym (contains_in ys n (to (in_contains xs n e)))
     go (inr e) = e ∙ sym (not_in ys n (λ c. lacks xs n e (from c)))
+
+rises_by_number : (xs : List ℕ) → IsStrictlyIncreasing xs → RisesBy (λ n. n ∷ []) xs
+rises_by_number xs rise i j d l k = inl (AllPairs-from_increasing xs rise i j d l k)
+
+-- a rising list is known by what is in it
+pub same_rising : (xs ys : List ℕ) → IsStrictlyIncreasing xs → IsStrictlyIncreasing ys → ((n : ℕ) → is_in n xs ≡ is_in n ys) → xs ≡ ys
+same_rising xs ys rise rise' same =
+    same_elements (λ n. n ∷ []) xs ys (rises_by_number xs rise) (rises_by_number ys rise')
+    (λ n c. in_has ys n (sym (same n) ∙ has_in xs n c)) (λ n c. in_has xs n (same n ∙ has_in ys n c))
+
+pub range_rises : (count : ℕ) → IsStrictlyIncreasing (range_with_len 0 count)
+range_rises count k l =
+    let many = length-range_with_len 0 count in
+    let here : slice_index (range_with_len 0 count) k ≡ 0 + k = get_or-range_with_len 0 count k 0 (omega (arith, l, many)) in
+    let next : slice_index (range_with_len 0 count) (k + 1) ≡ 0 + (k + 1) = get_or-range_with_len 0 count (k + 1) 0 (omega (arith, l, many)) in
+    omega (arith, here, next)
 
 pub found_in : (xs : List ℕ) (n : ℕ) (r : Result ℕ ℕ) → IsStrictlyIncreasing xs → IsBinarySearchResult (λ y. nat_cmp y n) xs r → is_ok r ≡ is_in n xs
 found_in xs n r rise h = go r (searched xs n r h ordered)

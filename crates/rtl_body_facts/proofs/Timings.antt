@@ -59,6 +59,10 @@ pair_is _ _ = refl
 abbrev pub edge_seen : bodies.Test → Option EdgeTest
 edge_seen t = option_map edge_test_view (k.edge_test t)
 
+pub not_and : (o : Logic) (s t : bodies.Test) → (o ≡ op.And → ⊥) → None ≡ edge_seen (bodies.combined o s t)
+not_and op.And s t n = absurd (n refl)
+not_and _ s t n = refl
+
 one_item : {X : Type 0} (xs : List X) (x : X) → length xs ≡ 1 → x ≡ get_or xs 0 x → xs ≡ x ∷ []
 one_item [] x l e = absurd (omega arith)
 one_item (y ∷ []) x l e = ap (λ z. z ∷ []) (sym e)

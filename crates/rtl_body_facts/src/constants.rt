@@ -15,9 +15,7 @@ fn statement_is_constant(statement: &Statement) -> bool
     match statement {
         Statement::Null => true,
         Statement::Assign { value, .. } => is_constant(value),
-        Statement::Set { .. } => false,
-        Statement::If { .. } => false,
-        Statement::Case { .. } => false,
+        _ => false,
     }
 }
 

@@ -60,27 +60,21 @@ fn top_of(test: &Test) -> Atom
     ensures { result ≡ atom_of (test_view test.now) }
 {
     match test {
-        Test::Condition(_) => Atom::Other,
-        Test::Decided(_) => Atom::Other,
-        Test::Equal(_, _) => Atom::Other,
-        Test::Unequal(_, _) => Atom::Other,
         Test::Level { plain, net, value } => Atom::Level {
             plain: *plain,
             net: *net as usize,
             value: *value,
         },
-        Test::Compared(_, _, _) => Atom::Other,
-        Test::ComparedTo(_, _, _) => Atom::Other,
         Test::Rising(net) => Atom::Rising(*net as usize),
         Test::Falling(net) => Atom::Falling(*net as usize),
         Test::Event(net) => Atom::Event(*net as usize),
-        Test::Negated(_) => Atom::Other,
         Test::Combined { first, rest } => {
             if rest.is_empty() {
                 return top_of(first);
             }
             Atom::Other
         }
+        _ => Atom::Other,
     }
 }
 
@@ -91,13 +85,7 @@ fn edge_to(value: Nine) -> Option<Edge>
     match value {
         Nine::One => Some(Edge::To1),
         Nine::Zero => Some(Edge::To0),
-        Nine::U => None,
-        Nine::X => None,
-        Nine::Z => None,
-        Nine::W => None,
-        Nine::L => None,
-        Nine::H => None,
-        Nine::Dash => None,
+        _ => None,
     }
 }
 
@@ -116,48 +104,24 @@ fn edge_at(event: usize, level: usize, value: Nine) -> Option<EdgeTest>
 fn edge_of_pair(left: Atom, right: Atom) -> Option<EdgeTest>
     ensures { result ≡ edge_pair left right }
 {
-    match left {
-        Atom::Rising(_) => None,
-        Atom::Falling(_) => None,
-        Atom::Event(event) => edge_of_event(event, right),
-        Atom::Level { plain, net, value } => {
-            if plain {
-                return edge_of_level(net, value, right);
-            }
-            None
-        }
-        Atom::Other => None,
-    }
-}
-
-/// The edge that an event and a further test make.
-fn edge_of_event(event: usize, other: Atom) -> Option<EdgeTest>
-    ensures { result ≡ edge_pair (Atom.Event event) other }
-{
-    match other {
-        Atom::Rising(_) => None,
-        Atom::Falling(_) => None,
-        Atom::Event(_) => None,
-        Atom::Level { plain, net, value } => {
-            if plain {
-                return edge_at(event, net, value);
-            }
-            None
-        }
-        Atom::Other => None,
-    }
-}
-
-/// The edge that a plain level and a further test make.
-fn edge_of_level(net: usize, value: Nine, other: Atom) -> Option<EdgeTest>
-    ensures { result ≡ edge_pair (Atom.Level true net value) other }
-{
-    match other {
-        Atom::Rising(_) => None,
-        Atom::Falling(_) => None,
-        Atom::Event(event) => edge_at(event, net, value),
-        Atom::Level { .. } => None,
-        Atom::Other => None,
+    match (left, right) {
+        (
+            Atom::Event(event),
+            Atom::Level {
+                plain: true,
+                net,
+                value,
+            },
+        ) => edge_at(event, net, value),
+        (
+            Atom::Level {
+                plain: true,
+                net,
+                value,
+            },
+            Atom::Event(event),
+        ) => edge_at(event, net, value),
+        _ => None,
     }
 }
 
@@ -166,13 +130,6 @@ fn edge_of(test: &Test) -> Option<EdgeTest>
     ensures { result ≡ option_map edge_test_view (m.edge_test (test_view test.now)) }
 {
     match test {
-        Test::Condition(_) => None,
-        Test::Decided(_) => None,
-        Test::Equal(_, _) => None,
-        Test::Unequal(_, _) => None,
-        Test::Level { .. } => None,
-        Test::Compared(_, _, _) => None,
-        Test::ComparedTo(_, _, _) => None,
         Test::Rising(net) => Some(EdgeTest {
             clock: *net as usize,
             edge: Edge::Rising,
@@ -181,8 +138,6 @@ fn edge_of(test: &Test) -> Option<EdgeTest>
             clock: *net as usize,
             edge: Edge::Falling,
         }),
-        Test::Event(_) => None,
-        Test::Negated(_) => None,
         Test::Combined { first, rest } => {
             if rest.is_empty() {
                 return edge_of(first);
@@ -193,13 +148,10 @@ fn edge_of(test: &Test) -> Option<EdgeTest>
             let link = &rest[0];
             match link.operator {
                 Logic::And => edge_of_pair(top_of(first), top_of(&link.operand)),
-                Logic::Or => None,
-                Logic::Nand => None,
-                Logic::Nor => None,
-                Logic::Xor => None,
-                Logic::Xnor => None,
+                _ => None,
             }
         }
+        _ => None,
     }
 }
 
@@ -209,9 +161,6 @@ fn reset_of(inputs: &[usize], test: Atom) -> Option<usize>
     ensures { result ≡ atom_reset inputs.now test }
 {
     match test {
-        Atom::Rising(_) => None,
-        Atom::Falling(_) => None,
-        Atom::Event(_) => None,
         Atom::Level { net, value, .. } => {
             let _edge = edge_to(value)?;
             if contains_rising(inputs, net) {
@@ -219,7 +168,7 @@ fn reset_of(inputs: &[usize], test: Atom) -> Option<usize>
             }
             None
         }
-        Atom::Other => None,
+        _ => None,
     }
 }
 
@@ -269,9 +218,6 @@ fn clocking_of(inputs: &[usize], body: &[Statement]) -> Option<Clocking>
         return None;
     }
     match &body[0] {
-        Statement::Null => None,
-        Statement::Assign { .. } => None,
-        Statement::Set { .. } => None,
         Statement::If {
             branches,
             otherwise,
@@ -280,7 +226,7 @@ fn clocking_of(inputs: &[usize], body: &[Statement]) -> Option<Clocking>
             Some(_) => None,
             None => clocking_of_branches(inputs, branches),
         },
-        Statement::Case { .. } => None,
+        _ => None,
     }
 }
 

@@ -32,35 +32,15 @@ enum Sought {
 fn is_sought(sought: Sought, leaf: Leaf<'_>) -> bool
     ensures { result ≡ seeks sought (leaf_view leaf.entry) }
 {
-    match sought {
-        Sought::Event => match leaf {
-            Leaf::Nets(_) => false,
-            Leaf::Net(_) => false,
-            Leaf::Event(_) => true,
-            Leaf::Elements(_) => false,
-            Leaf::Element(_) => false,
-        },
-        Sought::SomeNet => match leaf {
-            Leaf::Nets(nets) => !has_none(nets),
-            Leaf::Net(_) => true,
-            Leaf::Event(_) => true,
-            Leaf::Elements(_) => false,
-            Leaf::Element(_) => false,
-        },
-        Sought::Net(net) => match leaf {
-            Leaf::Nets(nets) => has_number(nets, net),
-            Leaf::Net(n) => n as usize == net,
-            Leaf::Event(n) => n as usize == net,
-            Leaf::Elements(_) => false,
-            Leaf::Element(_) => false,
-        },
-        Sought::Element(element) => match leaf {
-            Leaf::Nets(_) => false,
-            Leaf::Net(_) => false,
-            Leaf::Event(_) => false,
-            Leaf::Elements(elements) => has_number(elements, element),
-            Leaf::Element(e) => e as usize == element,
-        },
+    match (sought, leaf) {
+        (Sought::Event, Leaf::Event(_)) => true,
+        (Sought::SomeNet, Leaf::Nets(nets)) => !has_none(nets),
+        (Sought::SomeNet, Leaf::Net(_) | Leaf::Event(_)) => true,
+        (Sought::Net(net), Leaf::Nets(nets)) => has_number(nets, net),
+        (Sought::Net(net), Leaf::Net(n) | Leaf::Event(n)) => n as usize == net,
+        (Sought::Element(element), Leaf::Elements(elements)) => has_number(elements, element),
+        (Sought::Element(element), Leaf::Element(e)) => e as usize == element,
+        _ => false,
     }
 }
 

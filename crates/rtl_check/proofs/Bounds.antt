@@ -20,9 +20,8 @@ use Rattle.rtl_check.proofs.Rows.{any_map}
 -- ---- clocked processes
 
 pub unclocked : (kind : m.ProcessKind) → ((n : ℕ) (edge : m.Edge) (reset : Option Reset) → kind ≡ m.Clocked n edge reset → ⊥) → is_clocked kind ≡ false
-unclocked m.Combinational none = refl
 unclocked (m.Clocked n edge reset) none = absurd (none n edge reset refl)
-unclocked m.Mixed none = refl
+unclocked _ none = refl
 
 pub some_clocked : (net : Netlist) (clocks : List ℕ) → AreClockNets net clocks → not (length clocks == 0) ≡ has_clocked net
 some_clocked net [] cs = sym (all_none (λ (q : Process). is_clocked q.kind) net.processes no_process each)

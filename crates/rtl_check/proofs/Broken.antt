@@ -35,13 +35,12 @@ driven_is (d ∷ ds) = ap (λ (ns : List ℕ). d.net ∷ ns) (driven_is ds)
 
 reset_in : (n : ℕ) (o : Option Reset) (r : Option ℕ) → option_map reset_net o ≡ r → is_in n (option_to_list r) ≡ true → (reset : Reset) × (o ≡ Some reset) × (reset.net ≡ n)
 reset_in n None None e t = absurd cc
-reset_in n None (Some r) e t = absurd cc
-reset_in n (Some x) None e t = absurd cc
 reset_in n (Some x) (Some r) e t = let h : x.net ≡ r = cc in (x, refl, h ∙ only (or_cases (r == n) false t))
   where
     only : ((r == n) ≡ true) ⊎ (false ≡ true) → r ≡ n
     only (inl g) = eqb-true r n g
     only (inr g) = absurd cc
+reset_in n _ _ e t = absurd cc
 
 reset_back : (n : ℕ) (o : Option Reset) (r : Option ℕ) (reset : Reset) → option_map reset_net o ≡ r → o ≡ Some reset → reset.net ≡ n → is_in n (option_to_list r) ≡ true
 reset_back n o r reset e is at =
@@ -84,15 +83,13 @@ module _ (net : NetlistView) (clocks : List ℕ) (cs : AreClockNets (core net) c
   -- ---- a combinational process
 
   combinational_to : (rule : Rule) (n : ℕ) → (process (core net) p).kind ≡ m.Combinational → combinational_breaks x rule n ≡ true → IsFault (core net) (fault_of rule p n)
-  combinational_to ClockNotInput n c t = absurd cc
-  combinational_to EdgeNotSensitive n c t = absurd cc
-  combinational_to ClockAsData n c t = absurd cc
   combinational_to MissingSensitivity n c t =
       let (a, b) = and_parts (is_in n x.reads.items) (not (is_in n x.wakes.items)) t in
       ((in_core, c), in_contains (process (core net) p).reads n (sym (reads_are n) ∙ a), asleep n b)
   combinational_to Latch n c t =
       let (a, b) = and_parts (is_in n (driven x.drives.items)) (not (must_assign (to_net x.drives.items n) (body_of x))) t in
       ((in_core, c), subst (λ (ns : List ℕ). Contains ns n) (sym drives_are) (in_contains (driven x.drives.items) n a), assigns_are n ∙ not-true (must_assign (to_net x.drives.items n) (body_of x)) b)
+  combinational_to _ n c t = absurd cc
 
   missing_from : (n : ℕ) → IsFault (core net) (f.MissingSensitivity p n) → combinational_breaks x MissingSensitivity n ≡ true
   missing_from n (c, r, w) = and_from (is_in n x.reads.items) (not (is_in n x.wakes.items)) (reads_are n ∙ contains_in (process (core net) p).reads n r) (not_awake n w)
@@ -197,8 +194,7 @@ module _ (net : NetlistView) (clocks : List ℕ) (cs : AreClockNets (core net) c
         let (a, b) = and_parts (is_in n x.reads.items) (is_in n clocks && is_data c n) t in
         let (g, h) = and_parts (is_in n clocks) (is_data c n) b in
         ((cs.are n).0 g, data_to n a h)
-    clocked_to MissingSensitivity n t = absurd cc
-    clocked_to Latch n t = absurd cc
+    clocked_to _ n t = absurd cc
 
     input_from : (n : ℕ) → IsFault (core net) (f.ClockNotInput p n) → clocked_breaks net.inputs clocks x c ClockNotInput n ≡ true
     input_from n (k, i) = and_from (is_in n (c.clock ∷ [])) (not (is_in n net.inputs)) (or_left (c.clock == n) false (eq-eqb c.clock n (clock_back n k))) (go (cases_Bool (is_in n net.inputs)))

@@ -25,30 +25,18 @@ edge_same m.Rising m.Rising e = refl
 edge_same m.Falling m.Falling e = refl
 edge_same m.To1 m.To1 e = refl
 edge_same m.To0 m.To0 e = refl
-edge_same m.Rising m.Falling e = absurd cc
-edge_same m.Rising m.To1 e = absurd cc
-edge_same m.Rising m.To0 e = absurd cc
-edge_same m.Falling m.Rising e = absurd cc
-edge_same m.Falling m.To1 e = absurd cc
-edge_same m.Falling m.To0 e = absurd cc
-edge_same m.To1 m.Rising e = absurd cc
-edge_same m.To1 m.Falling e = absurd cc
-edge_same m.To1 m.To0 e = absurd cc
-edge_same m.To0 m.Rising e = absurd cc
-edge_same m.To0 m.Falling e = absurd cc
-edge_same m.To0 m.To1 e = absurd cc
+edge_same _ _ e = absurd cc
 
 -- ---- the nets of one edge
 
 module _ (net : Netlist) (edge : Edge) where
   pub tests_to : (p n : ℕ) (kind : ProcessKind) → IsKind (process net p) kind → tests edge n kind ≡ true → IsClockedBy net p n edge
-  tests_to p n k.Combinational d t = absurd cc
   tests_to p n (k.Clocked c) d t =
       let (a, b) = and_parts (edge_number c.edge == edge_number edge) (c.clock == n) t in
       let same : c.edge ≡ edge = edge_same c.edge edge (eqb-true (edge_number c.edge) (edge_number edge) a) in
       let is : c.clock ≡ n = eqb-true c.clock n b in
       (d.reset, subst (λ (i : ℕ). (process net p).kind ≡ m.Clocked i edge d.reset) is (subst (λ (x : Edge). (process net p).kind ≡ m.Clocked c.clock x d.reset) same d.kind))
-  tests_to p n k.Mixed d t = absurd cc
+  tests_to p n _ d t = absurd cc
 
   pub tests_from : (p n : ℕ) (kind : ProcessKind) → IsKind (process net p) kind → IsClockedBy net p n edge → tests edge n kind ≡ true
   tests_from p n k.Combinational d (reset, same) = let z : m.Combinational ≡ m.Clocked n edge reset = sym d ∙ same in absurd cc

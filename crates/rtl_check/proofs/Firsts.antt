@@ -23,14 +23,7 @@ use Rattle.rtl_check.proofs.Joined.{adds_nothing, adds_one}
 
 at_mixed : (p : ℕ) (x : Fault) → one_place 2 p x ≡ true → x ≡ f.MixedProcess p
 at_mixed p (f.MixedProcess q) e = ap f.MixedProcess (eqb-true q p e)
-at_mixed p (f.TwoDrivers n s t) e = absurd cc
-at_mixed p (f.ClockNotInput q n) e = absurd cc
-at_mixed p (f.EdgeNotSensitive q n) e = absurd cc
-at_mixed p (f.ClockAsData q n) e = absurd cc
-at_mixed p (f.MissingSensitivity q n) e = absurd cc
-at_mixed p (f.Latch q n) e = absurd cc
-at_mixed p (f.Loop ps) e = absurd cc
-at_mixed p (f.StoredVariable q v t) e = absurd cc
+at_mixed p _ e = absurd cc
 
 pub not_mixed : (net : Netlist) (p : ℕ) (old : List CheckFault) → ((process net p).kind ≡ Mixed → ⊥) → AddsFaults net (one_place 2 p) old old
 not_mixed net p old odd = adds_nothing net (one_place 2 p) old (λ x is e. odd (subst (IsFault net) (at_mixed p x e) is))
@@ -50,25 +43,11 @@ module _ (net : NetlistView) where
       go : (n < length net.types) ⊎ (length net.types ≤ n) → n < length net.types
       go (inl l) = l
       go (inr l) = let h : [] ≡ s ∷ t ∷ more = sym (sources_beyond n l) ∙ is in absurd cc
-  net_there (f.MixedProcess q) is e = absurd (omega arith)
-  net_there (f.ClockNotInput q n) is e = absurd (omega arith)
-  net_there (f.EdgeNotSensitive q n) is e = absurd (omega arith)
-  net_there (f.ClockAsData q n) is e = absurd (omega arith)
-  net_there (f.MissingSensitivity q n) is e = absurd (omega arith)
-  net_there (f.Latch q n) is e = absurd (omega arith)
-  net_there (f.Loop ps) is e = absurd (omega arith)
-  net_there (f.StoredVariable q v t) is e = absurd (omega arith)
+  net_there _ is e = absurd (omega arith)
 
   at_driven : (n : ℕ) (x : Fault) → one_place 1 n x ≡ true → (s t : m.Source) × (x ≡ f.TwoDrivers n s t)
   at_driven n (f.TwoDrivers q s t) e = (s, t, ap (λ (i : ℕ). f.TwoDrivers i s t) (eqb-true q n e))
-  at_driven p (f.MixedProcess q) e = absurd cc
-  at_driven p (f.ClockNotInput q n) e = absurd cc
-  at_driven p (f.EdgeNotSensitive q n) e = absurd cc
-  at_driven p (f.ClockAsData q n) e = absurd cc
-  at_driven p (f.MissingSensitivity q n) e = absurd cc
-  at_driven p (f.Latch q n) e = absurd cc
-  at_driven p (f.Loop ps) e = absurd cc
-  at_driven p (f.StoredVariable q v t) e = absurd cc
+  at_driven _ _ e = absurd cc
 
   listed : (n : ℕ) (sources : List Source) → n < length net.types → map source_view sources ≡ flat_sources (flat net) n → sources_of (core net) n ≡ map source_view sources
   listed n sources l e = sources_there n l ∙ sym e

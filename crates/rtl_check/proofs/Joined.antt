@@ -111,15 +111,8 @@ module _ (net : Netlist) where
 -- ---- places
 
 has_place : (x : Fault) → (fault_number x ≡ 8 → ⊥) → 0 < length (fault_place x)
-has_place (f.TwoDrivers n s t) other = omega arith
-has_place (f.MixedProcess p) other = omega arith
-has_place (f.ClockNotInput p n) other = omega arith
-has_place (f.EdgeNotSensitive p n) other = omega arith
-has_place (f.ClockAsData p n) other = omega arith
-has_place (f.MissingSensitivity p n) other = omega arith
-has_place (f.Latch p n) other = omega arith
 has_place (f.Loop ps) other = absurd (other refl)
-has_place (f.StoredVariable p v e) other = omega arith
+has_place _ other = omega arith
 
 first_less : (xs ys : List ℕ) → 0 < length xs → get_or xs 0 0 < get_or ys 0 0 → IsLess xs ys
 first_less [] ys l m = absurd (omega arith)
@@ -226,15 +219,8 @@ pub all_but_loops : (net : Netlist) (mid new : List CheckFault) → AddsFaults n
 all_but_loops net mid new a b = subst (λ (xs : List CheckFault). AreFaultsOf net is_no_loop (map fault_view xs)) (sym h.is) h.are
   where
     each : (x : Fault) → is_no_loop x ≡ (up_to 7 x || is_of_number 9 x)
-    each (f.TwoDrivers n s t) = refl
-    each (f.MixedProcess p) = refl
-    each (f.ClockNotInput p n) = refl
-    each (f.EdgeNotSensitive p n) = refl
-    each (f.ClockAsData p n) = refl
-    each (f.MissingSensitivity p n) = refl
-    each (f.Latch p n) = refl
     each (f.Loop ps) = refl
-    each (f.StoredVariable p v e) = refl
+    each _ = refl
 
     h : AddsFaults net is_no_loop [] new
     h = adds_on net (up_to 7) (is_of_number 9) is_no_loop [] mid new a b each (number_then 7 9 (omega arith))
@@ -243,12 +229,8 @@ pub none_up_to : (net : Netlist) → AddsFaults net (up_to 0) [] []
 none_up_to net = adds_nothing net (up_to 0) [] none
   where
     none : (x : Fault) → IsFault net x → up_to 0 x ≡ true → ⊥
-    none (f.TwoDrivers n s t) is e = absurd cc
-    none (f.MixedProcess p) is e = absurd cc
-    none (f.ClockNotInput p n) is e = absurd cc
-    none (f.EdgeNotSensitive p n) is e = absurd cc
-    none (f.ClockAsData p n) is e = absurd cc
-    none (f.MissingSensitivity p n) is e = absurd cc
-    none (f.Latch p n) is e = absurd cc
     none (f.Loop ps) is e = absurd cc
-    none (f.StoredVariable p v t) is e = absurd cc
+    none _ is e = absurd cc
+
+pub no_loops : (k : ℕ) → k ≡ 8 → k < 8 → ⊥
+no_loops k e l = omega arith

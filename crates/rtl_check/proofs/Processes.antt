@@ -172,3 +172,11 @@ kinds_more net kinds new i kind many so_far is now p l = subst (λ (ks : List c.
         let f : i ≡ p = omega arith in
         subst (λ (q : ℕ). IsKind (process net p) (get_or (kinds ++ kind ∷ []) q ck.Mixed)) (sym e)
         (subst (IsKind (process net p)) (sym (get_or-push kinds kind ck.Mixed)) (subst (λ (q : ℕ). IsKind (process net q) kind) f now))
+
+-- ---- numbers
+
+pub ends : {a m n i : ℕ} → a < m → n ≡ m → n ≤ i → a < i
+ends l e h = omega arith
+
+pub within : {a k m n : ℕ} → a < k → k ≡ m → m ≡ n → a < n
+within l e f = omega arith

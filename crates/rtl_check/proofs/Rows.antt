@@ -38,8 +38,7 @@ kind_past kinds p l = sym (ap combinational_kind (get_or_past kinds p k.Mixed l)
 module _ (net : Netlist) (kinds : List ProcessKind) (ks : AreKinds net kinds) where
   by_kind : (p : ℕ) (kind : ProcessKind) → IsKind (process net p) kind → combinational_kind kind ≡ true → (process net p).kind ≡ m.Combinational
   by_kind p k.Combinational d t = d
-  by_kind p (k.Clocked c) d t = absurd cc
-  by_kind p k.Mixed d t = absurd cc
+  by_kind p _ d t = absurd cc
 
   has_kind : (p : ℕ) (kind : ProcessKind) → IsKind (process net p) kind → (process net p).kind ≡ m.Combinational → combinational_kind kind ≡ true
   has_kind p k.Combinational d e = refl

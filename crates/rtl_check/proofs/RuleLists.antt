@@ -37,17 +37,11 @@ at_rule _ p _ e = absurd cc
 
 here : (r : Rule) (p n : ℕ) → one_place (rule_number r) p (fault_of r p n) ≡ true
 here ClockNotInput p n = eq-eqb p p refl
-here EdgeNotSensitive p n = eq-eqb p p refl
-here ClockAsData p n = eq-eqb p p refl
-here MissingSensitivity p n = eq-eqb p p refl
-here Latch p n = eq-eqb p p refl
+here _ p n = eq-eqb p p refl
 
 in_order : (r : Rule) (p n o : ℕ) → n < o → IsLess (fault_key (fault_of r p n)) (fault_key (fault_of r p o))
 in_order ClockNotInput p n o l = inr (refl, inr (refl, inl l))
-in_order EdgeNotSensitive p n o l = inr (refl, inr (refl, inl l))
-in_order ClockAsData p n o l = inr (refl, inr (refl, inl l))
-in_order MissingSensitivity p n o l = inr (refl, inr (refl, inl l))
-in_order Latch p n o l = inr (refl, inr (refl, inl l))
+in_order _ p n o l = inr (refl, inr (refl, inl l))
 
 into_map : {X Y : Type 0} (g : X → Y) (xs : List X) (x : X) → Contains xs x → Contains (map g xs) (g x)
 into_map g xs x (k, l, e) = (k, rw (length-map xs g) l, get_or-map_within g xs k x (g x) l ∙ ap g e)

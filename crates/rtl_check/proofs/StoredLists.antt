@@ -47,14 +47,7 @@ one_element ws p e x = one_place 9 p x && is_number e (fault_element ws x)
 
 at_stored : (p : ℕ) (x : Fault) → one_place 9 p x ≡ true → (v t : ℕ) × (x ≡ f.StoredVariable p v t)
 at_stored p (f.StoredVariable q v t) e = (v, t, ap (λ (i : ℕ). f.StoredVariable i v t) (eqb-true q p e))
-at_stored p (f.TwoDrivers n s t) e = absurd cc
-at_stored p (f.MixedProcess q) e = absurd cc
-at_stored p (f.ClockNotInput q n) e = absurd cc
-at_stored p (f.EdgeNotSensitive q n) e = absurd cc
-at_stored p (f.ClockAsData q n) e = absurd cc
-at_stored p (f.MissingSensitivity q n) e = absurd cc
-at_stored p (f.Latch q n) e = absurd cc
-at_stored p (f.Loop ps) e = absurd cc
+at_stored p _ e = absurd cc
 
 below_has : (bound : ℕ) (o : Option ℕ) → below_number bound o ≡ true → (e : ℕ) × (o ≡ Some e) × (e < bound)
 below_has bound None h = absurd cc

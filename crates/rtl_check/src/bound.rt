@@ -57,9 +57,8 @@ pub fn resets(kind: ProcessKind) -> bool
     ensures { result ≡ b.resets kind }
 {
     match kind {
-        ProcessKind::Combinational => false,
         ProcessKind::Clocked(clocking) => clocking.reset.is_some(),
-        ProcessKind::Mixed => false,
+        _ => false,
     }
 }
 

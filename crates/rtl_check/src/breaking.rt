@@ -68,10 +68,7 @@ fn tested_nets(alloc: Global, clocking: Clocking) -> Result<Vec<usize>, NoMemory
 pub fn is_used(clocking: Clocking, net: usize) -> bool
     ensures { result ≡ is_data clocking net }
 {
-    if net != clocking.clock {
-        return true;
-    }
-    if clocking.reads_clock {
+    if net != clocking.clock || clocking.reads_clock {
         return true;
     }
     match clocking.reset {
@@ -123,8 +120,7 @@ fn clocked_nets(
             outside(alloc, &tested, process.wakes.as_slice())
         }
         Rule::ClockAsData => clocks_as_data(alloc, clocks, &process.reads, clocking),
-        Rule::MissingSensitivity => Ok(Vec::new(alloc)),
-        Rule::Latch => Ok(Vec::new(alloc)),
+        _ => Ok(Vec::new(alloc)),
     }
 }
 
@@ -136,11 +132,9 @@ fn combinational_nets(alloc: Global, rule: Rule, process: &Process) -> Result<Ve
     ensures are { IfOk result (λ v. (n : ℕ) → is_in n v.items ≡ combinational_breaks process.now rule n) }
 {
     match rule {
-        Rule::ClockNotInput => Ok(Vec::new(alloc)),
-        Rule::EdgeNotSensitive => Ok(Vec::new(alloc)),
-        Rule::ClockAsData => Ok(Vec::new(alloc)),
         Rule::MissingSensitivity => outside(alloc, &process.reads, process.wakes.as_slice()),
         Rule::Latch => latches(alloc, process),
+        _ => Ok(Vec::new(alloc)),
     }
 }
 

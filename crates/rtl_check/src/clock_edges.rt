@@ -40,14 +40,13 @@ fn push_tested(edge: Edge, kind: ProcessKind, nets: &mut Vec<usize>) -> Result<(
     ensures { OnOk result ((n : ℕ) → is_in n nets.new.items ≡ (is_in n nets.old.items || tests edge n kind)) }
 {
     match kind {
-        ProcessKind::Combinational => Ok(()),
         ProcessKind::Clocked(clocking) => {
             if edge_number(clocking.edge) == edge_number(edge) {
                 nets.push(clocking.clock)?;
             }
             Ok(())
         }
-        ProcessKind::Mixed => Ok(()),
+        _ => Ok(()),
     }
 }
 

@@ -15,12 +15,11 @@ fn push_clock(kind: ProcessKind, clocks: &mut Vec<usize>) -> Result<(), NoMemory
     ensures { OnOk result ((n : ℕ) → is_in n clocks.new.items ≡ (is_in n clocks.old.items || has_clock n kind)) }
 {
     match kind {
-        ProcessKind::Combinational => Ok(()),
         ProcessKind::Clocked(clocking) => {
             clocks.push(clocking.clock)?;
             Ok(())
         }
-        ProcessKind::Mixed => Ok(()),
+        _ => Ok(()),
     }
 }
 

@@ -40,11 +40,10 @@ fn tests(edge: Edge, net: usize, kind: ProcessKind) -> bool
     ensures { result ≡ e.tests edge net kind }
 {
     match kind {
-        ProcessKind::Combinational => false,
         ProcessKind::Clocked(clocking) => {
             edge_number(clocking.edge) == edge_number(edge) && clocking.clock == net
         }
-        ProcessKind::Mixed => false,
+        _ => false,
     }
 }
 
@@ -81,9 +80,8 @@ fn lists_clock(clocks: &[(usize, Edge)], kind: ProcessKind) -> bool
         → Contains clocks.now (n, edge)) }
 {
     match kind {
-        ProcessKind::Combinational => true,
         ProcessKind::Clocked(clocking) => is_listed(clocks, clocking.clock, clocking.edge),
-        ProcessKind::Mixed => true,
+        _ => true,
     }
 }
 

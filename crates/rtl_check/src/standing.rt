@@ -107,9 +107,8 @@ fn are_same(from: Option<usize>, other: Option<usize>) -> bool
 {
     match (from, other) {
         (None, None) => true,
-        (None, Some(_)) => false,
-        (Some(_), None) => false,
         (Some(process), Some(other)) => process == other,
+        _ => false,
     }
 }
 
@@ -124,8 +123,7 @@ fn stands_as(highest: Highest, kind: ProcessKind, level: Option<u32>, from: Opti
                 && level - 1 == highest.level
                 && are_same(from, highest.process),
         },
-        ProcessKind::Clocked(_) => level.is_none() && from.is_none(),
-        ProcessKind::Mixed => level.is_none() && from.is_none(),
+        _ => level.is_none() && from.is_none(),
     }
 }
 

@@ -1,7 +1,8 @@
 //! Examples about bodies: what they assign, read and store, of what kind they are, and wrong
 //! definitions of what they do.
 
-ghost use Rattle.rtl_definition_examples.specs.Bodies.{KindsOfBodies, KindsOfResets, AssignsOfBodies, RunsOfBodies, VariablesOfBodies, StoresOfBodies, ReadsOfBodies};
+ghost use Rattle.rtl_definition_examples.specs.Bodies.{KindsOfBodies, KindsOfResets, AssignsOfBodies, RunsOfBodies};
+ghost use Rattle.rtl_definition_examples.specs.Bodies.{VariablesOfBodies, StoresOfBodies, ReadsOfBodies};
 ghost use Rattle.rtl_definition_examples.specs.Counter.{CounterCounts};
 ghost use Rattle.rtl_definition_examples.specs.BodyMistakes.{LatchWouldPass, DefaultWouldStay, TestWouldBeRising};
 ghost use Rattle.rtl_definition_examples.specs.Variables.{VariablesOfNets, VariableWouldBeKept, StoredWouldPass};

@@ -3,8 +3,10 @@
 
 ghost use Rattle.rtl_definition_examples.specs.Toggling.{PremisesCanBeMet, BoundsAreMet};
 ghost use Rattle.rtl_definition_examples.specs.Rows.{OscillatorSettles, SiblingWakes};
-ghost use Rattle.rtl_definition_examples.specs.SimulationMistakes.{OrderWouldCount, ActivityWouldGoOn, BoundWouldBreak, LevelsWouldMiss, RegisterWouldFallBack, RegisterWouldRunAhead, RaceWouldPass};
-ghost use Rattle.rtl_definition_examples.specs.Nets.{FaultsOfNets, OrderOfFaults, OrderOfClocks, ReportsOfNets, ResetsOfNets, EdgeWouldWin, ResetWouldBeLeftOut, ResetWouldRead, StatesOfNets, RacesOfNets};
+ghost use Rattle.rtl_definition_examples.specs.SimulationMistakes.{OrderWouldCount, ActivityWouldGoOn, BoundWouldBreak, LevelsWouldMiss};
+ghost use Rattle.rtl_definition_examples.specs.SimulationMistakes.{RegisterWouldFallBack, RegisterWouldRunAhead, RaceWouldPass};
+ghost use Rattle.rtl_definition_examples.specs.Nets.{FaultsOfNets, OrderOfFaults, OrderOfClocks, ReportsOfNets, ResetsOfNets};
+ghost use Rattle.rtl_definition_examples.specs.Nets.{EdgeWouldWin, ResetWouldBeLeftOut, ResetWouldRead, StatesOfNets, RacesOfNets};
 
 /// A toggling register, with an asynchronous reset and without, has all that the laws ask for, and
 /// its moments take as many delta cycles as the bound says.

@@ -50,10 +50,9 @@ module _ (these : Target → Bool) where
   mutual
     must-stmt : (s : bodies.Stmt) → stmt_must_assign these s ≡ true → stmt_assigns these s ≡ true
     must-stmt bodies.null_of h = absurd cc
-    must-stmt (bodies.assign places v) h = h
-    must-stmt (bodies.set es v) h = h
     must-stmt (bodies.if_of bs) h = must-branches bs h
     must-stmt (bodies.case_of v alts) h = must-alternatives alts h
+    must-stmt _ h = h
 
     must-stmts : (s : bodies.Stmts) → must_assign these s ≡ true → stmts_assign these s ≡ true
     must-stmts bodies.done h = absurd cc
@@ -196,10 +195,9 @@ told-whole a m any all within opened e f g h k = (λ i. record { must = f i || f
 
 told-plain : (a m : Bool) (within : Option Omission) → a ≡ m
     → as_told (m || false) (if a && not m then within else None) ≡ as_told (m || false) (None)
-told-plain true true within e = refl
 told-plain true false within e = absurd cc
 told-plain false true within e = absurd cc
-told-plain false false within e = refl
+told-plain _ _ within e = refl
 
 module _ (drives : List Driver) (n : ℕ) (x : Statement) where
   pub null-told : x ≡ vs.Null → told_of (to_net drives n) (x ∷ []) ≡ nothing

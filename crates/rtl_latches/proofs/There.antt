@@ -50,8 +50,6 @@ module _ (these : Target → Bool) where
   mutual
     there-statement : (x : Statement) → leaves_out these x ≡ true → IsSome (in_statement these x)
     there-statement vs.Null h = absurd cc
-    there-statement (vs.Assign places value) h = absurd (not-both _ h)
-    there-statement (vs.Set elements value) h = absurd (not-both _ h)
     there-statement (vs.If' at shape branches None') h = refl
     there-statement (vs.If' at shape branches (Some' of_last last)) h =
         there-branches at (λ k. itself_or these (o.Branch at k) (statements_row last) (in_row these last)) (bodies.otherwise (statements_row last))
@@ -61,6 +59,7 @@ module _ (these : Target → Bool) where
         there-alternatives at (λ k. itself_or these (o.Alternative at k) (statements_row last) (in_row these last)) (statements_row last)
         (λ f k. there-part (o.Alternative at k) (statements_row last) (in_row these last) (there-row _ last) f) 1 _ alternatives
         (and-second (stmt_assigns these (statement_view (vs.Case' at selector shape alternatives of_last last))) _ h)
+    there-statement _ h = absurd (not-both _ h)
 
     there-row : (n : Count) (row : Row_of-Statement n) → stmts_assign these (statements_row row) ≡ true → must_assign these (statements_row row) ≡ false → IsSome (in_row these row)
     there-row n end_of-Statement t f = absurd cc

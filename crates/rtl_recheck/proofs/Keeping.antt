@@ -50,13 +50,11 @@ false_from false h = refl
 
 module _ (inputs clocks : List ℕ) (x : Process) where
   combinational_to : CombinationalKeeps x → BreaksNone inputs clocks x k.Combinational
-  combinational_to c ClockNotInput n t = cc
-  combinational_to c EdgeNotSensitive n t = cc
-  combinational_to c ClockAsData n t = cc
   combinational_to c MissingSensitivity n t = within_to x.reads.items x.wakes.items c.awake n t
   combinational_to c Latch n t =
       let (a, b) = and_parts (is_in n (driven x.drives.items)) (not (must_assign (to_net x.drives.items n) (body_of x))) t in
       clash (must_assign (to_net x.drives.items n) (body_of x)) (c.assigns n a) (not-true (must_assign (to_net x.drives.items n) (body_of x)) b)
+  combinational_to c _ n t = cc
 
   combinational_from : BreaksNone inputs clocks x k.Combinational → CombinationalKeeps x
   combinational_from none = record { awake = within_from x.reads.items x.wakes.items (none MissingSensitivity); assigns = assigns }
@@ -81,8 +79,7 @@ module _ (inputs clocks : List ℕ) (x : Process) where
   clocked_to c h ClockAsData n t =
       let (a, b) = and_parts (is_in n x.reads.items) (is_in n clocks && is_data c n) t in
       clash (is_in n clocks && is_data c n) b (h.no_clock_read n a)
-  clocked_to c h MissingSensitivity n t = cc
-  clocked_to c h Latch n t = cc
+  clocked_to c h _ n t = cc
 
   clocked_from : (c : Clocking) → BreaksNone inputs clocks x (k.Clocked c) → ClockedKeeps inputs clocks x c
   clocked_from c none = record {
@@ -103,13 +100,12 @@ module _ (inputs clocks : List ℕ) (x : Process) where
 
 -- the same clocks in another order
 same_breaks : (inputs xs ys : List ℕ) (x : Process) (kind : ProcessKind) (rule : Rule) (n : ℕ) → is_in n xs ≡ is_in n ys → breaks inputs xs x kind rule n ≡ breaks inputs ys x kind rule n
-same_breaks inputs xs ys x k.Combinational rule n e = refl
 same_breaks inputs xs ys x (k.Clocked c) ClockNotInput n e = refl
 same_breaks inputs xs ys x (k.Clocked c) EdgeNotSensitive n e = refl
 same_breaks inputs xs ys x (k.Clocked c) ClockAsData n e = ap (λ (b : Bool). is_in n x.reads.items && (b && is_data c n)) e
 same_breaks inputs xs ys x (k.Clocked c) MissingSensitivity n e = refl
 same_breaks inputs xs ys x (k.Clocked c) Latch n e = refl
-same_breaks inputs xs ys x k.Mixed rule n e = refl
+same_breaks inputs xs ys x _ _ n e = refl
 
 module _ (net : NetlistView) (clocks : List (ℕ × Edge)) (A : AreClocks (core net) clocks) (p : ℕ) (x : Process) (there : p < length net.processes) (at : x ≡ get_or net.processes p x)
     (listed : ReadsOfBody x) (kind : ProcessKind) (d : IsKind (process (core net) p) kind) where

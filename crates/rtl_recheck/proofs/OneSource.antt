@@ -19,6 +19,5 @@ module _ (net : NetlistView) (n : ℕ) (l : n < length net.types) where
   few_to (x ∷ y ∷ zs) e t first second (more, is) = let k = ltb-true (length (x ∷ y ∷ zs)) 2 t in absurd (omega arith)
 
   pub few_from : (xs : List Source) → map source_view xs ≡ flat_sources (flat net) n → HasOneSource (core net) n → nat_lt (length xs) 2 ≡ true
-  few_from [] e none = refl
-  few_from (x ∷ []) e none = refl
   few_from (x ∷ y ∷ zs) e none = absurd (none (source_view x) (source_view y) (map source_view zs, sym (listed (x ∷ y ∷ zs) e)))
+  few_from _ e none = refl

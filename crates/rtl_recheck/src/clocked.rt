@@ -86,11 +86,7 @@ pub fn clocked_keeps(
     requires wakes { IsStrictlyIncreasing process.now.wakes.items }
     ensures { IsTrue result ↔ ClockedKeeps inputs.now (clock_nets clocks.now) process.now clocking }
 {
-    if !are_within(&[clocking.clock], inputs) {
-        return false;
-    }
-    if !tested_are_within(clocking, process.wakes.as_slice()) {
-        return false;
-    }
-    has_no_clock_as_data(clocks, process, clocking)
+    are_within(&[clocking.clock], inputs)
+        && tested_are_within(clocking, process.wakes.as_slice())
+        && has_no_clock_as_data(clocks, process, clocking)
 }

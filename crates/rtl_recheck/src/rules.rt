@@ -34,10 +34,7 @@ fn combinational_keeps(process: &Process) -> bool
     requires { IsStrictlyIncreasing process.now.wakes.items }
     ensures { IsTrue result ↔ CombinationalKeeps process.now }
 {
-    if !are_within(&process.reads, process.wakes.as_slice()) {
-        return false;
-    }
-    has_no_latch(process)
+    are_within(&process.reads, process.wakes.as_slice()) && has_no_latch(process)
 }
 
 /// Whether a process of this kind breaks no rule.
@@ -93,9 +90,8 @@ fn is_not_mixed(kind: ProcessKind) -> bool
     ensures { result ≡ is_plain kind }
 {
     match kind {
-        ProcessKind::Combinational => true,
-        ProcessKind::Clocked(_) => true,
         ProcessKind::Mixed => false,
+        _ => true,
     }
 }
 

@@ -41,10 +41,9 @@ of_clocked (Some x) ns c e =
 -- ---- the first branch
 
 pub are_same : (a b : Bool) → not (beq a b) ≡ false → a ≡ b
-are_same true true e = refl
 are_same true false e = absurd cc
 are_same false true e = absurd cc
-are_same false false e = refl
+are_same _ _ e = refl
 
 pub differ : (a b : Bool) → not (beq a b) ≡ true → a ≡ b → ⊥
 differ true true e same = absurd cc
@@ -89,9 +88,8 @@ not_one (x ∷ []) n = absurd (n refl)
 not_one (x ∷ y ∷ ys) n = sym (two_statements (statement_view x) (statement_view y) (statements_of ys))
 
 one_item : {X : Type 0} (xs : List X) (x : X) → length xs ≡ 1 → x ≡ get_or xs 0 x → xs ≡ x ∷ []
-one_item [] x l e = absurd (omega arith)
 one_item (y ∷ []) x l e = ap (λ z. z ∷ []) (sym e)
-one_item (y ∷ z ∷ zs) x l e = absurd (omega arith)
+one_item _ x l e = absurd (omega arith)
 
 no_branch : (o : Option (List Statement)) → None ≡ first_branch (step (if_of (otherwise_of o)) done)
 no_branch None = refl

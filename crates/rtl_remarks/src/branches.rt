@@ -31,16 +31,13 @@ fn first_branch(body: &[Statement]) -> Option<&[Statement]>
         return None;
     }
     match &body[0] {
-        Statement::Null => None,
-        Statement::Assign { .. } => None,
-        Statement::Set { .. } => None,
         Statement::If { branches, .. } => {
             if branches.is_empty() {
                 return None;
             }
             Some(&branches[0].statements)
         }
-        Statement::Case { .. } => None,
+        _ => None,
     }
 }
 

@@ -7,6 +7,7 @@ ghost use Rattle.rtl_body_facts.specs.Reading.{is_in};
 ghost use Rattle.rtl_remarks.specs.Undefined as spec;
 ghost use Rattle.rtl_remarks.specs.Tables.{tests_fail};
 
+use crate::lists::joined_if;
 use crate::undefined::makers_of;
 use rtl_body_facts::sort_once;
 use rtl_net::{Expr, NoMemory, Test, TestLink};
@@ -19,7 +20,7 @@ fn is_and(operator: Logic) -> bool
 {
     match operator {
         Logic::And => true,
-        Logic::Or | Logic::Nand | Logic::Nor | Logic::Xor | Logic::Xnor => false,
+        _ => false,
     }
 }
 
@@ -29,7 +30,7 @@ fn is_inequality(relation: Cmp) -> bool
 {
     match relation {
         Cmp::Ne => true,
-        Cmp::Eq | Cmp::Lt | Cmp::Le | Cmp::Gt | Cmp::Ge => false,
+        _ => false,
     }
 }
 
@@ -72,21 +73,13 @@ fn failing(alloc: Global, test: &Test) -> Result<Vec<usize>, NoMemory>
     ensures { IfOk result (λ nets. (n : ℕ) → is_in n nets.items ≡ spec.fails n (test_view test.now)) }
 {
     match test {
-        Test::Condition(_) => Ok(Vec::new(alloc)),
-        Test::Decided(_) => Ok(Vec::new(alloc)),
-        Test::Equal(_, _) => Ok(Vec::new(alloc)),
-        Test::Unequal(_, _) => Ok(Vec::new(alloc)),
-        Test::Level { .. } => Ok(Vec::new(alloc)),
         Test::Compared(relation, left, right) => fails_between(alloc, *relation, left, right),
         Test::ComparedTo(relation, expr, _) => fails_at(alloc, *relation, expr),
-        Test::Rising(_) => Ok(Vec::new(alloc)),
-        Test::Falling(_) => Ok(Vec::new(alloc)),
-        Test::Event(_) => Ok(Vec::new(alloc)),
-        Test::Negated(_) => Ok(Vec::new(alloc)),
         Test::Combined { first, rest } => {
             let nets = failing(alloc, first)?;
             failing_links(alloc, nets, rest)
         }
+        _ => Ok(Vec::new(alloc)),
     }
 }
 
@@ -101,26 +94,8 @@ fn failing_links(
 {
     for link in rest {
         let others = failing(alloc, &link.operand)?;
-        nets = combined(alloc, link.operator, nets, &others)?;
+        nets = joined_if(alloc, is_and(link.operator), nets, &others)?;
     }
-    Ok(nets)
-}
-
-/// The same of two tests, of each of which they are known.
-fn combined(
-    alloc: Global,
-    operator: Logic,
-    left: Vec<usize>,
-    right: &[usize],
-) -> Result<Vec<usize>, NoMemory>
-    ensures { IfOk result (λ nets. (n : ℕ) → is_in n nets.items
-        ≡ (spec.is_and operator && (is_in n left.items || is_in n right.now))) }
-{
-    if !is_and(operator) {
-        return Ok(Vec::new(alloc));
-    }
-    let mut nets = left;
-    nets.extend_from_slice(right)?;
     Ok(nets)
 }
 

@@ -1,6 +1,6 @@
 //! Lists of numbers.
 
-ghost use Rattle.std.specs.Prelude.{◌≡◌, IfOk};
+ghost use Rattle.std.specs.Prelude.{◌≡◌, ◌&&◌, ◌||◌, ℕ, IfOk};
 ghost use Rattle.std.specs.List.{filter, range_with_len};
 ghost use Rattle.std.specs.List.Sorted.{IsStrictlyIncreasing};
 ghost use Rattle.rtl_net.specs.Indices.{numbers};
@@ -39,6 +39,23 @@ pub(crate) fn chosen(
         }
     }
     Ok(left)
+}
+
+/// Numbers with others behind them, if so; else none.
+pub(crate) fn joined_if(
+    alloc: Global,
+    so: bool,
+    left: Vec<usize>,
+    right: &[usize],
+) -> Result<Vec<usize>, NoMemory>
+    ensures { IfOk result (λ all. (n : ℕ) → is_in n all.items ≡ (so && (is_in n left.items || is_in n right.now))) }
+{
+    if !so {
+        return Ok(Vec::new(alloc));
+    }
+    let mut all = left;
+    all.extend_from_slice(right)?;
+    Ok(all)
 }
 
 /// So many numbers from the first on.

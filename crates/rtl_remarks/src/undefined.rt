@@ -1,13 +1,13 @@
 //! What is undefined while a net is.
 
-ghost use Rattle.std.specs.Prelude.{◌≡◌, true, false, ◌&&◌, ◌||◌, ℕ, IfOk};
+ghost use Rattle.std.specs.Prelude.{◌≡◌, true, false, ℕ, IfOk};
 ghost use Rattle.std.specs.List.Sorted.{IsStrictlyIncreasing};
 ghost use Rattle.rtl_net.specs.Bodies.{operator_view, expr_view, value_view};
 ghost use Rattle.rtl_body_facts.specs.Reading.{is_in};
 ghost use Rattle.rtl_remarks.specs.Undefined as spec;
 ghost use Rattle.rtl_remarks.specs.Tables.{MakeUndefined, links_some, links_whole};
 
-use crate::lists::numbers_of;
+use crate::lists::{joined_if, numbers_of};
 use rtl_body_facts::sort_once;
 use rtl_net::{Expr, Link, NoMemory, Operator, Value};
 use std::alloc::Global;
@@ -52,24 +52,6 @@ fn whole_of(operator: Operator, left: bool, right: bool) -> bool
     }
 }
 
-/// The nets of what an operator makes.
-fn operated(
-    alloc: Global,
-    operator: Operator,
-    left: Vec<usize>,
-    right: &[usize],
-) -> Result<Vec<usize>, NoMemory>
-    ensures { IfOk result (λ nets. (n : ℕ) → is_in n nets.items
-        ≡ (spec.passes (operator_view operator) && (is_in n left.items || is_in n right.now))) }
-{
-    if !passes(operator) {
-        return Ok(Vec::new(alloc));
-    }
-    let mut nets = left;
-    nets.extend_from_slice(right)?;
-    Ok(nets)
-}
-
 /// No nets.
 fn none(alloc: Global) -> Makers
     ensures nets { (n : ℕ) → is_in n result.nets.items ≡ false }
@@ -92,8 +74,6 @@ pub(crate) fn makers_of(alloc: Global, expr: &Expr) -> Result<Makers, NoMemory>
             let whole = nets.len() == 1;
             Ok(Makers { nets, whole })
         }
-        Expr::Variable(_) => Ok(none(alloc)),
-        Expr::Constant(_) => Ok(none(alloc)),
         Expr::Inverse(operand) => makers_of(alloc, operand),
         Expr::Filled { element, .. } => {
             let found = makers_of(alloc, element)?;
@@ -106,7 +86,7 @@ pub(crate) fn makers_of(alloc: Global, expr: &Expr) -> Result<Makers, NoMemory>
             let left = makers_of(alloc, first)?;
             links_of(alloc, left, rest)
         }
-        Expr::Counted { .. } => Ok(none(alloc)),
+        _ => Ok(none(alloc)),
     }
 }
 
@@ -123,7 +103,7 @@ fn links_of(alloc: Global, left: Makers, rest: &[Link]) -> Result<Makers, NoMemo
     } = left;
     for link in rest {
         let right = makers_of(alloc, &link.operand)?;
-        nets = operated(alloc, link.operator, nets, &right.nets)?;
+        nets = joined_if(alloc, passes(link.operator), nets, &right.nets)?;
         whole = whole_of(link.operator, whole, right.whole);
     }
     Ok(Makers { nets, whole })
@@ -151,8 +131,6 @@ fn unsorted_keepers(alloc: Global, value: &Value) -> Result<Vec<usize>, NoMemory
             }
             Ok(Vec::new(alloc))
         }
-        Value::Position(_) => Ok(Vec::new(alloc)),
-        Value::PositionOf(_) => Ok(Vec::new(alloc)),
-        Value::PositionIn(_) => Ok(Vec::new(alloc)),
+        _ => Ok(Vec::new(alloc)),
     }
 }

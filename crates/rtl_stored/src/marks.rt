@@ -31,11 +31,9 @@ impl Visit for Marks {
 
     fn leaf(&mut self, leaf: Leaf<'_>) {
         match leaf {
-            Leaf::Nets(_) => {}
-            Leaf::Net(_) => {}
-            Leaf::Event(_) => {}
             Leaf::Elements(elements) => self.read_all(elements),
             Leaf::Element(element) => self.read(element as usize),
+            _ => {}
         }
     }
 }

@@ -1,9 +1,9 @@
-use Rattle.std.proofs.Common.{ap, sym, ◌∙◌}
+use Rattle.std.proofs.Common.{refl, ap, sym, ◌∙◌}
 use Rattle.vhdl_values.specs.declared.kinds.Logic.TheVariants as op
 use Rattle.rtl_net.specs.declared.body.Test.{Test}
 use Rattle.rtl_net.specs.Bodies.{test_view}
 use Rattle.rtl_body_facts.specs.Timing.{atom_of, edge_pair}
-use Rattle.rtl_body_facts.proofs.Timings.{edge_seen, edge_alone, edge_chain, edge_two, pair_is}
+use Rattle.rtl_body_facts.proofs.Timings.{edge_seen, edge_alone, edge_chain, edge_two, pair_is, not_and}
 use Rattle.rtl_body_facts.proofs.kinds.+edge_of.Goals as goal
 
 pub returns-then-is_empty : goal.returns-then-is_empty
@@ -26,27 +26,9 @@ returns-in-And t c =
     ∙ (sym (pair_is (test_view i.first.value) (test_view l.operand))
     ∙ edge_two c.args.test.now i.first i.rest i.is l op.And (sym c.len.ensures ∙ c.if-len-ne1.false) c.index-link.ensures c.in-And.is)))
 
-pub returns-in-Or : goal.returns-in-Or
-returns-in-Or t c =
+pub returns-in_default-operator : goal.returns-in_default-operator
+returns-in_default-operator t c =
     let i = c.in-Combined in
-    edge_two c.args.test.now i.first i.rest i.is c.index-link.result.now op.Or (sym c.len.ensures ∙ c.if-len-ne1.false) c.index-link.ensures c.in-Or.is
-
-pub returns-in-Nand : goal.returns-in-Nand
-returns-in-Nand t c =
-    let i = c.in-Combined in
-    edge_two c.args.test.now i.first i.rest i.is c.index-link.result.now op.Nand (sym c.len.ensures ∙ c.if-len-ne1.false) c.index-link.ensures c.in-Nand.is
-
-pub returns-in-Nor : goal.returns-in-Nor
-returns-in-Nor t c =
-    let i = c.in-Combined in
-    edge_two c.args.test.now i.first i.rest i.is c.index-link.result.now op.Nor (sym c.len.ensures ∙ c.if-len-ne1.false) c.index-link.ensures c.in-Nor.is
-
-pub returns-in-Xor : goal.returns-in-Xor
-returns-in-Xor t c =
-    let i = c.in-Combined in
-    edge_two c.args.test.now i.first i.rest i.is c.index-link.result.now op.Xor (sym c.len.ensures ∙ c.if-len-ne1.false) c.index-link.ensures c.in-Xor.is
-
-pub returns-in-Xnor : goal.returns-in-Xnor
-returns-in-Xnor t c =
-    let i = c.in-Combined in
-    edge_two c.args.test.now i.first i.rest i.is c.index-link.result.now op.Xnor (sym c.len.ensures ∙ c.if-len-ne1.false) c.index-link.ensures c.in-Xnor.is
+    let l = c.index-link.result.now in
+    not_and l.operator (test_view i.first.value) (test_view l.operand) c.in_default-operator.not-And
+    ∙ edge_two c.args.test.now i.first i.rest i.is l l.operator (sym c.len.ensures ∙ c.if-len-ne1.false) c.index-link.ensures refl

@@ -1,21 +1,12 @@
-use Rattle.std.proofs.Common.{◌≡◌, ◌<◌, ◌||◌, ◌+◌, ℕ, Bool, List, [], ◌∷◌, length, get_or, take, ap, sym, ◌∙◌}
+use Rattle.std.proofs.Common.{ap, ◌∙◌}
 use Rattle.std.specs.List.{list_any}
-use Rattle.std.proofs.lemmas.List.{take_all, take_more}
-use Rattle.std.proofs.lemmas.List.Folds.{list_any-append}
+use Rattle.std.proofs.lemmas.List.{take_all}
 use Rattle.rtl_net.specs.Core.{core}
-use Rattle.rtl_body_facts.specs.declared.kinds.ProcessKind.{ProcessKind}
 use Rattle.rtl_body_facts.specs.Reading.{is_in}
-use Rattle.rtl_body_facts.proofs.Anys.{or_none}
 use Rattle.rtl_check.specs.Rules.{has_clock}
-use Rattle.rtl_check.proofs.ClockNets.{clocks_are}
+use Rattle.rtl_check.proofs.ClockNets.{clocks_are, one_more}
 use Rattle.std.proofs.lemmas.Result.{IfOk-from_err}
 use Rattle.rtl_check.proofs.clocks.clock_nets.Goals as goal
-
--- what is pushed for one more kind
-one_more : (f : ProcessKind → Bool) (kinds : List ProcessKind) (i : ℕ) (d : ProcessKind) (new old : Bool) → i < length kinds → new ≡ (old || f (get_or kinds i d)) → old ≡ list_any f (take i kinds)
-    → new ≡ list_any f (take (i + 1) kinds)
-one_more f kinds i d new old l e so_far = e ∙ (ap (λ (b : Bool). b || f (get_or kinds i d)) so_far
-    ∙ sym (ap (list_any f) (take_more kinds i d l) ∙ (list_any-append f (take i kinds) (get_or kinds i d ∷ []) ∙ ap (λ (b : Bool). list_any f (take i kinds) || b) (sym (or_none (f (get_or kinds i d)))))))
 
 pub returns : goal.returns
 returns c =

@@ -1,4 +1,4 @@
-use Rattle.std.proofs.Common.{◌≡◌, ◌<◌, ◌||◌, ℕ, Bool, List, [], ◌∷◌, take, length, get_or, sym, ap, subst, ◌∙◌, arith}
+use Rattle.std.proofs.Common.{◌<◌, ◌||◌, ℕ, Bool, List, [], ◌∷◌, take, length, get_or, sym, ap, subst, ◌∙◌}
 use Rattle.std.specs.List.{list_any}
 use Rattle.std.proofs.lemmas.List.{take_all, take_more}
 use Rattle.std.proofs.lemmas.List.Folds.{list_any-append}
@@ -8,13 +8,10 @@ use Rattle.rtl_net.specs.Nets.{flat}
 use Rattle.rtl_body_facts.specs.Reading.{is_in}
 use Rattle.rtl_body_facts.proofs.Anys.{or_none}
 use Rattle.rtl_check.specs.Feeders.{feeds_by}
-use Rattle.rtl_check.proofs.Processes.{many_processes}
+use Rattle.rtl_check.proofs.Processes.{many_processes, within}
 use Rattle.rtl_check.proofs.Rows.{row_some, nets_of_wakes}
 use Rattle.std.proofs.lemmas.Result.{IfOk-from_err}
 use Rattle.rtl_check.proofs.graph.row_of.Goals as goal
-
-within : {a k m n : ℕ} → a < k → k ≡ m → m ≡ n → a < n
-within l e f = omega arith
 
 pub push_feeders-requires : goal.push_feeders-requires
 push_feeders-requires c =

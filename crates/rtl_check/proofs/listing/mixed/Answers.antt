@@ -1,14 +1,8 @@
-use Rattle.std.proofs.Common.{◌≡◌, ◌<◌, ◌≤◌, ◌⊎◌, inl, inr, ℕ, arith}
+use Rattle.std.proofs.Common.{◌≡◌, ◌<◌, ◌⊎◌, inl, inr, ℕ, arith}
 use Rattle.rtl_net.specs.Core.{core}
-use Rattle.rtl_check.proofs.Joined.{adds_first, adds_place, adds_all}
-use Rattle.rtl_check.proofs.Processes.{process_there}
+use Rattle.rtl_check.proofs.Joined.{adds_first, adds_place, adds_all, no_loops}
+use Rattle.rtl_check.proofs.Processes.{process_there, ends}
 use Rattle.rtl_check.proofs.listing.mixed.Goals as goal
-
-differs : (k : ℕ) → k ≡ 8 → k < 8 → ⊥
-differs k e l = omega arith
-
-ends : {a m n i : ℕ} → a < m → n ≡ m → n ≤ i → a < i
-ends l e h = omega arith
 
 numbers_differ : {a j k : ℕ} → a ≡ j → a ≡ k → (j < k) ⊎ (k < j) → ⊥
 numbers_differ e f (inl l) = omega arith
@@ -19,7 +13,7 @@ loop-process-init c = adds_first (core c.args.net.now) 2 c.args.faults.now.items
 
 pub loop-process-preserved : goal.loop-process-preserved
 loop-process-preserved c =
-    adds_place (core c.args.net.now) 2 c.loop-process.process c.args.faults.now.items c.loop-process.faults.items c.mixed_at.new.faults.items (λ e. differs 2 e (omega arith)) c.loop-process.invariant c.in_ok-mixed_at.ensures
+    adds_place (core c.args.net.now) 2 c.loop-process.process c.args.faults.now.items c.loop-process.faults.items c.mixed_at.new.faults.items (λ e. no_loops 2 e (omega arith)) c.loop-process.invariant c.in_ok-mixed_at.ensures
 
 pub returns : goal.returns
 returns c = adds_all (core c.args.net.now) 2 c.loop-process.process c.args.faults.now.items c.loop-process.faults.items

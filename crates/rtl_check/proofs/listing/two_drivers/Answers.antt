@@ -1,21 +1,16 @@
-use Rattle.std.proofs.Common.{◌≡◌, ◌<◌, ◌≤◌, ℕ, arith}
+use Rattle.std.proofs.Common.{arith}
 use Rattle.rtl_net.specs.Core.{core}
-use Rattle.rtl_check.proofs.Joined.{adds_first, adds_place, adds_all}
+use Rattle.rtl_check.proofs.Processes.{ends}
+use Rattle.rtl_check.proofs.Joined.{adds_first, adds_place, adds_all, no_loops}
 use Rattle.rtl_check.proofs.Firsts.{net_there}
 use Rattle.rtl_check.proofs.listing.two_drivers.Goals as goal
-
-differs : (k : ℕ) → k ≡ 8 → k < 8 → ⊥
-differs k e l = omega arith
-
-ends : {a m n i : ℕ} → a < m → n ≡ m → n ≤ i → a < i
-ends l e h = omega arith
 
 pub loop-number-init : goal.loop-number-init
 loop-number-init c = adds_first (core c.args.net.now) 1 c.args.faults.now.items
 
 pub loop-number-preserved : goal.loop-number-preserved
 loop-number-preserved c =
-    adds_place (core c.args.net.now) 1 c.loop-number.number c.args.faults.now.items c.loop-number.faults.items c.two_drivers_at.new.faults.items (λ e. differs 1 e (omega arith)) c.loop-number.invariant c.in_ok-two_drivers_at.ensures
+    adds_place (core c.args.net.now) 1 c.loop-number.number c.args.faults.now.items c.loop-number.faults.items c.two_drivers_at.new.faults.items (λ e. no_loops 1 e (omega arith)) c.loop-number.invariant c.in_ok-two_drivers_at.ensures
 
 pub returns : goal.returns
 returns c = adds_all (core c.args.net.now) 1 c.loop-number.number c.args.faults.now.items c.loop-number.faults.items

@@ -1,27 +1,21 @@
-use Rattle.std.proofs.Common.{◌≡◌, ◌<◌, ◌≤◌, ℕ, arith, ◌∙◌, sym}
+use Rattle.std.proofs.Common.{◌≡◌, ◌<◌, ℕ, arith, ◌∙◌, sym}
 use Rattle.rtl_check.specs.declared.rule.Rule.{Rule}
-use Rattle.rtl_check.specs.declared.rule.Rule.TheVariants.{ClockNotInput, EdgeNotSensitive, ClockAsData, MissingSensitivity, Latch}
+use Rattle.rtl_check.specs.declared.rule.Rule.TheVariants.{ClockNotInput}
 use Rattle.rtl_net.specs.Core.{core}
 use Rattle.rtl_check.specs.Rules.{rule_number}
 use Rattle.rtl_check.proofs.Joined.{adds_first, adds_place, adds_all}
-use Rattle.rtl_check.proofs.Processes.{process_there}
+use Rattle.rtl_check.proofs.Processes.{process_there, ends}
 use Rattle.rtl_check.proofs.rules.by_rule.Goals as goal
 
 between : (r : Rule) → (2 < rule_number r) × (rule_number r < 8)
 between ClockNotInput = (omega arith, omega arith)
-between EdgeNotSensitive = (omega arith, omega arith)
-between ClockAsData = (omega arith, omega arith)
-between MissingSensitivity = (omega arith, omega arith)
-between Latch = (omega arith, omega arith)
+between _ = (omega arith, omega arith)
 
 no_loop : (r : Rule) → rule_number r ≡ 8 → ⊥
 no_loop r e = let l = (between r).1 in omega arith
 
 no_drivers : (r : Rule) → rule_number r ≡ 1 → ⊥
 no_drivers r e = let l = (between r).0 in omega arith
-
-ends : {a m n i : ℕ} → a < m → n ≡ m → n ≤ i → a < i
-ends l e h = omega arith
 
 pub loop-process-init : goal.loop-process-init
 loop-process-init c = adds_first (core c.args.net.now) (rule_number c.args.rule) c.args.faults.now.items

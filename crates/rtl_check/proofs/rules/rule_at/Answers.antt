@@ -1,13 +1,10 @@
-use Rattle.std.proofs.Common.{◌≡◌, ◌<◌, ℕ, List, get_or, ap, subst, ◌∙◌, arith}
+use Rattle.std.proofs.Common.{ℕ, List, get_or, ap, subst, ◌∙◌}
 use Rattle.rtl_net.specs.declared.process.Process.{Process}
 use Rattle.rtl_body_facts.specs.declared.kinds.ProcessKind.TheVariants as k
 use Rattle.rtl_check.specs.Rules.{breaks, Pushes}
-use Rattle.rtl_check.proofs.Processes.{many_processes}
+use Rattle.rtl_check.proofs.Processes.{many_processes, within}
 use Rattle.rtl_check.proofs.RuleLists.{if_done, reads_listed, wakes_rise, rule_done}
 use Rattle.rtl_check.proofs.rules.rule_at.Goals as goal
-
-within : {a k m n : ℕ} → a < k → k ≡ m → m ≡ n → a < n
-within l e f = omega arith
 
 pub breaking_nets-requires-clause-reads : goal.breaking_nets-requires-clause-reads
 breaking_nets-requires-clause-reads c =

@@ -1,4 +1,4 @@
-use Rattle.std.proofs.Common.{◌&&◌, ◌||◌, ℕ, List, refl, ap, sym, ◌∙◌}
+use Rattle.std.proofs.Common.{◌&&◌, ◌||◌, ℕ, Bool, List, refl, ap, sym, ◌∙◌}
 use Rattle.std.proofs.lemmas.List.{at_drop_all}
 use Rattle.rtl_body_facts.specs.Reading.{is_in}
 use Rattle.rtl_remarks.specs.Undefined.{is_and}
@@ -17,7 +17,8 @@ failing_links-loop-link-preserved t c =
     let link = c.link-item.result in
     λ n.
     fails_next n (is_in n l.nets.items) (is_in n c.in_ok-others.others.items) (is_in n c.in_ok-nets.nets.items) _ rest l.link-index link c.loop-link-test.true c.link-item.is
-    (l.invariant n) (c.in_ok-nets.ensures n ∙ ap (λ (xs : List ℕ). is_and link.operator && (is_in n l.nets.items || is_in n xs)) c.deref.ensures.value)
+    (l.invariant n) (c.in_ok-nets.ensures n ∙ ap (λ (b : Bool). b && (is_in n l.nets.items || is_in n c.deref.result.now)) c.is_and.ensures
+    ∙ ap (λ (xs : List ℕ). is_and link.operator && (is_in n l.nets.items || is_in n xs)) c.deref.ensures.value)
     (c.in_ok-others.ensures n)
 
 pub failing_links-returns : goal.failing_links-returns

@@ -1,4 +1,4 @@
-use Rattle.std.proofs.Common.{◌&&◌, ◌||◌, ℕ, List, refl, ap, sym, ◌∙◌}
+use Rattle.std.proofs.Common.{◌&&◌, ◌||◌, ℕ, Bool, List, refl, ap, sym, ◌∙◌}
 use Rattle.std.proofs.lemmas.List.{at_drop_all}
 use Rattle.rtl_net.specs.Bodies.{operator_view}
 use Rattle.rtl_body_facts.specs.Reading.{is_in}
@@ -18,7 +18,8 @@ links_of-loop-link-preserved t c =
     record {
       nets = λ n.
           some_next n (is_in n l.nets.items) (is_in n c.in_ok-right.right.nets.items) (is_in n c.in_ok-nets.nets.items) _ rest l.link-index link c.loop-link-test.true c.link-item.is
-          (l.invariant.nets n) (c.in_ok-nets.ensures n ∙ ap (λ (xs : List ℕ). passes (operator_view link.operator) && (is_in n l.nets.items || is_in n xs)) c.deref.ensures.value)
+          (l.invariant.nets n) (c.in_ok-nets.ensures n ∙ ap (λ (b : Bool). b && (is_in n l.nets.items || is_in n c.deref.result.now)) c.passes.ensures
+          ∙ ap (λ (xs : List ℕ). passes (operator_view link.operator) && (is_in n l.nets.items || is_in n xs)) c.deref.ensures.value)
           (c.in_ok-right.ensures.nets n);
       whole = whole_next l.whole c.in_ok-right.right.whole c.whole_of-whole.result _ rest l.link-index link c.loop-link-test.true c.link-item.is l.invariant.whole c.whole_of-whole.ensures c.in_ok-right.ensures.whole;
     }
