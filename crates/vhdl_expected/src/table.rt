@@ -207,7 +207,7 @@ pub static CLOSED: [Row; 20] = [
 ];
 
 /// What stands in another place than its own.
-pub static PLACES: [Row; 29] = [
+pub static PLACES: [Row; 31] = [
     row!(OPEN_PROCESS, 0, [Process] 0, [Null Semicolon End Process Semicolon]),
     row!(OPEN_PROCESS, 0, [Entity] 0, [Null Semicolon End Process Semicolon Identifier Colon]),
     row!(OPEN_PROCESS, 0, [Component] 0, [Null Semicolon End Process Semicolon Identifier Colon]),
@@ -231,6 +231,8 @@ pub static PLACES: [Row; 29] = [
     row!(NO_CASE, 1, [Then When] 1, [Then Case Identifier Is]),
     row!(MODE_IN, 1, [Identifier In] 2, [In Identifier]),
     row!(MODE_OUT, 1, [Identifier Out] 2, [Out Identifier]),
+    row!(NO_PORT, 1, [Colon In] 2, [Colon]),
+    row!(NO_PORT, 1, [Colon Out] 2, [Colon]),
     row!(MODE_IN, 0, [In Colon] 2, [Colon In]),
     row!(MODE_OUT, 0, [Out Colon] 2, [Colon Out]),
     // Behind another port: so a declaration isn't taken for one.
@@ -246,69 +248,6 @@ pub(crate) fn missing() -> [&'static [Row]; 8]
     ensures { map spec.rows_of result ≡ spec.missing_tables }
 {
     [
-        slips(),
-        ended(),
-        operands(),
-        joints(),
-        declared(),
-        heads(),
-        closed(),
-        places(),
+        &SLIPS, &ENDED, &OPERANDS, &JOINTS, &DECLARED, &HEADS, &CLOSED, &PLACES,
     ]
-}
-
-#[tactic(auto, unfolding(crate::specs::Told::slips))]
-fn slips() -> &'static [Row]
-    ensures { spec.rows_of result ≡ spec.slips }
-{
-    &SLIPS
-}
-
-#[tactic(auto, unfolding(crate::specs::Told::ended))]
-fn ended() -> &'static [Row]
-    ensures { spec.rows_of result ≡ spec.ended }
-{
-    &ENDED
-}
-
-#[tactic(auto, unfolding(crate::specs::Told::operands))]
-fn operands() -> &'static [Row]
-    ensures { spec.rows_of result ≡ spec.operands }
-{
-    &OPERANDS
-}
-
-#[tactic(auto, unfolding(crate::specs::Told::joints))]
-fn joints() -> &'static [Row]
-    ensures { spec.rows_of result ≡ spec.joints }
-{
-    &JOINTS
-}
-
-#[tactic(auto, unfolding(crate::specs::Told::declared))]
-fn declared() -> &'static [Row]
-    ensures { spec.rows_of result ≡ spec.declared }
-{
-    &DECLARED
-}
-
-#[tactic(auto, unfolding(crate::specs::Told::heads))]
-fn heads() -> &'static [Row]
-    ensures { spec.rows_of result ≡ spec.heads }
-{
-    &HEADS
-}
-
-#[tactic(auto, unfolding(crate::specs::Told::closed))]
-fn closed() -> &'static [Row]
-    ensures { spec.rows_of result ≡ spec.closed }
-{
-    &CLOSED
-}
-
-#[tactic(auto, unfolding(crate::specs::Told::places))]
-fn places() -> &'static [Row]
-    ensures { spec.rows_of result ≡ spec.places }
-{
-    &PLACES
 }

@@ -174,26 +174,5 @@ pub static JOINED: [Word; 17] = [
 pub(crate) fn words() -> [&'static [Word]; 3]
     ensures { map spec.words_of result ≡ spec.words }
 {
-    [early(), late(), joined()]
-}
-
-#[tactic(auto, unfolding(crate::specs::Told::early))]
-fn early() -> &'static [Word]
-    ensures { spec.words_of result ≡ spec.early }
-{
-    &EARLY
-}
-
-#[tactic(auto, unfolding(crate::specs::Told::late))]
-fn late() -> &'static [Word]
-    ensures { spec.words_of result ≡ spec.late }
-{
-    &LATE
-}
-
-#[tactic(auto, unfolding(crate::specs::Told::joined))]
-fn joined() -> &'static [Word]
-    ensures { spec.words_of result ≡ spec.joined }
-{
-    &JOINED
+    [&EARLY, &LATE, &JOINED]
 }

@@ -59,9 +59,9 @@ abbrev pub is_found : Declared → Bool
 is_found Never = false
 is_found _ = true
 
--- a list of generics or ports declares it
-abbrev pub is_listed : (text name : List ℕ) → (list : List Token) → Bool
-is_listed text name list = is_found (declared_in text name true Never list)
+-- these tokens declare it: a list of generics or ports, or others
+abbrev pub is_declared : (text name : List ℕ) → (in_list : Bool) → List Token → Bool
+is_declared text name in_list tokens = is_found (declared_in text name in_list Never tokens)
 
 -- ---- where it can be declared
 
@@ -83,6 +83,10 @@ all_declared text name source before =
 abbrev pub bounds_in : Declared → List Token
 bounds_in (Once declaration) = in_parentheses (from k.LeftParen declaration)
 bounds_in _ = []
+
+-- of a port in a list
+abbrev pub listed_bounds : (text name : List ℕ) → (list : List Token) → List Token
+listed_bounds text name list = bounds_in (declared_in text name true Never list)
 
 abbrev pub bounds_of : (text name : List ℕ) → (source before : List Token) → List Token
 bounds_of text name source before = bounds_in (all_declared text name source before)

@@ -1,5 +1,5 @@
 -- The name that has to stand at an end: that of what it ends (IEEE 1076-2008, 3.2.1, 10.8, 10.9, 10.10, 11.3, 11.9).
-use Rattle.std.specs.Prelude.{ℕ, ◌-◌, ◌&&◌, ◌||◌, not, Bool, false, if◌then◌else◌, List, [], ◌∷◌, length, take, drop, Option, Some, None}
+use Rattle.std.specs.Prelude.{◌-◌, ◌&&◌, ◌||◌, not, Bool, if◌then◌else◌, List, [], ◌∷◌, length, take, drop, Option, Some, None}
 use Rattle.std.specs.List.{prefix_len}
 use Rattle.vhdl_slips.specs.Parts.{begins}
 use Rattle.vhdl_hints.specs.declared.end_name.Begun.{Begun}

@@ -1,12 +1,14 @@
 -- How a hint is told: its sentence, and what a designer does about it.
-use Rattle.std.specs.Prelude.{ℕ, not, Bool, if◌then◌else◌, List, [], ◌++◌, drop, codes, decimal, flat_map, Option, Some, None}
-use Rattle.vhdl_slips.specs.Words.{Read, first_text, subject, text_of}
-use Rattle.vhdl_hints.specs.Hints.{Actual, Empty, Enumeration, Hint, NoFormal, NoName, Nothing, OpenPort, OtherName, Outside}
+use Rattle.std.specs.Prelude.{ℕ, ◌==◌, not, Bool, if◌then◌else◌, List, [], ◌∷◌, ◌++◌, drop, length, codes, decimal, flat_map, Option, Some, None}
+use Rattle.vhdl_slips.specs.Words.{Read, subject, text_of}
+use Rattle.vhdl_hints.specs.Hints.{Actual, Empty, Form, Hint, NoFormal, Nothing, OpenPort, OtherName, OtherType, Outside}
 use Rattle.vhdl_slips.specs.Listings.{names_listed}
 use Rattle.vhdl_slips.specs.Parts.{first_of}
 use Rattle.vhdl_slips.specs.declared.listing.Listing.{Listing}
 use Rattle.vhdl_slips.specs.declared.listing.Listing.TheVariants.{Generics, Ports}
-use Rattle.vhdl_hints.specs.declared.saying.TheConstants.{HELP_EMPTY, HELP_FORMAL, HELP_LITERAL, HELP_NAME, HELP_NO_NAME}
+use Rattle.vhdl_hints.specs.declared.part.Part as code
+use Rattle.vhdl_hints.specs.declared.part.Part.TheVariants as c
+use Rattle.vhdl_hints.specs.declared.saying.TheConstants.{HELP_EMPTY, HELP_FORMAL, HELP_LENGTH, HELP_NAME, HELP_TYPE}
 use Rattle.vhdl_lexer.specs.declared.token.Token.{Token}
 
 -- a blank, and a token
@@ -21,65 +23,88 @@ parted_from text (Some first) behind = text_of text first ++ flat_map (parted te
 abbrev pub words_text : (text : List ℕ) → List Token → List ℕ
 words_text text tokens = parted_from text (first_of tokens) (drop 1 tokens)
 
+-- the bounds of a port, where they are known
+abbrev pub bounds_text : (text : List ℕ) → (bounds : List Token) → List ℕ
+bounds_text text bounds = if length bounds == 0 then [] else codes ", as (" ++ words_text text bounds ++ codes ")"
+
+-- ---- sentences of parts
+
+pub data Part : Type 0 where
+  -- the word that the fault is at
+  Subject : Part
+  Text : List ℕ → Part
+  Word : Token → Part
+  Words : List Token → Part
+  Bounds : List Token → Part
+  Number : ℕ → Part
+  Names : Listing → List Token → Part
+
+abbrev pub part_view : code.Part → Part
+part_view c.Subject = Subject
+part_view (c.Text text) = Text text.now
+part_view (c.Word t) = Word t
+part_view (c.Words tokens) = Words tokens.now
+part_view (c.Bounds tokens) = Bounds tokens.now
+part_view (c.Number n) = Number n
+part_view (c.Names listing tokens) = Names listing tokens.now
+
+abbrev pub part_text : (words : Read) → Part → List ℕ
+part_text words Subject = subject words
+part_text words (Text text) = text
+part_text words (Word t) = text_of words.text t
+part_text words (Words tokens) = words_text words.text tokens
+part_text words (Bounds tokens) = bounds_text words.text tokens
+part_text words (Number n) = decimal n
+part_text words (Names listing tokens) = names_listed listing words.text tokens
+
+abbrev pub code_text : (words : Read) → code.Part → List ℕ
+code_text words part = part_text words (part_view part)
+
+-- one behind the other
+abbrev pub told : (words : Read) → List Part → List ℕ
+told words parts = flat_map (part_text words) parts
+
 abbrev pub has_no : (is_port : Bool) → List ℕ
 has_no is_port = if is_port then codes " has no port " else codes " has no generic "
 
 abbrev pub listing_of : (is_port : Bool) → Listing
 listing_of is_port = if is_port then Ports else Generics
 
-abbrev pub no_formal_text : (text : List ℕ) → (entity formal : Token) → (is_port : Bool) → (formals : List Token) → List ℕ
-no_formal_text text entity formal is_port formals =
-    codes "entity " ++ text_of text entity ++ has_no is_port ++ text_of text formal ++ codes "; " ++ names_listed (listing_of is_port) text formals
-
--- ---- of the first of these words
-
-abbrev pub open_port_text : (words : Read) → (entity port : Token) → List ℕ
-open_port_text words entity port =
-    subject words ++ codes "leaves open the in port " ++ text_of words.text port ++ codes " of entity " ++ text_of words.text entity
-    ++ codes ", which has no default"
-
-abbrev pub other_name_text : (words : Read) → (name : Token) → List ℕ
-other_name_text words name = subject words ++ codes "stands at the end of " ++ text_of words.text name
-
-abbrev pub outside_text : (words : Read) → (index bounds : List Token) → List ℕ
-outside_text words index bounds =
-    codes "`" ++ first_text words ++ codes "(" ++ words_text words.text index ++ codes ")` is outside of (" ++ words_text words.text bounds
-    ++ codes "), or against its direction"
-
 abbrev pub direction_text : (is_upward : Bool) → List ℕ
 direction_text is_upward = if is_upward then codes " to " else codes " downto "
 
-abbrev pub range_text : (text : List ℕ) → (left right : Token) → (is_upward : Bool) → List ℕ
-range_text text left right is_upward = text_of text left ++ direction_text is_upward ++ text_of text right
-
-abbrev pub empty_text : (words : Read) → (left right : Token) → (is_upward : Bool) → List ℕ
-empty_text words left right is_upward =
-    subject words ++ codes "has a range without elements: (" ++ range_text words.text left right is_upward ++ codes ") is written ("
-    ++ range_text words.text right left is_upward ++ codes ") or (" ++ range_text words.text left right (not is_upward) ++ codes ")"
-
-abbrev pub actual_text : (words : Read) → (entity port : Token) → (found needed : ℕ) → List ℕ
-actual_text words entity port found needed =
-    subject words ++ codes "has length " ++ decimal found ++ codes ", and the port " ++ text_of words.text port ++ codes " of entity "
-    ++ text_of words.text entity ++ codes " has length " ++ decimal needed
-
 -- ---- of each hint
 
+abbrev pub parts : Hint → List Part
+parts Nothing = []
+parts (Form said) = Subject ∷ Text said.0 ∷ []
+parts (NoFormal entity formal is_port formals) =
+    Text (codes "entity ") ∷ Word entity ∷ Text (has_no is_port) ∷ Word formal ∷ Text (codes "; ") ∷ Names (listing_of is_port) formals ∷ []
+parts (OpenPort entity port) =
+    Subject ∷ Text (codes "leaves open the in port ") ∷ Word port ∷ Text (codes " of entity ") ∷ Word entity ∷ Text (codes ", which has no default") ∷ []
+parts (OtherName name) = Subject ∷ Text (codes "stands at the end of ") ∷ Word name ∷ []
+parts (Outside name index bounds) =
+    Text (codes "`") ∷ Word name ∷ Text (codes "(") ∷ Words index ∷ Text (codes ")` is outside of (") ∷ Words bounds
+    ∷ Text (codes "), or against its direction") ∷ []
+parts (Empty left right is_upward) =
+    Subject ∷ Text (codes "has a range without elements: (") ∷ Word left ∷ Text (direction_text is_upward) ∷ Word right
+    ∷ Text (codes ") is written (") ∷ Word right ∷ Text (direction_text is_upward) ∷ Word left
+    ∷ Text (codes ") or (") ∷ Word left ∷ Text (direction_text (not is_upward)) ∷ Word right ∷ Text (codes ")") ∷ []
+parts (Actual entity port bounds found needed) =
+    Subject ∷ Text (codes "has length ") ∷ Number found ∷ Text (codes ", and the port ") ∷ Word port ∷ Text (codes " of entity ") ∷ Word entity
+    ∷ Text (codes " has length ") ∷ Number needed ∷ Bounds bounds ∷ []
+parts (OtherType entity port) =
+    Subject ∷ Text (codes "has another type than the port ") ∷ Word port ∷ Text (codes " of entity ") ∷ Word entity ∷ []
+
 abbrev pub sentence : (words : Read) → Hint → List ℕ
-sentence words Nothing = []
-sentence words (NoFormal entity formal is_port formals) = no_formal_text words.text entity formal is_port formals
-sentence words (OpenPort entity port) = open_port_text words entity port
-sentence words (OtherName name) = other_name_text words name
-sentence words NoName = subject words ++ codes "stands at the end of what has no name at its beginning"
-sentence words Enumeration = subject words ++ codes "doesn't name each literal of its enumeration, and has no others"
-sentence words (Outside index bounds) = outside_text words index bounds
-sentence words (Empty left right is_upward) = empty_text words left right is_upward
-sentence words (Actual entity port found needed) = actual_text words entity port found needed
+sentence words hint = told words (parts hint)
 
 -- that of its rule, where it has none of its own
 abbrev pub help : Hint → (usual : List ℕ) → List ℕ
+help (Form said) usual = said.1
 help (NoFormal entity formal is_port formals) usual = HELP_FORMAL.now
 help (OtherName name) usual = HELP_NAME.now
-help NoName usual = HELP_NO_NAME.now
-help Enumeration usual = HELP_LITERAL.now
 help (Empty left right is_upward) usual = HELP_EMPTY.now
+help (Actual entity port bounds found needed) usual = HELP_LENGTH.now
+help (OtherType entity port) usual = HELP_TYPE.now
 help _ usual = usual

@@ -23,20 +23,33 @@ pub(crate) enum Declared<'a> {
 pub(crate) fn bounds_of<'a>(source: Lexed<'a>, name: &[u8], before: &'a [Token]) -> &'a [Token]
     ensures { result.now ≡ spec.bounds_of source.entry.text.now name.now source.entry.tokens.now before.now }
 {
-    match all_declared(source, name, before) {
+    bounds_in(all_declared(source, name, before))
+}
+
+/// The same of a port in a list.
+pub(crate) fn listed_bounds<'a>(text: &[u8], name: &[u8], list: &'a [Token]) -> &'a [Token]
+    ensures { result.now ≡ spec.listed_bounds text.now name.now list.now }
+{
+    bounds_in(declared_in(text, name, true, Declared::Never, list))
+}
+
+fn bounds_in<'a>(found: Declared<'a>) -> &'a [Token]
+    ensures { result.now ≡ spec.bounds_in (spec.declared_view found.entry) }
+{
+    match found {
         Declared::Once(declaration) => in_parentheses(from(TokenKind::LeftParen, declaration)),
         _ => &[],
     }
 }
 
-/// Whether a list of generics or ports declares this name.
-pub(crate) fn is_listed(text: &[u8], name: &[u8], list: &[Token]) -> bool
-    ensures { result ≡ spec.is_listed text.now name.now list.now }
+/// Whether these tokens declare this name: a list of generics or ports, or others.
+pub(crate) fn is_declared(text: &[u8], name: &[u8], in_list: bool, tokens: &[Token]) -> bool
+    ensures { result ≡ spec.is_declared text.now name.now in_list tokens.now }
 {
-    match declared_in(text, name, true, Declared::Never, list) {
-        Declared::Never => false,
-        _ => true,
-    }
+    !matches!(
+        declared_in(text, name, in_list, Declared::Never, tokens),
+        Declared::Never
+    )
 }
 
 /// How often the architecture before a byte and the ports of its entity declare a name together.
@@ -56,7 +69,7 @@ fn all_declared<'a>(source: Lexed<'a>, name: &[u8], before: &'a [Token]) -> Decl
 }
 
 /// The ports of the entity of an architecture, which stands from its name on.
-fn ports_of<'a>(source: Lexed<'a>, architecture: &[Token]) -> &'a [Token]
+pub(crate) fn ports_of<'a>(source: Lexed<'a>, architecture: &[Token]) -> &'a [Token]
     ensures { result.now ≡ spec.ports_of source.entry.text.now source.entry.tokens.now architecture.now }
 {
     match architecture {

@@ -5,13 +5,15 @@ ghost use Rattle.vhdl_slips.specs.Parts.{first_of};
 ghost use Rattle.vhdl_slips.specs.Words.{read_of, with_tokens};
 ghost use Rattle.vhdl_hints.specs.Hints as spec;
 
-use crate::bound::{bounds_of, is_empty, is_listed, range_at};
+use crate::bound::{bounds_of, is_declared, is_empty, listed_bounds, range_at};
 use crate::end_name::{Begun, but_last_two, end_word, last_begun, last_two};
+use crate::form::{LITERALS, NO_NAME};
+use crate::word::{elements, elsewhere, no_target, twice};
 use fault_rules::{ElabRule, NameRule, Report, Rule, Subject};
 use vhdl_lexer::{Token, TokenKind};
 use vhdl_slips::{
-    Lexed, associations, begins, entity_of, first_choice, first_of, first_open, formal_in, formals,
-    has, in_parentheses, interface_of, is_by_name, is_literal, is_same_kind, labelled,
+    Lexed, Said, associations, begins, entity_of, first_choice, first_of, first_open, formal_in,
+    formals, has, in_parentheses, interface_of, is_by_name, is_literal, is_same_kind, labelled,
     open_instance, past, text_of, type_of,
 };
 
@@ -20,44 +22,23 @@ use vhdl_slips::{
 pub enum Hint<'a> {
     /// Nothing more than its rule.
     Nothing,
-    /// An entity has no generic or port of a name; it has these.
-    NoFormal {
-        entity: Token,
-        formal: Token,
-        is_port: bool,
-        formals: &'a [Token],
-    },
-    /// An instance leaves this port of its entity open.
-    OpenPort {
-        entity: Token,
-        port: Token,
-    },
+    /// This of the word.
+    Form(Said),
+    /// An entity has no port, or generic, of a name; it has these.
+    NoFormal(Token, Token, bool, &'a [Token]),
+    /// An instance leaves open of its entity this port.
+    OpenPort(Token, Token),
     /// What ends there has another name.
-    OtherName {
-        name: Token,
-    },
-    /// What ends there has no name.
-    NoName,
-    /// The choices are literals of an enumeration of the architecture.
-    Enumeration,
-    /// An index or slice, and the bounds that are declared.
-    Outside {
-        index: &'a [Token],
-        bounds: &'a [Token],
-    },
-    /// A range has no element: its bounds, and its direction.
-    Empty {
-        left: Token,
-        right: Token,
-        is_upward: bool,
-    },
-    /// An actual has another length than its port.
-    Actual {
-        entity: Token,
-        port: Token,
-        found: usize,
-        needed: usize,
-    },
+    OtherName(Token),
+    /// Of a name this index or slice, and the bounds that are declared.
+    Outside(Token, &'a [Token], &'a [Token]),
+    /// A range has no element: its bounds, and whether it goes upward.
+    Empty(Token, Token, bool),
+    /// An actual has another length than of its entity this port, which has these bounds: its own
+    /// length and that of the port.
+    Actual(Token, Token, &'a [Token], usize, usize),
+    /// An actual has another type than of its entity this port.
+    OtherType(Token, Token),
 }
 
 impl<'a> Hint<'a> {
@@ -66,6 +47,16 @@ impl<'a> Hint<'a> {
         ensures { result ≡ spec.is_nothing (spec.hint_view self.entry) }
     {
         matches!(self, Hint::Nothing)
+    }
+
+    /// This hint, or where it tells nothing the other.
+    fn or_else(self, other: Hint<'a>) -> Hint<'a>
+        ensures { spec.hint_view result ≡ spec.or_else (spec.hint_view self.entry) (spec.hint_view other.entry) }
+    {
+        match self {
+            Hint::Nothing => other,
+            _ => self,
+        }
     }
 }
 
@@ -81,10 +72,16 @@ pub fn hint_at<'a>(
         ≡ spec.hint_at (read_of source.entry) before.now from.now report.rule report.subject }
 {
     match report.rule {
-        Rule::Name(NameRule::Undeclared) => no_formal(source, before, from),
-        Rule::Name(NameRule::WrongKind) => other_name(before),
+        Rule::Name(NameRule::Undeclared) => {
+            no_formal(source, before, from).or_else(elsewhere(source.text, before, from))
+        }
+        Rule::Name(NameRule::Twice) => twice(source, before, from),
+        Rule::Name(NameRule::WrongKind) => other_name(before).or_else(no_target(before, from)),
+        Rule::Name(NameRule::TypeMismatch) => {
+            elements(source.text, from).or_else(actual(source, before, from, report.subject))
+        }
         Rule::Name(NameRule::NoOthers) => enumeration(source.text, before, from),
-        Rule::Elab(ElabRule::Length) => length_hint(before, from, report.subject),
+        Rule::Elab(ElabRule::Length) => actual(source, before, from, report.subject),
         Rule::Elab(ElabRule::Index) => outside(source, before, from),
         Rule::Elab(ElabRule::Unassociated) => open_port(source, from),
         _ => Hint::Nothing,
@@ -132,12 +129,7 @@ fn unknown_formal<'a>(
     match from {
         [formal, arrow, ..] => {
             if is_unknown(text, interface, formals, *formal, *arrow) {
-                Hint::NoFormal {
-                    entity,
-                    formal: *formal,
-                    is_port,
-                    formals,
-                }
+                Hint::NoFormal(entity, *formal, is_port, formals)
             } else {
                 Hint::Nothing
             }
@@ -158,7 +150,7 @@ fn is_unknown(
 {
     is_same_kind(arrow.kind, TokenKind::Arrow)
         && !interface.is_empty()
-        && !is_listed(text, text_of(text, name), formals)
+        && !is_declared(text, text_of(text, name), true, formals)
 }
 
 /// Of the instance of which the label stands at the front.
@@ -194,7 +186,7 @@ fn open_hint(entity: Token, port: Option<Token>) -> Hint<'static>
     ensures { spec.hint_view result ≡ spec.open_hint entity port }
 {
     match port {
-        Some(port) => Hint::OpenPort { entity, port },
+        Some(port) => Hint::OpenPort(entity, port),
         None => Hint::Nothing,
     }
 }
@@ -214,8 +206,8 @@ fn begun_hint(begun: Begun) -> Hint<'static>
 {
     match begun {
         Begun::Unknown => Hint::Nothing,
-        Begun::Unnamed => Hint::NoName,
-        Begun::Named(name) => Hint::OtherName { name },
+        Begun::Unnamed => Hint::Form(NO_NAME),
+        Begun::Named(name) => Hint::OtherName(name),
     }
 }
 
@@ -240,7 +232,7 @@ fn choice_hint(before: Lexed<'_>, choice: Token) -> Hint<'static>
     if is_same_kind(choice.kind, TokenKind::Identifier)
         && is_literal(type_of(before, literal), literal)
     {
-        Hint::Enumeration
+        Hint::Form(LITERALS)
     } else {
         Hint::Nothing
     }
@@ -263,11 +255,11 @@ fn empty_hint(range: &[Token]) -> Hint<'static>
     ensures { spec.hint_view result ≡ spec.empty_hint range.now }
 {
     match range {
-        [left, direction, right] => Hint::Empty {
-            left: *left,
-            right: *right,
-            is_upward: is_same_kind(direction.kind, TokenKind::To),
-        },
+        [left, direction, right] => Hint::Empty(
+            *left,
+            *right,
+            is_same_kind(direction.kind, TokenKind::To),
+        ),
         _ => Hint::Nothing,
     }
 }
@@ -279,6 +271,7 @@ fn index_hint<'a>(source: Lexed<'a>, before: &'a [Token], from: &'a [Token]) -> 
 {
     match first_of(from) {
         Some(name) => outside_hint(
+            name,
             in_parentheses(past(1, from)),
             bounds_of(source, text_of(source.text, name), before),
         ),
@@ -286,28 +279,24 @@ fn index_hint<'a>(source: Lexed<'a>, before: &'a [Token], from: &'a [Token]) -> 
     }
 }
 
-fn outside_hint<'a>(index: &'a [Token], bounds: &'a [Token]) -> Hint<'a>
-    ensures { spec.hint_view result ≡ spec.outside_hint index.now bounds.now }
+fn outside_hint<'a>(name: Token, index: &'a [Token], bounds: &'a [Token]) -> Hint<'a>
+    ensures { spec.hint_view result ≡ spec.outside_hint name index.now bounds.now }
 {
     if index.is_empty() || bounds.is_empty() {
         Hint::Nothing
     } else {
-        Hint::Outside { index, bounds }
+        Hint::Outside(name, index, bounds)
     }
 }
 
-/// Of an actual of another length than its port.
-fn length_hint(before: &[Token], from: &[Token], subject: Subject) -> Hint<'static>
-    ensures { spec.hint_view result ≡ spec.length_hint before.now from.now subject }
+/// Of an actual of another length or type than its port.
+fn actual<'a>(source: Lexed<'a>, before: &[Token], from: &[Token], subject: Subject) -> Hint<'a>
+    ensures { spec.hint_view result ≡ spec.actual (read_of source.entry) before.now from.now subject }
 {
-    match subject {
-        Subject::Lengths { found, needed } => {
-            if ends_actual(from) {
-                actual(before, found, needed)
-            } else {
-                Hint::Nothing
-            }
-        }
+    let instance = open_instance(before);
+    let is_port = ends_actual(from) && has(TokenKind::Port, instance);
+    match (is_port, entity_of(instance), formal_in(last_two(before))) {
+        (true, Some(entity), Some(port)) => actual_of(source, entity, port, subject),
         _ => Hint::Nothing,
     }
 }
@@ -319,34 +308,14 @@ fn ends_actual(from: &[Token]) -> bool
     begins(TokenKind::Comma, past(1, from)) || begins(TokenKind::RightParen, past(1, from))
 }
 
-fn actual(before: &[Token], found: usize, needed: usize) -> Hint<'static>
-    ensures { spec.hint_view result ≡ spec.actual before.now found needed }
+/// Of two lengths that differ, or else of two types.
+fn actual_of<'a>(source: Lexed<'a>, entity: Token, port: Token, subject: Subject) -> Hint<'a>
+    ensures { spec.hint_view result ≡ spec.actual_of (read_of source.entry) entity port subject }
 {
-    let instance = open_instance(before);
-    port_hint(
-        has(TokenKind::Port, instance),
-        entity_of(instance),
-        formal_in(last_two(before)),
-        (found, needed),
-    )
-}
-
-fn port_hint(
-    is_port: bool,
-    entity: Option<Token>,
-    port: Option<Token>,
-    lengths: (usize, usize),
-) -> Hint<'static>
-    ensures { spec.hint_view result ≡ spec.port_hint is_port entity port lengths.0 lengths.1 }
-{
-    let (found, needed) = lengths;
-    match (is_port, entity, port) {
-        (true, Some(entity), Some(port)) => Hint::Actual {
-            entity,
-            port,
-            found,
-            needed,
-        },
-        _ => Hint::Nothing,
+    let ports = formals(true, interface_in(source, entity));
+    let bounds = listed_bounds(source.text, text_of(source.text, port), ports);
+    match subject {
+        Subject::Lengths { found, needed } => Hint::Actual(entity, port, bounds, found, needed),
+        _ => Hint::OtherType(entity, port),
     }
 }

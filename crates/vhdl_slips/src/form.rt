@@ -172,14 +172,14 @@ pub const ACTUAL: Said = (
 );
 
 pub const DEFAULT: Said = (
-    "can't stand here: the value of a constant and a default are one literal, another constant or (others => value)",
-    "write the value itself, and assign what is computed to a signal",
+    "can't stand here: a constant or default is one literal of its type, another constant or (others => value)",
+    "write (others => '0') or \"0101\" for a vector or unsigned, and no number; assign what is computed to a signal",
 );
 
 /// What is no literal, behind `when` or `|`.
 pub const CHOICE: Said = (
-    "is no choice: that is a literal of the selector's type, or a constant",
-    "write when \"0000\" of a vector or unsigned, '0' of one element, and a literal of an enumeration",
+    "begins what is no choice: a choice is one literal of the selector's type or a constant, and | parts several",
+    "write when \"00\" | \"01\" of a vector or unsigned, when '0' of one element, and a literal of an enumeration",
 );
 
 /// Vector types without a range.

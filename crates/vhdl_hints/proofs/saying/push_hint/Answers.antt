@@ -1,4 +1,18 @@
 use Rattle.vhdl_hints.proofs.saying.push_hint.Goals as goal
 
-pub returns-in-Enumeration : goal.returns-in-Enumeration
-returns-in-Enumeration g c = rw c.in-Enumeration.is c.push_said-in-Enumeration.ensures
+pub returns-in-OpenPort : goal.returns-in-OpenPort
+returns-in-OpenPort g c = rw c.in-OpenPort.is c.push_parts-in-OpenPort.ensures
+
+pub returns-in-Outside : goal.returns-in-Outside
+returns-in-Outside g c = rw c.in-Outside.is c.push_parts-in-Outside.ensures
+
+pub returns-in-Empty : goal.returns-in-Empty
+returns-in-Empty g c =
+    let parts = rw (c.direction.ensures, c.direction-in-Empty.ensures, c.direction-in-Empty-2.ensures) at c.push_parts-in-Empty.ensures in
+    rw c.in-Empty.is parts
+
+pub returns-in-Actual : goal.returns-in-Actual
+returns-in-Actual g c = rw c.in-Actual.is c.push_parts-in-Actual.ensures
+
+pub returns-in-OtherType : goal.returns-in-OtherType
+returns-in-OtherType g c = rw c.in-OtherType.is c.push_parts-in-OtherType.ensures

@@ -1,7 +1,7 @@
-use Rattle.std.proofs.Common.{[], get_or}
+use Rattle.std.proofs.Common.{[]}
 use Rattle.byte_streams.proofs.Writing.{Goes-next}
 use Rattle.vhdl_hints.specs.Sayings.{parted}
-use Rattle.vhdl_hints.proofs.saying.push_parted.Goals as goal
+use Rattle.vhdl_hints.proofs.part.push_parted.Goals as goal
 
 pub loop-token-preserved : goal.loop-token-preserved
 loop-token-preserved g c =

@@ -1,7 +1,7 @@
 use Rattle.std.specs.Prelude.{flat_map, take}
 use Rattle.byte_streams.specs.Written.{Goes}
 use Rattle.vhdl_hints.specs.Sayings.{parted}
-use Rattle.vhdl_hints.proofs.saying.push_parted.Given as goal
+use Rattle.vhdl_hints.proofs.part.push_parted.Given as goal
 
 -- the tokens before this one went out
 abbrev pub invariant-loop-token : goal.invariant-loop-token

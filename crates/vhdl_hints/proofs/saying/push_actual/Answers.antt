@@ -1,6 +1,0 @@
-use Rattle.byte_streams.proofs.Writing.{Goes-append}
-use Rattle.vhdl_hints.proofs.saying.push_actual.Goals as goal
-
-pub returns : goal.returns
-returns g c =
-    Goes-append _ _ _ _ _ (Goes-append _ _ _ _ _ (Goes-append _ _ _ _ _ (Goes-append _ _ _ _ _ (Goes-append _ _ _ _ _ (Goes-append _ _ _ _ _ (Goes-append _ _ _ _ _ (Goes-append _ _ _ _ _ c.push_subject.ensures c.push_text.ensures) c.push_number.ensures) c.push_text-2.ensures) c.push_word.ensures) c.push_text-3.ensures) c.push_word-2.ensures) c.push_text-4.ensures) c.push_number-2.ensures

@@ -1,0 +1,55 @@
+//! What is told of one word, and what helps.
+
+use vhdl_slips::Said;
+
+pub const NO_NAME: Said = (
+    "stands at the end of what has no name at its beginning",
+    "leave it out, or put it and a colon before what ends here",
+);
+
+pub const LITERALS: Said = (
+    "doesn't name each literal of its enumeration, and has no others",
+    "add a choice for the literal that is missing, or others as the last one",
+);
+
+pub const INDEX: Said = (
+    "is the index of a loop or generate above, and isn't known behind the end of that",
+    "use it between loop and end loop, or generate and end generate; write a number or a constant elsewhere",
+);
+
+pub const BELOW: Said = (
+    "is declared below, and not within sight of this place",
+    "move its declaration above this place, into the same architecture or process; what the range of a port names is \
+     a generic",
+);
+
+pub const ABOVE: Said = (
+    "is declared above, but not within sight of this place",
+    "declare it as a signal of this architecture: a variable is known in its process alone, and a signal or constant \
+     in its architecture alone",
+);
+
+pub const FORMAL_TWICE: Said = (
+    "is associated a second time in one map",
+    "see which port or generic is meant here: each is associated once",
+);
+
+pub const PORT_TWICE: Said = (
+    "is a port of the entity already",
+    "leave out this declaration, or take another name for the signal",
+);
+
+pub const NO_VARIABLE: Said = (
+    "is no variable, and := assigns variables alone",
+    "assign a signal by <=; a constant, a generic and the index of a loop aren't assigned",
+);
+
+pub const NO_SIGNAL: Said = (
+    "is no signal, and <= assigns signals alone",
+    "assign a variable by :=; a constant, a generic and the index of a loop aren't assigned",
+);
+
+pub const ELEMENTS: Said = (
+    "has a character in it that is none of U X 0 1 Z W L H -",
+    "write the digits 0 and 1, and other values in capitals; with underscores write b\"0000_1111\"",
+);
