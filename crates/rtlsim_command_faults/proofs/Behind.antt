@@ -178,17 +178,9 @@ pub others_none : (files : List FileView) (source top : List ℕ) (first : Fault
 others_none files source top first told no_syntax no_name = adds_none (behind.Behind files source top first) told end.Whole (alone first no_syntax no_name)
   where
     alone : (fault : Fault) → ((x : SyntaxFault) → fault ≡ f.Syntax x → ⊥) → ((x : NameFault) → fault ≡ f.Name x → ⊥) → behind.Behind files source top fault (ended end.Whole)
-    alone (f.Lex x) no_syntax no_name = refl
     alone (f.Syntax x) no_syntax no_name = absurd (no_syntax x refl)
     alone (f.Name x) no_syntax no_name = absurd (no_name x refl)
-    alone (f.Elab x) no_syntax no_name = refl
-    alone (f.Rejected x) no_syntax no_name = refl
-    alone (f.Stim x) no_syntax no_name = refl
-    alone (f.Expect x) no_syntax no_name = refl
-    alone (f.Differs x) no_syntax no_name = refl
-    alone (f.NoSettling x) no_syntax no_name = refl
-    alone f.Memory no_syntax no_name = refl
-    alone f.Output no_syntax no_name = refl
+    alone _ no_syntax no_name = refl
 
 -- what is pushed where memory suffices, and nothing where it is refused
 pub unpushed : {T E : Type 0} (r : Result T E) (Q : E → Type 0) (pushed told : List Told) → IsErrAnd r Q → told ≡ (if is_ok r then pushed else told)

@@ -16,11 +16,8 @@ use Rattle.vhdl_front_rules.specs.declared.fault.SourceFault.TheVariants as sour
 -- of want of memory there is none
 pub described : (files : List FileView) (text top : List ℕ) (fault : SourceFault) (object : List ℕ) (old new : SinkState) → IsObject files text top (of_source fault) object
     → Goes old new object → Describes files text top fault old new
-described files text top (source.Lex x) object old new is goes = (object, is, goes)
-described files text top (source.Syntax x) object old new is goes = (object, is, goes)
-described files text top (source.Name x) object old new is goes = (object, is, goes)
-described files text top (source.Elab x) object old new is goes = (object, is, goes)
 described files text top source.NoMemory object old new is goes = let none : Some is.1.first ≡ None = is.1.is in absurd (cc)
+described files text top _ object old new is goes = (object, is, goes)
 
 -- of a fault that is no source's nothing is told
 pub first_none : (files : List FileView) (text : List ℕ) (fault : Fault) → ((x : LexFault) → fault ≡ f.Lex x → ⊥) → ((x : SyntaxFault) → fault ≡ f.Syntax x → ⊥)
@@ -29,10 +26,4 @@ first_none files text (f.Lex x) lex syntax name elab = absurd (lex x refl)
 first_none files text (f.Syntax x) lex syntax name elab = absurd (syntax x refl)
 first_none files text (f.Name x) lex syntax name elab = absurd (name x refl)
 first_none files text (f.Elab x) lex syntax name elab = absurd (elab x refl)
-first_none files text (f.Rejected x) lex syntax name elab = refl
-first_none files text (f.Stim x) lex syntax name elab = refl
-first_none files text (f.Expect x) lex syntax name elab = refl
-first_none files text (f.Differs x) lex syntax name elab = refl
-first_none files text (f.NoSettling x) lex syntax name elab = refl
-first_none files text f.Memory lex syntax name elab = refl
-first_none files text f.Output lex syntax name elab = refl
+first_none files text _ lex syntax name elab = refl

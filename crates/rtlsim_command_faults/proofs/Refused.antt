@@ -8,16 +8,10 @@ use Rattle.vhdl_front_rules.specs.declared.fault.SourceFault.TheVariants as sour
 
 -- where they are told
 pub source_told : (size : ℕ) (fault : SourceFault) → LiesIn size fault → IsTold size (of_source fault)
-source_told size (source.Lex x) h = h
-source_told size (source.Syntax x) h = h
-source_told size (source.Name x) h = h
-source_told size (source.Elab x) h = h
 source_told size source.NoMemory h = tt
+source_told size _ h = h
 
 -- a source's fault has no names in its line
 pub nameless : (fault : SourceFault) → has_names (of_source fault) ≡ false
-nameless (source.Lex x) = refl
-nameless (source.Syntax x) = refl
-nameless (source.Name x) = refl
-nameless (source.Elab x) = refl
 nameless source.NoMemory = refl
+nameless _ = refl

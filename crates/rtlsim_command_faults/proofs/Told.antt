@@ -49,17 +49,10 @@ listed_failed (Err f) old new text h failed part = rw h (failed, part)
 -- ---- faults whose source isn't read, and those whose source is
 
 pub not_read : (fault : Fault) → is_of_names fault ≡ true → is_read fault ≡ false
-not_read (f.Lex x) names = refl
 not_read (f.Syntax x) names = cc
 not_read (f.Name x) names = cc
 not_read (f.Elab x) names = cc
-not_read (f.Rejected x) names = refl
-not_read (f.Stim x) names = refl
-not_read (f.Expect x) names = refl
-not_read (f.Differs x) names = refl
-not_read (f.NoSettling x) names = refl
-not_read f.Memory names = refl
-not_read f.Output names = refl
+not_read _ names = refl
 
 pub explains_plain : (telling : Telling) (fault : Fault) (whole : Bool) (old new : SinkState) → is_read fault ≡ false → whole ≡ true
     → ((net : NetlistView) → Goes old new (explanation telling unread net fault)) → Explains telling fault whole old new
@@ -85,9 +78,7 @@ explains_none telling (f.NoSettling t) old new names lex syntax name elab time g
 explains_none telling (f.Rejected x) old new names lex syntax name elab time goes = absurd (true≢false names)
 explains_none telling (f.Stim x) old new names lex syntax name elab time goes = absurd (true≢false names)
 explains_none telling (f.Differs x) old new names lex syntax name elab time goes = absurd (true≢false names)
-explains_none telling (f.Expect x) old new names lex syntax name elab time goes = explains_plain telling (f.Expect x) true old new refl refl (λ net. goes)
-explains_none telling f.Memory old new names lex syntax name elab time goes = explains_plain telling f.Memory true old new refl refl (λ net. goes)
-explains_none telling f.Output old new names lex syntax name elab time goes = explains_plain telling f.Output true old new refl refl (λ net. goes)
+explains_none telling fault old new names lex syntax name elab time goes = explains_plain telling fault true old new refl refl (λ net. goes)
 
 -- ---- a race takes memory for its names
 
@@ -96,10 +87,8 @@ tells_race None = false
 tells_race (Some report) = is_race report
 
 pub named_by : (fault : StimFault) → tells_race (stim_report fault) ≡ true → takes_memory (f.Stim fault) ≡ true
-named_by (stim.InLine problem line) race = absurd (true≢false (sym race))
-named_by stim.NoStop race = absurd (true≢false (sym race))
 named_by (stim.Race time input clock) race = refl
-named_by stim.NoMemory race = absurd (true≢false (sym race))
+named_by _ race = absurd (true≢false (sym race))
 
 pub named_along : {T : Type 0} (r : Result T ListingFault) (P Q : Type 0) → (P → Q) → IfErr r (λ e. e ≡ listing.Memory → P) → IfErr r (λ e. e ≡ listing.Memory → Q)
 named_along (Ok x) P Q so h = tt
@@ -108,10 +97,8 @@ named_along (Err e) P Q so h = λ is. so (h is)
 -- a fault of a stimulus without names
 pub nameless_stim : (files : List FileView) (net : NetlistView) (fault : StimFault) → has_names (f.Stim fault) ≡ false
     → told_line files (stim_report fault) ≡ stim_line files net fault
-nameless_stim files net (stim.InLine problem line) quiet = refl
-nameless_stim files net stim.NoStop quiet = refl
 nameless_stim files net (stim.Race time input clock) named = absurd (true≢false named)
-nameless_stim files net stim.NoMemory quiet = refl
+nameless_stim files net _ quiet = refl
 
 -- ---- what is told of a fault
 

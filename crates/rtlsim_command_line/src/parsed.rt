@@ -1,8 +1,8 @@
 //! The options and operands behind a command.
 
-ghost use Rattle.std.specs.Prelude.{◌≡◌, ◌≤◌, IfOk, length, map, option_map};
+ghost use Rattle.std.specs.Prelude.{◌≡◌, ◌∷◌, ◌≤◌, IfOk, IfSome, MatchOption, OnOk, None, drop, length, map, option_map};
 ghost use Rattle.rtlsim_command_line.specs.Words as words;
-ghost use Rattle.rtlsim_command_line.specs.Words.{parsed_view, nothing, reads, row_of, text_of};
+ghost use Rattle.rtlsim_command_line.specs.Words.{parsed_view, nothing, reads, row_of, takes_option, with_use, text_of, use_view};
 ghost use Rattle.clap.specs.Lexer.{name_and_value};
 
 use crate::parts::{Part, is_valued};
@@ -47,10 +47,6 @@ pub(crate) fn read_words<'a>(
 }
 
 impl<'a> Parsed<'a> {
-    ghost use Rattle.std.specs.Prelude.{◌≡◌, ◌∷◌, ◌≤◌, ◌<◌, IfOk, IfSome, MatchOption, OnOk, None, drop, length, map, option_map};
-    ghost use Rattle.rtlsim_command_line.specs.Words as words;
-    ghost use Rattle.rtlsim_command_line.specs.Words.{parsed_view, reads, row_of, takes_option, with_use, text_of, use_view};
-
     /// Takes a word in, and answers how many of the others behind it are taken with it; `None`
     /// where the word can't be there.
     fn take(

@@ -34,105 +34,38 @@ pub struct Part<T: Copy> {
     pub without: T,
 }
 
+/// A row of the table: the command, or "" for each; how it is given; its name, and the option that
+/// excludes it; and its help.
+macro_rules! part {
+    ($command:literal $form:ident $name:literal $(without $without:literal)?: $help:literal) => {
+        Part {
+            command: $command,
+            form: Form::$form,
+            name: $name,
+            help: $help,
+            without: concat!($($without)?),
+        }
+    };
+}
+
 /// What each command takes, in the order of the help.
 pub const PARTS: [Part<&str>; 13] = [
-    Part {
-        command: "",
-        form: Form::Operand,
-        name: "FILE",
-        help: "The source, or @ for the standard input",
-        without: "",
-    },
-    Part {
-        command: "",
-        form: Form::Operand,
-        name: "TOP",
-        help: "The entity at the top",
-        without: "",
-    },
-    Part {
-        command: "",
-        form: Form::Files,
-        name: "with",
-        help: "A file whose text stands before the source's; any number",
-        without: "",
-    },
-    Part {
-        command: "",
-        form: Form::Flag,
-        name: "explain",
-        help: "Explains each fault: its place, the line, and what to do",
-        without: "",
-    },
-    Part {
-        command: "eval",
-        form: Form::Operands,
-        name: "NAME=VALUE",
-        help: "An input's value, of the characters U X 0 1 Z W L H -",
-        without: "",
-    },
-    Part {
-        command: "check",
-        form: Form::Flag,
-        name: "dot",
-        help: "Draws the levels of one that is, as a graph of Graphviz",
-        without: "",
-    },
-    Part {
-        command: "check",
-        form: Form::Flag,
-        name: "json",
-        help: "Prints the verdict as an object of JSON, for tools",
-        without: "dot",
-    },
-    Part {
-        command: "run",
-        form: Form::Operand,
-        name: "STIM",
-        help: "The stimulus, or @ for the standard input",
-        without: "",
-    },
-    Part {
-        command: "run",
-        form: Form::Flag,
-        name: "event",
-        help: "Simulates by events alone, without the checker",
-        without: "levels",
-    },
-    Part {
-        command: "run",
-        form: Form::Order,
-        name: "order",
-        help: "The order in which resumed processes run",
-        without: "levels",
-    },
-    Part {
-        command: "run",
-        form: Form::Flag,
-        name: "levels",
-        help: "Runs each process once a moment, in order of level",
-        without: "",
-    },
-    Part {
-        command: "run",
-        form: Form::File,
-        name: "expect",
-        help: "Compares with the values that FILE expects",
-        without: "",
-    },
-    Part {
-        command: "run",
-        form: Form::Flag,
-        name: "progress",
-        help: "Shows how far the run is",
-        without: "",
-    },
+    part! { "" Operand "FILE": "The source, or @ for the standard input" },
+    part! { "" Operand "TOP": "The entity at the top" },
+    part! { "" Files "with": "A file whose text stands before the source's; any number" },
+    part! { "" Flag "explain": "Explains each fault: its place, the line, and what to do" },
+    part! { "eval" Operands "NAME=VALUE": "An input's value, of the characters U X 0 1 Z W L H -" },
+    part! { "check" Flag "dot": "Draws the levels of one that is, as a graph of Graphviz" },
+    part! { "check" Flag "json" without "dot": "Prints the verdict as an object of JSON, for tools" },
+    part! { "run" Operand "STIM": "The stimulus, or @ for the standard input" },
+    part! { "run" Flag "event" without "levels": "Simulates by events alone, without the checker" },
+    part! { "run" Order "order" without "levels": "The order in which resumed processes run" },
+    part! { "run" Flag "levels": "Runs each process once a moment, in order of level" },
+    part! { "run" File "expect": "Compares with the values that FILE expects" },
+    part! { "run" Flag "progress": "Shows how far the run is" },
 ];
 
 impl Form {
-    ghost use Rattle.std.specs.Prelude.{◌≡◌};
-    ghost use Rattle.rtlsim_command_line.specs.Words as words;
-
     /// Whether an option takes a value; `None` of operands.
     pub(crate) fn takes_value(self) -> Option<bool>
         ensures { result ≡ words.takes_value self }

@@ -17,20 +17,14 @@ use Rattle.rtlsim_findings.specs.steps.Joining.{place_in}
 
 pub numbers : (a b : Option ℕ) → option_eq ◌==◌ a b ≡ is_same_number a b
 numbers None None = refl
-numbers None (Some y) = refl
-numbers (Some x) None = refl
 numbers (Some x) (Some y) = refl
+numbers _ _ = refl
 
 omissions : (a b : Omission) → omission.ghosts.eq a b ≡ omitted.is_same a b
 omissions (NoElse at) (NoElse by) = refl
-omissions (NoElse at) (Branch by n) = refl
-omissions (NoElse at) (Alternative by n) = refl
-omissions (Branch at n) (NoElse by) = refl
 omissions (Branch at n) (Branch by m) = refl
-omissions (Branch at n) (Alternative by m) = refl
-omissions (Alternative at n) (NoElse by) = refl
-omissions (Alternative at n) (Branch by m) = refl
 omissions (Alternative at n) (Alternative by m) = refl
+omissions _ _ = refl
 
 some-omissions : (a b : Option Omission) → option_eq omission.ghosts.eq a b ≡ omitted.are_same a b
 some-omissions None None = refl
@@ -40,9 +34,8 @@ some-omissions (Some x) (Some y) = omissions x y
 
 obstacles : (a b : Option Obstacle) → option_eq obstacle.ghosts.eq a b ≡ is_same_obstacle a b
 obstacles None None = refl
-obstacles None (Some y) = refl
-obstacles (Some x) None = refl
 obstacles (Some x) (Some y) = refl
+obstacles _ _ = refl
 
 five : (a b c d e : Bool) → (a && (b && (c && (d && e)))) ≡ ((((a && b) && c) && d) && e)
 five false b c d e = refl

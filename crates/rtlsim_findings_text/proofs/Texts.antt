@@ -1,6 +1,9 @@
 -- Texts of what a view shows, and of parts one behind another.
 use Rattle.std.proofs.Common.{◌≡◌, ℕ, List, [], ◌∷◌, ◌++◌, append_assoc, map, refl, sym, ap, ◌∙◌}
 use Rattle.std.specs.Prelude.{flat_map}
+use Rattle.vhdl_source_files.specs.Files.{FileView}
+use Rattle.rtlsim_findings_text.specs.Marks.{view}
+use Rattle.rtlsim_findings_text.specs.declared.places.MarkedFile.{MarkedFile}
 
 pub texts_of : {A B : Type 0} (text : B → List ℕ) (view : A → B) (xs : List A) → flat_map (λ x. text (view x)) xs ≡ flat_map text (map view xs)
 texts_of text view [] = refl
@@ -12,6 +15,12 @@ pub one_text_more : {A V : Type 0} (left others : List A) (x : A) (old new all :
 one_text_more left others x old new all are seen text pushed so_far =
     ap (λ t. t ++ map text (map seen others)) pushed ∙ append_assoc old (text (seen x) ∷ []) (map text (map seen others))
     ∙ sym (ap (λ ls. old ++ map text (map seen ls)) are) ∙ so_far
+
+-- what is written of what was found, with marks, is what the definition writes of it
+pub told_of : {A V : Type 0} (write : List FileView → List V → List ℕ) (seen : A → V) (files : List FileView) (marked given : List MarkedFile) (told passed : List A) (found : List V)
+    → given ≡ marked → map view marked ≡ files → passed ≡ told → map seen told ≡ found → write (map view given) (map seen passed) ≡ write files found
+told_of write seen files marked given told passed found g m t f =
+    ap (λ fs. write fs (map seen passed)) (ap (map view) g ∙ m) ∙ ap (write files) (ap (map seen) t ∙ f)
 
 -- ---- parts of a text, one behind another
 

@@ -1,7 +1,7 @@
 -- Lines and columns, counted on from a mark.
 use Rattle.std.proofs.Common.{◌≡◌, ℕ, suc, ◌+◌, ◌-◌, ◌*◌, ◌<◌, ◌≤◌, Bool, true, false, if◌then◌else◌, List, [], ◌∷◌, ◌++◌, length, get_or, take, drop, refl, sym, ap, subst, ◌∙◌, arith, ◌⊎◌, inl, inr}
 use Rattle.std.proofs.lemmas.Bool.{cases_lt, le-leb, lt-leb}
-use Rattle.std.proofs.lemmas.List.{length-append, length-take-le}
+use Rattle.std.proofs.lemmas.List.{length-append, length-drop, length-take, length-take-le}
 use Rattle.std.proofs.Math.ListN.{get_or-append}
 use Rattle.std.proofs.Math.Seq.{take-add, get_or-append_seam}
 use Rattle.rtl_stim_lines.specs.Lines.{ends_line}
@@ -43,6 +43,14 @@ on_fits l c (x ∷ xs) = by (ends_line x) (on_fits (l + 1) 1 xs) (on_fits l (c +
 pub walked : (text : List ℕ) (at : ℕ) (here : Position) → here ≡ position_behind (take at text) → at ≤ length text → Fits 1 1 at here
 walked text at here e l =
     subst (Fits 1 1 at) (sym e) (subst (λ n. Fits 1 1 n (position_behind (take at text))) (length-take-le at text l) (on_fits 1 1 (take at text)))
+
+-- nor are the bytes from there up to another place
+pub room : (text : List ℕ) (from at : ℕ) (here : Position) → here ≡ position_behind (take from text) → from ≤ at → at ≤ length text
+    → (here.line + length (take (at - from) (drop from text)) ≤ 1 + at) × (here.column + length (take (at - from) (drop from text)) ≤ 1 + at)
+room text from at here stands before within =
+    let f = walked text from here stands (omega (arith, before, within)) in
+    let m = length-take (at - from) (drop from text) in
+    let d = length-drop from text in (omega (arith, f.line, m, d, before, within), omega (arith, f.column, m, d, before, within))
 
 -- the next bytes are counted on from there
 pub further : (text : List ℕ) (at n : ℕ) (here : Position) → here ≡ position_behind (take at text) → on here (take n (drop at text)) ≡ position_behind (take (at + n) text)

@@ -7,7 +7,7 @@ use Rattle.rtl_net.specs.Nets.{NetlistView}
 use Rattle.rtl_remarks.specs.Remarks.{remarks_of}
 use Rattle.fault_rules.specs.Rules.{Text, words_of}
 use Rattle.fault_rules.specs.declared.report.Subject.{Subject}
-use Rattle.fault_rules.specs.declared.report.Subject.TheVariants.{Sources, ProcessNet, Element}
+use Rattle.fault_rules.specs.declared.report.Subject.TheVariants.{Sources, ProcessNet}
 use Rattle.fault_rules.specs.declared.words.Words.{Words}
 use Rattle.rtlsim_refusals.specs.Places.{position_behind}
 use Rattle.rtlsim_refusals.specs.declared.place.Position.{Position}
@@ -18,7 +18,7 @@ use Rattle.rtlsim_findings.specs.Remarked as remarked
 use Rattle.rtlsim_findings.specs.Sayings.{message, note_at, note_text, processes, all_ranges_of}
 use Rattle.rtlsim_listing.specs.CheckText.{greatest_level}
 use Rattle.rtlsim_listing.specs.Reports.{report_of}
-use Rattle.rtlsim_findings_text.specs.Explained.{words_for, any_stored}
+use Rattle.rtlsim_findings_text.specs.Explained.{words_for, any_stored, is_element}
 use Rattle.rtlsim_findings_text.specs.Values.{array_text, items_text, string_text}
 
 -- ---- places
@@ -50,10 +50,6 @@ is_net (Sources n first second) = true
 is_net (ProcessNet process n) = true
 is_net _ = false
 
-abbrev pub is_variable : Subject → Bool
-is_variable (Element process variable place) = true
-is_variable _ = false
-
 abbrev pub names_if : (told : Bool) → NetlistView → FindingView → List ℕ
 names_if told net f = array_text string_text (if told then all_ranges_of net f else [])
 
@@ -72,7 +68,7 @@ unfoldable pub named_text : NetlistView → FindingView → List ℕ
 named_text net f =
     codes ",\"processes\":" ++ array_text (process_text net) (processes f)
     ++ codes ",\"nets\":" ++ names_if (is_net (report_of f.first).subject) net f
-    ++ codes ",\"variables\":" ++ names_if (is_variable (report_of f.first).subject) net f
+    ++ codes ",\"variables\":" ++ names_if (is_element (report_of f.first).subject) net f
 
 unfoldable pub places_text : List (List ℕ) → List ℕ
 places_text places = codes ",\"places\":" ++ array_text itself places ++ codes "}"

@@ -5,6 +5,7 @@ use Rattle.rtlsim_refusals.specs.declared.place.Position.{Position}
 use Rattle.vhdl_source_files.specs.Files.{FileView, before, file_view, spot_view}
 use Rattle.rtlsim_findings_text.specs.declared.places.MarkedFile.{MarkedFile}
 use Rattle.rtlsim_findings_text.specs.declared.places.PlacedByte.{PlacedByte}
+use Rattle.rtlsim_findings_text.specs.declared.places.Site.{Site}
 
 -- so many bytes stand between two marks
 abbrev pub step : ℕ
@@ -17,6 +18,10 @@ pub record AreMarks (text : List ℕ) (marks : List Position) : Type 0 where
 
 abbrev pub view : MarkedFile → FileView
 view m = file_view m.file
+
+-- the files that findings are told with
+abbrev pub files_at : Site → List FileView
+files_at site = map view site.files.now
 
 abbrev pub IsMarked : MarkedFile → Type 0
 IsMarked m = AreMarks m.file.text.now m.marks.items

@@ -6,40 +6,34 @@ ghost use Rattle.vhdl_source_files.specs.Files.{spot_view};
 ghost use Rattle.rtlsim_findings.specs.Findings.{finding_view};
 ghost use Rattle.rtlsim_findings.specs.Remarked.{remark_view};
 ghost use Rattle.rtlsim_findings_text.specs.Json as spec;
-ghost use Rattle.rtlsim_findings_text.specs.Marks.{IsMarked, Stands, view};
+ghost use Rattle.rtlsim_findings_text.specs.Marks.{IsMarked, Stands, files_at};
 ghost use Rattle.rtlsim_findings_text.specs.Values.{string_text};
 
-use crate::places::{MarkedFile, PlacedByte, place_at};
-use crate::values::{
-    push_number, push_process, push_processes, push_string, push_strings, push_texts,
-};
+use crate::places::{PlacedByte, Site, place_at};
+use crate::rejection::is_element;
+use crate::values::{push_array, push_process, push_processes, push_string};
 use fault_rules::{Rule, Subject};
-use rtl_net::{Net, NoMemory};
+use rtl_net::NoMemory;
 use rtlsim_findings::{
     Finding, RemarkFinding, all_ranges_of, at_process, message, note_at, note_text, processes,
     remark_message, remark_process, remark_report,
 };
-use rtlsim_listing::report_of;
+use rtlsim_listing::{push_decimal, report_of};
 use rtlsim_refusals::Position;
 use std::alloc::Global;
 
 /// The object of a finding.
 #[tactic(auto, unfolding(crate::specs::Json::finding_text))]
-pub(crate) fn finding_text(
-    alloc: Global,
-    files: &[MarkedFile<'_>],
-    net: &Net,
-    finding: &Finding<'_>,
-) -> Result<Vec<u8>, NoMemory>
-    requires marked { All IsMarked files.now }
+pub(crate) fn finding_text(site: &Site<'_>, finding: &Finding<'_>) -> Result<Vec<u8>, NoMemory>
+    requires marked { All IsMarked site.now.files.now }
     ensures { IfOk result (λ text. text.items
-        ≡ spec.finding_text (map view files.now) net.now (finding_view finding.now)) }
+        ≡ spec.finding_text (files_at site.now) site.now.net.now (finding_view finding.now)) }
 {
-    let mut text = Vec::new(alloc);
+    let mut text = Vec::new(site.alloc);
     push_title(report_of(finding.first).rule, &mut text)?;
-    push_said(alloc, net, finding, &mut text)?;
-    push_named(alloc, net, finding, &mut text)?;
-    let places = places_of(alloc, files, net, finding)?;
+    push_said(site, finding, &mut text)?;
+    push_named(site, finding, &mut text)?;
+    let places = places_of(site, finding)?;
     push_places(&places, &mut text)?;
     Ok(text)
 }
@@ -52,21 +46,21 @@ pub(crate) fn push_title(rule: Rule, text: &mut Vec<u8>) -> Result<(), NoMemory>
     let words = rule.words();
     push_member(b"{\"layer\":", words.layer.as_bytes(), text)?;
     text.extend_from_slice(b",\"number\":")?;
-    push_number(usize::from(words.number), text)?;
+    push_decimal(usize::from(words.number), text)?;
     push_member(b",\"name\":", words.name.as_bytes(), text)
 }
 
 /// Appends the sentence and the help.
 #[tactic(auto, unfolding(crate::specs::Json::said_text))]
-fn push_said(
-    alloc: Global,
-    net: &Net,
-    finding: &Finding<'_>,
-    text: &mut Vec<u8>,
-) -> Result<(), NoMemory>
-    ensures { OnOk result (text.new.items ≡ text.old.items ++ spec.said_text net.now (finding_view finding.now)) }
+fn push_said(site: &Site<'_>, finding: &Finding<'_>, text: &mut Vec<u8>) -> Result<(), NoMemory>
+    ensures { OnOk result (text.new.items
+        ≡ text.old.items ++ spec.said_text site.now.net.now (finding_view finding.now)) }
 {
-    push_member(b",\"message\":", &message(alloc, net, finding)?, text)?;
+    push_member(
+        b",\"message\":",
+        &message(site.alloc, site.net, finding)?,
+        text,
+    )?;
     let words = report_of(finding.first).rule.words();
     push_member(b",\"help\":", words.help.as_bytes(), text)
 }
@@ -81,45 +75,33 @@ pub(crate) fn push_member(name: &[u8], bytes: &[u8], text: &mut Vec<u8>) -> Resu
 
 /// Appends the processes, nets and variables.
 #[tactic(auto, unfolding(crate::specs::Json::named_text))]
-fn push_named(
-    alloc: Global,
-    net: &Net,
-    finding: &Finding<'_>,
-    text: &mut Vec<u8>,
-) -> Result<(), NoMemory>
-    ensures { OnOk result (text.new.items ≡ text.old.items ++ spec.named_text net.now (finding_view finding.now)) }
+fn push_named(site: &Site<'_>, finding: &Finding<'_>, text: &mut Vec<u8>) -> Result<(), NoMemory>
+    ensures { OnOk result (text.new.items
+        ≡ text.old.items ++ spec.named_text site.now.net.now (finding_view finding.now)) }
 {
     let subject = report_of(finding.first).subject;
     text.extend_from_slice(b",\"processes\":")?;
-    push_processes(alloc, net, &processes(alloc, finding)?, text)?;
-    push_names(alloc, b",\"nets\":", is_net(subject), net, finding, text)?;
-    push_names(
-        alloc,
-        b",\"variables\":",
-        is_variable(subject),
-        net,
-        finding,
-        text,
-    )
+    push_processes(site, &processes(site.alloc, finding)?, text)?;
+    push_names(site, b",\"nets\":", is_net(subject), finding, text)?;
+    push_names(site, b",\"variables\":", is_element(subject), finding, text)
 }
 
 /// Appends the member of this name: the names that all faults of a finding are told of, if they are
 /// told here.
 #[tactic(auto, unfolding(crate::specs::Values::array_text))]
 fn push_names(
-    alloc: Global,
+    site: &Site<'_>,
     name: &[u8],
     told: bool,
-    net: &Net,
     finding: &Finding<'_>,
     text: &mut Vec<u8>,
 ) -> Result<(), NoMemory>
     ensures { OnOk result (text.new.items
-        ≡ text.old.items ++ (name.now ++ spec.names_if told net.now (finding_view finding.now))) }
+        ≡ text.old.items ++ (name.now ++ spec.names_if told site.now.net.now (finding_view finding.now))) }
 {
     text.extend_from_slice(name)?;
     if told {
-        push_strings(&all_ranges_of(alloc, net, finding)?, text)
+        push_array(&all_ranges_of(site.alloc, site.net, finding)?, true, text)
     } else {
         Ok(text.extend_from_slice(b"[]")?)
     }
@@ -135,48 +117,35 @@ fn is_net(subject: Subject) -> bool
     )
 }
 
-/// Whether something is told of a variable.
-fn is_variable(subject: Subject) -> bool
-    ensures { result ≡ spec.is_variable subject }
-{
-    matches!(subject, Subject::Element { .. })
-}
-
 /// The places of a finding: that of its first process, and that of its note.
-fn places_of(
-    alloc: Global,
-    files: &[MarkedFile<'_>],
-    net: &Net,
-    finding: &Finding<'_>,
-) -> Result<Vec<Vec<u8>>, NoMemory>
-    requires marked { All IsMarked files.now }
+fn places_of(site: &Site<'_>, finding: &Finding<'_>) -> Result<Vec<Vec<u8>>, NoMemory>
+    requires marked { All IsMarked site.now.files.now }
     ensures { IfOk result (λ texts. map (λ t. t.items) texts.items
-        ≡ spec.places_of (map view files.now) net.now (finding_view finding.now)) }
+        ≡ spec.places_of (files_at site.now) site.now.net.now (finding_view finding.now)) }
 {
-    let mut texts = Vec::new(alloc);
-    push_placed(alloc, files, finding.cause.first, b"null", &mut texts)?;
-    let mut note = Vec::new(alloc);
-    push_string(&note_text(alloc, net, finding)?, &mut note)?;
-    push_placed(alloc, files, note_at(finding), &note, &mut texts)?;
+    let mut texts = Vec::new(site.alloc);
+    push_placed(site, finding.cause.first, b"null", &mut texts)?;
+    let mut note = Vec::new(site.alloc);
+    push_string(&note_text(site.alloc, site.net, finding)?, &mut note)?;
+    push_placed(site, note_at(finding), &note, &mut texts)?;
     Ok(texts)
 }
 
 /// Appends the object of a place with this note, if there is a place.
 fn push_placed(
-    alloc: Global,
-    files: &[MarkedFile<'_>],
+    site: &Site<'_>,
     at: Option<usize>,
     note: &[u8],
     texts: &mut Vec<Vec<u8>>,
 ) -> Result<(), NoMemory>
-    requires marked { All IsMarked files.now }
+    requires marked { All IsMarked site.now.files.now }
     ensures { OnOk result (map (λ t. t.items) texts.new.items
-        ≡ map (λ t. t.items) texts.old.items ++ spec.placed (map view files.now) at note.now) }
+        ≡ map (λ t. t.items) texts.old.items ++ spec.placed (files_at site.now) at note.now) }
 {
     let Some(at) = at else {
         return Ok(());
     };
-    texts.push(spot_text(alloc, place_at(files, at), note)?)?;
+    texts.push(spot_text(site.alloc, place_at(site.files, at), note)?)?;
     Ok(())
 }
 
@@ -204,9 +173,9 @@ fn push_position(position: Position, text: &mut Vec<u8>) -> Result<(), NoMemory>
     ensures { OnOk result (text.new.items ≡ text.old.items ++ spec.position_text position) }
 {
     text.extend_from_slice(b",\"line\":")?;
-    push_number(position.line, text)?;
+    push_decimal(position.line, text)?;
     text.extend_from_slice(b",\"column\":")?;
-    push_number(position.column, text)
+    push_decimal(position.column, text)
 }
 
 /// Appends the array of places, with which an object ends.
@@ -215,35 +184,31 @@ pub(crate) fn push_places(places: &[Vec<u8>], text: &mut Vec<u8>) -> Result<(), 
     ensures { OnOk result (text.new.items ≡ text.old.items ++ spec.places_text (map (λ t. t.items) places.now)) }
 {
     text.extend_from_slice(b",\"places\":")?;
-    push_texts(places, text)?;
+    push_array(places, false, text)?;
     text.extend_from_slice(b"}")?;
     Ok(())
 }
 
 /// The object of remarks that are told as one.
 #[tactic(auto, unfolding(crate::specs::Json::remark_text))]
-pub(crate) fn remark_text(
-    alloc: Global,
-    files: &[MarkedFile<'_>],
-    net: &Net,
-    found: &RemarkFinding,
-) -> Result<Vec<u8>, NoMemory>
-    requires marked { All IsMarked files.now }
-    ensures { IfOk result (λ text. text.items ≡ spec.remark_text (map view files.now) net.now (remark_view found.now)) }
+pub(crate) fn remark_text(site: &Site<'_>, found: &RemarkFinding) -> Result<Vec<u8>, NoMemory>
+    requires marked { All IsMarked site.now.files.now }
+    ensures { IfOk result (λ text. text.items
+        ≡ spec.remark_text (files_at site.now) site.now.net.now (remark_view found.now)) }
 {
     let process = remark_process(found.remark);
-    let mut places = Vec::new(alloc);
-    push_placed(alloc, files, at_process(net, process), b"null", &mut places)?;
+    let mut places = Vec::new(site.alloc);
+    push_placed(site, at_process(site.net, process), b"null", &mut places)?;
     let words = remark_report(found.remark).rule.words();
-    let mut text = Vec::new(alloc);
+    let mut text = Vec::new(site.alloc);
     push_member(b"{\"name\":", words.name.as_bytes(), &mut text)?;
     push_member(
         b",\"message\":",
-        &remark_message(alloc, net, found)?,
+        &remark_message(site.alloc, site.net, found)?,
         &mut text,
     )?;
     text.extend_from_slice(b",\"process\":")?;
-    push_process(alloc, net, process, &mut text)?;
+    push_process(site, process, &mut text)?;
     text.extend_from_slice(b",\"nets\":[")?;
     push_string(&found.nets, &mut text)?;
     text.extend_from_slice(b"]")?;

@@ -6,60 +6,48 @@ ghost use Rattle.fault_rules.specs.Rules.{words_of};
 ghost use Rattle.rtlsim_refusals.specs.Explained.{help_line};
 ghost use Rattle.rtlsim_findings.specs.Findings.{finding_view};
 ghost use Rattle.rtlsim_findings_text.specs.Explained as spec;
-ghost use Rattle.rtlsim_findings_text.specs.Marks.{IsMarked, view};
+ghost use Rattle.rtlsim_findings_text.specs.Marks.{IsMarked, files_at, view};
 
-use crate::places::{MarkedFile, push_place};
+use crate::places::{MarkedFile, Site, push_place};
 use crate::shown::push_shown;
 use fault_rules::Rule;
 use rtl_check::CheckFault;
-use rtl_net::{Net, NoMemory};
+use rtl_net::NoMemory;
 use rtlsim_findings::{Finding, also, culprits, message, note_at, note_text};
 use rtlsim_listing::{push_decimal, push_title, report_of};
-use std::alloc::Global;
 
 /// How many other instances are named behind the first.
 const MOST_OTHERS: usize = 14;
 
 /// The paragraph of a finding.
 #[tactic(auto, unfolding(crate::specs::Explained::paragraph))]
-pub(crate) fn paragraph(
-    alloc: Global,
-    files: &[MarkedFile<'_>],
-    net: &Net,
-    finding: &Finding<'_>,
-) -> Result<Vec<u8>, NoMemory>
-    requires marked { All IsMarked files.now }
+pub(crate) fn paragraph(site: &Site<'_>, finding: &Finding<'_>) -> Result<Vec<u8>, NoMemory>
+    requires marked { All IsMarked site.now.files.now }
     ensures { IfOk result (λ text. text.items
-        ≡ spec.paragraph (map view files.now) net.now (finding_view finding.now)) }
+        ≡ spec.paragraph (files_at site.now) site.now.net.now (finding_view finding.now)) }
 {
-    let mut text = Vec::new(alloc);
-    push_told(alloc, files, net, finding, &mut text)?;
-    let note = note_text(alloc, net, finding)?;
-    push_noted(files, note_at(finding), &note, &mut text)?;
-    push_also(alloc, net, &also(alloc, finding)?, &mut text)?;
+    let mut text = Vec::new(site.alloc);
+    push_told(site, finding, &mut text)?;
+    let note = note_text(site.alloc, site.net, finding)?;
+    push_noted(site.files, note_at(finding), &note, &mut text)?;
+    push_also(site, &also(site.alloc, finding)?, &mut text)?;
     push_help(report_of(finding.first).rule, &mut text)?;
     Ok(text)
 }
 
 /// Appends the place, what is found, and the line of the place.
 #[tactic(auto, unfolding(crate::specs::Explained::told_text))]
-fn push_told(
-    alloc: Global,
-    files: &[MarkedFile<'_>],
-    net: &Net,
-    finding: &Finding<'_>,
-    text: &mut Vec<u8>,
-) -> Result<(), NoMemory>
-    requires marked { All IsMarked files.now }
+fn push_told(site: &Site<'_>, finding: &Finding<'_>, text: &mut Vec<u8>) -> Result<(), NoMemory>
+    requires marked { All IsMarked site.now.files.now }
     ensures { OnOk result (text.new.items
-        ≡ text.old.items ++ spec.told_text (map view files.now) net.now (finding_view finding.now)) }
+        ≡ text.old.items ++ spec.told_text (files_at site.now) site.now.net.now (finding_view finding.now)) }
 {
-    push_place(files, finding.cause.first, text)?;
+    push_place(site.files, finding.cause.first, text)?;
     push_title(report_of(finding.first).rule, text)?;
     text.extend_from_slice(b": ")?;
-    text.extend_from_slice(&message(alloc, net, finding)?)?;
+    text.extend_from_slice(&message(site.alloc, site.net, finding)?)?;
     text.extend_from_slice(b"\n")?;
-    push_shown(files, finding.cause.first, text)
+    push_shown(site.files, finding.cause.first, text)
 }
 
 /// Appends the place of a note, the note, and the line of the place.
@@ -85,35 +73,25 @@ fn push_noted(
 
 /// Appends the line of the processes of the other instances that have it.
 #[tactic(auto, unfolding(crate::specs::Explained::also_text))]
-fn push_also(
-    alloc: Global,
-    net: &Net,
-    faults: &[&CheckFault],
-    text: &mut Vec<u8>,
-) -> Result<(), NoMemory>
+fn push_also(site: &Site<'_>, faults: &[&CheckFault], text: &mut Vec<u8>) -> Result<(), NoMemory>
     ensures { OnOk result (text.new.items
-        ≡ text.old.items ++ spec.also_text net.now (map (λ f. fault_view f.now) faults.now)) }
+        ≡ text.old.items ++ spec.also_text site.now.net.now (map (λ f. fault_view f.now) faults.now)) }
 {
     let [fault, others @ ..] = faults else {
         return Ok(());
     };
     text.extend_from_slice(b"also in ")?;
-    text.extend_from_slice(&culprits(alloc, net, fault)?)?;
-    push_others(alloc, net, others, text)?;
+    text.extend_from_slice(&culprits(site.alloc, site.net, fault)?)?;
+    push_others(site, others, text)?;
     text.extend_from_slice(b"\n")?;
     Ok(())
 }
 
 /// Appends the processes of the instances behind the first, or of so many and how many more there
 /// are.
-fn push_others(
-    alloc: Global,
-    net: &Net,
-    faults: &[&CheckFault],
-    text: &mut Vec<u8>,
-) -> Result<(), NoMemory>
+fn push_others(site: &Site<'_>, faults: &[&CheckFault], text: &mut Vec<u8>) -> Result<(), NoMemory>
     ensures { OnOk result (text.new.items
-        ≡ text.old.items ++ spec.others_text net.now 14 (map (λ f. fault_view f.now) faults.now)) }
+        ≡ text.old.items ++ spec.others_text site.now.net.now 14 (map (λ f. fault_view f.now) faults.now)) }
 {
     let mut room = MOST_OTHERS;
     let mut left = faults;
@@ -122,7 +100,7 @@ fn push_others(
             return push_more(left.len(), text);
         }
         text.extend_from_slice(b", ")?;
-        text.extend_from_slice(&culprits(alloc, net, fault)?)?;
+        text.extend_from_slice(&culprits(site.alloc, site.net, fault)?)?;
         room -= 1;
         left = rest;
     }

@@ -1,6 +1,6 @@
 //! Places in files, found without a walk over the whole file for each.
 
-ghost use Rattle.std.specs.Prelude.{◌≡◌, ◌++◌, ◌+◌, ◌<◌, ◌^◌, All, length, map, take, IfOk, OnOk};
+ghost use Rattle.std.specs.Prelude.{◌≡◌, ◌++◌, All, map, take, IfOk, OnOk};
 ghost use Rattle.rtlsim_refusals.specs.Explained as said;
 ghost use Rattle.rtlsim_refusals.specs.Places as spec;
 ghost use Rattle.vhdl_source_files.specs.Files as spots;
@@ -8,9 +8,9 @@ ghost use Rattle.vhdl_source_files.specs.Files.{file_view};
 ghost use Rattle.rtlsim_findings_text.specs.Marks.{AreMarks, AreMarked, IsMarked, Stands, view};
 ghost use Rattle.rtlsim_findings_text.specs.Placed as placed;
 
-use rtl_net::NoMemory;
+use rtl_net::{Net, NoMemory};
 use rtlsim_listing::push_decimal;
-use rtlsim_refusals::{Position, line_after};
+use rtlsim_refusals::{Position, line_after, position_from};
 use std::alloc::Global;
 use vhdl_source_files::{FilePlace, SourceFile, halves};
 
@@ -28,25 +28,12 @@ pub(crate) struct MarkedFile<'a> {
     pub marks: Vec<Position>,
 }
 
-/// Where the byte behind these bytes stands, the first of which stands here.
-fn position_from(here: Position, bytes: &[u8]) -> Position
-    requires line { here.line + length bytes.now < 2 ^ 64 }
-    requires column { here.column + length bytes.now < 2 ^ 64 }
-    ensures { result ≡ spec.position_from here.line here.column bytes.now }
-{
-    let mut line = here.line;
-    let mut column = here.column;
-    let mut left = bytes;
-    while let [byte, rest @ ..] = left {
-        if *byte == b'\n' {
-            line += 1;
-            column = 1;
-        } else {
-            column += 1;
-        }
-        left = rest;
-    }
-    Position { line, column }
+/// What findings and remarks are told with: the files of their netlist's source, with marks.
+#[derive(Clone, Copy)]
+pub(crate) struct Site<'a> {
+    pub alloc: Global,
+    pub files: &'a [MarkedFile<'a>],
+    pub net: &'a Net,
 }
 
 /// The marks of a text.

@@ -8,7 +8,7 @@ ghost use Rattle.rtlsim_findings_text.specs.Refusals as spec;
 
 use crate::object::{push_member, push_places, push_title, spot_text};
 use crate::places::PlacedByte;
-use crate::values::{push_string, push_texts};
+use crate::values::{push_array, push_string};
 use rtl_net::NoMemory;
 use rtlsim_refusals::{Told, position_behind};
 use std::alloc::Global;
@@ -27,7 +27,7 @@ pub fn refused_text(alloc: Global, faults: &[Told<'_>]) -> Result<Vec<u8>, NoMem
         alloc,
         b"{\"version\":2,\"verdict\":\"refused\",\"levels\":null,\"bound\":null,\"simulates\":null,\"faults\":",
     )?;
-    push_texts(&objects, &mut text)?;
+    push_array(&objects, false, &mut text)?;
     text.extend_from_slice(b",\"remarks\":[]}\n")?;
     Ok(text)
 }

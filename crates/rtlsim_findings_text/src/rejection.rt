@@ -6,10 +6,10 @@ ghost use Rattle.vhdl_source_files.specs.Files.{file_view};
 ghost use Rattle.rtlsim_findings.specs.Findings.{finding_view};
 ghost use Rattle.rtlsim_listing.specs.Printing.{IsListed, Prints};
 ghost use Rattle.rtlsim_findings_text.specs.Explained as spec;
-ghost use Rattle.rtlsim_findings_text.specs.Marks.{IsMarked, view};
+ghost use Rattle.rtlsim_findings_text.specs.Marks.{IsMarked, files_at};
 
 use crate::paragraph::paragraph;
-use crate::places::{MarkedFile, mark_files};
+use crate::places::{Site, mark_files};
 use byte_streams::{Sink, finish, push_text};
 use fault_rules::Subject;
 use rtl_check::CheckFault;
@@ -38,43 +38,26 @@ pub fn explain_rejection<S: Sink>(
     ensures { IsListed result (S.state sink.old) (S.state sink.new)
         (spec.rejection_explained (map file_view files.now) net.now faults.now) }
 {
-    push_explained(alloc, files, net, faults, sink)?;
-    finish(sink)?;
-    Ok(())
-}
-
-/// Writes the explanation.
-fn push_explained<S: Sink>(
-    alloc: Global,
-    files: &[SourceFile<'_>],
-    net: &Net,
-    faults: &[CheckFault],
-    sink: &mut S,
-) -> Result<(), NoMemory>
-    ensures { Prints result (S.state sink.old) (S.state sink.new)
-        (spec.rejection_explained (map file_view files.now) net.now faults.now) }
-{
     let found = findings(alloc, net, faults)?;
     let marked = mark_files(alloc, files)?;
-    push_paragraphs(alloc, &marked, net, &found, sink)?;
+    let files = marked.as_slice();
+    push_paragraphs(&Site { alloc, files, net }, &found, sink)?;
     push_ending(faults, sink);
-    Ok(())
+    Ok(finish(sink)?)
 }
 
 /// Writes the paragraphs of these findings.
 fn push_paragraphs<S: Sink>(
-    alloc: Global,
-    files: &[MarkedFile<'_>],
-    net: &Net,
+    site: &Site<'_>,
     found: &[Finding<'_>],
     sink: &mut S,
 ) -> Result<(), NoMemory>
-    requires marked { All IsMarked files.now }
+    requires marked { All IsMarked site.now.files.now }
     ensures { Prints result (S.state sink.old) (S.state sink.new)
-        (flat_map (spec.paragraph (map view files.now) net.now) (map finding_view found.now)) }
+        (flat_map (spec.paragraph (files_at site.now) site.now.net.now) (map finding_view found.now)) }
 {
     for finding in found {
-        let text = paragraph(alloc, files, net, finding)?;
+        let text = paragraph(site, finding)?;
         push_text(sink, &text);
     }
     Ok(())
@@ -107,7 +90,7 @@ pub(crate) fn any_stored(faults: &[CheckFault]) -> bool
 }
 
 /// Whether something is told of an element of a variable.
-fn is_element(subject: Subject) -> bool
+pub(crate) fn is_element(subject: Subject) -> bool
     ensures { result ≡ spec.is_element subject }
 {
     matches!(subject, Subject::Element { .. })

@@ -5,10 +5,10 @@ ghost use Rattle.byte_streams.specs.Written.{IsIntact};
 ghost use Rattle.vhdl_source_files.specs.Files.{file_view};
 ghost use Rattle.rtlsim_findings.specs.Remarked.{remark_view};
 ghost use Rattle.rtlsim_listing.specs.Printing.{IsListed};
-ghost use Rattle.rtlsim_findings_text.specs.Marks.{IsMarked, view};
+ghost use Rattle.rtlsim_findings_text.specs.Marks.{IsMarked, files_at};
 ghost use Rattle.rtlsim_findings_text.specs.RemarkText as spec;
 
-use crate::places::{MarkedFile, mark_files, push_place};
+use crate::places::{Site, mark_files, push_place};
 use byte_streams::{Sink, finish, push_text};
 use rtl_net::{Net, NoMemory};
 use rtl_remarks::{Remark, remarks};
@@ -71,45 +71,35 @@ fn text_of(
     let found = remark_findings(alloc, net, remarks)?;
     let marked = mark_files(alloc, files)?;
     let mut text = Vec::new(alloc);
-    push_lines(alloc, &marked, net, &found, &mut text)?;
+    let files = marked.as_slice();
+    push_lines(&Site { alloc, files, net }, &found, &mut text)?;
     Ok(text)
 }
 
 /// Appends the lines of these remarks.
-fn push_lines(
-    alloc: Global,
-    files: &[MarkedFile<'_>],
-    net: &Net,
-    found: &[RemarkFinding],
-    text: &mut Vec<u8>,
-) -> Result<(), NoMemory>
-    requires marked { All IsMarked files.now }
+fn push_lines(site: &Site<'_>, found: &[RemarkFinding], text: &mut Vec<u8>) -> Result<(), NoMemory>
+    requires marked { All IsMarked site.now.files.now }
     ensures { OnOk result (text.new.items
-        ≡ text.old.items ++ flat_map (spec.line (map view files.now) net.now) (map remark_view found.now)) }
+        ≡ text.old.items ++ flat_map (spec.line (files_at site.now) site.now.net.now) (map remark_view found.now)) }
 {
     let mut left = found;
     while let [remark, others @ ..] = left {
-        push_line(alloc, files, net, remark, text)?;
+        push_line(site, remark, text)?;
         left = others;
     }
     Ok(())
 }
 
 /// Appends the line of a remark.
-fn push_line(
-    alloc: Global,
-    files: &[MarkedFile<'_>],
-    net: &Net,
-    found: &RemarkFinding,
-    text: &mut Vec<u8>,
-) -> Result<(), NoMemory>
-    requires marked { All IsMarked files.now }
+fn push_line(site: &Site<'_>, found: &RemarkFinding, text: &mut Vec<u8>) -> Result<(), NoMemory>
+    requires marked { All IsMarked site.now.files.now }
     ensures { OnOk result (text.new.items
-        ≡ text.old.items ++ spec.line (map view files.now) net.now (remark_view found.now)) }
+        ≡ text.old.items ++ spec.line (files_at site.now) site.now.net.now (remark_view found.now)) }
 {
-    push_place(files, at_process(net, remark_process(found.remark)), text)?;
+    let at = at_process(site.net, remark_process(found.remark));
+    push_place(site.files, at, text)?;
     text.extend_from_slice(b"remark: ")?;
-    text.extend_from_slice(&remark_message(alloc, net, found)?)?;
+    text.extend_from_slice(&remark_message(site.alloc, site.net, found)?)?;
     text.extend_from_slice(b"\n")?;
     Ok(())
 }

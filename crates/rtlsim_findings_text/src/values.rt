@@ -1,13 +1,12 @@
 //! Strings, numbers and arrays of JSON.
 
-ghost use Rattle.std.specs.Prelude.{◌≡◌, ◌++◌, ◌<◌, decimal, flat_map, map, OnOk};
+ghost use Rattle.std.specs.Prelude.{◌≡◌, ◌++◌, ◌<◌, if◌then◌else◌, flat_map, map, OnOk};
 ghost use Rattle.rtlsim_findings_text.specs.Json.{itself, process_text};
 ghost use Rattle.rtlsim_findings_text.specs.Values as spec;
 
-use itoa::Buffer;
-use rtl_net::{Net, NoMemory};
+use crate::places::Site;
+use rtl_net::NoMemory;
 use rtlsim_listing::process_name;
-use std::alloc::Global;
 
 /// Appends a string of these bytes.
 #[tactic(auto, unfolding(crate::specs::Values::string_text))]
@@ -71,71 +70,48 @@ fn hex_digit(n: u8) -> u8
     if n < 10 { 48 + n } else { 87 + n }
 }
 
-/// Appends a number in decimal digits.
-pub(crate) fn push_number(number: usize, text: &mut Vec<u8>) -> Result<(), NoMemory>
-    ensures { OnOk result (text.new.items ≡ text.old.items ++ decimal number) }
-{
-    let mut buffer = Buffer::new();
-    text.extend_from_slice(buffer.format(number).as_bytes())?;
-    Ok(())
-}
-
-/// Appends an array of strings.
+/// Appends an array: of strings of these bytes, or of values of which these are the texts.
 #[tactic(auto, unfolding(crate::specs::Values::array_text))]
-pub(crate) fn push_strings(items: &[Vec<u8>], text: &mut Vec<u8>) -> Result<(), NoMemory>
-    ensures { OnOk result (text.new.items
-        ≡ text.old.items ++ spec.array_text spec.string_text (map (λ t. t.items) items.now)) }
+pub(crate) fn push_array(
+    items: &[Vec<u8>],
+    are_strings: bool,
+    text: &mut Vec<u8>,
+) -> Result<(), NoMemory>
+    ensures { OnOk result (text.new.items ≡ text.old.items
+        ++ spec.array_text (if are_strings then spec.string_text else itself) (map (λ t. t.items) items.now)) }
 {
     match items {
         [first, others @ ..] => {
             text.extend_from_slice(b"[")?;
-            push_string(first, text)?;
-            push_next_strings(others, text)?;
+            push_item(first, are_strings, text)?;
+            push_next(others, are_strings, text)?;
             Ok(text.extend_from_slice(b"]")?)
         }
         [] => Ok(text.extend_from_slice(b"[]")?),
     }
 }
 
-/// Appends strings, each behind a comma.
-fn push_next_strings(items: &[Vec<u8>], text: &mut Vec<u8>) -> Result<(), NoMemory>
+/// Appends one of these.
+fn push_item(item: &[u8], is_string: bool, text: &mut Vec<u8>) -> Result<(), NoMemory>
     ensures { OnOk result (text.new.items
-        ≡ text.old.items ++ flat_map (spec.next_text spec.string_text) (map (λ t. t.items) items.now)) }
+        ≡ text.old.items ++ (if is_string then spec.string_text else itself) item.now) }
+{
+    if is_string {
+        push_string(item, text)
+    } else {
+        Ok(text.extend_from_slice(item)?)
+    }
+}
+
+/// Appends those behind the first, each behind a comma.
+fn push_next(items: &[Vec<u8>], are_strings: bool, text: &mut Vec<u8>) -> Result<(), NoMemory>
+    ensures { OnOk result (text.new.items ≡ text.old.items
+        ++ flat_map (spec.next_text (if are_strings then spec.string_text else itself)) (map (λ t. t.items) items.now)) }
 {
     let mut left = items;
     while let [item, others @ ..] = left {
         text.extend_from_slice(b",")?;
-        push_string(item, text)?;
-        left = others;
-    }
-    Ok(())
-}
-
-/// Appends an array of values, of which these are the texts.
-#[tactic(auto, unfolding(crate::specs::Values::array_text))]
-pub(crate) fn push_texts(items: &[Vec<u8>], text: &mut Vec<u8>) -> Result<(), NoMemory>
-    ensures { OnOk result (text.new.items ≡ text.old.items ++ spec.array_text itself (map (λ t. t.items) items.now)) }
-{
-    match items {
-        [first, others @ ..] => {
-            text.extend_from_slice(b"[")?;
-            text.extend_from_slice(first)?;
-            push_next_texts(others, text)?;
-            Ok(text.extend_from_slice(b"]")?)
-        }
-        [] => Ok(text.extend_from_slice(b"[]")?),
-    }
-}
-
-/// Appends the texts of values, each behind a comma.
-fn push_next_texts(items: &[Vec<u8>], text: &mut Vec<u8>) -> Result<(), NoMemory>
-    ensures { OnOk result (text.new.items
-        ≡ text.old.items ++ flat_map (spec.next_text itself) (map (λ t. t.items) items.now)) }
-{
-    let mut left = items;
-    while let [item, others @ ..] = left {
-        text.extend_from_slice(b",")?;
-        text.extend_from_slice(item)?;
+        push_item(item, are_strings, text)?;
         left = others;
     }
     Ok(())
@@ -143,16 +119,15 @@ fn push_next_texts(items: &[Vec<u8>], text: &mut Vec<u8>) -> Result<(), NoMemory
 
 /// Appends the name of a process; an idle port has none.
 pub(crate) fn push_process(
-    alloc: Global,
-    net: &Net,
+    site: &Site<'_>,
     process: Option<usize>,
     text: &mut Vec<u8>,
 ) -> Result<(), NoMemory>
-    ensures { OnOk result (text.new.items ≡ text.old.items ++ process_text net.now process) }
+    ensures { OnOk result (text.new.items ≡ text.old.items ++ process_text site.now.net.now process) }
 {
     match process {
         Some(process) => {
-            let name = process_name(alloc, net, process)?;
+            let name = process_name(site.alloc, site.net, process)?;
             push_string(&name, text)
         }
         None => Ok(text.extend_from_slice(b"null")?),
@@ -162,18 +137,18 @@ pub(crate) fn push_process(
 /// Appends an array of the names of processes.
 #[tactic(auto, unfolding(crate::specs::Values::array_text))]
 pub(crate) fn push_processes(
-    alloc: Global,
-    net: &Net,
+    site: &Site<'_>,
     items: &[Option<usize>],
     text: &mut Vec<u8>,
 ) -> Result<(), NoMemory>
-    ensures { OnOk result (text.new.items ≡ text.old.items ++ spec.array_text (process_text net.now) items.now) }
+    ensures { OnOk result (text.new.items
+        ≡ text.old.items ++ spec.array_text (process_text site.now.net.now) items.now) }
 {
     match items {
         [first, others @ ..] => {
             text.extend_from_slice(b"[")?;
-            push_process(alloc, net, *first, text)?;
-            push_next_processes(alloc, net, others, text)?;
+            push_process(site, *first, text)?;
+            push_next_processes(site, others, text)?;
             Ok(text.extend_from_slice(b"]")?)
         }
         [] => Ok(text.extend_from_slice(b"[]")?),
@@ -182,18 +157,17 @@ pub(crate) fn push_processes(
 
 /// Appends the names of processes, each behind a comma.
 fn push_next_processes(
-    alloc: Global,
-    net: &Net,
+    site: &Site<'_>,
     items: &[Option<usize>],
     text: &mut Vec<u8>,
 ) -> Result<(), NoMemory>
     ensures { OnOk result (text.new.items
-        ≡ text.old.items ++ flat_map (spec.next_text (process_text net.now)) items.now) }
+        ≡ text.old.items ++ flat_map (spec.next_text (process_text site.now.net.now)) items.now) }
 {
     let mut left = items;
     while let [item, others @ ..] = left {
         text.extend_from_slice(b",")?;
-        push_process(alloc, net, *item, text)?;
+        push_process(site, *item, text)?;
         left = others;
     }
     Ok(())

@@ -5,22 +5,21 @@ ghost use Rattle.byte_streams.specs.Written.{IsIntact};
 ghost use Rattle.vhdl_source_files.specs.Files.{file_view};
 ghost use Rattle.rtlsim_findings.specs.Findings.{finding_view};
 ghost use Rattle.rtlsim_findings.specs.Remarked as remarked;
-ghost use Rattle.rtlsim_listing.specs.CheckText as listing;
 ghost use Rattle.rtlsim_listing.specs.Printing.{IsListed, Prints};
 ghost use Rattle.rtlsim_findings_text.specs.Json as spec;
-ghost use Rattle.rtlsim_findings_text.specs.Marks.{IsMarked, view};
+ghost use Rattle.rtlsim_findings_text.specs.Marks.{IsMarked, files_at};
 ghost use Rattle.rtlsim_findings_text.specs.Values.{items_text, next_text};
 
 use crate::object::{finding_text, remark_text};
-use crate::places::{MarkedFile, mark_files};
+use crate::places::{Site, mark_files};
 use crate::rejection::any_stored;
-use crate::values::{push_number, push_texts};
+use crate::values::push_array;
 use byte_streams::{Sink, finish, push_text};
 use rtl_check::Verdict;
 use rtl_net::{Net, NoMemory};
 use rtl_remarks::remarks;
 use rtlsim_findings::{Finding, RemarkFinding, findings, remark_findings};
-use rtlsim_listing::ListingFault;
+use rtlsim_listing::{ListingFault, greatest_level, push_decimal};
 use std::alloc::Global;
 use vhdl_source_files::SourceFile;
 
@@ -62,11 +61,13 @@ fn push_verdict<S: Sink>(
 {
     let found = found(alloc, net, verdict)?;
     let marked = mark_files(alloc, files)?;
+    let files = marked.as_slice();
+    let site = Site { alloc, files, net };
     let begin = verdict_text(alloc, verdict)?;
-    let end = end_text(alloc, &marked, net)?;
+    let end = end_text(&site)?;
     push_text(out, &begin);
     push_text(out, b",\"faults\":[");
-    push_findings(alloc, &marked, net, &found, out)?;
+    push_findings(&site, &found, out)?;
     push_text(out, b"]");
     push_text(out, &end);
     Ok(())
@@ -97,9 +98,9 @@ fn yes_text(alloc: Global, levels: u32, bound: u32) -> Result<Vec<u8>, NoMemory>
     ensures { IfOk result (λ text. text.items ≡ spec.yes_text levels bound) }
 {
     let mut text = Vec::from_slice(alloc, b"{\"version\":2,\"verdict\":\"yes\",\"levels\":")?;
-    push_number(levels as usize, &mut text)?;
+    push_decimal(levels as usize, &mut text)?;
     text.extend_from_slice(b",\"bound\":")?;
-    push_number(bound as usize, &mut text)?;
+    push_decimal(bound as usize, &mut text)?;
     text.extend_from_slice(b",\"simulates\":\"run\"")?;
     Ok(text)
 }
@@ -118,53 +119,32 @@ fn no_text(alloc: Global, stored: bool) -> Result<Vec<u8>, NoMemory>
     Ok(text)
 }
 
-/// The greatest of the levels that there are, 0 without any.
-fn greatest_level(levels: &[Option<u32>]) -> u32
-    ensures { result ≡ listing.greatest_level levels.now }
-{
-    let mut greatest: u32 = 0;
-    let mut left = levels;
-    while let [level, others @ ..] = left {
-        greatest = greatest.max(level.unwrap_or(0));
-        left = others;
-    }
-    greatest
-}
-
 /// Writes the objects of findings, with a comma between two.
 fn push_findings<W: Sink>(
-    alloc: Global,
-    files: &[MarkedFile<'_>],
-    net: &Net,
+    site: &Site<'_>,
     found: &[Finding<'_>],
     out: &mut W,
 ) -> Result<(), NoMemory>
-    requires marked { All IsMarked files.now }
+    requires marked { All IsMarked site.now.files.now }
     ensures { Prints result (W.state out.old) (W.state out.new)
-        (items_text (spec.finding_text (map view files.now) net.now) (map finding_view found.now)) }
+        (items_text (spec.finding_text (files_at site.now) site.now.net.now) (map finding_view found.now)) }
 {
     let [first, others @ ..] = found else {
         return Ok(());
     };
-    let text = finding_text(alloc, files, net, first)?;
+    let text = finding_text(site, first)?;
     push_text(out, &text);
-    push_others(alloc, files, net, others, out)
+    push_others(site, others, out)
 }
 
 /// Writes the objects of findings, each behind a comma.
-fn push_others<W: Sink>(
-    alloc: Global,
-    files: &[MarkedFile<'_>],
-    net: &Net,
-    found: &[Finding<'_>],
-    out: &mut W,
-) -> Result<(), NoMemory>
-    requires marked { All IsMarked files.now }
+fn push_others<W: Sink>(site: &Site<'_>, found: &[Finding<'_>], out: &mut W) -> Result<(), NoMemory>
+    requires marked { All IsMarked site.now.files.now }
     ensures { Prints result (W.state out.old) (W.state out.new)
-        (flat_map (next_text (spec.finding_text (map view files.now) net.now)) (map finding_view found.now)) }
+        (flat_map (next_text (spec.finding_text (files_at site.now) site.now.net.now)) (map finding_view found.now)) }
 {
     for finding in found {
-        let text = finding_text(alloc, files, net, finding)?;
+        let text = finding_text(site, finding)?;
         push_text(out, b",");
         push_text(out, &text);
     }
@@ -172,34 +152,29 @@ fn push_others<W: Sink>(
 }
 
 /// How the object ends: the remarks.
-fn end_text(alloc: Global, files: &[MarkedFile<'_>], net: &Net) -> Result<Vec<u8>, NoMemory>
-    requires marked { All IsMarked files.now }
-    ensures { IfOk result (λ text. text.items ≡ spec.end_text (map view files.now) net.now) }
+fn end_text(site: &Site<'_>) -> Result<Vec<u8>, NoMemory>
+    requires marked { All IsMarked site.now.files.now }
+    ensures { IfOk result (λ text. text.items ≡ spec.end_text (files_at site.now) site.now.net.now) }
 {
-    let remarks = remarks(alloc, net)?;
-    let found = remark_findings(alloc, net, &remarks)?;
-    let objects = objects(alloc, files, net, &found)?;
-    let mut text = Vec::from_slice(alloc, b",\"remarks\":")?;
-    push_texts(&objects, &mut text)?;
+    let remarks = remarks(site.alloc, site.net)?;
+    let found = remark_findings(site.alloc, site.net, &remarks)?;
+    let objects = objects(site, &found)?;
+    let mut text = Vec::from_slice(site.alloc, b",\"remarks\":")?;
+    push_array(&objects, false, &mut text)?;
     text.extend_from_slice(b"}\n")?;
     Ok(text)
 }
 
 /// The objects of remarks.
-fn objects(
-    alloc: Global,
-    files: &[MarkedFile<'_>],
-    net: &Net,
-    found: &[RemarkFinding],
-) -> Result<Vec<Vec<u8>>, NoMemory>
-    requires marked { All IsMarked files.now }
+fn objects(site: &Site<'_>, found: &[RemarkFinding]) -> Result<Vec<Vec<u8>>, NoMemory>
+    requires marked { All IsMarked site.now.files.now }
     ensures { IfOk result (λ texts. map (λ t. t.items) texts.items
-        ≡ map (spec.remark_text (map view files.now) net.now) (map remarked.remark_view found.now)) }
+        ≡ map (spec.remark_text (files_at site.now) site.now.net.now) (map remarked.remark_view found.now)) }
 {
-    let mut texts = Vec::new(alloc);
+    let mut texts = Vec::new(site.alloc);
     let mut left = found;
     while let [remark, others @ ..] = left {
-        texts.push(remark_text(alloc, files, net, remark)?)?;
+        texts.push(remark_text(site, remark)?)?;
         left = others;
     }
     Ok(texts)

@@ -7,8 +7,9 @@ use Rattle.rtl_check.specs.declared.checking.Verdict.{Verdict}
 use Rattle.rtl_check.specs.declared.checking.Verdict.TheVariants.{Yes, No}
 use Rattle.rtlsim_listing.specs.CheckText.{greatest_level, rejection_text}
 use Rattle.rtlsim_listing.specs.NetText.{lines}
+use Rattle.rtlsim_listing.specs.Reports.{process_of}
 use Rattle.rtl_model.specs.nets.FlatNetlist.{flat_sources}
-use Rattle.rtl_model.specs.simulation.Netlist.{Source, Driver, Idle}
+use Rattle.rtl_model.specs.simulation.Netlist.{Source}
 use Rattle.rtl_net.specs.declared.process.Process.{Process}
 use Rattle.rtl_net.specs.Names.{net_name, process_name}
 use Rattle.rtl_net.specs.Nets.{NetlistView, flat}
@@ -38,10 +39,6 @@ abbrev pub arrow : NetlistView → (from to n : ℕ) → List ℕ
 arrow net from to n =
     codes "    \"" ++ process_name net from ++ codes "\" -> \"" ++ process_name net to ++ codes "\" [label=\"" ++ without_index (net_name net n)
     ++ codes "\"];\n"
-
-abbrev pub process_of : Source → Option ℕ
-process_of (Driver process place) = Some process
-process_of (Idle value) = None
 
 -- the process of a net's first driver; drivers stand before idle ports
 abbrev pub driver_of : List Source → Option ℕ

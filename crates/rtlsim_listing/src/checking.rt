@@ -3,7 +3,7 @@
 ghost use Rattle.byte_streams.specs.Written.{IsIntact};
 ghost use Rattle.rtlsim_listing.specs.CheckText.{check_text, rejection_text};
 ghost use Rattle.rtlsim_listing.specs.DotText.{dot_text};
-ghost use Rattle.rtlsim_listing.specs.Printing.{Prints, IsListed};
+ghost use Rattle.rtlsim_listing.specs.Printing.{IsListed};
 
 use crate::fault::ListingFault;
 use crate::graph::push_graph;
@@ -11,7 +11,7 @@ use crate::levels::push_report;
 use crate::rejection::push_rejection;
 use byte_streams::{Sink, finish};
 use rtl_check::{CheckFault, Verdict};
-use rtl_net::{Net, NoMemory};
+use rtl_net::Net;
 use std::alloc::Global;
 
 /// Writes the checker's verdict on a netlist: `yes` with the greatest level, the bound and the
@@ -32,9 +32,13 @@ pub fn show_check<W: Sink>(
     requires intact { IsIntact (W.state out.old) }
     ensures { IsListed result (W.state out.old) (W.state out.new) (check_text net.now verdict.now) }
 {
-    push_verdict(alloc, net, verdict, out)?;
-    finish(out)?;
-    Ok(())
+    match verdict {
+        Verdict::Yes(report) => {
+            push_report(alloc, net, report, out)?;
+            Ok(finish(out)?)
+        }
+        Verdict::No(faults) => show_faults(alloc, net, faults, out),
+    }
 }
 
 /// Writes the levels of an accepted netlist as a graph in Graphviz's language, or as `show_check`
@@ -52,9 +56,13 @@ pub fn show_dot<W: Sink>(
     requires intact { IsIntact (W.state out.old) }
     ensures { IsListed result (W.state out.old) (W.state out.new) (dot_text net.now verdict.now) }
 {
-    push_drawn(alloc, net, verdict, out)?;
-    finish(out)?;
-    Ok(())
+    match verdict {
+        Verdict::Yes(report) => {
+            push_graph(alloc, net, report, out)?;
+            Ok(finish(out)?)
+        }
+        Verdict::No(faults) => show_faults(alloc, net, faults, out),
+    }
 }
 
 /// Writes the checker's no: `no`, and a line for each of these faults of a netlist, as `show_check`
@@ -75,34 +83,4 @@ pub fn show_faults<W: Sink>(
     push_rejection(alloc, net, faults, out)?;
     finish(out)?;
     Ok(())
-}
-
-/// The whole text.
-fn push_verdict<W: Sink>(
-    alloc: Global,
-    net: &Net,
-    verdict: &Verdict,
-    out: &mut W,
-) -> Result<(), NoMemory>
-    ensures { Prints result (W.state out.old) (W.state out.new) (check_text net.now verdict.now) }
-{
-    match verdict {
-        Verdict::Yes(report) => push_report(alloc, net, report, out),
-        Verdict::No(faults) => push_rejection(alloc, net, faults, out),
-    }
-}
-
-/// The whole text, with the graph of an accepted netlist.
-fn push_drawn<W: Sink>(
-    alloc: Global,
-    net: &Net,
-    verdict: &Verdict,
-    out: &mut W,
-) -> Result<(), NoMemory>
-    ensures { Prints result (W.state out.old) (W.state out.new) (dot_text net.now verdict.now) }
-{
-    match verdict {
-        Verdict::Yes(report) => push_graph(alloc, net, report, out),
-        Verdict::No(faults) => push_rejection(alloc, net, faults, out),
-    }
 }

@@ -5,7 +5,6 @@
 //! sink fails or memory is refused.
 #![tactic(auto)]
 
-mod arrows;
 mod checking;
 mod fault;
 mod graph;
@@ -20,6 +19,7 @@ mod variables;
 
 pub use checking::{show_check, show_dot, show_faults};
 pub use fault::ListingFault;
+pub use levels::greatest_level;
 pub use names::{net_name, process_name, source_name};
 pub use nets::show_net;
 pub use report::{circle_of, place_of, report_of};

@@ -38,22 +38,9 @@ fn push_faults<W: Sink>(
     ensures { Prints result (W.state out.old) (W.state out.new) (flat_map (spec.fault_line net.now) faults.now) }
 {
     for fault in faults {
-        push_fault(alloc, net, fault, out)?;
+        let line = line_of(alloc, net, fault)?;
+        push_text(out, &line);
     }
-    Ok(())
-}
-
-/// The line of a fault.
-fn push_fault<W: Sink>(
-    alloc: Global,
-    net: &Net,
-    fault: &CheckFault,
-    out: &mut W,
-) -> Result<(), NoMemory>
-    ensures { Prints result (W.state out.old) (W.state out.new) (spec.fault_line net.now fault.now) }
-{
-    let line = line_of(alloc, net, fault)?;
-    push_text(out, &line);
     Ok(())
 }
 
@@ -88,12 +75,18 @@ fn push_subject(
         Subject::ProcessNet {
             process,
             net: number,
-        } => push_at_net(alloc, net, process, number, line),
+        } => {
+            let name = net_name(alloc, net, number)?;
+            push_at(alloc, net, process, b" net ", &name, line)
+        }
         Subject::Element {
             process,
             variable,
             place,
-        } => push_stored(alloc, net, process, variable, place, line),
+        } => {
+            let name = element_of(alloc, net, process, variable, place)?;
+            push_at(alloc, net, process, b" variable ", &name, line)
+        }
         Subject::Process { process } => push_member(alloc, net, process, line),
         Subject::Circle => push_members(alloc, net, circle, line),
         _ => Ok(()),
@@ -121,39 +114,21 @@ fn push_sources(
     Ok(())
 }
 
-/// Appends a process and a net.
-fn push_at_net(
+/// Appends a process, and a name behind this word.
+fn push_at(
     alloc: Global,
     net: &Net,
     process: usize,
-    number: usize,
+    word: &[u8],
+    name: &[u8],
     line: &mut Vec<u8>,
 ) -> Result<(), NoMemory>
     ensures { OnOk result (line.new.items
-        ≡ line.old.items ++ spec.subject_text net.now [] (Subject.ProcessNet process number)) }
+        ≡ line.old.items ++ (spec.member_text net.now process ++ word.now ++ name.now)) }
 {
     push_member(alloc, net, process, line)?;
-    line.extend_from_slice(b" net ")?;
-    line.extend_from_slice(&net_name(alloc, net, number)?)?;
-    Ok(())
-}
-
-/// Appends a process and an element of a variable.
-fn push_stored(
-    alloc: Global,
-    net: &Net,
-    process: usize,
-    variable: usize,
-    place: usize,
-    line: &mut Vec<u8>,
-) -> Result<(), NoMemory>
-    ensures { OnOk result (line.new.items
-        ≡ line.old.items ++ spec.subject_text net.now [] (Subject.Element process variable place)) }
-{
-    push_member(alloc, net, process, line)?;
-    line.extend_from_slice(b" variable ")?;
-    line.extend_from_slice(&element_of(alloc, net, process, variable, place)?)?;
-    Ok(())
+    line.extend_from_slice(word)?;
+    Ok(line.extend_from_slice(name)?)
 }
 
 /// Appends the names of a loop's processes, each behind a space.

@@ -16,12 +16,8 @@ pub fn report_of(fault: &CheckFault) -> Report
     match fault {
         CheckFault::TwoDrivers { net, first, second } => of_sources(*net, *first, *second),
         CheckFault::Mixed { process } => {
-            let process = *process;
-            told(
-                CheckRule::Mixed,
-                Some(process),
-                Subject::Process { process },
-            )
+            let subject = Subject::Process { process: *process };
+            told(CheckRule::Mixed, Some(*process), subject)
         }
         CheckFault::ClockNotInput { process, net } => at_net(
             CheckRule::ClockNotInput,
@@ -131,7 +127,7 @@ pub fn place_of(process: Option<usize>) -> Place
 }
 
 /// The process of a driver; an idle port has none.
-fn process_of(source: Source) -> Option<usize>
+pub(crate) fn process_of(source: Source) -> Option<usize>
     ensures { result ≡ spec.process_of (source_view source) }
 {
     match source {

@@ -1,6 +1,6 @@
 //! Where a byte stands in a text.
 
-ghost use Rattle.std.specs.Prelude.{◌≡◌, ◌≤◌, flat_map, length};
+ghost use Rattle.std.specs.Prelude.{◌≡◌, ◌+◌, ◌<◌, ◌≤◌, ◌^◌, flat_map, length};
 ghost use Rattle.std.specs.List.{prefix_len};
 ghost use Rattle.byte_streams.specs.Written.{Goes};
 ghost use Rattle.rtlsim_refusals.specs.Places as spec;
@@ -17,22 +17,32 @@ pub struct Position {
     pub column: usize,
 }
 
-/// Where the byte behind these bytes stands.
-pub fn position_behind(mut before: &[u8]) -> Position
-    ensures { result ≡ spec.position_behind before.entry.now }
+/// Where the byte behind these bytes stands, the first of which stands here.
+pub fn position_from(here: Position, bytes: &[u8]) -> Position
+    requires line { here.line + length bytes.now < 2 ^ 64 }
+    requires column { here.column + length bytes.now < 2 ^ 64 }
+    ensures { result ≡ spec.position_from here.line here.column bytes.now }
 {
-    let mut line = 1;
-    let mut column = 1;
-    while let [byte, rest @ ..] = before {
+    let mut line = here.line;
+    let mut column = here.column;
+    let mut left = bytes;
+    while let [byte, rest @ ..] = left {
         if *byte == b'\n' {
             line += 1;
             column = 1;
         } else {
             column += 1;
         }
-        before = rest;
+        left = rest;
     }
     Position { line, column }
+}
+
+/// Where the byte behind these bytes stands.
+pub fn position_behind(before: &[u8]) -> Position
+    ensures { result ≡ spec.position_behind before.now }
+{
+    position_from(Position { line: 1, column: 1 }, before)
 }
 
 /// What stands of its line before a byte that these bytes lead to.

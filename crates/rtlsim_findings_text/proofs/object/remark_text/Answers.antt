@@ -12,8 +12,8 @@ use Rattle.rtlsim_findings_text.proofs.object.remark_text.Goals as goal
 pub returns : goal.returns
 unfolding remark_text
 returns c =
-    let net = c.args.net.now in
-    let files = map view c.args.files.now in
+    let net = c.args.site.now.net.now in
+    let files = map view c.args.site.now.files.now in
     let called = c.as_bytes.ensures.value ∙ c.words-words.ensures.name ∙ ap (λ (r : Report). (words_of r.rule).name.now) c.remark_report.ensures in
     let name = part _ _ _ _ c.in_ok-push_member.ensures (ap (λ t. codes "{\"name\":" ++ string_text t) called) in
     let message = part _ _ _ _ c.in_ok-push_member-2.ensures (ap (λ t. codes ",\"message\":" ++ string_text t) (c.deref.ensures.value ∙ c.in_ok-remark_message.ensures)) in

@@ -1,26 +1,14 @@
 use Rattle.std.proofs.Common.{◌≡◌, ◌+◌, ◌-◌, ◌*◌, length, take, drop, ap, ◌∙◌, arith}
-use Rattle.std.proofs.lemmas.List.{length-append, length-drop, length-take}
+use Rattle.std.proofs.lemmas.List.{length-append}
 use Rattle.rtlsim_findings_text.specs.Marks.{step}
-use Rattle.rtlsim_findings_text.proofs.Walking.{on, Fits, walked, further, marked_on}
+use Rattle.rtlsim_findings_text.proofs.Walking.{on, room, further, marked_on}
 use Rattle.rtlsim_findings_text.proofs.places.marks_of.Goals as goal
 
-pub position_from-here-requires-clause-line : goal.position_from-here-requires-clause-line
-position_from-here-requires-clause-line c =
-    let text = c.args.text.now in
+pub position_from-here-requires : goal.position_from-here-requires
+position_from-here-requires c =
     let l = c.loop-at in
-    let f : Fits 1 1 l.at l.here = walked text l.at l.here l.invariant.stands l.invariant.within in
-    let m = length-take (l.at + 1024 - l.at) (drop l.at text) in
-    let d = length-drop l.at text in
-    omega (arith, f.line, m, d, l.invariant.within)
-
-pub position_from-here-requires-clause-column : goal.position_from-here-requires-clause-column
-position_from-here-requires-clause-column c =
-    let text = c.args.text.now in
-    let l = c.loop-at in
-    let f : Fits 1 1 l.at l.here = walked text l.at l.here l.invariant.stands l.invariant.within in
-    let m = length-take (l.at + 1024 - l.at) (drop l.at text) in
-    let d = length-drop l.at text in
-    omega (arith, f.column, m, d, l.invariant.within)
+    let r = room c.args.text.now l.at (l.at + 1024) l.here l.invariant.stands (omega arith) (omega (arith, c.loop-at-test.true, l.invariant.within)) in
+    record { line = omega (arith, r.0); column = omega (arith, r.1) }
 
 pub loop-at-preserved : goal.loop-at-preserved
 loop-at-preserved c =

@@ -7,5 +7,5 @@ use Rattle.rtlsim_findings_text.proofs.refused.refused_text.Goals as goal
 
 pub returns : goal.returns
 returns c =
-    let faults = part _ _ _ _ c.in_ok-push_texts.ensures (ap (array_text itself) (map_same _ _ c.deref.ensures.value (λ t. t.items) ∙ c.in_ok-objects.ensures)) in
+    let faults = part _ _ _ _ c.in_ok-push_array.ensures (ap (array_text itself) (map_same _ _ c.deref.ensures.value (λ t. t.items) ∙ c.in_ok-objects.ensures)) in
     all_three _ _ _ _ _ _ c.in_ok-text.ensures.items faults c.in_ok-extend_from_slice.ensures.items

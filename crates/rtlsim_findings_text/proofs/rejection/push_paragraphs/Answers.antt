@@ -7,13 +7,13 @@ use Rattle.rtlsim_findings.specs.declared.finding.Finding.{Finding}
 use Rattle.rtlsim_listing.specs.Printing.{GoesInPart}
 use Rattle.rtlsim_listing.proofs.Printing.{none, refused, part_of_text, next_text}
 use Rattle.rtlsim_findings_text.specs.Explained.{paragraph}
-use Rattle.rtlsim_findings_text.specs.Marks.{view}
+use Rattle.rtlsim_findings_text.specs.Marks.{files_at}
 use Rattle.rtlsim_findings_text.proofs.Texts.{texts_of}
 use Rattle.rtlsim_findings_text.proofs.rejection.push_paragraphs.Goals as goal
 
 pub returns-in_err-text : goal.returns-in_err-text
 returns-in_err-text g c =
-    let text = paragraph (map view c.args.files.now) c.args.net.now in
+    let text = paragraph (files_at c.args.site.now) c.args.site.now.net.now in
     let found = c.args.found.now in
     let each = λ (f : Finding). text (finding_view f) in
     refused c.from_residual.result _ _ _ (flat_map text (map finding_view found)) c.from_residual.ensures.1
@@ -22,7 +22,7 @@ returns-in_err-text g c =
 
 pub loop-finding-preserved : goal.loop-finding-preserved
 loop-finding-preserved g c =
-    let text = paragraph (map view c.args.files.now) c.args.net.now in
+    let text = paragraph (files_at c.args.site.now) c.args.site.now.net.now in
     let each = λ (f : Finding). text (finding_view f) in
     let gone = subst (λ t. Goes (g.S.Sink.state c.loop-finding.sink) (g.S.Sink.state c.push_text.new.sink) t) (c.deref.ensures.value ∙ c.in_ok-text.ensures) c.push_text.ensures in
     next_text _ _ _ each c.args.found.now c.loop-finding.finding-index c.finding-item.result c.loop-finding-test.true c.loop-finding.invariant
@@ -30,7 +30,7 @@ loop-finding-preserved g c =
 
 pub returns : goal.returns
 returns g c =
-    let text = paragraph (map view c.args.files.now) c.args.net.now in
+    let text = paragraph (files_at c.args.site.now) c.args.site.now.net.now in
     let found = c.args.found.now in
     let each = λ (f : Finding). text (finding_view f) in
     let all = ap (flat_map each) (take_all c.loop-finding.finding-index found c.loop-finding-test.false) ∙ texts_of text finding_view found in

@@ -1,6 +1,6 @@
-use Rattle.std.proofs.Common.{List, ℕ, ◌++◌, map, take, ap, ◌∙◌}
+use Rattle.std.proofs.Common.{List, ℕ, ◌++◌, map, ap, ◌∙◌}
 use Rattle.std.proofs.lemmas.Result.{IfOk-equal}
-use Rattle.rtlsim_refusals.specs.Places.{halves_shown, line_after, line_before}
+use Rattle.rtlsim_refusals.specs.Places.{halves_shown, line_before}
 use Rattle.vhdl_source_files.specs.Files.{after, before, spot_in}
 use Rattle.rtlsim_findings_text.specs.Marks.{view}
 use Rattle.rtlsim_findings_text.specs.Placed.{shown_text}

@@ -7,8 +7,8 @@ use Rattle.rtlsim_findings_text.proofs.values.push_next_processes.Given as goal
 -- what was appended, and then those that are left, are the whole
 abbrev pub invariant-loop-left : goal.invariant-loop-left
 invariant-loop-left l =
-    l.text.items ++ flat_map (next_text (process_text l.net)) l.left
-    ≡ l.initial.text.items ++ flat_map (next_text (process_text l.net)) l.items
+    l.text.items ++ flat_map (next_text (process_text l.site.net.now)) l.left
+    ≡ l.initial.text.items ++ flat_map (next_text (process_text l.site.net.now)) l.items
 
 abbrev pub decreases-loop-left : goal.decreases-loop-left
 decreases-loop-left l = length l.left

@@ -8,14 +8,14 @@ use Rattle.rtlsim_findings.specs.declared.finding.Finding.{Finding}
 use Rattle.rtlsim_listing.specs.Printing.{GoesInPart}
 use Rattle.rtlsim_listing.proofs.Printing.{none, refused, part_of_text, next_text}
 use Rattle.rtlsim_findings_text.specs.Json.{finding_text}
-use Rattle.rtlsim_findings_text.specs.Marks.{view}
+use Rattle.rtlsim_findings_text.specs.Marks.{files_at}
 use Rattle.rtlsim_findings_text.specs.Values as values
 use Rattle.rtlsim_findings_text.proofs.Texts.{texts_of}
 use Rattle.rtlsim_findings_text.proofs.verdict.push_others.Goals as goal
 
 pub returns-in_err-text : goal.returns-in_err-text
 returns-in_err-text g c =
-    let text = values.next_text (finding_text (map view c.args.files.now) c.args.net.now) in
+    let text = values.next_text (finding_text (files_at c.args.site.now) c.args.site.now.net.now) in
     let found = c.args.found.now in
     let each = λ (f : Finding). text (finding_view f) in
     refused c.from_residual.result _ _ _ (flat_map text (map finding_view found)) c.from_residual.ensures.1
@@ -24,7 +24,7 @@ returns-in_err-text g c =
 
 pub loop-finding-preserved : goal.loop-finding-preserved
 loop-finding-preserved g c =
-    let text = values.next_text (finding_text (map view c.args.files.now) c.args.net.now) in
+    let text = values.next_text (finding_text (files_at c.args.site.now) c.args.site.now.net.now) in
     let each = λ (f : Finding). text (finding_view f) in
     let gone = subst (λ t. Goes (g.W.Sink.state c.push_text.new.sink) (g.W.Sink.state c.push_text-in-loop-finding.new.sink) t) (c.deref.ensures.value ∙ c.in_ok-text.ensures) c.push_text-in-loop-finding.ensures in
     next_text _ _ _ each c.args.found.now c.loop-finding.finding-index c.finding-item.result c.loop-finding-test.true c.loop-finding.invariant
@@ -32,7 +32,7 @@ loop-finding-preserved g c =
 
 pub returns : goal.returns
 returns g c =
-    let text = values.next_text (finding_text (map view c.args.files.now) c.args.net.now) in
+    let text = values.next_text (finding_text (files_at c.args.site.now) c.args.site.now.net.now) in
     let found = c.args.found.now in
     let each = λ (f : Finding). text (finding_view f) in
     let all = ap (flat_map each) (take_all c.loop-finding.finding-index found c.loop-finding-test.false) ∙ texts_of text finding_view found in

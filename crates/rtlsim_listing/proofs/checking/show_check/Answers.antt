@@ -1,9 +1,12 @@
-use Rattle.std.proofs.lemmas.Result.{err_from_is_err_and}
-use Rattle.rtlsim_listing.specs.CheckText.{check_text}
-use Rattle.rtlsim_listing.proofs.Printing.{beginning}
+use Rattle.rtlsim_listing.proofs.Printing.{unlisted, unwritten, written}
 use Rattle.rtlsim_listing.proofs.checking.show_check.Goals as goal
 
-pub returns-in_err-push_verdict : goal.returns-in_err-push_verdict
-returns-in_err-push_verdict g c =
-    let failed = err_from_is_err_and c.from_residual.result c.from_residual.ensures.1 in
-    rw (failed.1, failed.2) (beginning _ _ (check_text c.args.net.now c.args.verdict.now) c.requires.intact c.in_err-push_verdict.ensures)
+pub returns-in_err-push_report-in-Yes : goal.returns-in_err-push_report-in-Yes
+returns-in_err-push_report-in-Yes g c = rw c.in-Yes.is (unlisted _ _ _ _ c.from_residual.ensures.1 c.requires.intact c.in_err-push_report-in-Yes.ensures)
+
+pub returns-in_err-finish-in-Yes : goal.returns-in_err-finish-in-Yes
+returns-in_err-finish-in-Yes g c =
+    rw c.in-Yes.is (unwritten _ _ _ _ c.from_residual-in_err-finish-in-Yes.ensures.1 c.requires.intact c.in_err-finish-in-Yes.ensures.err c.in_ok-push_report-in-Yes.ensures)
+
+pub returns-in_ok-finish-in-Yes : goal.returns-in_ok-finish-in-Yes
+returns-in_ok-finish-in-Yes g c = rw c.in-Yes.is (written _ _ _ c.in_ok-finish-in-Yes.ensures.ok c.in_ok-push_report-in-Yes.ensures)

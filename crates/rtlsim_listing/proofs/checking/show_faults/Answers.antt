@@ -1,9 +1,5 @@
-use Rattle.std.proofs.lemmas.Result.{err_from_is_err_and}
-use Rattle.rtlsim_listing.specs.CheckText.{rejection_text}
-use Rattle.rtlsim_listing.proofs.Printing.{beginning}
+use Rattle.rtlsim_listing.proofs.Printing.{unlisted}
 use Rattle.rtlsim_listing.proofs.checking.show_faults.Goals as goal
 
 pub returns-in_err-push_rejection : goal.returns-in_err-push_rejection
-returns-in_err-push_rejection g c =
-    let failed = err_from_is_err_and c.from_residual.result c.from_residual.ensures.1 in
-    rw (failed.1, failed.2) (beginning _ _ (rejection_text c.args.net.now c.args.faults.now) c.requires.intact c.in_err-push_rejection.ensures)
+returns-in_err-push_rejection g c = unlisted _ _ _ _ c.from_residual.ensures.1 c.requires.intact c.in_err-push_rejection.ensures

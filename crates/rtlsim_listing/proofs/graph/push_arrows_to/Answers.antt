@@ -4,7 +4,7 @@ use Rattle.rtl_net.specs.declared.process.Process.{Process}
 use Rattle.rtlsim_listing.specs.DotText.{arrows_by, wakes_of}
 use Rattle.rtlsim_listing.specs.Printing.{Prints}
 use Rattle.rtlsim_listing.proofs.ArrowTexts.{process_there, wakes_there}
-use Rattle.rtlsim_listing.proofs.arrows.push_arrows_to.Goals as goal
+use Rattle.rtlsim_listing.proofs.graph.push_arrows_to.Goals as goal
 
 pub push_arrows_by-requires : goal.push_arrows_by-requires
 push_arrows_by-requires g c =

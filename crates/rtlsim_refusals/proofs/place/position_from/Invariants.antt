@@ -1,6 +1,6 @@
 use Rattle.std.proofs.Common.{◌≡◌, ◌+◌, ◌≤◌, length}
 use Rattle.rtlsim_refusals.specs.Places.{position_from}
-use Rattle.rtlsim_findings_text.proofs.places.position_from.Given as goal
+use Rattle.rtlsim_refusals.proofs.place.position_from.Given as goal
 
 -- what is left is counted on from this line and column
 abbrev pub invariant-loop-left : goal.invariant-loop-left

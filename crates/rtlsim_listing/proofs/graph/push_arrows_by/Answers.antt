@@ -4,7 +4,7 @@ use Rattle.rtlsim_listing.specs.DotText.{next_arrow}
 use Rattle.rtlsim_listing.specs.NetText.{lines}
 use Rattle.rtlsim_listing.proofs.ArrowTexts.{unless_again, before_next}
 use Rattle.rtlsim_listing.proofs.Printing.{none, refused, part_of_line, next_line}
-use Rattle.rtlsim_listing.proofs.arrows.push_arrows_by.Goals as goal
+use Rattle.rtlsim_listing.proofs.graph.push_arrows_by.Goals as goal
 
 pub returns-in_err-arrow : goal.returns-in_err-arrow
 returns-in_err-arrow g c =

@@ -2,7 +2,7 @@ use Rattle.std.proofs.Common.{◌≡◌, ◌+◌, false, drop, sym, ap, ◌∙�
 use Rattle.std.proofs.lemmas.List.{take_rest}
 use Rattle.rtlsim_listing.specs.DotText.{is_index}
 use Rattle.rtlsim_listing.proofs.ArrowTexts.{no_index}
-use Rattle.rtlsim_listing.proofs.arrows.without_index.Goals as goal
+use Rattle.rtlsim_listing.proofs.graph.without_index.Goals as goal
 
 pub loop-at-preserved : goal.loop-at-preserved
 loop-at-preserved c =
