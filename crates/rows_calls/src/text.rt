@@ -11,18 +11,10 @@ use std::io::{ErrorKind, Write};
 
 /// The bytes of a text. Where memory for a piece is refused, the text is short from then on: that
 /// is asked once, in the end, and not at each piece.
+#[derive(Drop)]
 pub struct Text {
     bytes: Vec<u8>,
     is_short: bool,
-}
-
-impl Drop for Text {
-    fn drop(self) {
-        let Text {
-            bytes: _,
-            is_short: _,
-        } = self;
-    }
 }
 
 impl Text {

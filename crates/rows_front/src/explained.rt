@@ -2,8 +2,9 @@
 
 ghost use Rattle.vhdl_lexer.specs.Cut.{AreWithin};
 
+use crate::problems::rule_of;
 use crate::source::{push_written, source_of};
-use fault_rules::{LexRule, Place, Report, Rule, Subject, SyntaxRule};
+use fault_rules::{Place, Report, Rule, Subject};
 use rows_calls::Text;
 use rtlsim_refusals::{Lexed, explain_refusal, explain_source};
 use std::alloc::Global;
@@ -27,8 +28,10 @@ pub fn push_explanation(found: &mut Text, alloc: Global, written: &str) {
 /// Adds the explanation of a fault of the lexer.
 fn push_lexed(found: &mut Text, alloc: Global, source: &[u8], fault: LexFault) {
     let mut out = Text::new(alloc);
-    let report = reported(lex_rule(fault), fault.byte(), Subject::Word);
-    explain_refusal(&file_of(source), report, &mut out);
+    if let Some(rule) = rule_of("lex", fault.number()) {
+        let report = report_of(rule, fault.byte().unwrap_or(0), Subject::Word);
+        explain_refusal(&file_of(source), report, &mut out);
+    }
     push_written(found, &out);
 }
 
@@ -58,39 +61,27 @@ fn push_refused(
         SyntaxFault::Unexpected { at } => expected_at(alloc, source, tokens, at),
         _ => Ok(Expected::Nothing),
     };
-    explain_at(
-        source,
-        tokens,
-        expected.unwrap_or(Expected::Nothing),
-        syntax_rule(fault),
-        at,
-        Subject::Word,
-        &mut out,
-    );
+    if let Some(rule) = rule_of("syntax", fault.number()) {
+        let report = report_of(rule, at, Subject::Word);
+        let expected = expected.unwrap_or(Expected::Nothing);
+        explain_at(source, tokens, expected, report, &mut out);
+    }
     push_written(found, &out);
 }
 
-/// Explains a rule at a byte of a source with these tokens, as the file `d.vhd`.
+/// Explains a report on a source with these tokens, as the file `d.vhd`.
 pub fn explain_at(
     source: &[u8],
     tokens: &[Token],
     expected: Expected,
-    rule: Rule,
-    at: usize,
-    subject: Subject,
+    report: Report,
     out: &mut Text,
 ) {
     let lexed = Lexed {
         text: source,
         tokens,
     };
-    explain_source(
-        &file_of(source),
-        lexed,
-        expected,
-        reported(rule, Some(at), subject),
-        out,
-    );
+    explain_source(&file_of(source), lexed, expected, report, out);
 }
 
 /// A source as the file `d.vhd`.
@@ -101,30 +92,11 @@ fn file_of(source: &[u8]) -> [SourceFile<'_>; 1] {
     }]
 }
 
-fn reported(rule: Rule, at: Option<usize>, subject: Subject) -> Report {
+/// A report on a rule at a byte.
+pub fn report_of(rule: Rule, at: usize, subject: Subject) -> Report {
     Report {
         rule,
-        place: Place::Byte(at.unwrap_or(0)),
+        place: Place::Byte(at),
         subject,
     }
-}
-
-/// The rule of a fault of the lexer; of want of memory none is shown here.
-fn lex_rule(fault: LexFault) -> Rule {
-    Rule::Lex(match fault {
-        LexFault::BadByte { .. } => LexRule::BadByte,
-        LexFault::OpenComment { .. } => LexRule::OpenComment,
-        LexFault::OpenString { .. } => LexRule::OpenString,
-        LexFault::BadIdentifier { .. } => LexRule::BadIdentifier,
-        LexFault::BadNumber { .. } => LexRule::BadNumber,
-        LexFault::TooLong { .. } | LexFault::NoMemory => LexRule::TooLong,
-    })
-}
-
-fn syntax_rule(fault: SyntaxFault) -> Rule {
-    Rule::Syntax(match fault {
-        SyntaxFault::Unexpected { .. } => SyntaxRule::Unexpected,
-        SyntaxFault::TooDeep { .. } => SyntaxRule::TooDeep,
-        SyntaxFault::EndOfFile { .. } | SyntaxFault::NoMemory => SyntaxRule::EndOfFile,
-    })
 }

@@ -1,43 +1,35 @@
 //! Explanations of problems of names and types and of elaboration.
 
-use crate::explained::explain_at;
+use crate::explained::{explain_at, report_of};
 use crate::source::{push_source, push_written, source_of};
-use fault_rules::{ElabRule, NameRule, Rule, Subject};
+use fault_rules::{ElabRule, LexRule, NameRule, Rule, Subject, SyntaxRule};
 use rows_calls::Text;
 use std::alloc::Global;
 use vhdl_expected::Expected;
 use vhdl_lexer::lex;
 
-/// The rules on names and types, in the order of their numbers.
-static NAME_RULES: [NameRule; 11] = [
-    NameRule::Undeclared,
-    NameRule::Twice,
-    NameRule::WrongKind,
-    NameRule::TypeMismatch,
-    NameRule::NotVisible,
-    NameRule::WriteOfIn,
-    NameRule::NoOthers,
-    NameRule::ChoiceTwice,
-    NameRule::SecondArchitecture,
-    NameRule::NoSensitivity,
-    NameRule::LeftOut,
-];
+/// The rules of a layer, in the order of their numbers.
+macro_rules! rules {
+    ($layer:ident $rules:ident: $($rule:ident)+) => {
+        [$(Rule::$layer($rules::$rule)),+]
+    };
+}
 
-/// The rules of elaboration, in the order of their numbers.
-static ELAB_RULES: [ElabRule; 12] = [
-    ElabRule::NoTop,
-    ElabRule::NoGeneric,
-    ElabRule::GenericRange,
-    ElabRule::StaticError,
-    ElabRule::Length,
-    ElabRule::Index,
-    ElabRule::TooWide,
-    ElabRule::Unassociated,
-    ElabRule::TwoUnresolved,
-    ElabRule::ReadOfShared,
-    ElabRule::TooDeep,
-    ElabRule::TooMany,
-];
+static LEX_RULES: [Rule; 6] = rules!(
+    Lex LexRule: BadByte OpenComment OpenString BadIdentifier BadNumber TooLong
+);
+
+static SYNTAX_RULES: [Rule; 3] = rules!(Syntax SyntaxRule: Unexpected EndOfFile TooDeep);
+
+static NAME_RULES: [Rule; 11] = rules!(
+    Name NameRule: Undeclared Twice WrongKind TypeMismatch NotVisible WriteOfIn NoOthers ChoiceTwice
+    SecondArchitecture NoSensitivity LeftOut
+);
+
+static ELAB_RULES: [Rule; 12] = rules!(
+    Elab ElabRule: NoTop NoGeneric GenericRange StaticError Length Index TooWide Unassociated
+    TwoUnresolved ReadOfShared TooDeep TooMany
+);
 
 /// Adds the explanation of a problem at the mark of a text: `name NUMBER TEXT` or `elab NUMBER
 /// TEXT`.
@@ -50,15 +42,13 @@ pub fn push_problem(found: &mut Text, alloc: Global, written: &str) {
     push_source(&mut source, after);
     let mut out = Text::new(alloc);
     if let Ok(tokens) = lex(alloc, source.as_bytes()) {
-        let number = number.parse::<u8>().unwrap_or(0);
-        if let Some((rule, subject)) = rule_of(layer, number) {
+        if let Some(rule) = rule_of(layer, number.parse::<u8>().unwrap_or(0)) {
+            let report = report_of(rule, at, subject_of(rule));
             explain_at(
                 source.as_bytes(),
                 &tokens,
                 Expected::Nothing,
-                rule,
-                at,
-                subject,
+                report,
                 &mut out,
             );
         }
@@ -67,23 +57,22 @@ pub fn push_problem(found: &mut Text, alloc: Global, written: &str) {
     push_written(found, &out);
 }
 
-/// The rule of a number, and what is told of it.
-fn rule_of(layer: &str, number: u8) -> Option<(Rule, Subject)> {
-    let index = usize::from(number.saturating_sub(1));
-    if layer == "name" {
-        let rule = NAME_RULES.get(index)?;
-        Some((Rule::Name(*rule), Subject::Word))
-    } else {
-        let rule = ELAB_RULES.get(index)?;
-        Some((Rule::Elab(*rule), elab_subject(*rule)))
-    }
+/// The rule of a layer that has a number.
+pub fn rule_of(layer: &str, number: u8) -> Option<Rule> {
+    let rules: &[Rule] = match layer.as_bytes() {
+        b"lex" => &LEX_RULES,
+        b"syntax" => &SYNTAX_RULES,
+        b"name" => &NAME_RULES,
+        _ => &ELAB_RULES,
+    };
+    Some(*rules.get(usize::from(number.saturating_sub(1)))?)
 }
 
-/// What is told of a rule of elaboration.
-fn elab_subject(rule: ElabRule) -> Subject {
+/// What is told of a rule.
+fn subject_of(rule: Rule) -> Subject {
     match rule {
-        ElabRule::NoTop => Subject::Nothing,
-        ElabRule::Length => Subject::Lengths {
+        Rule::Elab(ElabRule::NoTop) => Subject::Nothing,
+        Rule::Elab(ElabRule::Length) => Subject::Lengths {
             found: 3,
             needed: 4,
         },

@@ -3,6 +3,7 @@
 ghost use Rattle.vhdl_lexer.specs.Cut.{AreWithin};
 
 use crate::fault::push_fault;
+use crate::problems::rule_of;
 use rows_calls::{Frame, Text};
 use rows_tree_texts::push_file;
 use std::alloc::Global;
@@ -64,21 +65,11 @@ fn push_lexed(found: &mut Text, fault: LexFault) {
 /// Adds the name of a fault of the parser, or the whole fault where it doesn't stand at this place.
 fn push_placed(found: &mut Text, fault: SyntaxFault, place: usize) {
     if fault.byte() == Some(place) {
-        found.push(name_of(fault));
+        found.push(rule_of("syntax", fault.number()).map_or("", |rule| rule.words().name));
     } else {
         found.push_shown(&fault);
         found.push(", and not at byte ");
         found.push_number(place);
-    }
-}
-
-/// The name of a fault.
-fn name_of(fault: SyntaxFault) -> &'static str {
-    match fault {
-        SyntaxFault::Unexpected { .. } => "Unexpected",
-        SyntaxFault::EndOfFile { .. } => "EndOfFile",
-        SyntaxFault::TooDeep { .. } => "TooDeep",
-        SyntaxFault::NoMemory => "NoMemory",
     }
 }
 

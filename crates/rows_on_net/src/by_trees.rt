@@ -1,24 +1,23 @@
-//! Runs of sources over bodies as trees and an agenda over a map, as the program makes them over
+//! Runs of netlists over bodies as trees and an agenda over a map, as the program makes them over
 //! codes and a wheel.
 
+ghost use Rattle.std.specs.Prelude.{◌≡◌};
 ghost use Rattle.byte_streams.specs.Written.{IsIntact};
-ghost use Rattle.rtl_stim.specs.Ports.{HasOwnPorts};
+ghost use Rattle.rtl_stim.specs.Ports.{HasOwnPorts, inputs_of};
 
-use crate::answers::{push_end, simulate};
-use crate::nets::Nets;
-use byte_streams::{Sink, push_text};
+use crate::texts::push_count;
+use byte_streams::{Sink, Unwatched, push_text};
 use rtl_check::stored;
+use rtl_eval::trees;
 use rtl_kernel::Pick;
 use rtl_net::Net;
-use rtl_run::{MachineFault, RunFault, Summary, admit};
-use rtl_stim::{StimFault, Stimulus};
+use rtl_run::{MachineFault, RunFault, Simulation, Summary, admit};
+use rtl_stim::{MapAgenda, StimFault, Stimulus};
 use std::alloc::Global;
 
-/// A run that words and an input ask for.
+/// A run of a netlist.
 #[derive(Drop)]
 pub struct Run<'a> {
-    pub source: &'a [u8],
-    pub top: &'a [u8],
     pub stimulus: &'a [u8],
     /// Whether it is by events alone, without the checker.
     pub is_event: bool,
@@ -26,8 +25,6 @@ pub struct Run<'a> {
 
 /// The statuses with which the program ends (docs/FORMATS.md).
 const DONE: u8 = 0;
-
-const SOURCE: u8 = 3;
 
 const REJECTED: u8 = 4;
 
@@ -42,22 +39,23 @@ const FAILED: u8 = 8;
 /// The most delta cycles of a moment by events.
 const MAX_DELTAS: u32 = 1000;
 
-/// Runs a source, and gives the status. It is told on `err` how a simulation ended, and nothing of
+/// Runs a netlist, and gives the status. It is told on `err` how a simulation ended, and nothing of
 /// a refusal.
-pub fn run_by_trees<N: Nets, P: Pick, O: Sink, E: Sink>(
+pub fn run_by_trees<P: Pick, O: Sink, E: Sink>(
     alloc: Global,
-    nets: &N,
+    net: &Net,
     run: &Run<'_>,
     pick: &mut P,
     out: &mut O,
     err: &mut E,
 ) -> u8
+    requires ports { HasOwnPorts net.now }
     requires intact { IsIntact (O.state out.old) }
 {
-    match nets.open(alloc, run.source, run.top) {
-        Some(net) if run.is_event => by_events(alloc, &net, run.stimulus, pick, out, err),
-        Some(net) => as_machine(alloc, &net, run.stimulus, pick, out, err),
-        None => SOURCE,
+    if run.is_event {
+        by_events(alloc, net, run.stimulus, pick, out, err)
+    } else {
+        as_machine(alloc, net, run.stimulus, pick, out, err)
     }
 }
 
@@ -113,15 +111,54 @@ fn by_events<P: Pick, O: Sink, E: Sink>(
 /// The status of a simulation, which is told as the program tells it.
 fn ended<E: Sink>(err: &mut E, end: Result<Summary, RunFault>) -> u8 {
     let status = match end {
-        Ok(_) => DONE,
-        Err(RunFault::NoSettling { .. }) => UNSETTLED,
-        Err(RunFault::Memory) => MEMORY,
-        Err(RunFault::Output) => FAILED,
+        Ok(summary) => {
+            push_count(err, "moments ", summary.moments);
+            push_count(err, " deltas ", summary.most_deltas as u64);
+            DONE
+        }
+        Err(RunFault::NoSettling { time }) => {
+            push_count(err, "rtlsim: settle 1 NoSettling ", time);
+            UNSETTLED
+        }
+        Err(RunFault::Memory) => {
+            push_text(err, b"rtlsim: memory");
+            MEMORY
+        }
+        Err(RunFault::Output) => {
+            push_text(err, b"rtlsim: output");
+            FAILED
+        }
     };
-    if status != DONE {
-        push_text(err, b"rtlsim: ");
-    }
-    push_end(err, end);
     push_text(err, b"\n");
     status
+}
+
+/// Simulates a netlist under a stimulus, with so many delta cycles at most in each moment, over
+/// trees and a map.
+fn simulate<P: Pick, W: Sink>(
+    alloc: Global,
+    net: &Net,
+    stimulus: &Stimulus,
+    limit: u32,
+    pick: &mut P,
+    trace: &mut W,
+) -> Result<Summary, RunFault>
+    requires ports { HasOwnPorts net.now }
+    requires inputs { stimulus.now.inputs ≡ inputs_of net.now }
+    requires intact { IsIntact (W.state trace.old) }
+{
+    let trees = trees(alloc, net)?;
+    let simulation = Simulation {
+        net,
+        bodies: &trees,
+        stimulus,
+        limit,
+    };
+    simulation.run_watched(
+        alloc,
+        &mut MapAgenda::new(alloc),
+        pick,
+        &mut Unwatched,
+        trace,
+    )
 }

@@ -12,7 +12,7 @@ use vhdl_values::Edge;
 /// | `bound N` | the bound is N |
 /// | `level P N` | process P has level N |
 /// | `from P Q` | process P comes from process Q |
-/// | `clock K N E` | the clock at place K is net N with the edge E: 0 rising, 1 falling, 2 to 1, 3 to 0 |
+/// | `clock K N E` | the clock at K is net N with the edge E: 0 rising, 1 falling, 2 to 1, 3 to 0 |
 /// | `drop levels`, `drop from`, `drop clocks` | the last entry goes |
 pub fn change(report: &mut Report, line: &str) -> bool {
     let (word, fields) = cut(line);

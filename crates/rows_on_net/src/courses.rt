@@ -2,17 +2,14 @@
 
 use vhdl_values::Nine;
 
-/// A netlist, its steps, and how they are told.
+/// A netlist by its top and its text in VHDL, and its steps.
 pub struct Course {
-    pub net: &'static str,
+    pub top: &'static str,
+    pub text: &'static str,
     /// What the inputs are at the start.
     pub initial: &'static [Nine],
-    /// How many delta cycles the start may take before the first step, if it is to settle by
-    /// itself.
-    pub start: Option<u32>,
     /// What the first input gets, and how many delta cycles the step may take.
     pub steps: &'static [(Given, u32)],
-    pub form: &'static Form,
 }
 
 /// What an input gets in a cycle.
@@ -24,133 +21,106 @@ pub enum Given {
     Both(Nine, Nine),
 }
 
-/// How steps are told.
-pub struct Form {
-    /// What stands before the value of each net; a net with no text here is left out.
-    pub marks: &'static [&'static str],
-    /// Whether it is told how many delta cycles a step may take.
-    pub has_limits: bool,
-    /// Whether it is told if a driver is active.
-    pub has_quiet: bool,
-    /// Whether it is told in which order the processes ran.
-    pub has_order: bool,
-}
+const COUNTER_TEXT: &str = "library ieee; use ieee.std_logic_1164.all; use ieee.numeric_std.all; \
+    entity cnt is port (clk : in std_logic; y : out std_logic_vector(1 downto 0)); end; \
+    architecture r of cnt is signal q : unsigned(1 downto 0) := \"00\"; begin \
+    process (clk) begin if rising_edge(clk) then q <= q + 1; end if; end process; \
+    y <= std_logic_vector(q); end;";
+
+const REGISTERS_TEXT: &str = "library ieee; use ieee.std_logic_1164.all; \
+    entity row is port (clk, d : in std_logic); end; \
+    architecture r of row is signal q1, q2 : std_logic := '0'; begin \
+    process (clk) begin if rising_edge(clk) then q1 <= d; end if; end process; \
+    process (clk) begin if rising_edge(clk) then q2 <= q1; end if; end process; end;";
 
 /// A counter whose clock rises.
 pub const COUNTER: &Course = &Course {
-    net: "counter",
+    top: "cnt",
+    text: COUNTER_TEXT,
     initial: &[Nine::Zero],
-    start: Some(2),
-    steps: &[(Given::Value(Nine::One), 2), (Given::Nothing, 1)],
-    form: COUNTED,
+    steps: &[
+        (Given::Nothing, 2),
+        (Given::Value(Nine::One), 2),
+        (Given::Nothing, 1),
+    ],
 };
 
 /// The same with too few delta cycles at first.
 pub const CUT_COUNTER: &Course = &Course {
-    net: "counter",
+    top: "cnt",
+    text: COUNTER_TEXT,
     initial: &[Nine::Zero],
-    start: Some(2),
-    steps: &[(Given::Value(Nine::One), 1), (Given::Nothing, 1)],
-    form: COUNTED,
+    steps: &[
+        (Given::Nothing, 2),
+        (Given::Value(Nine::One), 1),
+        (Given::Nothing, 1),
+    ],
 };
 
 /// Two registers in a row whose clock rises, falls and rises, with '1' at the input.
 pub const REGISTERS: &Course = &Course {
-    net: "registers",
+    top: "row",
+    text: REGISTERS_TEXT,
     initial: &[Nine::Zero, Nine::One],
-    start: Some(2),
     steps: &[
+        (Given::Nothing, 2),
         (Given::Value(Nine::One), 2),
         (Given::Value(Nine::Zero), 2),
         (Given::Value(Nine::One), 2),
     ],
-    form: &Form {
-        marks: &[": clk ", "", ", q1 ", ", q2 "],
-        has_limits: false,
-        has_quiet: false,
-        has_order: false,
-    },
-};
-
-/// Three of them.
-pub const THREE_REGISTERS: &Course = &Course {
-    net: "three_registers",
-    initial: &[Nine::Zero, Nine::One],
-    start: Some(1),
-    steps: &[
-        (Given::Value(Nine::One), 1),
-        (Given::Value(Nine::Zero), 1),
-        (Given::Value(Nine::One), 1),
-    ],
-    form: ORDERED,
 };
 
 /// The same, whose clock rises and falls in one cycle: it has no event, so that nothing runs (IEEE
 /// 1076-2008, 14.7.3.4). Then it rises.
 pub const FALLING_BACK: &Course = &Course {
-    net: "three_registers",
+    top: "row",
+    text: REGISTERS_TEXT,
     initial: &[Nine::Zero, Nine::One],
-    start: Some(1),
     steps: &[
+        (Given::Nothing, 1),
         (Given::Both(Nine::One, Nine::Zero), 1),
         (Given::Value(Nine::One), 1),
     ],
-    form: ORDERED,
 };
 
 /// A signal that is assigned its own inverse.
 pub const OSCILLATOR_FROM_U: &Course = &Course {
-    net: "oscillator_from_U",
+    top: "osc",
+    text: "library ieee; use ieee.std_logic_1164.all; entity osc is end; \
+        architecture r of osc is signal y : std_logic; begin y <= not y; end;",
     initial: &[],
-    start: None,
     steps: &[(Given::Nothing, 1_000)],
-    form: NUMBERED,
 };
 
 /// The same, from '0' on.
 pub const OSCILLATOR_FROM_0: &Course = &Course {
-    net: "oscillator_from_0",
+    top: "osc",
+    text: "library ieee; use ieee.std_logic_1164.all; entity osc is end; \
+        architecture r of osc is signal y : std_logic := '0'; begin y <= not y; end;",
     initial: &[],
-    start: None,
     steps: &[(Given::Nothing, 1_000)],
-    form: NUMBERED,
 };
 
 /// A signal that two processes drive, one with '0' and one with '1'.
 pub const TWO_DRIVERS: &Course = &Course {
-    net: "two_drivers",
+    top: "two",
+    text: "library ieee; use ieee.std_logic_1164.all; entity two is end; \
+        architecture r of two is signal s : std_logic; begin s <= '0'; s <= '1'; end;",
     initial: &[],
-    start: None,
     steps: &[(Given::Nothing, 1_000)],
-    form: NUMBERED,
 };
 
 /// A signal that follows an input, and wakes too on the output of a sibling, which it doesn't read.
 pub const SIBLINGS: &Course = &Course {
-    net: "siblings",
+    top: "sib",
+    text: "library ieee; use ieee.std_logic_1164.all; \
+        entity sib is port (a : in std_logic); end; \
+        architecture r of sib is signal y, z : std_logic; begin z <= not a; \
+        process (a, z) begin y <= a; end process; end;",
     initial: &[Nine::Zero],
-    start: Some(1_000),
-    steps: &[(Given::Value(Nine::One), 1), (Given::Nothing, 1)],
-    form: NUMBERED,
-};
-
-const COUNTED: &Form = &Form {
-    marks: &["\n    clk ", ", y ", " ", ", q ", " "],
-    has_limits: true,
-    has_quiet: true,
-    has_order: false,
-};
-
-const NUMBERED: &Form = &Form {
-    marks: &[": ", " ", " "],
-    has_limits: true,
-    has_quiet: false,
-    has_order: false,
-};
-
-const ORDERED: &Form = &Form {
-    marks: &[": ", " ", " ", " ", " "],
-    has_limits: false,
-    has_quiet: false,
-    has_order: true,
+    steps: &[
+        (Given::Nothing, 1_000),
+        (Given::Value(Nine::One), 1),
+        (Given::Nothing, 1),
+    ],
 };

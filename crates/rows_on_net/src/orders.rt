@@ -1,11 +1,12 @@
 //! Rows of the kernel: netlists whose processes run in several orders, with what they come to step
-//! by step, their bodies as trees and as codes. What is printed of nets are codes of the nine
-//! values: 0 for 'U', 1 for 'X', 2 for '0' and 3 for '1'.
+//! by step, their bodies as trees and as codes. Of a step it is told in how many delta cycles it
+//! settles of how many at most, the values of all nets as codes (0 for 'U', 1 for 'X', 2 for '0'
+//! and 3 for '1'), whether no driver is active, and of each body which run of all its last one was.
 
 use crate::bodies::Bodies;
 use crate::courses::{
     COUNTER, CUT_COUNTER, Course, FALLING_BACK, OSCILLATOR_FROM_0, OSCILLATOR_FROM_U, REGISTERS,
-    SIBLINGS, THREE_REGISTERS, TWO_DRIVERS,
+    SIBLINGS, TWO_DRIVERS,
 };
 use crate::nets::Nets;
 use crate::pickers::{Asked, Order};
@@ -14,44 +15,17 @@ use byte_streams::{Sink, push_line};
 use std::alloc::Global;
 
 const ROWS: &[(&str, &Course, Order)] = &[
-    (
-        "counter, forward, 2 delta cycles at most",
-        COUNTER,
-        Order::Forward,
-    ),
-    (
-        "counter, reverse, 2 delta cycles at most",
-        COUNTER,
-        Order::Reverse,
-    ),
-    (
-        "counter, forward, 1 delta cycle at most",
-        CUT_COUNTER,
-        Order::Forward,
-    ),
+    ("counter, forward", COUNTER, Order::Forward),
+    ("counter, reverse", COUNTER, Order::Reverse),
+    ("counter, cut", CUT_COUNTER, Order::Forward),
     ("registers, forward", REGISTERS, Order::Forward),
     ("registers, reverse", REGISTERS, Order::Reverse),
     ("registers, recorded", REGISTERS, Order::First),
+    ("registers, falling back", FALLING_BACK, Order::Forward),
     ("oscillator from 'U'", OSCILLATOR_FROM_U, Order::Forward),
     ("oscillator from '0'", OSCILLATOR_FROM_0, Order::Forward),
     ("two drivers", TWO_DRIVERS, Order::Forward),
-    ("siblings: a, y, z", SIBLINGS, Order::Forward),
-    (
-        "registers, forward: clk, d, q1, q2, q3",
-        THREE_REGISTERS,
-        Order::Forward,
-    ),
-    (
-        "registers, reverse: clk, d, q1, q2, q3",
-        THREE_REGISTERS,
-        Order::Reverse,
-    ),
-    ("registers, from the middle", THREE_REGISTERS, Order::Middle),
-    (
-        "registers, the clock rises and falls in one cycle",
-        FALLING_BACK,
-        Order::Forward,
-    ),
+    ("siblings", SIBLINGS, Order::Forward),
 ];
 
 /// Tells the rows of the kernel, for bodies as trees and for bodies as codes.

@@ -11,8 +11,6 @@ pub enum Order {
     Reverse,
     /// The first, where it is told among how many it was.
     First,
-    /// The one in the middle, likewise.
-    Middle,
 }
 
 /// Takes the processes in an order, and keeps among how many each was, where that is told.
@@ -23,10 +21,6 @@ pub struct Asked {
 }
 
 impl Asked {
-    fn keep(&mut self, count: usize) {
-        let _kept = self.counts.push(count).is_ok();
-    }
-
     /// Tells among how many processes one was to be taken each time.
     pub fn tell<S: Sink>(&self, out: &mut S) {
         for count in &self.counts {
@@ -42,12 +36,8 @@ impl Pick for Asked {
             Order::Forward => Forward.pick(count),
             Order::Reverse => Reverse.pick(count),
             Order::First => {
-                self.keep(count);
+                let _kept = self.counts.push(count).is_ok();
                 0
-            }
-            Order::Middle => {
-                self.keep(count);
-                count / 2
             }
         }
     }

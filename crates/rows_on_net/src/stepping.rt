@@ -6,8 +6,8 @@ ghost use Rattle.rtl_model.specs.simulation.Moments.{HasNoneToRun};
 ghost use Rattle.rtl_net.specs.Nets.{flat};
 
 use crate::bodies::{Bodies, Stamped, with_stamps};
-use crate::courses::{Course, Form, Given};
-use crate::nets::{Nets, net_named};
+use crate::courses::{Course, Given};
+use crate::nets::Nets;
 use crate::pickers::Asked;
 use crate::texts::{push_count, push_truth};
 use byte_streams::{Sink, push_line, push_text};
@@ -27,9 +27,9 @@ pub fn tell_course<N: Nets, S: Sink>(
     pick: &mut Asked,
     out: &mut S,
 ) {
-    match net_named(alloc, nets, course.net) {
+    match nets.open(alloc, course.text.as_bytes(), course.top.as_bytes()) {
         Some(net) => tell_net(alloc, &net, course, form, pick, out),
-        None => push_line(out, b"no net has this name"),
+        None => push_line(out, b"no netlist"),
     }
 }
 
@@ -104,33 +104,11 @@ fn tell_steps<E: Exec, S: Sink>(
     requires net { kernel.old.net ≡ net.now }
     requires ready { HasNoneToRun kernel.old.state }
 {
-    push_order(bodies, course.form, out);
-    if let Some(limit) = course.start {
-        tell_start(kernel, limit, pick, out);
-    }
     for (given, limit) in course.steps {
         change(net, kernel, *given, pick);
-        tell_step(kernel, *limit, course.form, pick, out);
-        push_order(bodies, course.form, out);
+        tell_step(kernel, *limit, pick, out);
+        push_runs(bodies, out);
     }
-}
-
-/// Lets the start settle, and tells in how many delta cycles it does.
-fn tell_start<E: Exec, S: Sink>(
-    kernel: &mut Kernel<'_, Stamped<'_, E>>,
-    limit: u32,
-    pick: &mut Asked,
-    out: &mut S,
-)
-    requires ready { HasNoneToRun kernel.old.state }
-    ensures net { kernel.new.net ≡ kernel.old.net }
-    ensures ready { HasNoneToRun kernel.new.state }
-{
-    match kernel.settle(limit, pick) {
-        Ok(deltas) => push_count(out, "  started, settled after ", deltas as u64),
-        Err(_) => push_text(out, b"  the start does not settle"),
-    }
-    push_text(out, b"\n");
 }
 
 /// Gives the first input what it gets, where there is one and no driver is active.
@@ -157,11 +135,11 @@ fn change<E: Exec>(
     }
 }
 
-/// Lets a netlist settle, and tells what it comes to.
+/// Lets a netlist settle, and tells what it comes to: in how many delta cycles, the values of its
+/// nets, and whether no driver is active.
 fn tell_step<E: Exec, S: Sink>(
     kernel: &mut Kernel<'_, Stamped<'_, E>>,
     limit: u32,
-    form: &Form,
     pick: &mut Asked,
     out: &mut S,
 )
@@ -170,47 +148,26 @@ fn tell_step<E: Exec, S: Sink>(
     ensures ready { HasNoneToRun kernel.new.state }
 {
     match kernel.settle(limit, pick) {
-        Ok(deltas) => push_deltas(deltas, limit, form, out),
-        Err(_) => push_count(out, "  not settled after ", limit as u64),
+        Ok(deltas) => push_count(out, "  settled after ", deltas as u64),
+        Err(_) => push_text(out, b"  not settled"),
     }
-    push_values(kernel.values(), form, out);
-    push_quiet(kernel.is_quiet(), form, out);
+    push_count(out, " of ", limit as u64);
+    push_values(kernel.values(), out);
+    push_text(out, b", quiet ");
+    push_truth(out, kernel.is_quiet());
 }
 
-/// Writes after how many delta cycles a step settled.
-fn push_deltas<S: Sink>(deltas: u32, limit: u32, form: &Form, out: &mut S) {
-    push_count(out, "  settled after ", deltas as u64);
-    if form.has_limits {
-        push_count(out, " of ", limit as u64);
-    }
-}
-
-/// Writes the values of the nets that a form has.
-fn push_values<S: Sink>(values: &[u8], form: &Form, out: &mut S) {
-    for place in 0..values.len().min(form.marks.len()) {
-        let mark = form.marks[place];
-        if !mark.is_empty() {
-            push_count(out, mark, values[place] as u64);
-        }
-    }
-    push_text(out, b"\n");
-}
-
-/// Tells whether no driver is active, where a form has it.
-fn push_quiet<S: Sink>(is_quiet: bool, form: &Form, out: &mut S) {
-    if form.has_quiet {
-        push_text(out, b"    no driver is active: ");
-        push_truth(out, is_quiet);
-        push_text(out, b"\n");
+/// Writes the values of nets.
+fn push_values<S: Sink>(values: &[u8], out: &mut S) {
+    push_text(out, b":");
+    for value in values {
+        push_count(out, " ", *value as u64);
     }
 }
 
-/// Writes of each body which run its last one was, where a form has it.
-fn push_order<E: Exec, S: Sink>(bodies: &[Stamped<'_, E>], form: &Form, out: &mut S) {
-    if !form.has_order {
-        return;
-    }
-    push_text(out, b"  runs");
+/// Writes of each body which run its last one was.
+fn push_runs<E: Exec, S: Sink>(bodies: &[Stamped<'_, E>], out: &mut S) {
+    push_text(out, b", runs");
     for body in bodies {
         push_count(out, " ", body.stamp.get() as u64);
     }

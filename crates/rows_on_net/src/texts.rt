@@ -1,6 +1,6 @@
-//! Texts with numbers, and lines behind marks.
+//! Texts with numbers, and lines in one.
 
-use byte_streams::{Sink, push_line, push_number, push_text};
+use byte_streams::{Sink, push_number, push_text};
 
 /// Writes a text and a number behind it.
 pub fn push_count<S: Sink>(out: &mut S, text: &str, count: u64) {
@@ -12,14 +12,6 @@ pub fn push_count<S: Sink>(out: &mut S, text: &str, count: u64) {
 pub fn push_truth<S: Sink>(out: &mut S, truth: bool) {
     let text = if truth { "true" } else { "false" };
     push_text(out, text.as_bytes());
-}
-
-/// Writes the lines of a text, with a mark before each.
-pub fn push_marked<S: Sink>(out: &mut S, mark: &str, text: &[u8]) {
-    for line in text_of(text).lines() {
-        push_text(out, mark.as_bytes());
-        push_line(out, line.as_bytes());
-    }
 }
 
 /// Writes the lines of a text, with `; ` between them.

@@ -2,7 +2,6 @@
 
 ghost use Rattle.byte_streams.specs.Written.{IsIntact};
 
-use crate::opened::Opened;
 use rows_calls::bytes_of;
 use rows_on_net::{Run, run_by_trees};
 use rtlsim::{
@@ -10,7 +9,7 @@ use rtlsim::{
     run_event, run_levels, show_check, show_check_dot, show_net,
 };
 use std::alloc::Global;
-use vhdl_front::Vhdl;
+use vhdl_front::{Vhdl, open};
 
 /// Makes a call, and gives the status, which stands for its fault if it has one.
 pub fn answer_by_library<S: Sink>(alloc: Global, call: &Call<'_>, input: &[u8], out: &mut S) -> u8
@@ -49,15 +48,13 @@ pub fn answer_by_trees<S: Sink, E: Sink>(
         return None;
     };
     let (source, stimulus) = halves_at_line(input);
-    let run = Run {
-        source,
-        top: call.top.as_bytes(),
-        stimulus,
-        is_event,
+    let Ok(net) = open(alloc, source, call.top.as_bytes()) else {
+        return Some(Status::Source.code());
     };
+    let run = Run { stimulus, is_event };
     Some(match order {
-        Order::Forward => run_by_trees(alloc, &Opened, &run, &mut Forward, out, err),
-        Order::Reverse => run_by_trees(alloc, &Opened, &run, &mut Reverse, out, err),
+        Order::Forward => run_by_trees(alloc, &net, &run, &mut Forward, out, err),
+        Order::Reverse => run_by_trees(alloc, &net, &run, &mut Reverse, out, err),
     })
 }
 

@@ -11,9 +11,9 @@
 //! aside.
 //!
 //! `data/rtl/` has rows of what a whole call doesn't show: what the processes of a netlist reach,
-//! what the checker reports and a second look lets stand, and what comes of a simulation. Then it
-//! is printed what the kernel does step by step, with the processes in several orders, once for
-//! bodies as trees and once for bodies as codes; and what agendas give.
+//! and what the checker reports and a second look lets stand. Then it is printed what the kernel
+//! does step by step, with the processes in several orders, once for bodies as trees and once for
+//! bodies as codes; and what agendas give.
 //!
 //! All that needs no program stands in rows_calls, and what needs no source in rows_on_net, where
 //! it is proved sooner: here are the calls alone.
@@ -28,11 +28,9 @@ mod tries;
 use opened::Opened;
 use processes::Processes;
 use rows_calls::{Text, Told, tell_calls, tell_sources, tell_table};
-use rows_on_net::{tell_agendas, tell_orders, tell_runs};
+use rows_on_net::{tell_agendas, tell_orders};
 use rtlsim_calls::Rtlsim;
-use std::alloc::Global;
-use std::rt::Files;
-use std::{fs, io};
+use std::io;
 use tries::Tries;
 
 /// The tables of calls, in the folder in which the program runs.
@@ -90,23 +88,8 @@ fn main(rt: HostRuntime) -> io::Result<()> {
     tell_sources(&rt, &Rtlsim, &SOURCES)?;
     tell_table(&rt, "rtl/processes.rows", &Processes)?;
     tell_table(&rt, "rtl/reports.rows", &Tries)?;
-    tell_simulations(&rt)
-}
-
-/// Prints the tables of simulations, what the kernel does step by step, and what agendas give.
-fn tell_simulations(rt: &(impl Files + Print + AllocGlobal)) -> io::Result<()> {
-    let traces = fs::read_to_string(rt, "rtl/traces.rows")?;
-    let faults = fs::read_to_string(rt, "rtl/faults.rows")?;
-    told_simulations(rt.alloc(), &[traces.as_str(), faults.as_str()]).print(rt)
-}
-
-/// What the tables of simulations, the kernel and agendas come to.
-fn told_simulations(alloc: Global, tables: &[&str]) -> Text {
-    let mut told = Text::new(alloc);
-    for table in tables {
-        tell_runs(alloc, &Opened, table, &mut told);
-    }
-    tell_orders(alloc, &Opened, &mut told);
-    tell_agendas(alloc, &mut told);
-    told
+    let mut told = Text::new(rt.alloc());
+    tell_orders(rt.alloc(), &Opened, &mut told);
+    tell_agendas(rt.alloc(), &mut told);
+    told.print(&rt)
 }

@@ -35,29 +35,11 @@ fn push_elaborated(alloc: Global, source: &[u8], mark: Option<usize>, found: &mu
 
 /// Adds the name of what is wrong at a byte, and both bytes where that isn't the marked one.
 fn push_problem(found: &mut Text, problem: ElabProblem, at: usize, mark: usize) {
-    found.push(name_of(problem));
+    found.push(problem.rule().words().name);
     if at != mark {
         found.push(" at byte ");
         found.push_number(at);
         found.push(", and not at byte ");
         found.push_number(mark);
-    }
-}
-
-/// The name of what is wrong.
-fn name_of(problem: ElabProblem) -> &'static str {
-    match problem {
-        ElabProblem::NoTop => "NoTop",
-        ElabProblem::NoGeneric => "NoGeneric",
-        ElabProblem::GenericRange => "GenericRange",
-        ElabProblem::StaticError => "StaticError",
-        ElabProblem::Length { .. } => "Length",
-        ElabProblem::Index => "Index",
-        ElabProblem::TooWide => "TooWide",
-        ElabProblem::Unassociated => "Unassociated",
-        ElabProblem::TwoUnresolved => "TwoUnresolved",
-        ElabProblem::ReadOfShared => "ReadOfShared",
-        ElabProblem::TooDeep => "TooDeep",
-        ElabProblem::TooMany => "TooMany",
     }
 }

@@ -3,11 +3,11 @@
 use crate::declarations::push_variables;
 use crate::expressions::{push_choices, push_expr, push_map, push_name, push_range, push_value};
 use crate::sequential::push_sequentials;
-use crate::words::{push_at, push_end, push_identifier, push_if, push_label};
+use crate::words::{push_at, push_end, push_identifier, push_if, push_label, push_list};
 use rows_calls::Text;
 use vhdl_tree::{
-    Assignment, Concurrent, Generate, Instance, Instantiated, Name, Process, Scheme,
-    SelectedAssignment, Sensitivity,
+    Assignment, Concurrent, Generate, Instance, Instantiated, Process, Scheme, SelectedAssignment,
+    Sensitivity, Waveform,
 };
 
 /// Adds statements, with a space before each.
@@ -64,33 +64,25 @@ fn push_selected(out: &mut Text, selected: &SelectedAssignment) {
     push_expr(out, &selected.selector);
     out.push(" select ");
     push_name(out, &selected.target);
-    let mut before: &[u8] = b" <= ";
-    for waveform in &selected.waveforms {
-        out.push_bytes(before);
-        push_value(out, &waveform.value);
-        out.push(" when ");
-        push_choices(out, &waveform.choices);
-        before = b", ";
-    }
+    push_list(out, [" <= ", ", "], &selected.waveforms, push_waveform);
     out.push(";");
+}
+
+fn push_waveform(out: &mut Text, waveform: &Waveform) {
+    push_value(out, &waveform.value);
+    out.push(" when ");
+    push_choices(out, &waveform.choices);
 }
 
 fn push_sensitivity(out: &mut Text, sensitivity: &Sensitivity) {
     match sensitivity {
         Sensitivity::Absent => {}
         Sensitivity::All => out.push(" (all)"),
-        Sensitivity::Names(names) => push_names(out, names),
+        Sensitivity::Names(names) => {
+            push_list(out, [" (", ", "], names, push_name);
+            out.push(")");
+        }
     }
-}
-
-fn push_names(out: &mut Text, names: &[Name]) {
-    let mut before: &[u8] = b" (";
-    for name in names {
-        out.push_bytes(before);
-        push_name(out, name);
-        before = b", ";
-    }
-    out.push(")");
 }
 
 fn push_process(out: &mut Text, process: &Process) {

@@ -1,7 +1,7 @@
 //! Declarations and interfaces.
 
-use crate::expressions::{push_default, push_expr, push_range, push_value};
-use crate::words::{push_end, push_identifier, push_identifiers, push_if};
+use crate::expressions::{push_default, push_expr, push_slice, push_value};
+use crate::words::{push_end, push_identifier, push_identifiers, push_if, push_list};
 use rows_calls::Text;
 use vhdl_tree::{
     Component, Constants, Declaration, Enumeration, Generic, Identifier, Port, Subtype, Value,
@@ -11,30 +11,20 @@ use vhdl_tree::{
 fn push_subtype(out: &mut Text, subtype: &Subtype) {
     push_identifier(out, &subtype.mark);
     if let Some(range) = &subtype.range {
-        out.push(" (");
-        push_range(out, range);
-        out.push(")");
+        push_slice(out, range);
     }
 }
 
 /// Adds the generics and the ports of an entity or a component, if it has them.
 pub fn push_interface(out: &mut Text, generics: &Option<Vec<Generic>>, ports: &Option<Vec<Port>>) {
     if let Some(generics) = generics {
-        push_generics(out, generics);
+        push_list(out, [" generic (", "; "], generics, push_generic);
+        out.push(");");
     }
     if let Some(ports) = ports {
-        push_ports(out, ports);
+        push_list(out, [" port (", "; "], ports, push_port);
+        out.push(");");
     }
-}
-
-fn push_generics(out: &mut Text, generics: &[Generic]) {
-    let mut before: &[u8] = b" generic (";
-    for generic in generics {
-        out.push_bytes(before);
-        push_generic(out, generic);
-        before = b"; ";
-    }
-    out.push(");");
 }
 
 fn push_generic(out: &mut Text, generic: &Generic) {
@@ -47,16 +37,6 @@ fn push_generic(out: &mut Text, generic: &Generic) {
         out.push(" := ");
         push_expr(out, default);
     }
-}
-
-fn push_ports(out: &mut Text, ports: &[Port]) {
-    let mut before: &[u8] = b" port (";
-    for port in ports {
-        out.push_bytes(before);
-        push_port(out, port);
-        before = b"; ";
-    }
-    out.push(");");
 }
 
 fn push_port(out: &mut Text, port: &Port) {

@@ -1,18 +1,16 @@
 //! Names and expressions.
 
-use crate::words::{push_at, push_identifier};
+use crate::words::{push_at, push_identifier, push_list};
 use rows_calls::Text;
-use vhdl_tree::{
-    Actual, Association, Chain, Choice, Expr, Link, Literal, Name, Range, Suffix, Value,
-};
+use vhdl_tree::{Actual, Association, Chain, Choice, Expr, Link, Name, Range, Suffix, Value};
 
 #[cycle(expression)]
 pub fn push_expr(out: &mut Text, expr: &Expr) {
     match expr {
         Expr::Integer(literal) | Expr::StringLiteral(literal) | Expr::BitString(literal) => {
-            push_literal(out, literal)
+            push_at(out, &literal.text, literal.at)
         }
-        Expr::Character { at, code } => push_character(out, *code, *at),
+        Expr::Character { at, code } => push_at(out, &[b'\'', *code, b'\''], *at),
         Expr::Name(name) => push_name(out, name),
         Expr::Parens { at, inner } => {
             push_operand(out, "(", *at, inner);
@@ -25,14 +23,6 @@ pub fn push_expr(out: &mut Text, expr: &Expr) {
         }
         Expr::Chain(chain) => push_chain(out, chain),
     }
-}
-
-fn push_literal(out: &mut Text, literal: &Literal) {
-    push_at(out, &literal.text, literal.at);
-}
-
-fn push_character(out: &mut Text, code: u8, at: usize) {
-    push_at(out, &[b'\'', code, b'\''], at);
 }
 
 /// Adds an operator, the byte at which it starts, and an operand.
@@ -76,12 +66,16 @@ fn push_suffix(out: &mut Text, suffix: &Suffix) {
     match suffix {
         Suffix::Plain => {}
         Suffix::Arguments(all) => push_arguments(out, all),
-        Suffix::Range(range) => {
-            out.push(" (");
-            push_range(out, range);
-            out.push(")");
-        }
+        Suffix::Range(range) => push_slice(out, range),
     }
+}
+
+/// Adds a range in parentheses.
+#[cycle(expression)]
+pub fn push_slice(out: &mut Text, range: &Range) {
+    out.push(" (");
+    push_range(out, range);
+    out.push(")");
 }
 
 #[cycle(expression)]
@@ -126,12 +120,7 @@ pub fn push_default(out: &mut Text, value: &Option<Value>) {
 
 /// Adds choices with bars between.
 pub fn push_choices(out: &mut Text, choices: &[Choice]) {
-    let mut between: &[u8] = b"";
-    for choice in choices {
-        out.push_bytes(between);
-        push_choice(out, choice);
-        between = b" | ";
-    }
+    push_list(out, ["", " | "], choices, push_choice);
 }
 
 fn push_choice(out: &mut Text, choice: &Choice) {
@@ -145,18 +134,9 @@ fn push_choice(out: &mut Text, choice: &Choice) {
 pub fn push_map(out: &mut Text, words: &str, map: &Option<Vec<Association>>) {
     if let Some(all) = map {
         out.push(words);
-        push_associations(out, all);
+        push_list(out, [" (", ", "], all, push_association);
+        out.push(")");
     }
-}
-
-fn push_associations(out: &mut Text, all: &[Association]) {
-    let mut before: &[u8] = b" (";
-    for association in all {
-        out.push_bytes(before);
-        push_association(out, association);
-        before = b", ";
-    }
-    out.push(")");
 }
 
 fn push_association(out: &mut Text, association: &Association) {

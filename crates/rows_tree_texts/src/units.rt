@@ -2,18 +2,13 @@
 
 use crate::concurrent::push_concurrents;
 use crate::declarations::{push_declaration, push_interface};
-use crate::words::{push_at, push_end, push_identifier, push_identifiers, push_if};
+use crate::words::{push_at, push_end, push_identifier, push_identifiers, push_if, push_list};
 use rows_calls::Text;
 use vhdl_tree::{Architecture, ContextItem, DesignUnit, Entity, File, LibraryUnit, Selected};
 
 /// Adds the units of a file, with a space between.
 pub fn push_file(out: &mut Text, file: &File) {
-    let mut between: &[u8] = b"";
-    for unit in &file.units {
-        out.push_bytes(between);
-        push_unit(out, unit);
-        between = b" ";
-    }
+    push_list(out, ["", " "], &file.units, push_unit);
 }
 
 fn push_unit(out: &mut Text, unit: &DesignUnit) {
@@ -32,21 +27,16 @@ fn push_context_item(out: &mut Text, item: &ContextItem) {
             out.push("library ");
             push_identifiers(out, names);
         }
-        ContextItem::Use(names) => push_use(out, names),
+        ContextItem::Use(names) => push_list(out, ["use ", ", "], names, push_selected),
     }
     out.push("; ");
 }
 
-fn push_use(out: &mut Text, names: &[Selected]) {
-    let mut before: &[u8] = b"use ";
-    for selected in names {
-        out.push_bytes(before);
-        push_identifier(out, &selected.library);
-        out.push(".");
-        push_identifier(out, &selected.name);
-        out.push(".all");
-        before = b", ";
-    }
+fn push_selected(out: &mut Text, selected: &Selected) {
+    push_identifier(out, &selected.library);
+    out.push(".");
+    push_identifier(out, &selected.name);
+    out.push(".all");
 }
 
 fn push_entity(out: &mut Text, entity: &Entity) {

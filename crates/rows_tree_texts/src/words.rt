@@ -22,11 +22,23 @@ pub fn push_identifier(out: &mut Text, identifier: &Identifier) {
 }
 
 pub fn push_identifiers(out: &mut Text, identifiers: &[Identifier]) {
-    let mut between: &[u8] = b"";
-    for identifier in identifiers {
-        out.push_bytes(between);
-        push_identifier(out, identifier);
-        between = b", ";
+    push_list(out, ["", ", "], identifiers, push_identifier);
+}
+
+/// Adds each of some parts, the first behind one text and every other behind another.
+pub fn push_list<T, F: Fn(&mut Text, &T) + Drop>(
+    out: &mut Text,
+    delimiters: [&str; 2],
+    parts: &[T],
+    push: F,
+)
+    requires { F.IsAlwaysCallable push }
+{
+    let [mut before, between] = delimiters;
+    for part in parts {
+        out.push(before);
+        push(out, part);
+        before = between;
     }
 }
 

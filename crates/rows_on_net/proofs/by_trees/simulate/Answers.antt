@@ -3,7 +3,7 @@ use Rattle.rtl_net.specs.Nets.{flat}
 use Rattle.rtl_kernel.specs.kernel.Kept.{RunBodies}
 use Rattle.rtl_eval.specs.Trees.{ProcessOf, process_of, processes_of}
 use Rattle.rows_on_net.proofs.Trees.{trees_run}
-use Rattle.rows_on_net.proofs.answers.simulate.Goals as goal
+use Rattle.rows_on_net.proofs.by_trees.simulate.Goals as goal
 
 pub run_watched-requires-clause-bodies : goal.run_watched-requires-clause-bodies
 run_watched-requires-clause-bodies g c =
