@@ -4,18 +4,15 @@ use denote.Bor.{Bor}
 use Rattle.fault_rules.specs.declared.words.Words.{Words}
 use Rattle.fault_rules.specs.declared.report.Rule.{Rule}
 use Rattle.fault_rules.specs.declared.report.Rule.TheVariants as r
-use Rattle.fault_rules.specs.declared.lexing.LexRule.{LexRule}
-use Rattle.fault_rules.specs.declared.lexing.LexRule.TheVariants as lexing
-use Rattle.fault_rules.specs.declared.lexing.TheConstants.{LEXING}
-use Rattle.fault_rules.specs.declared.grammar.SyntaxRule.{SyntaxRule}
-use Rattle.fault_rules.specs.declared.grammar.SyntaxRule.TheVariants as grammar
-use Rattle.fault_rules.specs.declared.grammar.TheConstants.{GRAMMAR}
-use Rattle.fault_rules.specs.declared.naming.NameRule.{NameRule}
-use Rattle.fault_rules.specs.declared.naming.NameRule.TheVariants as naming
-use Rattle.fault_rules.specs.declared.naming.TheConstants.{NAMING}
-use Rattle.fault_rules.specs.declared.elaboration.ElabRule.{ElabRule}
-use Rattle.fault_rules.specs.declared.elaboration.ElabRule.TheVariants as elaboration
-use Rattle.fault_rules.specs.declared.elaboration.TheConstants.{ELABORATION}
+use Rattle.fault_rules.specs.declared.source.LexRule.{LexRule}
+use Rattle.fault_rules.specs.declared.source.LexRule.TheVariants as lexing
+use Rattle.fault_rules.specs.declared.source.SyntaxRule.{SyntaxRule}
+use Rattle.fault_rules.specs.declared.source.SyntaxRule.TheVariants as grammar
+use Rattle.fault_rules.specs.declared.source.NameRule.{NameRule}
+use Rattle.fault_rules.specs.declared.source.NameRule.TheVariants as naming
+use Rattle.fault_rules.specs.declared.source.ElabRule.{ElabRule}
+use Rattle.fault_rules.specs.declared.source.ElabRule.TheVariants as elaboration
+use Rattle.fault_rules.specs.declared.source.TheConstants.{ELABORATION, GRAMMAR, LEXING, NAMING}
 use Rattle.fault_rules.specs.declared.checking.CheckRule.{CheckRule}
 use Rattle.fault_rules.specs.declared.checking.CheckRule.TheVariants as checking
 use Rattle.fault_rules.specs.declared.checking.TheConstants.{CHECKING}

@@ -5,7 +5,7 @@ ghost use Rattle.fault_rules.specs.Rules.{AreWords, expecting_words};
 use crate::words::{Words, rule};
 
 /// The rules on expected values. They have no sentence and no help yet.
-#[derive(Clone, Copy)]
+#[derive(Clone, Copy, Debug)]
 pub enum ExpectRule {
     /// A value isn't the expected one.
     Differs,

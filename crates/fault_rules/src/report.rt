@@ -3,13 +3,10 @@
 ghost use Rattle.fault_rules.specs.Rules.{AreWords, words_of};
 
 use crate::checking::CheckRule;
-use crate::elaboration::ElabRule;
 use crate::expecting::ExpectRule;
-use crate::grammar::SyntaxRule;
-use crate::lexing::LexRule;
-use crate::naming::NameRule;
 use crate::remarking::RemarkRule;
 use crate::settling::RunRule;
+use crate::source::{ElabRule, LexRule, NameRule, SyntaxRule};
 use crate::stimuli::StimRule;
 use crate::words::Words;
 

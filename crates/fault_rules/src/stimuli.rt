@@ -5,7 +5,7 @@ ghost use Rattle.fault_rules.specs.Rules.{AreWords, stimuli_words};
 use crate::words::{Words, rule};
 
 /// The rules on stimuli.
-#[derive(Clone, Copy)]
+#[derive(Clone, Copy, Debug)]
 pub enum StimRule {
     BadLine,
     NotAnInput,
@@ -21,9 +21,9 @@ pub enum StimRule {
 static STIMULI: [Words<&str>; 8] = [
     rule! { stim 1 BadLine: "the line isn't understood"
         => "write at TIME NAME VALUE, clock NAME FIRST HALF or, once, stop TIME, a line each and in small letters; a \
-            time is a number alone, in ns; a comment is a line of its own that begins with #" },
+            time is a whole number alone, in ns; a comment is a line of its own that begins with #" },
     rule! { stim 2 NotAnInput: "the name is no in port of the top"
-        => "see the spelling of the port; in ports of the top alone are set, and no out port" },
+        => "see the spelling of the port; in ports of the top alone are set, each as a whole, and no out port" },
     rule! { stim 3 BadValue: "the value doesn't fit the input"
         => "write for each element one of U X 0 1 Z W L H -, the leftmost first, with no quotation mark and no x; a \
             clock has one element" },
