@@ -29,9 +29,12 @@ beginning at depth last here (t ∷ ts) =
 
 -- ---- where it ends
 
--- how many statements with an `end` are open behind a token
+-- how many statements with an `end` are open behind a token, by whether it opens one
+abbrev pub opened_behind : (opened : ℕ) → TokenKind → (opens : Bool) → ℕ
+opened_behind opened kind opens = if is_end kind then opened - 1 else (if opens then opened + 1 else opened)
+
 abbrev pub open_behind : (opened : ℕ) → (last kind : TokenKind) → ℕ
-open_behind opened last kind = if is_end kind then opened - 1 else (if opens last kind then opened + 1 else opened)
+open_behind opened last kind = opened_behind opened kind (opens last kind)
 
 -- a statement or declaration ends here, where so many statements with an `end` are open
 abbrev pub ends_here : (opened : ℕ) → TokenKind → Bool

@@ -120,14 +120,22 @@ fn ends_here(opened: usize, kind: TokenKind) -> bool
     opened == 0 && is_semicolon(kind)
 }
 
-/// How many statements with an `end` are open behind a token, where so many are before it.
 fn open_behind(opened: usize, last: TokenKind, kind: TokenKind) -> usize
     requires { opened < 2 ^ 63 }
     ensures { result ≡ spec.open_behind opened last kind }
 {
+    opened_behind(opened, kind, opens(last, kind))
+}
+
+/// How many statements with an `end` are open behind a token, where so many are before it, by
+/// whether it opens one.
+pub fn opened_behind(opened: usize, kind: TokenKind, opens: bool) -> usize
+    requires { opened < 2 ^ 63 }
+    ensures { result ≡ spec.opened_behind opened kind opens }
+{
     if is_end(kind) {
         opened.saturating_sub(1)
-    } else if opens(last, kind) {
+    } else if opens {
         opened + 1
     } else {
         opened

@@ -1,7 +1,7 @@
 -- The plainest concurrent statements, and that each takes a token at least.
 use Rattle.std.proofs.Common.{ℕ, ◌≤◌, false, [], ◌∷◌, ◌++◌, length, length-append, Option, Some, None, refl, arith}
 use Rattle.vhdl_lexer.specs.declared.token.TokenKind.TheVariants as k
-use Rattle.vhdl_tree.specs.Tree.{Ident, plain, single, Concurrent, for_each, if_holds, assignment, selected, process, instance, generated, no_concurrents}
+use Rattle.vhdl_tree.specs.Tree.{Ident, plain, single, Concurrent, for_each, if_holds, assignment, selected, process, generated, no_concurrents}
 use Rattle.vhdl_tree.specs.Pieces.{some, one_at, word_at, spell_option}
 use Rattle.vhdl_tree.specs.grammar.Expressions.{spell_name}
 use Rattle.vhdl_tree.specs.grammar.Process.{spell_process, spell_selected}

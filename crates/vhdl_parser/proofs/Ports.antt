@@ -11,12 +11,12 @@ use Rattle.vhdl_tree.specs.grammar.Expressions.{IsExpr, IsValue}
 use Rattle.vhdl_tree.specs.grammar.Subtypes.{IsSubtype}
 use Rattle.vhdl_tree.specs.grammar.Declarations.{spell_generic_default, spell_mode, spell_generic, spell_generics, spell_port, spell_ports, IsGeneric, AreGenerics, IsPort, ArePorts}
 use Rattle.vhdl_parser_expressions.specs.reader.Input.{Parser, is_kind}
-use Rattle.vhdl_parser.specs.reader.Declarations.{generic_default, optional_generic_default, generic, clause, generics, optional_generics, mode_by, mode, port, ports, optional_ports}
+use Rattle.vhdl_parser.specs.reader.Declarations.{generic_default, optional_generic_default, generic, clause, optional_generics, mode_by, mode, port, optional_ports}
 use Rattle.vhdl_parser_expressions.proofs.Halts.{Example}
 use Rattle.vhdl_parser_expressions.proofs.Walks.{Rule, w_pure, w_then, w_last, w_rule}
 use Rattle.vhdl_parser_expressions.proofs.Rules.{is_neutral, w_some, w_ident, w_left, w_right, w_below, below_met, w_choose, under, word_rule, option_rule}
 use Rattle.vhdl_parser_expressions.proofs.Repeats.{separated_rule}
-use Rattle.vhdl_parser_expressions.proofs.Gives.{Gives, Whatever, front, g_pure, g_then, g_map, g_some, g_ident, g_choose, g_below, eat_gives, option_gives, separated_gives}
+use Rattle.vhdl_parser_expressions.proofs.Gives.{Gives, Whatever, g_pure, g_then, g_map, g_some, g_ident, g_choose, g_below, eat_gives, option_gives, separated_gives}
 use Rattle.vhdl_parser_expressions.proofs.WalkExpressions.{expr_rule}
 use Rattle.vhdl_parser_expressions.proofs.GiveValues.{Ends, expr_gives}
 use Rattle.vhdl_parser_statements.proofs.Plain.{an_ident}
@@ -26,10 +26,6 @@ use Rattle.vhdl_parser_statements.proofs.Subtypes.{idents_rule, idents_gives, su
 
 abbrev spell_clause : {A : Type 0} → TokenKind → (A → List Piece) → List A → List Piece
 spell_clause word spell all = some word ∷ (some k.LeftParen ∷ (spell_list k.Semicolon spell all ++ (some k.RightParen ∷ (some k.Semicolon ∷ []))))
-
-clause_begins : {A : Type 0} (word : TokenKind) (spell : A → List Piece) (Good : A → Type 0) → same_kind word word ≡ true → (all : List A) → IsList Good all → (next : Option TokenKind)
-    → is_kind word (front (spell_clause word spell all) next) ≡ true
-clause_begins word spell Good same all good next = same
 
 module _ {A : Type 0} {item : ℕ → Parser A} {spell : A → List Piece} {Good : A → Type 0} (word : TokenKind) where
   clause_rule : is_neutral word ≡ true → Example (λ r. some word ∷ (some k.LeftParen ∷ r)) (spell_clause word spell) (IsList Good) → ((m : ℕ) → Rule m 0 (item m) spell Good) → (n : ℕ)
@@ -52,7 +48,6 @@ module _ {A : Type 0} {item : ℕ → Parser A} {spell : A → List Piece} {Good
 -- ---- defaults of generics
 
 generic_default_rule : (n : ℕ) → Rule n 0 (generic_default n) spell_generic_default IsExpr
-unfolding generic_default
 generic_default_rule n = w_some k.Assign refl (λ _. w_rule (λ e. refl) (expr_rule n))
 
 optional_generic_default_rule : (n : ℕ) → Rule n 0 (optional_generic_default n) (spell_option spell_generic_default) (IsOption IsExpr)
@@ -60,16 +55,11 @@ unfolding optional_generic_default
 optional_generic_default_rule n = option_rule (is_kind k.Assign) (omega arith) (generic_default_rule n)
 
 generic_default_gives : (n : ℕ) (e : Expr) → IsExpr e → Gives (generic_default n) e (spell_generic_default e) Ends
-unfolding generic_default
 generic_default_gives n e good = g_some (λ _. expr_gives n e good)
 
-generic_default_begins : (e : Expr) → IsExpr e → (next : Option TokenKind) → is_kind k.Assign (front (spell_generic_default e) next) ≡ true
-unfolding same_kind
-generic_default_begins e good next = refl
-
 optional_generic_default_gives : (n : ℕ) (d : Option Expr) → IsOption IsExpr d → Gives (optional_generic_default n) d (spell_option spell_generic_default d) EndsDefault
-unfolding optional_generic_default
-optional_generic_default_gives n d good = option_gives (is_kind k.Assign) (generic_default_gives n) generic_default_begins d good
+unfolding optional_generic_default same_kind
+optional_generic_default_gives n d good = option_gives (is_kind k.Assign) (generic_default_gives n) (λ e _ next. refl) d good
 
 -- ---- generics
 
@@ -93,7 +83,7 @@ plain_generics = record {
 }
 
 pub optional_generics_rule : (n : ℕ) → Rule n 0 (optional_generics n) (spell_option spell_generics) (IsOption AreGenerics)
-unfolding optional_generics generics
+unfolding optional_generics
 optional_generics_rule n = option_rule (is_kind k.Generic) (omega arith) (clause_rule k.Generic refl plain_generics generic_rule n)
 
 generic_gives : (n : ℕ) (g : Generic) → IsGeneric g → Gives (generic n) g (spell_generic g) EndsDefault
@@ -114,8 +104,8 @@ generic_gives n g good = of g.constant_word g.names g.in_word g.mark g.default g
         (λ next g. refl)
 
 pub optional_generics_gives : (n : ℕ) (o : Option (List Generic)) → IsOption AreGenerics o → Gives (optional_generics n) o (spell_option spell_generics o) (λ next. (is_kind k.Generic next ≡ false) × Whatever next)
-unfolding optional_generics generics same_kind
-optional_generics_gives n o good = option_gives (is_kind k.Generic) (clause_gives k.Generic generic_gives n) (clause_begins k.Generic spell_generic IsGeneric refl) o good
+unfolding optional_generics same_kind
+optional_generics_gives n o good = option_gives (is_kind k.Generic) (clause_gives k.Generic generic_gives n) (λ gs _ next. refl) o good
 
 -- ---- ports
 
@@ -148,7 +138,7 @@ plain_ports = record {
 }
 
 pub optional_ports_rule : (n : ℕ) → Rule n 0 (optional_ports n) (spell_option spell_ports) (IsOption ArePorts)
-unfolding optional_ports ports
+unfolding optional_ports
 optional_ports_rule n = option_rule (is_kind k.Port) (omega arith) (clause_rule k.Port refl plain_ports port_rule n)
 
 -- neither `in` nor `out` follows
@@ -176,5 +166,5 @@ port_gives n p good = of p.signal_word p.names p.mode p.subtype p.default good.0
         (λ next g. refl)
 
 pub optional_ports_gives : (n : ℕ) (o : Option (List Port)) → IsOption ArePorts o → Gives (optional_ports n) o (spell_option spell_ports o) (λ next. (is_kind k.Port next ≡ false) × Whatever next)
-unfolding optional_ports ports same_kind
-optional_ports_gives n o good = option_gives (is_kind k.Port) (clause_gives k.Port port_gives n) (clause_begins k.Port spell_port IsPort refl) o good
+unfolding optional_ports same_kind
+optional_ports_gives n o good = option_gives (is_kind k.Port) (clause_gives k.Port port_gives n) (λ ps _ next. refl) o good

@@ -118,7 +118,7 @@ fn unlabelled(parser: &mut Parser<'_>, levels: usize) -> Result<Concurrent, Stop
 
 /// Concurrent statements, in which so many levels may be opened.
 #[cycle(concurrent)]
-#[tactic(auto, unfolding(crate::specs::reader::Concurrent::concurrents_with))]
+#[tactic(auto, unfolding(crate::specs::reader::Concurrent::concurrents_with), using(vhdl_parser_statements::proofs::Taken::each_turn))]
 pub fn concurrents(parser: &mut Parser<'_>, levels: usize) -> Result<Vec<Concurrent>, Stop>
     ensures { Reads concurrents_view (read.concurrents levels parser.old) result parser.new }
 {

@@ -11,6 +11,16 @@ use vhdl_parser_expressions::{Parser, Stop, many, separated};
 use vhdl_parser_statements::{followed, identifiers};
 use vhdl_tree::{ContextItem, Selected};
 
+/// `word list ;`
+macro_rules! item {
+    ($parser:expr, $word:ident, $list:ident) => {{
+        $parser.expect(TokenKind::$word)?;
+        let all = $list($parser)?;
+        let all = followed($parser, all, TokenKind::Semicolon)?;
+        Ok(ContextItem::$word(all))
+    }};
+}
+
 #[tactic(auto, unfolding(crate::specs::reader::Context::selected))]
 fn selected(parser: &mut Parser<'_>) -> Result<Selected, Stop>
     ensures { Reads selected_view (read.selected parser.old) result parser.new }
@@ -33,20 +43,14 @@ fn selecteds(parser: &mut Parser<'_>) -> Result<Vec<Selected>, Stop>
 fn library_clause(parser: &mut Parser<'_>) -> Result<ContextItem, Stop>
     ensures { Reads context_view (read.library_clause parser.old) result parser.new }
 {
-    parser.expect(TokenKind::Library)?;
-    let names = identifiers(parser)?;
-    let names = followed(parser, names, TokenKind::Semicolon)?;
-    Ok(ContextItem::Library(names))
+    item!(parser, Library, identifiers)
 }
 
 #[tactic(auto, unfolding(crate::specs::reader::Context::use_clause))]
 fn use_clause(parser: &mut Parser<'_>) -> Result<ContextItem, Stop>
     ensures { Reads context_view (read.use_clause parser.old) result parser.new }
 {
-    parser.expect(TokenKind::Use)?;
-    let all = selecteds(parser)?;
-    let all = followed(parser, all, TokenKind::Semicolon)?;
-    Ok(ContextItem::Use(all))
+    item!(parser, Use, selecteds)
 }
 
 #[tactic(auto, unfolding(crate::specs::reader::Context::context_item))]

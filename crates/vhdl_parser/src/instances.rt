@@ -8,7 +8,7 @@ ghost use Rattle.vhdl_parser_expressions.specs.reader.Input.{Reads};
 ghost use Rattle.vhdl_parser.specs.reader.Instance as read;
 
 use vhdl_lexer::TokenKind;
-use vhdl_parser_expressions::{Parser, Stop, below};
+use vhdl_parser_expressions::{Parser, Stop, below, optional};
 use vhdl_parser_statements::followed;
 use vhdl_tree::{Association, Identifier, Instance, Instantiated};
 
@@ -27,11 +27,11 @@ fn optional_architecture(parser: &mut Parser<'_>, levels: usize) -> Result<Optio
     ensures { Reads option_ident_view (input.optional (input.is_kind k.LeftParen) (read.chosen levels) parser.old)
         result parser.new }
 {
-    if parser.sees(TokenKind::LeftParen) {
-        Ok(Some(chosen_architecture(parser, levels)?))
-    } else {
-        Ok(None)
-    }
+    optional!(
+        parser,
+        TokenKind::LeftParen,
+        chosen_architecture(parser, levels)?
+    )
 }
 
 #[tactic(auto, unfolding(crate::specs::reader::Instance::of_entity))]
@@ -86,11 +86,7 @@ fn optional_map(
     ensures { Reads (option_map associations_view)
         (input.optional (input.is_kind word) (read.map_of levels word) parser.old) result parser.new }
 {
-    if parser.sees(word) {
-        Ok(Some(map_of(parser, levels, word)?))
-    } else {
-        Ok(None)
-    }
+    optional!(parser, word, map_of(parser, levels, word)?)
 }
 
 /// An instance behind its label, in which so many levels may be opened.

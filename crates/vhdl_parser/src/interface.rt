@@ -1,32 +1,40 @@
 //! Generics and ports.
 
 ghost use Rattle.std.specs.Prelude.{◌≡◌};
-ghost use Rattle.vhdl_tree.specs.View.{view, option_expr_view, generic_view, generics_view, option_generics_view, port_view, ports_view, option_ports_view};
+ghost use Rattle.vhdl_lexer.specs.declared.token.TokenKind.TheVariants as k;
+ghost use Rattle.vhdl_tree.specs.View.{option_expr_view, generic_view, generics_view, option_generics_view, port_view, ports_view, option_ports_view};
 ghost use Rattle.vhdl_parser.specs.reader.Declarations as read;
 ghost use Rattle.vhdl_parser_expressions.specs.reader.Input.{Reads};
 
 use vhdl_lexer::TokenKind;
-use vhdl_parser_expressions::{Parser, Stop, below, separated};
+use vhdl_parser_expressions::{Parser, Stop, below, optional, separated};
 use vhdl_parser_statements::{followed, identifiers, optional_default, subtype};
 use vhdl_tree::{Expr, Generic, Mode, Port};
 
-#[tactic(auto, unfolding(crate::specs::reader::Declarations::generic_default))]
-fn generic_default(parser: &mut Parser<'_>, levels: usize) -> Result<Expr, Stop>
-    ensures { Reads view (read.generic_default levels parser.old) result parser.new }
-{
-    parser.expect(TokenKind::Assign)?;
-    parser.expr(levels)
+/// `word ( items ) ;`
+macro_rules! clause {
+    ($parser:expr, $levels:expr, $word:expr, $items:ident) => {{
+        $parser.expect($word)?;
+        $parser.expect(TokenKind::LeftParen)?;
+        let inner = below($levels)?;
+        let found = $items($parser, inner)?;
+        let found = followed($parser, found, TokenKind::RightParen)?;
+        followed($parser, found, TokenKind::Semicolon)
+    }};
 }
 
 #[tactic(auto, unfolding(crate::specs::reader::Declarations::optional_generic_default, vhdl_parser_expressions::specs::reader::Input::optional))]
 fn optional_generic_default(parser: &mut Parser<'_>, levels: usize) -> Result<Option<Expr>, Stop>
     ensures { Reads option_expr_view (read.optional_generic_default levels parser.old) result parser.new }
 {
-    if parser.sees(TokenKind::Assign) {
-        Ok(Some(generic_default(parser, levels)?))
-    } else {
-        Ok(None)
-    }
+    optional!(
+        parser,
+        TokenKind::Assign,
+        {
+            parser.expect(TokenKind::Assign)?;
+            parser.expr(levels)?
+        }
+    )
 }
 
 #[tactic(auto, unfolding(crate::specs::reader::Declarations::generic))]
@@ -49,7 +57,7 @@ fn generic(parser: &mut Parser<'_>, levels: usize) -> Result<Generic, Stop>
 }
 
 fn generic_list(parser: &mut Parser<'_>, levels: usize) -> Result<Vec<Generic>, Stop>
-    ensures { Reads generics_view (read.generic_list levels parser.old) result parser.new }
+    ensures { Reads generics_view (read.items read.generic levels parser.old) result parser.new }
 {
     separated(
         parser,
@@ -58,16 +66,10 @@ fn generic_list(parser: &mut Parser<'_>, levels: usize) -> Result<Vec<Generic>, 
     )
 }
 
-#[tactic(auto, unfolding(crate::specs::reader::Declarations::generics))]
 fn generics(parser: &mut Parser<'_>, levels: usize) -> Result<Vec<Generic>, Stop>
-    ensures { Reads generics_view (read.generics levels parser.old) result parser.new }
+    ensures { Reads generics_view (read.clause k.Generic read.generic levels parser.old) result parser.new }
 {
-    parser.expect(TokenKind::Generic)?;
-    parser.expect(TokenKind::LeftParen)?;
-    let inner = below(levels)?;
-    let found = generic_list(parser, inner)?;
-    let found = followed(parser, found, TokenKind::RightParen)?;
-    followed(parser, found, TokenKind::Semicolon)
+    clause!(parser, levels, TokenKind::Generic, generic_list)
 }
 
 /// A generic clause, if one comes next, in which so many levels may be opened.
@@ -78,11 +80,7 @@ pub fn optional_generics(
 ) -> Result<Option<Vec<Generic>>, Stop>
     ensures { Reads option_generics_view (read.optional_generics levels parser.old) result parser.new }
 {
-    if parser.sees(TokenKind::Generic) {
-        Ok(Some(generics(parser, levels)?))
-    } else {
-        Ok(None)
-    }
+    optional!(parser, TokenKind::Generic, generics(parser, levels)?)
 }
 
 #[tactic(auto, unfolding(crate::specs::reader::Declarations::mode))]
@@ -122,21 +120,15 @@ fn port(parser: &mut Parser<'_>, levels: usize) -> Result<Port, Stop>
 }
 
 fn port_list(parser: &mut Parser<'_>, levels: usize) -> Result<Vec<Port>, Stop>
-    ensures { Reads ports_view (read.port_list levels parser.old) result parser.new }
+    ensures { Reads ports_view (read.items read.port levels parser.old) result parser.new }
 {
     separated(parser, TokenKind::Semicolon, |parser| port(parser, levels))
 }
 
-#[tactic(auto, unfolding(crate::specs::reader::Declarations::ports))]
 fn ports(parser: &mut Parser<'_>, levels: usize) -> Result<Vec<Port>, Stop>
-    ensures { Reads ports_view (read.ports levels parser.old) result parser.new }
+    ensures { Reads ports_view (read.clause k.Port read.port levels parser.old) result parser.new }
 {
-    parser.expect(TokenKind::Port)?;
-    parser.expect(TokenKind::LeftParen)?;
-    let inner = below(levels)?;
-    let found = port_list(parser, inner)?;
-    let found = followed(parser, found, TokenKind::RightParen)?;
-    followed(parser, found, TokenKind::Semicolon)
+    clause!(parser, levels, TokenKind::Port, port_list)
 }
 
 /// A port clause, if one comes next, in which so many levels may be opened.
@@ -144,9 +136,5 @@ fn ports(parser: &mut Parser<'_>, levels: usize) -> Result<Vec<Port>, Stop>
 pub fn optional_ports(parser: &mut Parser<'_>, levels: usize) -> Result<Option<Vec<Port>>, Stop>
     ensures { Reads option_ports_view (read.optional_ports levels parser.old) result parser.new }
 {
-    if parser.sees(TokenKind::Port) {
-        Ok(Some(ports(parser, levels)?))
-    } else {
-        Ok(None)
-    }
+    optional!(parser, TokenKind::Port, ports(parser, levels)?)
 }

@@ -11,7 +11,7 @@ use Rattle.vhdl_tree.specs.Lexeme.{Lexeme, same_kind}
 use Rattle.vhdl_tree.specs.Tree.{Ident, Expr, integer, character, string, bits, named, parens, negation, signed, binary, plain, arguments, sliced, Range, Name, Value, single, others, Choice, chosen, otherwise, Actual, actual, left_open, Association}
 use Rattle.vhdl_tree.specs.Pieces.{Piece, some, one_at, Spells, spell_option}
 use Rattle.vhdl_tree.specs.grammar.Expressions.{kind_of, sign_kind, direction_kind, spell, spell_name, spell_range, spell_value, spell_choice, spell_choices, spell_actual, spell_formal, spell_association, spell_associations, IsExpr, IsName, IsRange, IsValue, IsChoice, AreChoices, IsActual, IsAssociation, AreAssociations}
-use Rattle.vhdl_parser_expressions.specs.reader.Input.{Parser, Outcome, and_then, next_kind, second_kind, is_kind, sees_both, test_both}
+use Rattle.vhdl_parser_expressions.specs.reader.Input.{Parser, Outcome, and_then, next_kind, second_kind, is_kind, test, ◌<$>◌, sees_both, test_both}
 use Rattle.vhdl_parser_expressions.specs.reader.Expressions as read
 use Rattle.vhdl_parser_expressions.specs.reader.Expressions.{direction_at, range_by, range, others_value, value, choice, choices, formal, optional_formal, actual_of, association, associations, inside, name}
 use Rattle.vhdl_parser_expressions.proofs.Steps.{kind_same}
@@ -80,16 +80,10 @@ begins k.Open = false
 begins _ = true
 
 head_begins : (e : Expr) → begins (head e) ≡ true
-head_begins (integer at text) = refl
-head_begins (character at code) = refl
-head_begins (string at text) = refl
-head_begins (bits at text) = refl
-head_begins (named n suffix attribute) = refl
-head_begins (parens at inner) = refl
-head_begins (negation at operand) = refl
 head_begins (signed Plus at operand) = refl
 head_begins (signed Minus at operand) = refl
 head_begins (binary b op at left right) = head_begins left
+head_begins _ = refl
 
 not_head : (kind : TokenKind) (e : Expr) → begins kind ≡ false → same_kind (head e) kind ≡ false
 not_head kind e h = by (same_kind (head e) kind) refl
@@ -118,10 +112,6 @@ behind [] next = None
 behind (p ∷ ps) next = front ps next
 
 second_is : (e : Expr) (ps : List Piece) (next : Option TokenKind) → behind (spell e ++ ps) next ≡ second e (front ps next)
-second_is (integer at text) ps next = refl
-second_is (character at code) ps next = refl
-second_is (string at text) ps next = refl
-second_is (bits at text) ps next = refl
 second_is (named n plain None) ps next = refl
 second_is (named n plain (Some a)) ps next = refl
 second_is (named n (arguments all) attribute) ps next = refl
@@ -130,20 +120,16 @@ second_is (parens at inner) ps next = ap (λ qs. front qs next) (append_assoc (s
 second_is (negation at operand) ps next = head_is operand ps next
 second_is (signed sign at operand) ps next = head_is operand ps next
 second_is (binary b op at left right) ps next = ap (λ qs. behind qs next) (append_assoc (spell left) (one_at (kind_of op) at ∷ spell right) ps) ∙ second_is left ((one_at (kind_of op) at ∷ spell right) ++ ps) next
+second_is _ ps next = refl
 
 -- no expression begins with ( others
 no_others : (e : Expr) (f : Option TokenKind) → same_kind (head e) k.LeftParen && is_kind k.Others (second e f) ≡ false
 unfolding same_kind
-no_others (integer at text) f = refl
-no_others (character at code) f = refl
-no_others (string at text) f = refl
-no_others (bits at text) f = refl
-no_others (named n suffix attribute) f = refl
 no_others (parens at inner) f = not_head k.Others inner refl
-no_others (negation at operand) f = refl
 no_others (signed Plus at operand) f = refl
 no_others (signed Minus at operand) f = refl
 no_others (binary b op at left right) f = no_others left (Some (kind_of op))
+no_others _ f = refl
 
 operator_no_arrow : (op : Operator) → is_kind k.Arrow (Some (kind_of op)) ≡ false
 unfolding same_kind
@@ -153,19 +139,14 @@ operator_no_arrow _ = refl
 -- nor with id =>, where no => follows it
 no_formal : (e : Expr) (f : Option TokenKind) → is_kind k.Arrow f ≡ false → same_kind (head e) k.Identifier && is_kind k.Arrow (second e f) ≡ false
 unfolding same_kind
-no_formal (integer at text) f s = refl
-no_formal (character at code) f s = refl
-no_formal (string at text) f s = refl
-no_formal (bits at text) f s = refl
 no_formal (named n plain None) f s = s
 no_formal (named n plain (Some a)) f s = refl
 no_formal (named n (arguments all) attribute) f s = refl
 no_formal (named n (sliced left direction right) attribute) f s = refl
-no_formal (parens at inner) f s = refl
-no_formal (negation at operand) f s = refl
 no_formal (signed Plus at operand) f s = refl
 no_formal (signed Minus at operand) f s = refl
 no_formal (binary b op at left right) f s = no_formal left (Some (kind_of op)) (operator_no_arrow op)
+no_formal _ f s = refl
 
 spell_long : (e : Expr) → 1 ≤ length (spell e)
 spell_long (binary b op at left right) = omega (arith, spell_long left, length-append (spell left) (one_at (kind_of op) at ∷ spell right))
@@ -211,6 +192,10 @@ both_expr first behind_it e next = subst (λ qs. both first behind_it qs next �
 head_alone : (kind : TokenKind) (e : Expr) (next : Option TokenKind) → begins kind ≡ false → is_kind kind (front (spell e) next) ≡ false
 head_alone kind e next h = subst (λ qs. is_kind kind (front qs next) ≡ false) (append-nil (spell e)) (ap (is_kind kind) (head_is e [] next) ∙ not_head kind e h)
 
+-- where the word may stand in place of an expression
+expr_alone : {A : Type 0} (p : Parser A) (kind : TokenKind) → begins kind ≡ false → (of : Expr → A) (n : ℕ) (e : Expr) → IsExpr e → Gives (test (is_kind kind) p (of <$> read.expr n)) (of e) (spell e) Ends
+expr_alone p kind other of n e f = g_no p (is_kind kind) (λ next _. head_alone kind e next other) (g_map of (expr_gives n e f))
+
 -- ---- values
 
 pub value_gives : (n : ℕ) (v : Value) → IsValue v → Gives (value n) v (spell_value v) Ends
@@ -227,9 +212,7 @@ value_gives n (others at e) f =
 choice_gives : (n : ℕ) (c : Choice) → IsChoice c → Gives (choice n) c (spell_choice c) Ends
 unfolding choice same_kind
 choice_gives n (otherwise at) f = g_yes _ (is_kind k.Others) (λ next _. refl) (g_at _ g_pure)
-choice_gives n (chosen e) f =
-    g_no _ (is_kind k.Others) (λ next _. head_alone k.Others e next refl)
-    (g_map (λ x. chosen x) (expr_gives n e f))
+choice_gives n (chosen e) f = expr_alone _ k.Others refl (λ x. chosen x) n e f
 
 pub choices_gives : (n : ℕ) (cs : List Choice) → AreChoices cs → Gives (choices n) cs (spell_choices cs) (λ next. (is_kind k.Bar next ≡ false) × Ends next)
 unfolding same_kind
@@ -244,9 +227,7 @@ EndsActual next = (is_kind k.Arrow next ≡ false) × Ends next
 actual_gives : (n : ℕ) (a : Actual) → IsActual a → Gives (actual_of n) a (spell_actual a) Ends
 unfolding actual_of same_kind
 actual_gives n (left_open at) f = g_yes _ (is_kind k.Open) (λ next _. refl) (g_at _ g_pure)
-actual_gives n (actual e) f =
-    g_no _ (is_kind k.Open) (λ next _. head_alone k.Open e next refl)
-    (g_map (λ x. actual x) (expr_gives n e f))
+actual_gives n (actual e) f = expr_alone _ k.Open refl (λ x. actual x) n e f
 
 actual_ends : (n : ℕ) (a : Actual) → IsActual a → Gives (actual_of n) a (spell_actual a) EndsActual
 actual_ends n a f = record { reads = λ ts rest h g. (actual_gives n a f).reads ts rest h g.1 }

@@ -5,6 +5,7 @@ use Rattle.vhdl_lexer.specs.declared.token.TokenKind.TheVariants as k
 use Rattle.vhdl_tree.specs.Lexeme.{Lexeme, same_kind}
 use Rattle.vhdl_tree.specs.Tree.{Ident}
 use Rattle.vhdl_tree.specs.Pieces.{Piece, some, one_at, word_at, literal_at, text_at, Is, Spells, spell_word, spell_option, spell_each, spell_list, IsEach, IsList, IsOption}
+use Rattle.vhdl_tree.proofs.Room.{kind_of_piece, kind_is}
 use Rattle.vhdl_parser_expressions.specs.reader.Input.{Outcome, Parser, and_then, token, expect, identifier, next_kind, is_kind, test, eat, optional, many_from, many, separated, below}
 use Rattle.vhdl_parser_expressions.proofs.Steps.{spells_split, spells_length, kind_same, takes}
 use Rattle.vhdl_parser_expressions.proofs.Yields.{Yields, yields_is, yields_bind}
@@ -21,27 +22,16 @@ pub record Gives {A : Type 0} (p : Parser A) (a : A) (ps : List Piece) (F : Opti
 abbrev pub Whatever : Option TokenKind → Type 0
 Whatever next = Unit {0}
 
-abbrev pub kind_at : Piece → TokenKind
-kind_at (some kind) = kind
-kind_at (one_at kind at) = kind
-kind_at (word_at at text) = k.Identifier
-kind_at (literal_at at code) = k.Character
-kind_at (text_at kind at text) = kind
-
 -- the kind at the front of pieces, where this one follows them
 abbrev pub front : List Piece → Option TokenKind → Option TokenKind
 front [] next = next
-front (p ∷ ps) next = Some (kind_at p)
-
-is_kind_at : (p : Piece) (l : Lexeme) → Is p l → l.kind ≡ kind_at p
-is_kind_at (some kind) l i = i
-is_kind_at _ l i = i.0
+front (p ∷ ps) next = Some (kind_of_piece p)
 
 pub front_is : (ps : List Piece) (ts rest : List Lexeme) → Spells ps ts rest → next_kind ts ≡ front ps (next_kind rest)
 unfolding next_kind
 front_is [] ts rest h = ap next_kind h
 front_is (p ∷ ps) [] rest h = absurd h
-front_is (p ∷ ps) (t ∷ ts) rest h = ap (λ x. Some x) (is_kind_at p t h.0)
+front_is (p ∷ ps) (t ∷ ts) rest h = ap (λ x. Some x) (kind_is p t h.0)
 
 pub g_pure : {A : Type 0} {a : A} {F : Option TokenKind → Type 0} → Gives (λ ts. Ok (a, ts)) a [] F
 g_pure {A} {a} = record { reads = λ ts rest h f. inl (ap (λ us. Ok (a, us)) h) }

@@ -1,6 +1,8 @@
 -- Operators by level, and what may follow what.
-use Rattle.std.proofs.Common.{◌≡◌, ℕ, ◌≤◌, ◌<◌, Bool, true, false, cond, Option, Some, None, inl, inr, ⊎_elim, refl, sym, ap, ◌∙◌, subst, rules, arith}
-use denote.Enum.Bare.{same_true, true_same}
+use Rattle.std.proofs.Common.{◌≡◌, ℕ, ◌==◌, ◌≤◌, ◌<◌, Bool, true, false, cond, List, [], ◌∷◌, Option, Some, None, inl, inr, ⊎_elim, refl, sym, ap, ◌∙◌, subst, rules, arith}
+use Rattle.std.specs.Prelude.{if◌then◌else◌}
+use denote.Enum.Bare.{sameb, same_true, true_same}
+use Rattle.vhdl_lexer.specs.Kinds.{is_one_of}
 use Rattle.vhdl_lexer.specs.declared.token.TokenKind.{TokenKind}
 use Rattle.vhdl_lexer.specs.declared.token.TokenKind.TheVariants as k
 use Rattle.vhdl_lexer.specs.contracts.token.TokenKind.{the_type}
@@ -10,9 +12,9 @@ use Rattle.vhdl_parser_expressions.specs.declared.operator.Level.{Level}
 use Rattle.vhdl_parser_expressions.specs.declared.operator.Level.TheVariants.{Logical, Relation, Adding, Multiplying}
 use Rattle.vhdl_tree.specs.Lexeme.{same_kind}
 use Rattle.vhdl_tree.specs.Tree.{Expr, integer, character, string, bits, named, parens, negation, signed, binary}
-use Rattle.vhdl_tree.specs.grammar.Expressions.{kind_of, rank, repeats, binding, Chains, GoesOn, IsSigned, Leads}
+use Rattle.vhdl_tree.specs.grammar.Expressions.{kind_of, token_rank, rank, repeats, binding, Chains, GoesOn, IsSigned, Leads}
 use Rattle.vhdl_parser_expressions.specs.reader.Input.{is_kind}
-use Rattle.vhdl_parser_expressions.specs.reader.Expressions.{logical_at, relation_at, adding_at, multiplying_at, operator_at, next_operator}
+use Rattle.vhdl_parser_expressions.specs.reader.Expressions.{operator_among, operator_at, next_operator}
 
 abbrev pub level_rank : Level → ℕ
 level_rank Logical = 1
@@ -22,53 +24,15 @@ level_rank Multiplying = 4
 
 -- How tightly a token goes on with the expression before it: not at all 0, as an operator by its rank, and as a name's suffix or attribute 7.
 abbrev pub grip : Option TokenKind → ℕ
-grip (Some k.And) = 1
-grip (Some k.Or) = 1
-grip (Some k.Xor) = 1
-grip (Some k.Xnor) = 1
-grip (Some k.Nand) = 1
-grip (Some k.Nor) = 1
-grip (Some k.Equal) = 2
-grip (Some k.NotEqual) = 2
-grip (Some k.Less) = 2
-grip (Some k.LessEqual) = 2
-grip (Some k.Greater) = 2
-grip (Some k.GreaterEqual) = 2
-grip (Some k.Plus) = 3
-grip (Some k.Minus) = 3
-grip (Some k.Ampersand) = 3
-grip (Some k.Star) = 4
-grip (Some k.Slash) = 4
-grip (Some k.Mod) = 4
-grip (Some k.Rem) = 4
-grip (Some k.LeftParen) = 7
-grip (Some k.Tick) = 7
-grip _ = 0
+grip None = 0
+grip (Some kind) = if is_one_of (k.LeftParen ∷ k.Tick ∷ []) kind then 7 else token_rank kind
 
 pub grip-kind_of : (op : Operator) → grip (Some (kind_of op)) ≡ rank op
 grip-kind_of And = refl
 grip-kind_of _ = refl
 
 abbrev pub level_of : Operator → Level
-level_of And = Logical
-level_of Or = Logical
-level_of Xor = Logical
-level_of Xnor = Logical
-level_of Nand = Logical
-level_of Nor = Logical
-level_of Equal = Relation
-level_of NotEqual = Relation
-level_of Less = Relation
-level_of LessEqual = Relation
-level_of Greater = Relation
-level_of GreaterEqual = Relation
-level_of Add = Adding
-level_of Subtract = Adding
-level_of Concatenate = Adding
-level_of Multiply = Multiplying
-level_of Divide = Multiplying
-level_of Modulo = Multiplying
-level_of Remainder = Multiplying
+level_of op = if rank op == 1 then Logical else if rank op == 2 then Relation else if rank op == 3 then Adding else Multiplying
 
 pub rank-level_of : (op : Operator) → rank op ≡ level_rank (level_of op)
 rank-level_of And = refl
@@ -97,36 +61,28 @@ pub record At (level : Level) (next : Option TokenKind) (op : Operator) : Type 0
 row : (level : Level) (next : Option TokenKind) (found op : Operator) → ◌≡◌ {A = Option Operator} (Some found) (Some op) → next ≡ Some (kind_of found) → rank found ≡ level_rank level → At level next op
 row level next found op h e r = let same : found ≡ op = cc in subst (At level next) same (record { kind_is = e; rank_is = r })
 
-logical_is : (next : Option TokenKind) (op : Operator) → logical_at next ≡ Some op → At Logical next op
-logical_is (Some k.And) op h = row Logical _ And op h refl refl
-logical_is (Some k.Or) op h = row Logical _ Or op h refl refl
-logical_is (Some k.Xor) op h = row Logical _ Xor op h refl refl
-logical_is (Some k.Xnor) op h = row Logical _ Xnor op h refl refl
-logical_is (Some k.Nand) op h = row Logical _ Nand op h refl refl
-logical_is (Some k.Nor) op h = row Logical _ Nor op h refl refl
-logical_is _ op h = absurd (cc)
+-- the operators are of this level
+abbrev AreRanked : Level → List Operator → Type 0
+AreRanked level [] = Unit {0}
+AreRanked level (o ∷ operators) = (rank o ≡ level_rank level) × AreRanked level operators
 
-relation_is : (next : Option TokenKind) (op : Operator) → relation_at next ≡ Some op → At Relation next op
-relation_is (Some k.Equal) op h = row Relation _ Equal op h refl refl
-relation_is (Some k.NotEqual) op h = row Relation _ NotEqual op h refl refl
-relation_is (Some k.Less) op h = row Relation _ Less op h refl refl
-relation_is (Some k.LessEqual) op h = row Relation _ LessEqual op h refl refl
-relation_is (Some k.Greater) op h = row Relation _ Greater op h refl refl
-relation_is (Some k.GreaterEqual) op h = row Relation _ GreaterEqual op h refl refl
-relation_is _ op h = absurd (cc)
+chosen : (level : Level) (kind : TokenKind) (o op : Operator) (others : Option Operator) (b : Bool) → sameb the_type kind (kind_of o) ≡ b → rank o ≡ level_rank level → (others ≡ Some op → At level (Some kind) op)
+    → ◌≡◌ {A = Option Operator} (cond b (Some o) others) (Some op) → At level (Some kind) op
+chosen level kind o op others true same ranked later h = row level (Some kind) o op h (ap Some (same_true the_type (search rules) kind (kind_of o) same)) ranked
+chosen level kind o op others false same ranked later h = later h
 
-adding_is : (next : Option TokenKind) (op : Operator) → adding_at next ≡ Some op → At Adding next op
-adding_is (Some k.Plus) op h = row Adding _ Add op h refl refl
-adding_is (Some k.Minus) op h = row Adding _ Subtract op h refl refl
-adding_is (Some k.Ampersand) op h = row Adding _ Concatenate op h refl refl
-adding_is _ op h = absurd (cc)
+among_is : (level : Level) (operators : List Operator) → AreRanked level operators → (next : Option TokenKind) (op : Operator) → operator_among operators next ≡ Some op → At level next op
+among_is level operators ranked None op h = absurd (cc)
+among_is level [] ranked (Some kind) op h = absurd (cc)
+among_is level (o ∷ operators) ranked (Some kind) op h =
+    chosen level kind o op (operator_among operators (Some kind)) (sameb the_type kind (kind_of o)) refl ranked.0 (λ g. among_is level operators ranked.1 (Some kind) op g) h
 
-multiplying_is : (next : Option TokenKind) (op : Operator) → multiplying_at next ≡ Some op → At Multiplying next op
-multiplying_is (Some k.Star) op h = row Multiplying _ Multiply op h refl refl
-multiplying_is (Some k.Slash) op h = row Multiplying _ Divide op h refl refl
-multiplying_is (Some k.Mod) op h = row Multiplying _ Modulo op h refl refl
-multiplying_is (Some k.Rem) op h = row Multiplying _ Remainder op h refl refl
-multiplying_is _ op h = absurd (cc)
+-- what a chain begins with is an operator of its level
+pub first_is : (level : Level) (next : Option TokenKind) (op : Operator) → operator_at level next ≡ Some op → At level next op
+first_is Logical next op h = among_is Logical (And ∷ Or ∷ Xor ∷ Xnor ∷ Nand ∷ Nor ∷ []) (refl, (refl, (refl, (refl, (refl, (refl, tt)))))) next op h
+first_is Relation next op h = among_is Relation (Equal ∷ NotEqual ∷ Less ∷ LessEqual ∷ Greater ∷ GreaterEqual ∷ []) (refl, (refl, (refl, (refl, (refl, (refl, tt)))))) next op h
+first_is Adding next op h = among_is Adding (Add ∷ Subtract ∷ Concatenate ∷ []) (refl, (refl, (refl, tt))) next op h
+first_is Multiplying next op h = among_is Multiplying (Multiply ∷ Divide ∷ Modulo ∷ Remainder ∷ []) (refl, (refl, (refl, (refl, tt)))) next op h
 
 -- an operator's token is read as that operator at its level
 pub reads_operator : (level : Level) (op : Operator) → rank op ≡ level_rank level → operator_at level (Some (kind_of op)) ≡ Some op
@@ -167,13 +123,6 @@ unfolding same_kind
 is_here kind None h = absurd (cc)
 is_here kind (Some found) h = ap Some (same_true the_type (search rules) found kind h)
 
--- what a chain begins with is an operator of its level
-pub first_is : (level : Level) (next : Option TokenKind) (op : Operator) → operator_at level next ≡ Some op → At level next op
-first_is Logical next op h = logical_is next op h
-first_is Relation next op h = relation_is next op h
-first_is Adding next op h = adding_is next op h
-first_is Multiplying next op h = multiplying_is next op h
-
 -- what it goes on with is one
 pub next_is : (level : Level) (last : Operator) (next : Option TokenKind) (op : Operator) → next_operator level last next ≡ Some op → At level next op
 unfolding next_operator
@@ -187,8 +136,8 @@ next_is Logical last next op h = by_repeats (repeats last) refl h
     by_repeats true e g = by_kind (repeated_rank last e) (is_kind (kind_of last) next) refl g
     by_repeats false e g = absurd (cc)
 next_is Relation last next op h = absurd (cc)
-next_is Adding last next op h = adding_is next op h
-next_is Multiplying last next op h = multiplying_is next op h
+next_is Adding last next op h = first_is Adding next op h
+next_is Multiplying last next op h = first_is Multiplying next op h
 
 -- nothing of this level follows where what comes next is looser
 none_at : (level : Level) (next : Option TokenKind) (o : Option Operator) → ((op : Operator) → o ≡ Some op → At level next op) → grip next < level_rank level → o ≡ None

@@ -1,5 +1,6 @@
 -- How readers are made of tokens, choices and options: what each makes.
-use Rattle.std.proofs.Common.{◌≡◌, ℕ, zero, suc, ◌+◌, ◌≤◌, Bool, true, false, cond, List, [], ◌∷◌, ◌++◌, slice_index, Ok, Err, Option, Some, None, ⊎_elim, refl, sym, ap, ◌∙◌, subst, arith}
+use Rattle.std.proofs.Common.{◌≡◌, ℕ, zero, suc, ◌+◌, ◌≤◌, Bool, true, false, not, cond, List, [], ◌∷◌, ◌++◌, slice_index, Ok, Err, Option, Some, None, ⊎_elim, refl, sym, ap, ◌∙◌, subst, arith}
+use Rattle.vhdl_lexer.specs.Kinds.{is_one_of}
 use Rattle.vhdl_lexer.specs.declared.token.TokenKind.{TokenKind}
 use Rattle.vhdl_lexer.specs.declared.token.TokenKind.TheVariants as k
 use Rattle.vhdl_parser_expressions.specs.declared.stop.Stop.{Stop}
@@ -23,15 +24,7 @@ Stops f a = (ts : List Lexeme) × (why : Stop) × (at : List Lexeme) × (f a ts 
 
 -- a token that neither opens nor closes a level, nor is `end`
 abbrev pub is_neutral : TokenKind → Bool
-is_neutral k.LeftParen = false
-is_neutral k.RightParen = false
-is_neutral k.If = false
-is_neutral k.Case = false
-is_neutral k.For = false
-is_neutral k.Loop = false
-is_neutral k.Generate = false
-is_neutral k.End = false
-is_neutral _ = true
+is_neutral kind = not (is_one_of (k.LeftParen ∷ k.RightParen ∷ k.If ∷ k.Case ∷ k.For ∷ k.Loop ∷ k.Generate ∷ k.End ∷ []) kind)
 
 pub record Neutral (kind : TokenKind) : Type 0 where
   pub opens_none : (e : Bool) → opening e kind ≡ 0

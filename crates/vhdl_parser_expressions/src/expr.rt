@@ -173,10 +173,8 @@ impl Parser<'_> {
         ensures { Reads view (read.first_of (read.inside levels) level self.old) result self.new }
     {
         match level {
-            Level::Logical => self.chain(levels, Level::Relation),
-            Level::Relation => self.chain(levels, Level::Adding),
             Level::Adding => self.leading(levels),
-            Level::Multiplying => self.factor(levels),
+            Level::Logical | Level::Relation | Level::Multiplying => self.operand(levels, level),
         }
     }
 

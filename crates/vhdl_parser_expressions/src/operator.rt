@@ -6,6 +6,16 @@ ghost use Rattle.vhdl_parser_expressions.specs.reader.Expressions as read;
 use vhdl_lexer::TokenKind;
 use vhdl_tree::{Direction, Operator, Sign};
 
+/// What a token is of these, each by its kind.
+macro_rules! found {
+    ($kind:expr, $name:ident: $($token:ident = $variant:ident),+) => {
+        match $kind {
+            $(Some(TokenKind::$token) => Some($name::$variant),)+
+            _ => None,
+        }
+    };
+}
+
 /// How tightly operators bind, the loosest first.
 #[derive(Clone, Copy)]
 pub enum Level {
@@ -32,72 +42,41 @@ impl Level {
 fn logical_at(kind: Option<TokenKind>) -> Option<Operator>
     ensures { result ≡ read.logical_at kind }
 {
-    match kind {
-        Some(TokenKind::And) => Some(Operator::And),
-        Some(TokenKind::Or) => Some(Operator::Or),
-        Some(TokenKind::Xor) => Some(Operator::Xor),
-        Some(TokenKind::Xnor) => Some(Operator::Xnor),
-        Some(TokenKind::Nand) => Some(Operator::Nand),
-        Some(TokenKind::Nor) => Some(Operator::Nor),
-        _ => None,
-    }
+    found!(kind, Operator: And = And, Or = Or, Xor = Xor, Xnor = Xnor, Nand = Nand, Nor = Nor)
 }
 
 fn relation_at(kind: Option<TokenKind>) -> Option<Operator>
     ensures { result ≡ read.relation_at kind }
 {
-    match kind {
-        Some(TokenKind::Equal) => Some(Operator::Equal),
-        Some(TokenKind::NotEqual) => Some(Operator::NotEqual),
-        Some(TokenKind::Less) => Some(Operator::Less),
-        Some(TokenKind::LessEqual) => Some(Operator::LessEqual),
-        Some(TokenKind::Greater) => Some(Operator::Greater),
-        Some(TokenKind::GreaterEqual) => Some(Operator::GreaterEqual),
-        _ => None,
-    }
+    found!(
+        kind, Operator:
+        Equal = Equal, NotEqual = NotEqual, Less = Less, LessEqual = LessEqual,
+        Greater = Greater, GreaterEqual = GreaterEqual
+    )
 }
 
 fn adding_at(kind: Option<TokenKind>) -> Option<Operator>
     ensures { result ≡ read.adding_at kind }
 {
-    match kind {
-        Some(TokenKind::Plus) => Some(Operator::Add),
-        Some(TokenKind::Minus) => Some(Operator::Subtract),
-        Some(TokenKind::Ampersand) => Some(Operator::Concatenate),
-        _ => None,
-    }
+    found!(kind, Operator: Plus = Add, Minus = Subtract, Ampersand = Concatenate)
 }
 
 fn multiplying_at(kind: Option<TokenKind>) -> Option<Operator>
     ensures { result ≡ read.multiplying_at kind }
 {
-    match kind {
-        Some(TokenKind::Star) => Some(Operator::Multiply),
-        Some(TokenKind::Slash) => Some(Operator::Divide),
-        Some(TokenKind::Mod) => Some(Operator::Modulo),
-        Some(TokenKind::Rem) => Some(Operator::Remainder),
-        _ => None,
-    }
+    found!(kind, Operator: Star = Multiply, Slash = Divide, Mod = Modulo, Rem = Remainder)
 }
 
 /// The sign that a token is.
 pub fn sign_at(kind: Option<TokenKind>) -> Option<Sign>
     ensures { result ≡ read.sign_at kind }
 {
-    match kind {
-        Some(TokenKind::Plus) => Some(Sign::Plus),
-        Some(TokenKind::Minus) => Some(Sign::Minus),
-        _ => None,
-    }
+    found!(kind, Sign: Plus = Plus, Minus = Minus)
 }
 
 /// The direction that a token is.
 pub fn direction_at(kind: Option<TokenKind>) -> Option<Direction>
     ensures { result ≡ read.direction_at kind }
 {
-    match kind {
-        Some(TokenKind::To) => Some(Direction::To),
-        Some(TokenKind::Downto) => Some(Direction::Downto),
-        _ => None,
-    }
+    found!(kind, Direction: To = To, Downto = Downto)
 }

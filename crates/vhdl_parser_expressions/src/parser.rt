@@ -14,6 +14,18 @@ use std::marker::Model;
 use vhdl_lexer::{Token, TokenKind};
 use vhdl_tree::{Identifier, Literal};
 
+/// What an item reads, if a token of this kind comes next.
+#[macro_export]
+macro_rules! optional {
+    ($parser:expr, $kind:expr, $item:expr) => {
+        if $parser.sees($kind) {
+            Ok(Some($item))
+        } else {
+            Ok(None)
+        }
+    };
+}
+
 /// A place among the tokens of a source. Contracts see it as the lexemes that are ahead.
 ///
 /// A call that reads takes the tokens that it reads, and answers what they spell, which takes
@@ -90,13 +102,13 @@ impl<'a> Parser<'a> {
     }
 
     /// Whether the next two tokens are of these kinds.
-    #[tactic(auto, unfolding(crate::specs::reader::Input::next_kind, crate::specs::reader::Input::second_kind, vhdl_tree::specs::Lexeme::same_kind, vhdl_tree::specs::Lexeme::lexeme))]
+    #[tactic(auto, unfolding(crate::specs::reader::Input::next_kind, crate::specs::reader::Input::second_kind))]
     pub fn sees_both(&self, first: TokenKind, second: TokenKind) -> bool
         ensures { result ≡ read.sees_both first second self.now }
     {
         match self.tokens.split_first() {
             None => false,
-            Some((token, rest)) => token.kind == first && begins(rest, second),
+            Some((_, rest)) => self.sees(first) && begins(rest, second),
         }
     }
 
@@ -181,11 +193,7 @@ impl<'a> Parser<'a> {
         ensures { Reads option_ident_view (read.optional (read.is_kind k.Identifier) read.identifier self.old) result
             self.new }
     {
-        if self.sees(TokenKind::Identifier) {
-            Ok(Some(self.identifier()?))
-        } else {
-            Ok(None)
-        }
+        optional!(self, TokenKind::Identifier, self.identifier()?)
     }
 }
 

@@ -12,6 +12,19 @@ use crate::stop::Stop;
 use vhdl_lexer::TokenKind;
 use vhdl_tree::{Actual, Association, Choice, Identifier, Range, Value};
 
+/// A word, of which the tree keeps where it starts, or an expression.
+macro_rules! word_or_expr {
+    ($parser:expr, $levels:expr, $tree:ident, $word:ident) => {
+        if $parser.sees(TokenKind::$word) {
+            Ok($tree::$word {
+                at: $parser.expect(TokenKind::$word)?,
+            })
+        } else {
+            Ok($tree::Expr($parser.expr($levels)?))
+        }
+    };
+}
+
 impl Parser<'_> {
     /// A range (IEEE 1076-2008, 5.2.1), in which so many levels may be opened.
     #[tactic(auto, unfolding(crate::specs::reader::Expressions::range))]
@@ -70,13 +83,7 @@ impl Parser<'_> {
     fn choice(&mut self, levels: usize) -> Result<Choice, Stop>
         ensures { Reads choice_view (read.choice levels self.old) result self.new }
     {
-        if self.sees(TokenKind::Others) {
-            Ok(Choice::Others {
-                at: self.expect(TokenKind::Others)?,
-            })
-        } else {
-            Ok(Choice::Expr(self.expr(levels)?))
-        }
+        word_or_expr!(self, levels, Choice, Others)
     }
 
     /// Associations (6.5.7) with commas between, in which so many levels may be opened.
@@ -112,12 +119,6 @@ impl Parser<'_> {
     fn actual(&mut self, levels: usize) -> Result<Actual, Stop>
         ensures { Reads actual_view (read.actual_of levels self.old) result self.new }
     {
-        if self.sees(TokenKind::Open) {
-            Ok(Actual::Open {
-                at: self.expect(TokenKind::Open)?,
-            })
-        } else {
-            Ok(Actual::Expr(self.expr(levels)?))
-        }
+        word_or_expr!(self, levels, Actual, Open)
     }
 }

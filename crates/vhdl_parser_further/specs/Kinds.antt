@@ -1,15 +1,14 @@
 -- What the kinds of tokens say of statements and declarations (IEEE 1076-2008, 3.3.2, 10 and 11). `last` is the kind of the token before.
-use Rattle.std.specs.Prelude.{◌&&◌, ◌||◌, not, Bool, true, false, if◌then◌else◌}
+use Rattle.std.specs.Prelude.{◌&&◌, ◌||◌, not, Bool, false, [], ◌∷◌, if◌then◌else◌}
 use Rattle.vhdl_lexer.specs.Kinds as lexer
-use Rattle.vhdl_lexer.specs.Kinds.{is_end, is_semicolon}
+use Rattle.vhdl_lexer.specs.Kinds.{is_one_of, is_end, is_semicolon}
 use Rattle.vhdl_lexer.specs.declared.token.TokenKind.{TokenKind}
 use Rattle.vhdl_lexer.specs.declared.token.TokenKind.TheVariants as k
 
 -- ---- their parts
 
 abbrev pub is_begin : TokenKind → Bool
-is_begin k.Begin = true
-is_begin _ = false
+is_begin = is_one_of (k.Begin ∷ [])
 
 -- a list of statements or declarations ends in front of these
 abbrev pub closes : TokenKind → Bool
@@ -17,33 +16,21 @@ closes kind = is_end kind || is_begin kind
 
 -- the words of statements and declarations that have an `end` of their own
 abbrev pub has_end : TokenKind → Bool
-has_end k.If = true
-has_end k.Case = true
-has_end k.For = true
-has_end k.While = true
-has_end k.Process = true
-has_end k.Block = true
-has_end k.Component = true
-has_end k.Record = true
-has_end k.Function = true
-has_end k.Procedure = true
-has_end _ = false
+has_end = is_one_of (
+    k.If ∷ k.Case ∷ k.For ∷ k.While ∷ k.Process ∷ k.Block ∷ k.Component ∷ k.Record ∷ k.Function ∷ k.Procedure ∷ []
+    )
 
 abbrev pub is_left_paren : TokenKind → Bool
-is_left_paren k.LeftParen = true
-is_left_paren _ = false
+is_left_paren = is_one_of (k.LeftParen ∷ [])
 
 abbrev pub is_right_paren : TokenKind → Bool
-is_right_paren k.RightParen = true
-is_right_paren _ = false
+is_right_paren = is_one_of (k.RightParen ∷ [])
 
 abbrev pub is_colon : TokenKind → Bool
-is_colon k.Colon = true
-is_colon _ = false
+is_colon = is_one_of (k.Colon ∷ [])
 
 abbrev pub is_wait : TokenKind → Bool
-is_wait k.Wait = true
-is_wait _ = false
+is_wait = is_one_of (k.Wait ∷ [])
 
 -- `: component` begins an instance, and behind `wait for` stands a time
 abbrev pub is_part : (last kind : TokenKind) → Bool
@@ -56,8 +43,7 @@ abbrev pub opens : (last kind : TokenKind) → Bool
 opens last kind = has_end kind && not (is_end last) && not (is_part last kind)
 
 abbrev pub is_is : TokenKind → Bool
-is_is k.Is = true
-is_is _ = false
+is_is = is_one_of (k.Is ∷ [])
 
 -- a statement or declaration may begin behind this token: not behind `is`, `end loop` and `end generate`
 abbrev pub is_boundary : (last kind : TokenKind) → Bool
@@ -65,32 +51,16 @@ is_boundary last kind = lexer.is_boundary last kind && not (is_is kind) && (is_s
 
 -- behind these more of a statement stands, which begins as one does
 abbrev pub wants_more : TokenKind → Bool
-wants_more k.Select = true
-wants_more k.Colon = true
-wants_more _ = false
+wants_more = is_one_of (k.Select ∷ k.Colon ∷ [])
 
 -- ---- how they begin
 
 -- the words with which declarations begin
 abbrev pub declares : TokenKind → Bool
-declares k.Signal = true
-declares k.Constant = true
-declares k.Variable = true
-declares k.Shared = true
-declares k.Type = true
-declares k.Subtype = true
-declares k.Component = true
-declares k.Attribute = true
-declares k.Alias = true
-declares k.File = true
-declares k.Function = true
-declares k.Procedure = true
-declares k.Pure = true
-declares k.Impure = true
-declares k.Disconnect = true
-declares k.Group = true
-declares k.Use = true
-declares _ = false
+declares = is_one_of (
+    k.Signal ∷ k.Constant ∷ k.Variable ∷ k.Shared ∷ k.Type ∷ k.Subtype ∷ k.Component ∷ k.Attribute ∷ k.Alias ∷
+    k.File ∷ k.Function ∷ k.Procedure ∷ k.Pure ∷ k.Impure ∷ k.Disconnect ∷ k.Group ∷ k.Use ∷ []
+    )
 
 -- what begins with such a token may be taken out: behind the architecture's `begin`, if it stands before, or in front of it
 abbrev pub may_go : (begun : Bool) → TokenKind → Bool
@@ -98,15 +68,7 @@ may_go begun kind = if begun then not (closes kind) else declares kind
 
 -- the words with which statements begin that have no `end`
 abbrev pub is_simple : TokenKind → Bool
-is_simple k.With = true
-is_simple k.Wait = true
-is_simple k.Null = true
-is_simple k.Assert = true
-is_simple k.Report = true
-is_simple k.Return = true
-is_simple k.Exit = true
-is_simple k.Next = true
-is_simple _ = false
+is_simple = is_one_of (k.With ∷ k.Wait ∷ k.Null ∷ k.Assert ∷ k.Report ∷ k.Return ∷ k.Exit ∷ k.Next ∷ [])
 
 -- a statement begins with this word, or a declaration
 abbrev pub states : TokenKind → Bool
@@ -114,18 +76,11 @@ states kind = is_simple kind || has_end kind || declares kind
 
 -- the words with which further parts of a statement begin that has an `end`
 abbrev pub is_further : TokenKind → Bool
-is_further k.Elsif = true
-is_further k.Else = true
-is_further k.When = true
-is_further _ = false
+is_further = is_one_of (k.Elsif ∷ k.Else ∷ k.When ∷ [])
 
 abbrev pub is_name : TokenKind → Bool
-is_name k.Identifier = true
-is_name _ = false
+is_name = is_one_of (k.Identifier ∷ [])
 
 -- behind a name: it is assigned a value, or it is a label
 abbrev pub assigns : TokenKind → Bool
-assigns k.LessEqual = true
-assigns k.Assign = true
-assigns k.Colon = true
-assigns _ = false
+assigns = is_one_of (k.LessEqual ∷ k.Assign ∷ k.Colon ∷ [])

@@ -1,6 +1,7 @@
 -- The statements and declarations of an architecture, as its tokens show them without being read: where those begin in which a token
 -- stands, and where one ends (IEEE 1076-2008, 3.3.2, 10 and 11).
 use Rattle.std.specs.Prelude.{ℕ, ◌+◌, ◌-◌, ◌==◌, ◌&&◌, ◌||◌, not, nat_le, Bool, true, false, if◌then◌else◌, List, [], ◌∷◌}
+use Rattle.vhdl_lexer.specs.Extents as extents
 use Rattle.vhdl_lexer.specs.Extents.{depth_behind}
 use Rattle.vhdl_lexer.specs.Kinds.{is_end, is_semicolon}
 use Rattle.vhdl_lexer.specs.declared.token.Token.{Token}
@@ -14,7 +15,7 @@ use Rattle.vhdl_parser_further.specs.declared.sequel.Sequel.{Sequel}
 
 -- how many with an `end` are open behind a token
 abbrev pub open_behind : (opened : ℕ) → (last kind : TokenKind) → ℕ
-open_behind opened last kind = if is_end kind then opened - 1 else (if opens last kind then opened + 1 else opened)
+open_behind opened last kind = extents.opened_behind opened kind (opens last kind)
 
 -- ---- where they begin
 

@@ -5,18 +5,11 @@ ghost use Rattle.vhdl_parser_further.specs.Kinds as spec;
 
 use vhdl_lexer::{TokenKind, is_end, is_semicolon};
 
-/// `begin`
-pub fn is_begin(kind: TokenKind) -> bool
-    ensures { result ≡ spec.is_begin kind }
-{
-    matches!(kind, TokenKind::Begin)
-}
-
 /// Whether one of these stands in front of the next part of a statement, or ends a list of them.
 pub fn closes(kind: TokenKind) -> bool
     ensures { result ≡ spec.closes kind }
 {
-    is_end(kind) || is_begin(kind)
+    matches!(kind, TokenKind::End | TokenKind::Begin)
 }
 
 /// Whether the word begins something with an `end` of its own, behind a token.
@@ -52,20 +45,6 @@ fn is_part(last: TokenKind, kind: TokenKind) -> bool
         TokenKind::For => matches!(last, TokenKind::Wait),
         _ => false,
     }
-}
-
-/// `(`
-pub fn is_left_paren(kind: TokenKind) -> bool
-    ensures { result ≡ spec.is_left_paren kind }
-{
-    matches!(kind, TokenKind::LeftParen)
-}
-
-/// `)`
-pub fn is_right_paren(kind: TokenKind) -> bool
-    ensures { result ≡ spec.is_right_paren kind }
-{
-    matches!(kind, TokenKind::RightParen)
 }
 
 /// Whether a statement or declaration may begin behind a token, which stands behind another.

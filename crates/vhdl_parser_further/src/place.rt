@@ -3,7 +3,7 @@
 ghost use Rattle.std.specs.Prelude.{◌≡◌, ◌≤◌, ◌<◌, ◌^◌, nat_le, if◌then◌else◌, length};
 ghost use Rattle.vhdl_parser_further.specs.Statements as spec;
 
-use crate::kind::{is_begin, is_boundary, opens};
+use crate::kind::{is_boundary, opens};
 use crate::unit::{begins_architecture, begins_entity};
 use vhdl_lexer::{Token, TokenKind, depth_behind, is_end};
 
@@ -125,7 +125,7 @@ fn in_behind(place: Place, kind: TokenKind) -> bool
 fn begun_behind(place: Place, kind: TokenKind) -> bool
     ensures { result ≡ spec.begun_behind place kind }
 {
-    place.begun || place.opened == 0 && is_begin(kind)
+    place.begun || place.opened == 0 && matches!(kind, TokenKind::Begin)
 }
 
 /// Whether a statement or declaration begins behind the token.
@@ -151,11 +151,5 @@ pub fn open_behind(opened: usize, last: TokenKind, kind: TokenKind) -> usize
     requires { opened < 2 ^ 63 }
     ensures { result ≡ spec.open_behind opened last kind }
 {
-    if is_end(kind) {
-        opened.saturating_sub(1)
-    } else if opens(last, kind) {
-        opened + 1
-    } else {
-        opened
-    }
+    vhdl_lexer::opened_behind(opened, kind, opens(last, kind))
 }

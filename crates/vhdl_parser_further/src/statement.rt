@@ -4,7 +4,7 @@ ghost use Rattle.std.specs.Prelude.{◌≡◌, ◌<◌, ◌^◌};
 ghost use Rattle.vhdl_parser_further.specs.Left as left;
 ghost use Rattle.vhdl_parser_further.specs.Statements as spec;
 
-use crate::kind::{closes, is_left_paren, is_right_paren, may_go};
+use crate::kind::{closes, may_go};
 use crate::place::{Place, open_behind};
 use crate::sequel::{Sequel, begins};
 use crate::unit::is_balanced;
@@ -76,12 +76,10 @@ fn parens_behind(parens: usize, kind: TokenKind) -> usize
     requires { parens < 2 ^ 63 }
     ensures { result ≡ spec.parens_behind parens kind }
 {
-    if is_left_paren(kind) {
-        parens + 1
-    } else if is_right_paren(kind) {
-        parens.saturating_sub(1)
-    } else {
-        parens
+    match kind {
+        TokenKind::LeftParen => parens + 1,
+        TokenKind::RightParen => parens.saturating_sub(1),
+        _ => parens,
     }
 }
 

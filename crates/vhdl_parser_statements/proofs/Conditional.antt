@@ -142,10 +142,6 @@ condition_gives : (n : ℕ) (c : Expr) → IsExpr c → Gives (condition n) c (s
 unfolding condition
 condition_gives n c good = g_some (λ _. expr_gives n c good)
 
-condition_begins : (c : Expr) → IsExpr c → (next : Option TokenKind) → is_kind k.When (front (spell_when c) next) ≡ true
-unfolding same_kind
-condition_begins c good next = refl
-
 -- neither a condition nor the rest of an expression follows
 abbrev EndsPart : Option TokenKind → Type 0
 EndsPart next = (is_kind k.When next ≡ false) × Ends next
@@ -155,8 +151,8 @@ when_ends None next g = g.1
 when_ends (Some c) next g = omega arith
 
 part_gives : (n : ℕ) (v : Value) (c : Option Expr) → IsValue v → IsOption IsExpr c → Gives (part n) (record { value = v; condition = c }) (spell_value v ++ spell_option spell_when c) EndsPart
-unfolding part
-part_gives n v c held good = g_then _ (value_gives n v held) (g_map (λ x. record { value = v; condition = x }) (option_gives (is_kind k.When) (condition_gives n) condition_begins c good)) (λ next g. when_ends c next g)
+unfolding part same_kind
+part_gives n v c held good = g_then _ (value_gives n v held) (g_map (λ x. record { value = v; condition = x }) (option_gives (is_kind k.When) (condition_gives n) (λ x _ next. refl) c good)) (λ next g. when_ends c next g)
 
 else_part_gives : (n : ℕ) (v : Value) (c : Option Expr) → IsValue v → IsOption IsExpr c → Gives (else_part n) (record { value = v; condition = c }) (some k.Else ∷ (spell_value v ++ spell_option spell_when c)) EndsPart
 unfolding else_part

@@ -68,33 +68,25 @@ constraint_gives : (n : ℕ) (r : Range) → IsRange r → Gives (constraint n) 
 unfolding constraint
 constraint_gives n r good = g_some (λ _. g_below _ n (λ m e. g_then _ (range_gives m r good) (g_some (λ _. g_pure)) (λ next g. omega arith)))
 
-constraint_begins : (r : Range) → IsRange r → (next : Option TokenKind) → is_kind k.LeftParen (front (spell_constraint r) next) ≡ true
-unfolding same_kind
-constraint_begins r good next = refl
-
 -- no parenthesis follows
 abbrev pub EndsSubtype : Option TokenKind → Type 0
 EndsSubtype next = (is_kind k.LeftParen next ≡ false) × Whatever next
 
 pub subtype_gives : (n : ℕ) (t : Subtype) → IsSubtype t → Gives (subtype n) t (spell_subtype t) EndsSubtype
-unfolding subtype optional_constraint
-subtype_gives n t good = g_ident _ (g_map (λ r. record { mark = t.mark; range = r }) (option_gives (is_kind k.LeftParen) (constraint_gives n) constraint_begins t.range good))
+unfolding subtype optional_constraint same_kind
+subtype_gives n t good = g_ident _ (g_map (λ r. record { mark = t.mark; range = r }) (option_gives (is_kind k.LeftParen) (constraint_gives n) (λ r _ next. refl) t.range good))
 
 default_gives : (n : ℕ) (v : Value) → IsValue v → Gives (default_value n) v (spell_default v) Ends
 unfolding default_value
 default_gives n v good = g_some (λ _. value_gives n v good)
-
-default_begins : (v : Value) → IsValue v → (next : Option TokenKind) → is_kind k.Assign (front (spell_default v) next) ≡ true
-unfolding same_kind
-default_begins v good next = refl
 
 -- neither a default nor the rest of an expression follows
 abbrev pub EndsDefault : Option TokenKind → Type 0
 EndsDefault next = (is_kind k.Assign next ≡ false) × Ends next
 
 pub optional_default_gives : (n : ℕ) (d : Option Value) → IsOption IsValue d → Gives (optional_default n) d (spell_option spell_default d) EndsDefault
-unfolding optional_default
-optional_default_gives n d good = option_gives (is_kind k.Assign) (default_gives n) default_begins d good
+unfolding optional_default same_kind
+optional_default_gives n d good = option_gives (is_kind k.Assign) (default_gives n) (λ v _ next. refl) d good
 
 no_paren : (next : Option TokenKind) → Ends next → is_kind k.LeftParen next ≡ false
 no_paren next g = by_test (is_kind k.LeftParen next) refl

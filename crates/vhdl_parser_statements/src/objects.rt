@@ -8,7 +8,7 @@ ghost use Rattle.vhdl_parser_statements.specs.reader.Subtypes.{objects_view};
 
 use crate::behind::followed;
 use vhdl_lexer::TokenKind;
-use vhdl_parser_expressions::{Parser, Stop, below, separated};
+use vhdl_parser_expressions::{Parser, Stop, below, optional, separated};
 use vhdl_tree::{Identifier, Range, Subtype, Value};
 
 /// One identifier or more, with commas between.
@@ -32,11 +32,7 @@ fn constraint(parser: &mut Parser<'_>, levels: usize) -> Result<Range, Stop>
 fn optional_constraint(parser: &mut Parser<'_>, levels: usize) -> Result<Option<Range>, Stop>
     ensures { Reads option_range_view (read.optional_constraint levels parser.old) result parser.new }
 {
-    if parser.sees(TokenKind::LeftParen) {
-        Ok(Some(constraint(parser, levels)?))
-    } else {
-        Ok(None)
-    }
+    optional!(parser, TokenKind::LeftParen, constraint(parser, levels)?)
 }
 
 /// A subtype, in which so many levels may be opened.
@@ -62,11 +58,7 @@ fn default_value(parser: &mut Parser<'_>, levels: usize) -> Result<Value, Stop>
 pub fn optional_default(parser: &mut Parser<'_>, levels: usize) -> Result<Option<Value>, Stop>
     ensures { Reads option_value_view (read.optional_default levels parser.old) result parser.new }
 {
-    if parser.sees(TokenKind::Assign) {
-        Ok(Some(default_value(parser, levels)?))
-    } else {
-        Ok(None)
-    }
+    optional!(parser, TokenKind::Assign, default_value(parser, levels)?)
 }
 
 /// `word ids : subtype [ := value ] ;` by its names, its subtype and its default, in which so many

@@ -11,7 +11,7 @@ ghost use Rattle.vhdl_parser_statements.specs.reader.Waveforms.{part_view, condi
 
 use crate::behind::followed;
 use vhdl_lexer::TokenKind;
-use vhdl_parser_expressions::{Parser, Stop, separated};
+use vhdl_parser_expressions::{Parser, Stop, optional, separated};
 use vhdl_tree::{Branch, Expr, SelectedAssignment, Value, Waveform};
 
 #[tactic(auto, unfolding(crate::specs::reader::Waveforms::condition))]
@@ -27,11 +27,7 @@ fn optional_condition(parser: &mut Parser<'_>, levels: usize) -> Result<Option<E
     ensures { Reads option_expr_view (input.optional (input.is_kind k.When) (read.condition levels) parser.old) result
         parser.new }
 {
-    if parser.sees(TokenKind::When) {
-        Ok(Some(waveform_condition(parser, levels)?))
-    } else {
-        Ok(None)
-    }
+    optional!(parser, TokenKind::When, waveform_condition(parser, levels)?)
 }
 
 /// A value and the condition behind it, if there is one.

@@ -1,5 +1,5 @@
 -- How high concurrent statements, declarations, units and files are, where so many levels may be opened.
-use Rattle.std.proofs.Common.{ℕ, ◌+◌, ◌*◌, ◌≤◌, Bool, true, false, List, [], ◌∷◌, ◌++◌, map, Vec, Global, Option, Some, None, refl, sym, subst, append-nil, arith}
+use Rattle.std.proofs.Common.{ℕ, suc, ◌+◌, ◌*◌, ◌≤◌, Bool, true, false, List, [], ◌∷◌, ◌++◌, map, Vec, Global, Option, Some, None, refl, sym, subst, append-nil, arith}
 use Rattle.std.specs.Prelude.{max}
 use Rattle.vhdl_lexer.specs.declared.token.TokenKind.{TokenKind}
 use Rattle.vhdl_lexer.specs.declared.token.TokenKind.TheVariants as k
@@ -23,6 +23,7 @@ use Rattle.vhdl_tree.specs.declared.declaration.Mode.{Mode}
 use Rattle.vhdl_tree.specs.declared.declaration.Mode.TheVariants.{In, Out}
 use Rattle.vhdl_tree.specs.declared.declaration.Generic.{Generic}
 use Rattle.vhdl_tree.specs.declared.declaration.Port.{Port}
+use Rattle.vhdl_tree.specs.declared.declaration.Subtype.{Subtype}
 use Rattle.vhdl_tree.specs.declared.declaration.Signals.{Signals}
 use Rattle.vhdl_tree.specs.declared.declaration.Variables.{Variables}
 use Rattle.vhdl_tree.specs.declared.declaration.Constants.{Constants}
@@ -41,9 +42,9 @@ use Rattle.vhdl_tree.specs.Levels.{IsShallow}
 use Rattle.vhdl_tree.specs.Tree as t
 use Rattle.vhdl_tree.specs.View as view
 use Rattle.vhdl_tree.specs.Height as high
-use Rattle.vhdl_tree.specs.Pieces.{Piece, some, one_at, word_at, Spells, spell_each, IsEach, IsOption, spell_option}
+use Rattle.vhdl_tree.specs.Pieces.{Piece, some, one_at, word_at, Spells, spell_each, spell_idents, IsEach, IsOption, spell_option}
 use Rattle.vhdl_tree.specs.grammar.Expressions.{spell_name, IsExpr, IsName, IsValue, AreAssociations}
-use Rattle.vhdl_tree.specs.grammar.Subtypes.{spell_default}
+use Rattle.vhdl_tree.specs.grammar.Subtypes.{spell_subtype, spell_default, IsSubtype}
 use Rattle.vhdl_tree.specs.grammar.Process as process
 use Rattle.vhdl_tree.specs.grammar.Instance as instance
 use Rattle.vhdl_tree.specs.grammar.Concurrent as concurrent
@@ -65,18 +66,21 @@ sensitivity_is (se.Names all) good = b_less {c = 8} (omega arith)
 default_may_be : (o : Option Value) → IsOption IsValue (view.option_value_view o) → Bounds 8 (high.optional_height high.value_height o) (spell_option spell_default (view.option_value_view o))
 default_may_be o good = b_option 8 view.value_view high.value_height spell_default IsValue default_is o good
 
-variables_are : (v : Variables) → process.IsVariables (view.variables_view v) → Bounds 9 (high.variables_height v) (process.spell_variables (view.variables_view v))
+-- word ids : subtype [ := value ] ;
+objects_are : {c : ℕ} (word : TokenKind) → IsPlain word → 9 ≤ c → (names : List t.Ident) (s : Subtype) (o : Option Value) → IsSubtype (view.subtype_view s) → IsOption IsValue (view.option_value_view o) →
+    Bounds c (suc (max (high.subtype_height s) (high.optional_height high.value_height o)))
+    (some word ∷ (spell_idents names ++ (some k.Colon ∷ (spell_subtype (view.subtype_view s) ++ (spell_option spell_default (view.option_value_view o) ++ some k.Semicolon ∷ [])))))
 unfolding same_kind
-variables_are v good = b_less {c = 8} (omega arith)
-    (b_piece (some k.Variable) (refl, refl, refl) (b_then (b_idents (view.idents_view v.names)) (b_piece (some k.Colon) (refl, refl, refl)
-    (b_then (subtype_is v.subtype good.1) (b_then (default_may_be v.default good.2) b_semicolon)))))
+objects_are word plain room names s o is_subtype is_default = b_less {c = 8} (omega (arith, room))
+    (b_piece (some word) plain (b_then (b_idents names) (b_piece (some k.Colon) (refl, refl, refl)
+    (b_then (subtype_is s is_subtype) (b_then (default_may_be o is_default) b_semicolon)))))
 
 process_is : (p : Process) → process.IsProcess (view.process_view p) → Bounds 10 (high.process_height p) (process.spell_process (view.process_view p))
 unfolding same_kind
 process_is p good = b_less {c = 9} (omega arith)
     (b_piece (one_at k.Process p.at) (refl, refl, refl) (b_then (b_raise 9 (omega arith) (sensitivity_is p.sensitivity good.0))
     (b_then (b_word k.Is p.is_word (refl, refl, refl))
-    (b_then (b_each 9 view.variables_view high.variables_height process.spell_variables process.IsVariables variables_are p.variables.items good.1)
+    (b_then (b_each 9 view.variables_view high.variables_height process.spell_variables process.IsVariables (λ v fine. objects_are k.Variable (refl, refl, refl) (omega arith) (view.idents_view v.names) v.subtype v.default fine.1 fine.2) p.variables.items good.1)
     (b_piece (some k.Begin) (refl, refl, refl) (b_then (body_is p.statements.items good.2) (b_end (some k.Process) (refl, refl, refl) (b_last (view.option_ident_view p.end_label)))))))))
 
 waveform_is : (w : Waveform) → process.IsWaveform (view.waveform_view w) → Bounds 8 (high.waveform_height w) (process.spell_waveform (view.waveform_view w))
@@ -215,9 +219,7 @@ ports_may_be o good = b_option 9 view.ports_view high.ports_height declaration.s
 
 signals_are : (d : Signals) → declaration.IsSignals (view.signals_view d) → Bounds 10 (high.signals_height d) (declaration.spell_signals (view.signals_view d))
 unfolding same_kind
-signals_are d good = b_less {c = 8} (omega arith)
-    (b_piece (some k.Signal) (refl, refl, refl) (b_then (b_idents (view.idents_view d.names)) (b_piece (some k.Colon) (refl, refl, refl)
-    (b_then (subtype_is d.subtype good.1) (b_then (default_may_be d.default good.2) b_semicolon)))))
+signals_are d good = objects_are k.Signal (refl, refl, refl) (omega arith) (view.idents_view d.names) d.subtype d.default good.1 good.2
 
 constants_are : (d : Constants) → declaration.IsConstants (view.constants_view d) → Bounds 10 (high.constants_height d) (declaration.spell_constants (view.constants_view d))
 unfolding same_kind

@@ -18,7 +18,7 @@ kind_of_piece (word_at at text) = k.Identifier
 kind_of_piece (literal_at at code) = k.Character
 kind_of_piece (text_at kind at text) = kind
 
-kind_is : (p : Piece) (l : Lexeme) → Is p l → l.kind ≡ kind_of_piece p
+pub kind_is : (p : Piece) (l : Lexeme) → Is p l → l.kind ≡ kind_of_piece p
 kind_is (some kind) l h = h
 kind_is _ l h = h.0
 

@@ -1,24 +1,18 @@
 -- How many levels are open: parentheses, if and case statements, loops and generates.
-use Rattle.std.specs.Prelude.{ℕ, ◌+◌, ◌<◌, ◌≤◌, Bool, true, false, ◌&&◌, not, if◌then◌else◌, List, [], ◌∷◌, take}
+use Rattle.std.specs.Prelude.{ℕ, ◌+◌, ◌<◌, ◌≤◌, Bool, false, ◌&&◌, not, if◌then◌else◌, List, [], ◌∷◌, take}
 use Rattle.vhdl_lexer.specs.declared.token.TokenKind.{TokenKind}
 use Rattle.vhdl_lexer.specs.declared.token.TokenKind.TheVariants as k
 use Rattle.vhdl_tree.specs.declared.levels.TheConstants.{MAX_OPEN}
+use Rattle.vhdl_lexer.specs.Kinds.{is_one_of}
 use Rattle.vhdl_tree.specs.Lexeme.{Lexeme, same_kind}
 
 -- the words that open a level where they don't stand after `end`
 abbrev pub begins_level : TokenKind → Bool
-begins_level k.If = true
-begins_level k.Case = true
-begins_level k.For = true
-begins_level _ = false
+begins_level = is_one_of (k.If ∷ k.Case ∷ k.For ∷ [])
 
 -- the words that close a level where they stand after `end`
 abbrev pub ends_level : TokenKind → Bool
-ends_level k.If = true
-ends_level k.Case = true
-ends_level k.Loop = true
-ends_level k.Generate = true
-ends_level _ = false
+ends_level = is_one_of (k.If ∷ k.Case ∷ k.Loop ∷ k.Generate ∷ [])
 
 abbrev pub is_end : TokenKind → Bool
 is_end kind = same_kind kind k.End

@@ -5,6 +5,15 @@ ghost use Rattle.vhdl_tree.specs.grammar.Expressions as grammar;
 
 use vhdl_lexer::TokenKind;
 
+/// The token that each of these is.
+macro_rules! token {
+    ($of:expr, $name:ident: $($variant:ident = $kind:ident),+) => {
+        match $of {
+            $($name::$variant => TokenKind::$kind,)+
+        }
+    };
+}
+
 /// A binary operator.
 #[derive(Clone, Copy, Debug)]
 pub enum Operator {
@@ -48,27 +57,14 @@ impl Operator {
     pub fn kind(self) -> TokenKind
         ensures { result ≡ grammar.kind_of self }
     {
-        match self {
-            Operator::And => TokenKind::And,
-            Operator::Or => TokenKind::Or,
-            Operator::Xor => TokenKind::Xor,
-            Operator::Xnor => TokenKind::Xnor,
-            Operator::Nand => TokenKind::Nand,
-            Operator::Nor => TokenKind::Nor,
-            Operator::Equal => TokenKind::Equal,
-            Operator::NotEqual => TokenKind::NotEqual,
-            Operator::Less => TokenKind::Less,
-            Operator::LessEqual => TokenKind::LessEqual,
-            Operator::Greater => TokenKind::Greater,
-            Operator::GreaterEqual => TokenKind::GreaterEqual,
-            Operator::Add => TokenKind::Plus,
-            Operator::Subtract => TokenKind::Minus,
-            Operator::Concatenate => TokenKind::Ampersand,
-            Operator::Multiply => TokenKind::Star,
-            Operator::Divide => TokenKind::Slash,
-            Operator::Modulo => TokenKind::Mod,
-            Operator::Remainder => TokenKind::Rem,
-        }
+        token!(
+            self, Operator:
+            And = And, Or = Or, Xor = Xor, Xnor = Xnor, Nand = Nand, Nor = Nor,
+            Equal = Equal, NotEqual = NotEqual, Less = Less, LessEqual = LessEqual,
+            Greater = Greater, GreaterEqual = GreaterEqual,
+            Add = Plus, Subtract = Minus, Concatenate = Ampersand,
+            Multiply = Star, Divide = Slash, Modulo = Mod, Remainder = Rem
+        )
     }
 
     /// Whether a logical operator may stand several times in one chain.
@@ -87,10 +83,7 @@ impl Sign {
     pub fn kind(self) -> TokenKind
         ensures { result ≡ grammar.sign_kind self }
     {
-        match self {
-            Sign::Plus => TokenKind::Plus,
-            Sign::Minus => TokenKind::Minus,
-        }
+        token!(self, Sign: Plus = Plus, Minus = Minus)
     }
 }
 
@@ -99,9 +92,6 @@ impl Direction {
     pub fn kind(self) -> TokenKind
         ensures { result ≡ grammar.direction_kind self }
     {
-        match self {
-            Direction::To => TokenKind::To,
-            Direction::Downto => TokenKind::Downto,
-        }
+        token!(self, Direction: To = To, Downto = Downto)
     }
 }

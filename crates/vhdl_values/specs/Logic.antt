@@ -1,10 +1,11 @@
 -- The logical operators (std_logic_1164: and_table, or_table, xor_table, not_table, and the operators on
 -- vectors; numeric_std L.1 to L.7).
-use Rattle.std.specs.Prelude.{List, [], ◌∷◌, map}
+use Rattle.std.specs.Prelude.{◌||◌, if◌then◌else◌, List, [], ◌∷◌, find, map, unwrap_or}
 use Rattle.vhdl_values.specs.declared.kinds.Logic.{Logic}
 use Rattle.vhdl_values.specs.declared.kinds.Logic.TheVariants.{And, Or, Nand, Nor, Xor, Xnor}
 use Rattle.vhdl_values.specs.declared.scalar.Nine.{Nine}
 use Rattle.vhdl_values.specs.declared.scalar.Nine.TheVariants.{U, X, Zero, One, L, H}
+use Rattle.vhdl_values.specs.Scalar.{is_same}
 
 -- the value as one of U, X, 0 and 1 (To_UX01): the operators look at no more of it
 abbrev pub strip : Nine → Nine
@@ -15,33 +16,21 @@ strip One = One
 strip H = One
 strip _ = X
 
+-- the first of these values that one of two operands is, or another
+abbrev pub winner : List Nine → (other : Nine) → (a b : Nine) → Nine
+winner values other a b = unwrap_or (find (λ v. is_same v a || is_same v b) values) other
+
 -- `and` of two stripped values: 0 wins, then U, then X
 abbrev pub and_stripped : Nine → Nine → Nine
-and_stripped Zero _ = Zero
-and_stripped _ Zero = Zero
-and_stripped U _ = U
-and_stripped _ U = U
-and_stripped One One = One
-and_stripped _ _ = X
+and_stripped = winner (Zero ∷ U ∷ X ∷ []) One
 
 -- `or` of two stripped values: 1 wins, then U, then X
 abbrev pub or_stripped : Nine → Nine → Nine
-or_stripped One _ = One
-or_stripped _ One = One
-or_stripped U _ = U
-or_stripped _ U = U
-or_stripped Zero Zero = Zero
-or_stripped _ _ = X
+or_stripped = winner (One ∷ U ∷ X ∷ []) Zero
 
--- `xor` of two stripped values: U wins, then X
+-- `xor` of two stripped values: U wins, then X, and of digits 1 where they differ
 abbrev pub xor_stripped : Nine → Nine → Nine
-xor_stripped U _ = U
-xor_stripped _ U = U
-xor_stripped Zero Zero = Zero
-xor_stripped Zero One = One
-xor_stripped One Zero = One
-xor_stripped One One = Zero
-xor_stripped _ _ = X
+xor_stripped a b = winner (U ∷ X ∷ []) (if is_same a b then Zero else One) a b
 
 -- `not` of a stripped value
 abbrev pub not_stripped : Nine → Nine

@@ -8,7 +8,7 @@ use Rattle.vhdl_tree.specs.declared.expression.Identifier as code_identifier
 use Rattle.vhdl_tree.specs.View.{option_ident_view, concurrents_view}
 use Rattle.vhdl_tree.specs.Lexeme.{Lexeme}
 use Rattle.vhdl_tree.specs.Tree.{Ident, Assignment, Scheme, for_each, if_holds, Concurrent, assignment, selected, process, instance, generated, concurrents_of}
-use Rattle.vhdl_parser_expressions.specs.reader.Input.{Parser, ◌>>=◌, ◌>>◌, ◌<$>◌, pure, refuse, too_deep, choose, sees_both, expect, eat, identifier, many, below}
+use Rattle.vhdl_parser_expressions.specs.reader.Input.{Parser, ◌>>=◌, ◌>>◌, ◌<$>◌, pure, refuse, too_deep, choose, sees_both, expect, eat, identifier, many, opened}
 use Rattle.vhdl_parser_expressions.specs.reader.Expressions.{expr, inside, name, range}
 use Rattle.vhdl_parser_statements.specs.reader.Sequential.{optional_label, end_of}
 use Rattle.vhdl_parser_statements.specs.reader.Process as process_reader
@@ -92,18 +92,10 @@ for_scheme m = do
 -- Where so many levels may be opened. The second parameter reads statements one level down.
 module _ (n : ℕ) (inner : Parser (List Concurrent)) where
   unfoldable pub for_generate : Ident → Parser Concurrent
-  for_generate label = do
-    at ← expect k.For
-    m ← below n
-    scheme ← for_scheme m
-    generate_rest inner label at scheme
+  for_generate label = opened k.For (λ m at. for_scheme m >>= generate_rest inner label at) n
 
   unfoldable pub if_generate : Ident → Parser Concurrent
-  if_generate label = do
-    at ← expect k.If
-    m ← below n
-    condition ← expr m
-    generate_rest inner label at (if_holds condition)
+  if_generate label = opened k.If (λ m at. expr m >>= (λ condition. generate_rest inner label at (if_holds condition))) n
 
   abbrev pub labelled_by : Ident → Option TokenKind → Parser Concurrent
   labelled_by label (Some k.With) = select_with n (Some label)

@@ -5,25 +5,29 @@ use Rattle.vhdl_lexer.specs.declared.token.TokenKind.TheVariants as k
 use Rattle.vhdl_tree.specs.declared.declaration.Mode.{Mode}
 use Rattle.vhdl_tree.specs.declared.declaration.Mode.TheVariants.{In, Out}
 use Rattle.vhdl_tree.specs.Tree.{Expr, Value, Generic, Port, Signals, Constants, Enumeration, Component, Declaration, signals, constants, enumeration, component}
-use Rattle.vhdl_parser_expressions.specs.reader.Input.{Parser, ◌>>=◌, ◌>>◌, ◌<$>◌, pure, refuse, is_kind, choose, expect, eat, identifier, optional, many, separated, below}
+use Rattle.vhdl_parser_expressions.specs.reader.Input.{Parser, ◌>>=◌, ◌>>◌, ◌<<◌, ◌<$>◌, pure, refuse, is_kind, choose, expect, eat, identifier, optional, many, separated, below}
 use Rattle.vhdl_parser_expressions.specs.reader.Expressions.{expr, value}
 use Rattle.vhdl_parser_statements.specs.reader.Sequential.{end_of}
 use Rattle.vhdl_parser_statements.specs.reader.Subtypes.{idents, subtype, optional_default, objects}
 
 -- ---- generics and ports
 
--- word ( item { ; item } ) ;
+-- item { ; item }
+abbrev pub items : {A : Type 0} → (ℕ → Parser A) → ℕ → Parser (List A)
+items item n = separated k.Semicolon (item n)
+
+-- word ( items ) ;
 abbrev pub clause : {A : Type 0} → TokenKind → (ℕ → Parser A) → ℕ → Parser (List A)
 clause word item n = do
   expect word
   expect k.LeftParen
   inner ← below n
-  found ← separated k.Semicolon (item inner)
+  found ← items item inner
   expect k.RightParen
   expect k.Semicolon
   pure found
 
-unfoldable pub generic_default : ℕ → Parser Expr
+abbrev pub generic_default : ℕ → Parser Expr
 generic_default n = expect k.Assign >> expr n
 
 unfoldable pub optional_generic_default : ℕ → Parser (Option Expr)
@@ -39,14 +43,8 @@ generic n = do
   d ← optional_generic_default n
   pure (record { constant_word = word; names = names; in_word = way; mark = mark; default = d })
 
-abbrev pub generic_list : ℕ → Parser (List Generic)
-generic_list n = separated k.Semicolon (generic n)
-
-unfoldable pub generics : ℕ → Parser (List Generic)
-generics n = clause k.Generic generic n
-
 unfoldable pub optional_generics : ℕ → Parser (Option (List Generic))
-optional_generics n = optional (is_kind k.Generic) (generics n)
+optional_generics n = optional (is_kind k.Generic) (clause k.Generic generic n)
 
 abbrev pub mode_by : Option TokenKind → Parser (Option Mode)
 mode_by (Some k.In) = expect k.In >> pure (Some In)
@@ -66,14 +64,8 @@ port n = do
   d ← optional_default n
   pure (record { signal_word = word; names = names; mode = way; subtype = t; default = d })
 
-abbrev pub port_list : ℕ → Parser (List Port)
-port_list n = separated k.Semicolon (port n)
-
-unfoldable pub ports : ℕ → Parser (List Port)
-ports n = clause k.Port port n
-
 unfoldable pub optional_ports : ℕ → Parser (Option (List Port))
-optional_ports n = optional (is_kind k.Port) (ports n)
+optional_ports n = optional (is_kind k.Port) (clause k.Port port n)
 
 -- ---- declarations
 
@@ -83,9 +75,7 @@ signals_of n = (λ o. record { names = o.names; subtype = o.subtype; default = o
 unfoldable pub constant_value : ℕ → Parser Value
 constant_value n = do
   expect k.Assign
-  v ← value n
-  expect k.Semicolon
-  pure v
+  value n << k.Semicolon
 
 unfoldable pub constants_of : ℕ → Parser Constants
 constants_of n = do

@@ -3,16 +3,11 @@ use Rattle.std.specs.Prelude.{ℕ, List}
 use Rattle.vhdl_lexer.specs.declared.token.TokenKind.{TokenKind}
 use Rattle.vhdl_lexer.specs.declared.token.TokenKind.TheVariants as k
 use Rattle.vhdl_tree.specs.Tree.{Ident, Association, Instantiated, entity_unit, component_unit, Instance}
-use Rattle.vhdl_parser_expressions.specs.reader.Input.{Parser, ◌>>=◌, ◌>>◌, pure, is_kind, test, expect, eat, identifier, optional, below}
+use Rattle.vhdl_parser_expressions.specs.reader.Input.{Parser, ◌>>=◌, ◌>>◌, pure, is_kind, test, expect, eat, identifier, optional, in_parens}
 use Rattle.vhdl_parser_expressions.specs.reader.Expressions.{associations}
 
 unfoldable pub chosen : ℕ → Parser Ident
-chosen n = do
-  expect k.LeftParen
-  m ← below n
-  i ← identifier
-  expect k.RightParen
-  pure i
+chosen n = in_parens (λ m. identifier) n
 
 unfoldable pub of_entity : ℕ → Parser Instantiated
 of_entity n = do
@@ -36,11 +31,7 @@ unfoldable pub map_of : ℕ → TokenKind → Parser (List Association)
 map_of n word = do
   expect word
   expect k.Map
-  expect k.LeftParen
-  m ← below n
-  all ← associations m
-  expect k.RightParen
-  pure all
+  in_parens associations n
 
 unfoldable pub instance : ℕ → Parser Instance
 instance n = do

@@ -1,5 +1,7 @@
 -- How the parser reads expressions.
-use Rattle.std.specs.Prelude.{ℕ, zero, suc, if◌then◌else◌, List, [], ◌∷◌, length, Option, Some, None}
+use Rattle.std.specs.Prelude.{ℕ, zero, suc, if◌then◌else◌, List, [], ◌∷◌, length, find, Option, Some, None}
+use denote.Enum.Bare.{sameb}
+use Rattle.vhdl_lexer.specs.contracts.token.TokenKind.{the_type}
 use Rattle.vhdl_lexer.specs.declared.token.TokenKind.{TokenKind}
 use Rattle.vhdl_lexer.specs.declared.token.TokenKind.TheVariants as k
 use Rattle.vhdl_tree.specs.declared.operator.Operator.{Operator}
@@ -18,37 +20,23 @@ use Rattle.vhdl_parser_expressions.specs.reader.Input as input
 abbrev pub name_expr : Name → Expr
 name_expr n = named n.identifier n.suffix n.attribute
 
--- the operator of a level that a token is
+-- the operator among these that a token is
+abbrev pub operator_among : List Operator → Option TokenKind → Option Operator
+operator_among operators None = None
+operator_among operators (Some kind) = find (λ o. sameb the_type kind (kind_of o)) operators
+
+-- the operator of a level that it is
 abbrev pub logical_at : Option TokenKind → Option Operator
-logical_at (Some k.And) = Some And
-logical_at (Some k.Or) = Some Or
-logical_at (Some k.Xor) = Some Xor
-logical_at (Some k.Xnor) = Some Xnor
-logical_at (Some k.Nand) = Some Nand
-logical_at (Some k.Nor) = Some Nor
-logical_at _ = None
+logical_at = operator_among (And ∷ Or ∷ Xor ∷ Xnor ∷ Nand ∷ Nor ∷ [])
 
 abbrev pub relation_at : Option TokenKind → Option Operator
-relation_at (Some k.Equal) = Some Equal
-relation_at (Some k.NotEqual) = Some NotEqual
-relation_at (Some k.Less) = Some Less
-relation_at (Some k.LessEqual) = Some LessEqual
-relation_at (Some k.Greater) = Some Greater
-relation_at (Some k.GreaterEqual) = Some GreaterEqual
-relation_at _ = None
+relation_at = operator_among (Equal ∷ NotEqual ∷ Less ∷ LessEqual ∷ Greater ∷ GreaterEqual ∷ [])
 
 abbrev pub adding_at : Option TokenKind → Option Operator
-adding_at (Some k.Plus) = Some Add
-adding_at (Some k.Minus) = Some Subtract
-adding_at (Some k.Ampersand) = Some Concatenate
-adding_at _ = None
+adding_at = operator_among (Add ∷ Subtract ∷ Concatenate ∷ [])
 
 abbrev pub multiplying_at : Option TokenKind → Option Operator
-multiplying_at (Some k.Star) = Some Multiply
-multiplying_at (Some k.Slash) = Some Divide
-multiplying_at (Some k.Mod) = Some Modulo
-multiplying_at (Some k.Rem) = Some Remainder
-multiplying_at _ = None
+multiplying_at = operator_among (Multiply ∷ Divide ∷ Modulo ∷ Remainder ∷ [])
 
 abbrev pub operator_at : Level → Option TokenKind → Option Operator
 operator_at Logical next = logical_at next

@@ -119,6 +119,11 @@ abbrev pub Takes : List ℕ → List Token → Parser Lexeme → Result (Token �
 Takes source tokens p (Ok r) = p (lexemes source tokens) ≡ Ok (lexeme source r.0, lexemes source r.1.now)
 Takes source tokens p (Err e) = p (lexemes source tokens) ≡ Err (e, lexemes source tokens)
 
+infixl 12 ◌<<◌
+-- what was read, and behind it a token of this kind
+abbrev pub ◌<<◌ : {A : Type 0} → Parser A → TokenKind → Parser A
+p << kind = p >>= (λ x. expect kind >> pure x)
+
 -- takes a token of this kind, if it comes next
 unfoldable pub eat : TokenKind → Parser Bool
 eat k = test (is_kind k) (expect k >> pure true) (pure false)
@@ -145,3 +150,17 @@ separated separator item = do
 unfoldable pub below : ℕ → Parser ℕ
 below zero = too_deep
 below (suc n) = pure n
+
+-- ( item ), by how many levels may be opened in it
+abbrev pub in_parens : {A : Type 0} → (ℕ → Parser A) → ℕ → Parser A
+in_parens item n = do
+  expect k.LeftParen
+  m ← below n
+  item m << k.RightParen
+
+-- what begins with a word that opens a level, by where that stands
+abbrev pub opened : {A : Type 0} → TokenKind → (ℕ → ℕ → Parser A) → ℕ → Parser A
+opened word rest n = do
+  at ← expect word
+  m ← below n
+  rest m at

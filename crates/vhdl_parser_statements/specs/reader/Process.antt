@@ -6,7 +6,7 @@ use Rattle.vhdl_tree.specs.declared.expression.Identifier as code_identifier
 use Rattle.vhdl_tree.specs.declared.sequential.Sequential as code_sequential
 use Rattle.vhdl_tree.specs.Tree.{Ident, Name, Variables, Process, Sensitivity, absent, every, listed, Sequential}
 use Rattle.vhdl_tree.specs.View.{option_ident_view, sequentials_view}
-use Rattle.vhdl_parser_expressions.specs.reader.Input.{Parser, ◌>>=◌, ◌>>◌, ◌<$>◌, pure, is_kind, test, expect, eat, many, separated, below}
+use Rattle.vhdl_parser_expressions.specs.reader.Input.{Parser, ◌>>=◌, ◌>>◌, ◌<$>◌, pure, is_kind, test, expect, eat, many, separated, in_parens}
 use Rattle.vhdl_parser_expressions.specs.reader.Expressions.{inside, name}
 use Rattle.vhdl_parser_statements.specs.reader.Subtypes.{objects}
 use Rattle.vhdl_parser_statements.specs.reader.Sequential.{end_of, statements}
@@ -18,12 +18,7 @@ unfoldable pub sensitivity_list : ℕ → Parser Sensitivity
 sensitivity_list m = test (is_kind k.All) (expect k.All >> pure every) (listed <$> names m)
 
 unfoldable pub sensitivity : ℕ → Parser Sensitivity
-sensitivity n = do
-  expect k.LeftParen
-  m ← below n
-  s ← sensitivity_list m
-  expect k.RightParen
-  pure s
+sensitivity n = in_parens sensitivity_list n
 
 unfoldable pub optional_sensitivity : ℕ → Parser Sensitivity
 optional_sensitivity n = test (is_kind k.LeftParen) (sensitivity n) (pure absent)

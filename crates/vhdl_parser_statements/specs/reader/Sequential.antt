@@ -3,14 +3,11 @@ use Rattle.std.specs.Prelude.{ℕ, zero, suc, Bool, true, false, List, [], Optio
 use Rattle.vhdl_lexer.specs.declared.token.TokenKind.{TokenKind}
 use Rattle.vhdl_lexer.specs.declared.token.TokenKind.TheVariants as k
 use Rattle.vhdl_tree.specs.Tree.{Ident, Name, Value, Statement, null_of, assigned, variable_assigned, if_of, case_of, for_of, Sequential, Conditional, Alternative, statements_of, conditionals_of, alternatives_of, otherwise_of, guarded_by, chosen_by}
-use Rattle.vhdl_parser_expressions.specs.reader.Input.{Parser, ◌>>=◌, ◌>>◌, ◌<$>◌, pure, refuse, too_deep, is_kind, choose, test_both, expect, identifier, optional, many, separated, below}
+use Rattle.vhdl_parser_expressions.specs.reader.Input.{Parser, ◌>>=◌, ◌>>◌, ◌<<◌, ◌<$>◌, pure, refuse, too_deep, is_kind, choose, test_both, expect, identifier, optional, many, separated, opened}
 use Rattle.vhdl_parser_expressions.specs.reader.Expressions.{expr, inside, name, value, range, choices}
 
 unfoldable pub label : Parser Ident
-label = do
-  n ← identifier
-  expect k.Colon
-  pure n
+label = identifier << k.Colon
 
 unfoldable pub optional_label : Parser (Option Ident)
 optional_label = test_both k.Identifier k.Colon (Some <$> label) (pure None)
@@ -25,9 +22,7 @@ null_statement = do
 unfoldable pub assigned_value : ℕ → TokenKind → Parser Value
 assigned_value n sign = do
   expect sign
-  v ← value n
-  expect k.Semicolon
-  pure v
+  value n << k.Semicolon
 
 abbrev pub assign_by : ℕ → Name → Option TokenKind → Parser Statement
 assign_by n target (Some k.LessEqual) = assigned target <$> assigned_value n k.LessEqual
@@ -44,9 +39,7 @@ unfoldable pub end_of : TokenKind → Parser (Option Ident)
 end_of word = do
   expect k.End
   expect word
-  last ← optional (is_kind k.Identifier) identifier
-  expect k.Semicolon
-  pure last
+  optional (is_kind k.Identifier) identifier << k.Semicolon
 
 -- whether a statement begins, where statements stand
 abbrev pub begins_sequential : Option TokenKind → Bool
@@ -57,14 +50,18 @@ begins_sequential (Some k.Case) = true
 begins_sequential (Some k.For) = true
 begins_sequential _ = false
 
+-- what guards statements, the token behind it, and they
+abbrev pub guarding : {A B : Type 0} → Parser (List Sequential) → Parser A → TokenKind → (A → List Sequential → B) → Parser B
+guarding inner guard sign make = do
+  x ← guard
+  expect sign
+  found ← inner
+  pure (make x found)
+
 -- One level down, where so many more may be opened. The second parameter reads the statements there.
 module _ (m : ℕ) (inner : Parser (List Sequential)) where
   unfoldable pub condition : Parser Conditional
-  condition = do
-    c ← expr m
-    expect k.Then
-    found ← inner
-    pure (guarded_by c found)
+  condition = guarding inner (expr m) k.Then guarded_by
 
   -- condition { elsif condition }
   abbrev pub branches : Parser (List Conditional)
@@ -81,11 +78,7 @@ module _ (m : ℕ) (inner : Parser (List Sequential)) where
     pure (if_of at (conditionals_of found) (otherwise_of otherwise) last)
 
   unfoldable pub alternative_part : Parser Alternative
-  alternative_part = do
-    cs ← choices m
-    expect k.Arrow
-    found ← inner
-    pure (chosen_by cs found)
+  alternative_part = guarding inner (choices m) k.Arrow chosen_by
 
   -- alternative { when alternative }
   abbrev pub alternatives : Parser (List Alternative)
@@ -113,22 +106,13 @@ module _ (m : ℕ) (inner : Parser (List Sequential)) where
 -- Where so many levels may be opened. The second parameter reads statements one level down.
 module _ (n : ℕ) (deeper : Parser (List Sequential)) where
   unfoldable pub if_statement : Parser Statement
-  if_statement = do
-    at ← expect k.If
-    m ← below n
-    if_rest m deeper at
+  if_statement = opened k.If (λ m. if_rest m deeper) n
 
   unfoldable pub case_statement : Parser Statement
-  case_statement = do
-    at ← expect k.Case
-    m ← below n
-    case_rest m deeper at
+  case_statement = opened k.Case (λ m. case_rest m deeper) n
 
   unfoldable pub for_statement : Parser Statement
-  for_statement = do
-    at ← expect k.For
-    m ← below n
-    for_rest m deeper at
+  for_statement = opened k.For (λ m. for_rest m deeper) n
 
   abbrev pub statement_by : Option TokenKind → Parser Statement
   statement_by (Some k.Identifier) = assign n

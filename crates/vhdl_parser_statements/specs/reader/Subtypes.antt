@@ -8,7 +8,7 @@ use Rattle.vhdl_tree.specs.declared.expression.Value as code_value
 use Rattle.vhdl_tree.specs.declared.declaration.Subtype as code_subtype
 use Rattle.vhdl_tree.specs.Tree.{Ident, Range, Value, Subtype}
 use Rattle.vhdl_tree.specs.View.{idents_view, subtype_view, option_value_view}
-use Rattle.vhdl_parser_expressions.specs.reader.Input.{Parser, ◌>>=◌, ◌>>◌, pure, is_kind, expect, identifier, optional, separated, below}
+use Rattle.vhdl_parser_expressions.specs.reader.Input.{Parser, ◌>>=◌, ◌>>◌, pure, is_kind, expect, identifier, optional, separated, in_parens}
 use Rattle.vhdl_parser_expressions.specs.reader.Expressions.{range, value}
 
 -- id { , id }
@@ -16,12 +16,7 @@ abbrev pub idents : Parser (List Ident)
 idents = separated k.Comma identifier
 
 unfoldable pub constraint : ℕ → Parser Range
-constraint n = do
-  expect k.LeftParen
-  inner ← below n
-  r ← range inner
-  expect k.RightParen
-  pure r
+constraint n = in_parens range n
 
 unfoldable pub optional_constraint : ℕ → Parser (Option Range)
 optional_constraint n = optional (is_kind k.LeftParen) (constraint n)

@@ -1,5 +1,6 @@
 -- Expressions (IEEE 1076-2008, 9.1): how they are spelled, and which are well formed.
-use Rattle.std.specs.Prelude.{◌≡◌, ℕ, ◌≤◌, ◌<◌, ◌⊎◌, Bool, true, false, Option, Some, None, List, [], ◌∷◌, ◌++◌}
+use Rattle.std.specs.Prelude.{◌≡◌, ℕ, ◌≤◌, ◌<◌, ◌⊎◌, Bool, true, false, if◌then◌else◌, Option, Some, None, List, [], ◌∷◌, ◌++◌}
+use Rattle.vhdl_lexer.specs.Kinds.{is_one_of}
 use Rattle.vhdl_lexer.specs.declared.token.TokenKind.{TokenKind}
 use Rattle.vhdl_lexer.specs.declared.token.TokenKind.TheVariants as k
 use Rattle.vhdl_tree.specs.declared.operator.Operator.{Operator}
@@ -118,27 +119,17 @@ spell_associations = spell_list k.Comma spell_association
 
 -- ---- precedence and chaining
 
--- how tightly an operator binds its operands: logical operators 1, relations 2, sums 3, terms 4
+-- how tightly an operator binds its operands, by its token: logical operators 1, relations 2, sums 3, terms 4, and what is none 0
+abbrev pub token_rank : TokenKind → ℕ
+token_rank kind =
+    if is_one_of (k.And ∷ k.Or ∷ k.Xor ∷ k.Xnor ∷ k.Nand ∷ k.Nor ∷ []) kind then 1
+    else if is_one_of (k.Equal ∷ k.NotEqual ∷ k.Less ∷ k.LessEqual ∷ k.Greater ∷ k.GreaterEqual ∷ []) kind then 2
+    else if is_one_of (k.Plus ∷ k.Minus ∷ k.Ampersand ∷ []) kind then 3
+    else if is_one_of (k.Star ∷ k.Slash ∷ k.Mod ∷ k.Rem ∷ []) kind then 4
+    else 0
+
 abbrev pub rank : Operator → ℕ
-rank And = 1
-rank Or = 1
-rank Xor = 1
-rank Xnor = 1
-rank Nand = 1
-rank Nor = 1
-rank Equal = 2
-rank NotEqual = 2
-rank Less = 2
-rank LessEqual = 2
-rank Greater = 2
-rank GreaterEqual = 2
-rank Add = 3
-rank Subtract = 3
-rank Concatenate = 3
-rank Multiply = 4
-rank Divide = 4
-rank Modulo = 4
-rank Remainder = 4
+rank operator = token_rank (kind_of operator)
 
 -- how tightly a tree holds together: by its own operator, a sign as a sum, `not` 5, and what needs no operator 6
 abbrev pub binding : Expr → ℕ
@@ -155,11 +146,7 @@ binding (binary begins operator at left right) = rank operator
 -- the logical operators of expr = rel { and rel } | rel { or rel } | rel { xor rel } | rel { xnor rel } | rel nand rel | rel nor rel that may stand
 -- more than once
 abbrev pub repeats : Operator → Bool
-repeats And = true
-repeats Or = true
-repeats Xor = true
-repeats Xnor = true
-repeats _ = false
+repeats operator = is_one_of (k.And ∷ k.Or ∷ k.Xor ∷ k.Xnor ∷ []) (kind_of operator)
 
 -- An operator may follow another of its rank without parentheses: any in a sum or a term, itself where it repeats, and none in a relation.
 abbrev pub Chains : Operator → Operator → Type 0

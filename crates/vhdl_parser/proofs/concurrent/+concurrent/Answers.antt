@@ -3,37 +3,15 @@ use Rattle.std.proofs.lemmas.Grind.{common_steps}
 use Rattle.vhdl_tree.specs.View.{concurrents_view}
 use Rattle.vhdl_parser_expressions.specs.reader.Input.{many_from}
 use Rattle.vhdl_parser.specs.reader.Concurrent as read
-use Rattle.vhdl_parser.specs.reader.Concurrent.{concurrents_with, for_generate, if_generate}
-use Rattle.vhdl_parser_expressions.proofs.Turns.{one_more, no_more}
+use Rattle.vhdl_parser.specs.reader.Concurrent.{for_generate, if_generate}
+use Rattle.vhdl_parser_expressions.proofs.Turns.{one_more}
 use Rattle.vhdl_parser.proofs.Deeper.{concurrents_below}
 use Rattle.vhdl_parser.proofs.concurrent.+concurrent.Goals as goal
-
-pub concurrents-loop-turn-init : goal.concurrents-loop-turn-init
-unfolding concurrents_with
-concurrents-loop-turn-init t c = first_of (search rules, grind (arith, common_steps))
-
-pub concurrents-returns-then-not-begins_concurrent : goal.concurrents-returns-then-not-begins_concurrent
-unfolding many_from
-concurrents-returns-then-not-begins_concurrent t c =
-    let e = one_more (λ n. many_from read.begins_concurrent (read.concurrent c.args.levels (read.deeper_concurrents c.args.levels)) n (concurrents_view c.loop-turn.found) c.loop-turn.parser) _ c.loop-turn._turn c.loop-turn-test.true c.loop-turn.invariant in
-    first_of (search rules, grind (arith, common_steps))
-
-pub concurrents-returns-in_err-concurrent : goal.concurrents-returns-in_err-concurrent
-unfolding many_from
-concurrents-returns-in_err-concurrent t c =
-    let e = one_more (λ n. many_from read.begins_concurrent (read.concurrent c.args.levels (read.deeper_concurrents c.args.levels)) n (concurrents_view c.loop-turn.found) c.loop-turn.parser) _ c.loop-turn._turn c.loop-turn-test.true c.loop-turn.invariant in
-    first_of (search rules, grind (arith, common_steps))
 
 pub concurrents-loop-turn-preserved : goal.concurrents-loop-turn-preserved
 unfolding many_from
 concurrents-loop-turn-preserved t c =
     let e = one_more (λ n. many_from read.begins_concurrent (read.concurrent c.args.levels (read.deeper_concurrents c.args.levels)) n (concurrents_view c.loop-turn.found) c.loop-turn.parser) _ c.loop-turn._turn c.loop-turn-test.true c.loop-turn.invariant in
-    first_of (search rules, grind (arith, common_steps))
-
-pub concurrents-returns : goal.concurrents-returns
-unfolding many_from
-concurrents-returns t c =
-    let e = no_more (λ n. many_from read.begins_concurrent (read.concurrent c.args.levels (read.deeper_concurrents c.args.levels)) n (concurrents_view c.loop-turn.found) c.loop-turn.parser) _ c.loop-turn._turn c.loop-turn-test.false c.loop-turn.invariant in
     first_of (search rules, grind (arith, common_steps))
 
 pub for_generate-returns : goal.for_generate-returns
