@@ -1,5 +1,5 @@
 -- Architectures by the names of their entities.
-use Rattle.std.proofs.Common.{◌≡◌, ℕ, Bool, true, false, cond, not, ◌||◌, List, [], ◌∷◌, ◌++◌, map, Option, Some, None, Vec, Global, refl, sym, ap, ◌∙◌, true≢false}
+use Rattle.std.proofs.Common.{◌≡◌, ℕ, Bool, true, false, cond, not, List, [], ◌∷◌, ◌++◌, map, Option, Some, None, Vec, Global, refl, sym, ap, ◌∙◌}
 use Rattle.std.specs.Prelude.{option_map, bytes_eq, find, is_some}
 use Rattle.std.specs.Borrow.{Bor}
 use Rattle.std.specs.Map.{lookup}
@@ -9,6 +9,7 @@ use Rattle.vhdl_tree.specs.Tree as t
 use Rattle.vhdl_tree.specs.Tree.{ContextItem}
 use Rattle.vhdl_names_rules.specs.Rules.{then_some}
 use Rattle.vhdl_names_rules.specs.Visibility.{Name, is_among}
+use Rattle.vhdl_names_declarations.proofs.Keyed.{among_table}
 use Rattle.vhdl_names.specs.declared.outline.Described.{Described}
 use Rattle.vhdl_names.specs.Views.{Keyed, keyed_view, described_view}
 use Rattle.vhdl_names.specs.steps.Outlines.{names_of, one_described, described_of}
@@ -17,20 +18,7 @@ abbrev Entry : Type 0
 Entry = Vec ℕ Global × Described
 
 pub among : (n : Name) (es : List Entry) → is_some (lookup (λ k. bytes_eq n k.items) es) ≡ is_among n (names_of (map keyed_view es))
-among n [] = refl
-among n (e ∷ es) = by (bytes_eq n e.0.items) (among n es)
-  where
-    by : (b : Bool) → is_some (lookup (λ k. bytes_eq n k.items) es) ≡ is_among n (names_of (map keyed_view es))
-        → is_some (cond b (Some e.1) (lookup (λ k. bytes_eq n k.items) es)) ≡ b || is_among n (names_of (map keyed_view es))
-    by true h = refl
-    by false h = h
-
-none_of : (o : Option Described) → is_some o ≡ false → o ≡ None
-none_of None h = refl
-none_of (Some m) h = absurd (true≢false h)
-
-pub absent : (es : List Entry) (n : Name) → is_some (lookup (λ k. bytes_eq n k.items) es) ≡ false → lookup (λ k. bytes_eq n k.items) es ≡ None
-absent es n h = none_of (lookup (λ k. bytes_eq n k.items) es) h
+among = among_table keyed_view (λ (k : Keyed). k.name) (λ e. refl)
 
 pub refused : (es : List Entry) (a : List ContextItem × t.Architecture) → is_some (lookup (λ k. bytes_eq a.1.entity.text k.items) es) ≡ true
     → one_described (map keyed_view es) a ≡ None

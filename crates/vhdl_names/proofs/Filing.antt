@@ -10,7 +10,8 @@ use Rattle.vhdl_names_rules.specs.Interfaces.{EntityView, entity}
 use Rattle.vhdl_names_rules.specs.Files.{entities_of, entity_names, described_names, architectures_of, architecture, stand_after, viewed, unit, units_of}
 use Rattle.vhdl_names_rules.proofs.laws.Rules.{kept, some_is, each_keeps}
 use Rattle.vhdl_names_rules.specs.problems.Files.{with_entities}
-use Rattle.vhdl_names_rules.proofs.kept.Files.{entity_name, all_entities}
+use Rattle.vhdl_names_rules.proofs.laws.Parts.{entity_name}
+use Rattle.vhdl_names_rules.proofs.kept.Files.{all_entities}
 use Rattle.vhdl_names.specs.Views.{Keyed, OutlineView}
 use Rattle.vhdl_names.specs.steps.Outlines.{keyed, described_of, outline_of, outlined}
 use Rattle.vhdl_names.specs.steps.Entities.{viewed_by}

@@ -14,8 +14,7 @@ use Rattle.vhdl_names_rules.specs.Rules.{◌>>=◌, met}
 use Rattle.vhdl_names_rules.specs.Visibility.{Name, Declared, declare, label, is_among, are_distinct, name_of, names_of}
 use Rattle.vhdl_names_rules.specs.Interfaces.{declared_names}
 use Rattle.vhdl_names_rules.specs.Files.{labelled}
-use Rattle.vhdl_names_rules.specs.Concurrent.{concurrent_label, concurrent_labels}
-use Rattle.vhdl_names_rules.specs.Statements.{label_names}
+use Rattle.vhdl_names_rules.specs.Concurrent.{concurrent_labels}
 use Rattle.vhdl_names_rules.specs.Gives.{Gives}
 use Rattle.vhdl_names_rules.proofs.laws.Rules.{kept, some_is}
 use Rattle.vhdl_names_rules.specs.problems.Broken.{Tells, refused}
@@ -28,6 +27,7 @@ use Rattle.vhdl_names_rules.proofs.kept.Twice.{apart, distinct_next, names_appen
 use Rattle.vhdl_names_rules.proofs.kept.Labels.{labels_named}
 use Rattle.vhdl_names_rules.proofs.kept.Architectures.{names_labelled, labels_enter}
 use Rattle.vhdl_names_declarations.specs.Entered.{more}
+use Rattle.vhdl_names_declarations.proofs.Labelling.{labels_in}
 use Rattle.vhdl_names_declarations.proofs.Regions.{more_split}
 use Rattle.vhdl_names.specs.Finding.{Finds, HasMemory, first_of}
 
@@ -183,20 +183,6 @@ one_label (t.selected l a) = one_if_any l
 one_label (t.process l p) = one_if_any l
 one_label (t.instance l i) = tt
 one_label (t.generated l at s word cs end) = tt
-
-name_if_any : (o : Option Ident) → names_of (label_if_any o) ≡ label_names o
-name_if_any None = refl
-name_if_any (Some l) = refl
-
-pub label_name : (c : t.Concurrent) → names_of (label_of c) ≡ concurrent_label c
-label_name (t.assignment a) = name_if_any a.label
-label_name (t.selected l a) = name_if_any l
-label_name (t.process l p) = name_if_any l
-label_name (t.instance l i) = refl
-label_name (t.generated l at s word cs end) = refl
-
-abbrev pub labels_in : List Concurrent → List Ident
-labels_in cs = labels_of (t.concurrents_of (map concurrent_view cs))
 
 pub next_left : (cs : List Concurrent) (i : ℕ) (c : Concurrent) → i < length cs → c ≡ get_or cs i c
     → labels_in (drop i cs) ≡ label_of (concurrent_view c) ++ labels_in (drop (i + 1) cs)

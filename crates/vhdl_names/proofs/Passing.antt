@@ -28,6 +28,10 @@ left_at us i = map view.unit_view (drop i us)
 pub none_left : (us : List DesignUnit) (i : ℕ) → length us ≤ i → left_at us i ≡ []
 none_left us i le = ap (map view.unit_view) (drop_all i us le)
 
+-- the unit at a place of a list that is lent
+pub at_lent : (us lent : List DesignUnit) (i : ℕ) (d : DesignUnit) → lent ≡ us → i < length lent → d ≡ get_or lent i d → (i < length us) × (d ≡ get_or us i d)
+at_lent us lent i d same lt is = subst (λ l. (i < length l) × (d ≡ get_or l i d)) same (lt, is)
+
 module _ (us : List DesignUnit) (i : ℕ) (d : DesignUnit) (lt : i < length us) (is : d ≡ get_or us i d) where
   abbrev all : List t.DesignUnit
   all = map view.unit_view us

@@ -1,9 +1,8 @@
 -- The table of what instances see, entity by entity.
-use Rattle.std.proofs.Common.{◌≡◌, ℕ, Bool, true, false, cond, not, List, [], ◌∷◌, ◌++◌, map, Option, Some, None, Vec, Global, refl, ap, sym, ◌∙◌, append_assoc, append-nil}
-use Rattle.std.specs.Prelude.{◌&&◌, ◌||◌, bytes_eq, is_some}
-use Rattle.std.specs.List.{IsDistinct, AllByRecursion}
+use Rattle.std.proofs.Common.{◌≡◌, ℕ, Bool, true, false, not, List, [], ◌∷◌, ◌++◌, map, Option, Some, None, Vec, Global, refl, ap, sym, ◌∙◌, append_assoc, append-nil}
+use Rattle.std.specs.Prelude.{bytes_eq, is_some}
+use Rattle.std.specs.List.{IsDistinct}
 use Rattle.std.specs.Map.{keys_of, lookup}
-use Rattle.std.proofs.lemmas.Map.Keys.{IsDistinct-head, IsDistinct-tail}
 use Rattle.vhdl_names_rules.specs.Rules.{◌>>=◌, then_some}
 use Rattle.vhdl_names_rules.specs.Visibility.{Name, is_among, are_distinct}
 use Rattle.vhdl_names_rules.specs.Interfaces.{EntityView}
@@ -11,6 +10,7 @@ use Rattle.vhdl_names_units.specs.Lists.{in_turn}
 use Rattle.vhdl_names_units.specs.Once.{one_name}
 use Rattle.vhdl_names_units.proofs.Once.{once}
 use Rattle.vhdl_names_instances.specs.Table.{seen}
+use Rattle.vhdl_names_declarations.proofs.Keyed.{among_table, table_apart}
 use Rattle.vhdl_names_interfaces.specs.declared.interface.EntityInterface.{EntityInterface}
 use Rattle.vhdl_names_interfaces.specs.Views.{named_view}
 use Rattle.vhdl_names.specs.steps.Tables.{TableView, with_seen, no_table, table_of}
@@ -48,23 +48,9 @@ Entry = Vec ℕ Global × EntityInterface
 abbrev pub entry_view : Entry → EntityView
 entry_view e = named_view e.0.items e.1
 
-none_among : (k : Vec ℕ Global) (es : List Entry) → AllByRecursion (λ y. bytes_eq k.items y.items ≡ false) (keys_of es)
-    → is_among k.items (names_in (map entry_view es)) ≡ false
-none_among k [] h = refl
-none_among k (e ∷ es) h = ap (λ b. b || is_among k.items (names_in (map entry_view es))) h.0 ∙ none_among k es h.1
-
 pub entries_apart : (es : List Entry) → IsDistinct (λ a b. bytes_eq a.items b.items) (keys_of es) → are_distinct (names_in (map entry_view es)) ≡ true
-entries_apart [] h = refl
-entries_apart (e ∷ es) h =
-    ap (λ b. not b && are_distinct (names_in (map entry_view es))) (none_among e.0 es (IsDistinct-head (λ a b. bytes_eq a.items b.items) e.0 (keys_of es) h))
-    ∙ entries_apart es (IsDistinct-tail (λ a b. bytes_eq a.items b.items) e.0 (keys_of es) h)
+entries_apart = table_apart entry_view (λ (e : EntityView). e.name) (λ e. refl)
 
 -- the name of an entity that a table has
 pub among_entries : (n : Name) (es : List Entry) → is_some (lookup (λ k. bytes_eq n k.items) es) ≡ is_among n (names_in (map entry_view es))
-among_entries n [] = refl
-among_entries n (e ∷ es) = by (bytes_eq n e.0.items) (among_entries n es)
-  where
-    by : (b : Bool) → is_some (lookup (λ k. bytes_eq n k.items) es) ≡ is_among n (names_in (map entry_view es))
-        → is_some (cond b (Some e.1) (lookup (λ k. bytes_eq n k.items) es)) ≡ b || is_among n (names_in (map entry_view es))
-    by true h = refl
-    by false h = h
+among_entries = among_table entry_view (λ (e : EntityView). e.name) (λ e. refl)

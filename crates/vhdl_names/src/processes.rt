@@ -81,15 +81,17 @@ fn leave_process(sight: &mut Sight)
     sight.variables = IndexMap::new(sight.alloc);
 }
 
-/// A process behind its label, in the order of its parts.
-fn process_in_turn(
+/// A process behind its label: its variables are a region of their own, and in sight of its
+/// statements alone. It fails at the first byte where a rule is broken, or where memory is refused.
+#[tactic(auto, using(crate::proofs::Running::process_by))]
+pub fn process(
     sight: &mut Sight,
     label: &Option<Identifier>,
     process: &syntax::Process,
 ) -> Result<Process, NameFault>
     requires outside { sight.old.variables ≡ [] }
     ensures given { Gives process_view
-        (steps.process sight.old (tree.option_ident_view label.now) (tree.process_view process.now)) result }
+        (rules.process sight.old (tree.option_ident_view label.now) (tree.process_view process.now)) result }
     ensures kept { OnOk result (sight.new ≡ sight.old) }
     ensures told { IfErr result (Tells
         (broken.process sight.old (tree.option_ident_view label.now) (tree.process_view process.now))) }
@@ -107,21 +109,4 @@ fn process_in_turn(
         sensitivity,
         statements,
     })
-}
-
-/// A process behind its label: its variables are a region of their own, and in sight of its
-/// statements alone. It fails at the first byte where a rule is broken, or where memory is refused.
-pub fn process(
-    sight: &mut Sight,
-    label: &Option<Identifier>,
-    process: &syntax::Process,
-) -> Result<Process, NameFault>
-    requires outside { sight.old.variables ≡ [] }
-    ensures given { Gives process_view
-        (rules.process sight.old (tree.option_ident_view label.now) (tree.process_view process.now)) result }
-    ensures kept { OnOk result (sight.new ≡ sight.old) }
-    ensures told { IfErr result (Tells
-        (broken.process sight.old (tree.option_ident_view label.now) (tree.process_view process.now))) }
-{
-    process_in_turn(sight, label, process)
 }

@@ -10,19 +10,21 @@ use Rattle.vhdl_names_rules.specs.declared.fault.NameFault.{NameFault}
 use Rattle.vhdl_names_rules.specs.declared.fault.NameFault.TheVariants.{At, NoMemory}
 use Rattle.vhdl_names_rules.specs.declared.fault.NameProblem.TheVariants.{Twice}
 use Rattle.vhdl_names_rules.specs.Rules.{◌>>=◌, met}
-use Rattle.vhdl_names_rules.specs.Visibility.{Name, Declared, Sight, Declares, names_of, is_among, are_distinct, all_declared, unfinished}
+use Rattle.vhdl_names_rules.specs.Visibility.{Name, Declared, Meaning, Sight, Declares, meaning, names_of, is_among, are_distinct, all_declared, unfinished}
 use Rattle.vhdl_names_rules.specs.Interfaces.{declared_names}
 use Rattle.vhdl_names_rules.specs.Declarations.{single_expression}
 use Rattle.vhdl_names_rules.proofs.laws.Rules.{comes, kept}
-use Rattle.vhdl_names_rules.specs.Subtypes.{Subtype, subtype}
+use Rattle.vhdl_names_rules.specs.declared.operator.IntegerType.{IntegerType}
+use Rattle.vhdl_names_rules.specs.Subtypes.{Subtype, subtype, as_integer_type}
 use Rattle.vhdl_names_rules.specs.problems.Broken.{Broken, Tells, refused, where_given, ◌▸◌}
 use Rattle.vhdl_names_rules.specs.problems.Subtypes as subtypes_broken
 use Rattle.vhdl_names_rules.proofs.kept.Values.{subtype_kept}
 use Rattle.vhdl_names_sight.proofs.Passing.{told_first, told_second}
 use Rattle.vhdl_names_rules.specs.problems.Twice.{twice}
-use Rattle.vhdl_names_rules.specs.problems.Expressions.{static}
-use Rattle.vhdl_names_rules.specs.problems.Declarations.{in_order, standing_twice, integer_value}
-use Rattle.vhdl_names_rules.proofs.Telling.{IsKept, told_same, told_left, told_right, told_given, at_is_told}
+use Rattle.vhdl_names_rules.specs.problems.Expressions.{static, meaning as marked}
+use Rattle.vhdl_names_rules.specs.problems.Declarations.{in_order, standing_twice, integer_value, constants_by, typed_constants}
+use Rattle.vhdl_names_rules.proofs.Telling.{IsKept, told_same, told_left, told_right, told_given, told_on, at_is_told}
+use Rattle.vhdl_names_rules.proofs.kept.Expressions.{meaning_kept}
 use Rattle.vhdl_names_rules.proofs.kept.Twice.{apart, twice_kept}
 use Rattle.vhdl_names_declarations.specs.Entered.{more}
 use Rattle.vhdl_names_declarations.proofs.Regions.{names-append, names-all}
@@ -36,6 +38,16 @@ told_never b o x (At p at) is none = absurd (no_value x (sym is ∙ none (at_is_
     no_value : {A : Type 0} (x : A) → Some x ≡ None → ⊥
     no_value x e = cc
 told_never b o x NoMemory is none = tt
+
+-- ---- constants
+
+-- of constants it is told by the type that is meant
+pub constants_told : {X : Type 0} (s : Sight) (d : t.Constants) (m : Meaning) (o : Option IntegerType) (r : Result X NameFault) → meaning s d.subtype.mark.text ≡ Some m → o ≡ as_integer_type m →
+    IfErr r (Tells (constants_by s d o)) → IfErr r (Tells (typed_constants s d))
+constants_told s d m o r meant is =
+    let by = λ (m : Meaning). constants_by s d (as_integer_type m) in
+    told_on _ _ r (λ f h. told_right (marked s d.subtype.mark) (where_given (meaning s d.subtype.mark.text) by) f (meaning_kept s d.subtype.mark m meant)
+    (told_given by (meaning s d.subtype.mark.text) m f meant (subst (λ o. Tells (constants_by s d o) f) is h)))
 
 -- ---- names that stand twice
 

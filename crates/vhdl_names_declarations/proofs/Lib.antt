@@ -1,6 +1,7 @@
 pub mod Breaking
 pub mod Counting
 pub mod Declaring
+pub mod Keyed
 pub mod Labelling
 pub mod Listed
 pub mod Classes

@@ -82,6 +82,13 @@ module _ {A B C : Type 0} (declares : Sight → A → Option (Declares B)) (view
 
 -- ---- what was there before a declaration stays
 
+-- how many a region has, by what is seen of it
+pub region_size : (i : Inside) (s : Sight) → sight_view i ≡ s → length s.region ≡ length i.region.entries
+region_size i s e = ap (λ (s : Sight). length s.region) (sym e) ∙ length-map i.region.entries entry_view
+
+pub variables_size : (i : Inside) (s : Sight) → sight_view i ≡ s → length s.variables ≡ length i.variables.entries
+variables_size i s e = ap (λ (s : Sight). length s.variables) (sym e) ∙ length-map i.variables.entries entry_view
+
 module _ {A B : Type 0} (declares : Sight → A → Option (Declares B)) where
   pub grown_by : (s t : Sight) (a : A) (ys : List B) → entering declares s a ≡ Some (t, ys) → (ds : List Declared) × (t.region ≡ s.region ++ ds)
   grown_by s t a ys h = go (declares s a) h
@@ -94,25 +101,32 @@ module _ {A B : Type 0} (declares : Sight → A → Option (Declares B)) where
       go None e = cc
       go (Some x) e = (x.declared, by x (are_distinct (declared_names (s.region ++ x.declared))) e)
 
-  pub counts_before : (c : Counts) (s t : Sight) (a : A) (ys : List B) (first : ℕ) → entering declares s a ≡ Some (t, ys) → first ≡ length s.region →
+  counts_before : (c : Counts) (s t : Sight) (a : A) (ys : List B) (first : ℕ) → entering declares s a ≡ Some (t, ys) → first ≡ length s.region →
       AreCounts c s.region → AreCounts c (take first t.region)
   counts_before c s t a ys first h size counts =
       let g = grown_by s t a ys h in
       subst (AreCounts c) (sym (ap (λ n. take n t.region) size ∙ ap (take (length s.region)) g.1 ∙ take-append_seam s.region g.0)) counts
 
-  pub place_within : (s t : Sight) (a : A) (ys : List B) → entering declares s a ≡ Some (t, ys) → length s.region ≤ length t.region
+  place_within : (s t : Sight) (a : A) (ys : List B) → entering declares s a ≡ Some (t, ys) → length s.region ≤ length t.region
   place_within s t a ys h =
       let g = grown_by s t a ys h in
       let e = ap length g.1 in
       let l = length-append s.region g.0 in
       omega (arith, e, l)
 
--- how many a region has, by what is seen of it
-pub region_size : (i : Inside) (s : Sight) → sight_view i ≡ s → length s.region ≡ length i.region.entries
-region_size i s e = ap (λ (s : Sight). length s.region) (sym e) ∙ length-map i.region.entries entry_view
+  -- the same of what is seen
+  pub place_after : (s t : Sight) (a : A) (ys : List B) (i j : Inside) (first : ℕ) → entering declares s a ≡ Some (t, ys) → sight_view i ≡ s → sight_view j ≡ t →
+      first ≡ length i.region.entries → first ≤ length j.region.entries
+  place_after s t a ys i j first h e d size =
+      let w = place_within s t a ys h in
+      let p = region_size i s e in
+      let q = region_size j t d in
+      omega (arith, w, p, q, size)
 
-pub variables_size : (i : Inside) (s : Sight) → sight_view i ≡ s → length s.variables ≡ length i.variables.entries
-variables_size i s e = ap (λ (s : Sight). length s.variables) (sym e) ∙ length-map i.variables.entries entry_view
+  pub counts_after : (c : Counts) (s t : Sight) (a : A) (ys : List B) (i j : Inside) (first : ℕ) → entering declares s a ≡ Some (t, ys) → sight_view i ≡ s → sight_view j ≡ t →
+      first ≡ length i.region.entries → AreCounts c s.region → AreCounts c (take first (sight_view j).region)
+  counts_after c s t a ys i j first h e d size counts =
+      subst (λ (x : Sight). AreCounts c (take first x.region)) (sym d) (counts_before c s t a ys first h (size ∙ sym (region_size i s e)) counts)
 
 -- one more
 pub all_more : {X Y : Type 0} (f : X → List Y) (xs : List X) (x : X) → flat_map f (xs ++ x ∷ []) ≡ flat_map f xs ++ f x

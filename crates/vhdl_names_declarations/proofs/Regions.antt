@@ -1,9 +1,8 @@
 -- Names of a region, and declarations that enter it.
-use Rattle.std.proofs.Common.{◌≡◌, ℕ, zero, suc, ◌+◌, ◌<◌, ◌≤◌, Bool, true, false, cond, not, ◌&&◌, ◌||◌, List, [], ◌∷◌, ◌++◌, map, length, drop, get_or, Option, Some, None, Vec, Global, refl, sym, ap, ◌∙◌, true≢false, append_assoc, append-nil, arith}
+use Rattle.std.proofs.Common.{◌≡◌, ℕ, zero, suc, ◌+◌, ◌<◌, ◌≤◌, Bool, true, false, not, ◌&&◌, ◌||◌, List, [], ◌∷◌, ◌++◌, map, length, drop, get_or, Some, None, Vec, Global, refl, sym, ap, ◌∙◌, true≢false, append_assoc, append-nil, arith}
 use Rattle.std.specs.Prelude.{bytes_eq, is_some}
-use Rattle.std.specs.List.{IsDistinct, AllByRecursion}
+use Rattle.std.specs.List.{IsDistinct}
 use Rattle.std.specs.Map.{lookup, keys_of}
-use Rattle.std.proofs.lemmas.Map.Keys.{IsDistinct-head, IsDistinct-tail}
 use Rattle.std.proofs.Math.Seq.{drop-cons}
 use Rattle.std.proofs.lemmas.List.{map-append, length-map, drop_all}
 use Rattle.std.proofs.lemmas.Slice.Eq.{bytes_eq-Decides}
@@ -17,6 +16,7 @@ use Rattle.vhdl_names_sight.specs.declared.meaning.Meaning.{Meaning as CodeMeani
 use Rattle.vhdl_names_sight.specs.Views.{meaning_view, entry_view}
 use Rattle.vhdl_names_declarations.specs.Entered.{more}
 use Rattle.vhdl_names_declarations.specs.Settled.{settled}
+use Rattle.vhdl_names_declarations.proofs.Keyed.{among_table, table_apart}
 use Rattle.indexmap.specs.Layout.{set_value_at}
 
 -- ---- names
@@ -106,33 +106,11 @@ more_last ds d h =
 -- ---- tables
 
 pub among_keys : (n : Name) (es : List (Vec ℕ Global × CodeMeaning)) → is_some (lookup (λ k. bytes_eq n k.items) es) ≡ is_among n (declared_names (map entry_view es))
-among_keys n [] = refl
-among_keys n (e ∷ es) = by (bytes_eq n e.0.items) (among_keys n es)
-  where
-    by : (b : Bool) → is_some (lookup (λ k. bytes_eq n k.items) es) ≡ is_among n (declared_names (map entry_view es))
-        → is_some (cond b (Some e.1) (lookup (λ k. bytes_eq n k.items) es)) ≡ b || is_among n (declared_names (map entry_view es))
-    by true h = refl
-    by false h = h
+among_keys = among_table entry_view (λ (d : Declared). d.name) (λ e. refl)
 
-none_among : (k : Vec ℕ Global) (es : List (Vec ℕ Global × CodeMeaning)) → AllByRecursion (λ y. bytes_eq k.items y.items ≡ false) (keys_of es)
-    → is_among k.items (declared_names (map entry_view es)) ≡ false
-none_among k [] h = refl
-none_among k (e ∷ es) h = ap (λ b. b || is_among k.items (declared_names (map entry_view es))) h.0 ∙ none_among k es h.1
-
--- a table's names are distinct
 pub names_apart : (es : List (Vec ℕ Global × CodeMeaning)) → IsDistinct (λ a b. bytes_eq a.items b.items) (keys_of es)
     → are_distinct (declared_names (map entry_view es)) ≡ true
-names_apart [] h = refl
-names_apart (e ∷ es) h =
-    ap (λ b. not b && are_distinct (declared_names (map entry_view es))) (none_among e.0 es (IsDistinct-head (λ a b. bytes_eq a.items b.items) e.0 (keys_of es) h))
-    ∙ names_apart es (IsDistinct-tail (λ a b. bytes_eq a.items b.items) e.0 (keys_of es) h)
-
-none_of : (o : Option CodeMeaning) → is_some o ≡ false → o ≡ None
-none_of None h = refl
-none_of (Some m) h = absurd (true≢false h)
-
-pub absent : (es : List (Vec ℕ Global × CodeMeaning)) (n : Name) → is_some (lookup (λ k. bytes_eq n k.items) es) ≡ false → lookup (λ k. bytes_eq n k.items) es ≡ None
-absent es n h = none_of (lookup (λ k. bytes_eq n k.items) es) h
+names_apart = table_apart entry_view (λ (d : Declared). d.name) (λ e. refl)
 
 pub refused : (es : List (Vec ℕ Global × CodeMeaning)) (n : Name) (m : Meaning) → IsDistinct (λ a b. bytes_eq a.items b.items) (keys_of es)
     → is_some (lookup (λ k. bytes_eq n k.items) es) ≡ true → more (map entry_view es) (visibility.declare n m ∷ []) ≡ None

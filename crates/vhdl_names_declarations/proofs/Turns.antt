@@ -102,13 +102,18 @@ settled_whole region with_region s ns k f a o x first hid new ys size hides give
     ∙ ap (λ l. Some (pair (with_region s new) l)) made
 
 -- a region that grows, and the number of what comes next
-pub grows_by : (es es' : List (Vec ℕ Global × CodeMeaning)) (ds : List Declared) → more (map entry_view es) ds ≡ Some (map entry_view es') → length es ≤ length es'
+grows_by : (es es' : List (Vec ℕ Global × CodeMeaning)) (ds : List Declared) → more (map entry_view es) ds ≡ Some (map entry_view es') → length es ≤ length es'
 grows_by es es' ds h =
     let a = ap length (more_is (map entry_view es) ds (map entry_view es') h) in
     let b = length-append (map entry_view es) ds in
     let p = length-map es entry_view in
     let q = length-map es' entry_view in
     omega (arith, a, b, p, q)
+
+pub first_within : (es es' : List (Vec ℕ Global × CodeMeaning)) (ds : List Declared) (first : ℕ) → more (map entry_view es) ds ≡ Some (map entry_view es') → first ≡ length es → first ≤ length es'
+first_within es es' ds first h same =
+    let grown = grows_by es es' ds h in
+    omega (arith, grown, same)
 
 pub first_below : (class : Meaning → Bool) (es : List (Vec ℕ Global × CodeMeaning)) (n : ℕ) → n ≡ count_of class (map entry_view es) → n ≤ length es
 first_below class es n h =

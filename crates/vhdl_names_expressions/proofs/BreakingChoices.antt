@@ -16,7 +16,8 @@ use Rattle.vhdl_names_rules.specs.problems.Subtypes.{literal}
 use Rattle.vhdl_names_rules.specs.problems.Choices as b
 use Rattle.vhdl_names_rules.proofs.Telling.{IsKept, behind_kept, told_same, told_left, told_right}
 use Rattle.vhdl_names_rules.proofs.kept.Expressions.{meaning_kept}
-use Rattle.vhdl_names_expressions.specs.Chosen.{as_name, is_bare}
+use Rattle.vhdl_names_rules.specs.Instances.{as_name}
+use Rattle.vhdl_names_expressions.specs.Chosen.{is_bare}
 use Rattle.vhdl_names_expressions.proofs.Breaking.{wanted_by}
 
 module _ (sight : Sight) (type : ObjectType) (n : t.Ident) where
@@ -42,21 +43,14 @@ module _ (sight : Sight) (type : ObjectType) (n : t.Ident) where
   chosen_bare (t.arguments es) a see d r h e given told = absurd (true≢false (sym h))
   chosen_bare (t.sliced x w y) a see d r h e given told = absurd (true≢false (sym h))
 
-abbrev pub chosen_by : Sight → ObjectType → Option t.Name → t.Expr → Broken
-chosen_by sight type (Some n) e = b.chosen sight type (t.named n.identifier n.suffix n.attribute)
-chosen_by sight type None e = literal type e
-
-pub chosen_is : (sight : Sight) (type : ObjectType) (e : t.Expr) → b.chosen sight type e ≡ chosen_by sight type (as_name e) e
-chosen_is sight type (t.bits at s) = refl
-chosen_is sight type e = refl
+pub chosen_literal : (sight : Sight) (type : ObjectType) (e : t.Expr) → None ≡ as_name e → literal type e ≡ b.chosen sight type e
+chosen_literal sight type (t.named n y a) h = cc
+chosen_literal sight type e h = refl
 
 -- choices that are not others alone
 pub choices_each : (sight : Sight) (type : ObjectType) (cs : List t.Choice) → c.is_others cs ≡ false → b.choices sight type cs ≡ any_of (b.choice sight type) cs
-choices_each sight type [] h = refl
 choices_each sight type (t.otherwise at ∷ []) h = absurd (true≢false h)
-choices_each sight type (t.otherwise at ∷ y ∷ cs) h = refl
-choices_each sight type (t.chosen e ∷ []) h = refl
-choices_each sight type (t.chosen e ∷ y ∷ cs) h = refl
+choices_each sight type cs h = refl
 
 -- ---- each of several
 

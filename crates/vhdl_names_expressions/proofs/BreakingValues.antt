@@ -41,10 +41,11 @@ use Rattle.vhdl_names_sight.specs.declared.meaning.Meaning.{Meaning as DeclaredM
 use Rattle.vhdl_names_sight.specs.declared.meaning.Meaning.TheVariants as d
 use Rattle.vhdl_names_sight.specs.Views.{meaning_view}
 use Rattle.vhdl_names_expressions.specs.Asked.{unattributed}
-use Rattle.vhdl_names_expressions.specs.Chosen.{as_name, as_character, is_literal, character_values}
+use Rattle.vhdl_names_rules.specs.Instances.{as_name}
+use Rattle.vhdl_names_expressions.specs.Chosen.{as_character, is_literal, character_values}
 use Rattle.vhdl_names_expressions.specs.Fixing.{suffixed_value, filled_with}
 use Rattle.vhdl_names_expressions.proofs.Asking.{both}
-use Rattle.vhdl_names_expressions.proofs.Breaking.{told_fault, in_turn}
+use Rattle.vhdl_names_expressions.proofs.Breaking.{told_fault, in_turn, refused_told}
 use Rattle.vhdl_names_expressions.proofs.Choosing.{chain_is_no_literal}
 use Rattle.vhdl_names_expressions.proofs.Fixing.{filled_as}
 
@@ -112,13 +113,9 @@ pub value_is : (type : ObjectType) (d : Meaning) (s : Suffix) → suffixed_value
 value_is type d names.plain = refl
 value_is type d s = refl
 
-abbrev pub fixed_by : Sight → ObjectType → Option t.Name → t.Expr → Broken
-fixed_by sight type (Some n) e = fixed sight type (t.named n.identifier n.suffix n.attribute)
-fixed_by sight type None e = literal type e
-
-pub fixed_is : (sight : Sight) (type : ObjectType) (e : t.Expr) → fixed sight type e ≡ fixed_by sight type (as_name e) e
-fixed_is sight type (t.bits at s) = refl
-fixed_is sight type e = refl
+pub fixed_literal : (sight : Sight) (type : ObjectType) (e : t.Expr) → None ≡ as_name e → literal type e ≡ fixed sight type e
+fixed_literal sight type (t.named n y a) h = cc
+fixed_literal sight type e h = refl
 
 character_is : (e : t.Expr) → is_character e ≡ is_some (as_character e)
 character_is (t.bits at s) = refl
@@ -206,6 +203,14 @@ module _ (sight : Sight) (n : t.Name) (more : Meaning → Suffix → Broken) whe
       (told_given _ (visibility.meaning sight n.identifier.text) a.value f a.is
       (told_given (more a.value) (are.typed_suffix sight n.suffix) b.value f b.is
       (told_same (more m.0 m.1) (more a.value b.value) f (ap (λ p. more p.0 p.1) e) w))))
+
+-- what is refused of a name's meaning
+pub name_refused : {X Y : Type 0} (sight : Sight) (n : t.Name) (see : X → Y) (problem : Meaning → NameProblem) (wanted : Meaning → Suffix → Option Y) (m : Meaning × Suffix) (r : Result X NameFault) →
+    unattributed sight n ≡ Some m → Gives see (wanted m.0 m.1) r → IfErr r (Tells (refused (problem m.0) n.identifier.at)) →
+    IfErr r (Tells (named sight n ▸ behind_name sight n (λ d s. lacking (problem d) n.identifier.at (wanted d s))))
+name_refused sight n see problem wanted m r is given told =
+    name_told sight n (λ d s. lacking (problem d) n.identifier.at (wanted d s)) m r is
+    (refused_told see (problem m.0) n.identifier.at n.identifier.at (wanted m.0 m.1) r refl given told)
 
 -- the name of a value
 pub fixed_as : (sight : Sight) (type : ObjectType) (n : t.Name) →

@@ -3,7 +3,7 @@ use Rattle.std.proofs.Common.{◌≡◌, ℕ, Bool, true, false, true≢false, L
 use Rattle.std.specs.Prelude.{option_map}
 use Rattle.vhdl_tree.specs.Tree as t
 use Rattle.vhdl_tree.specs.Tree.{Pair, exprs_of, all_joined}
-use Rattle.vhdl_tree.specs.View.{view, pair_view}
+use Rattle.vhdl_tree.specs.View.{view, pair_view, chain_view}
 use Rattle.vhdl_tree.specs.declared.expression.Expr.{Expr}
 use Rattle.vhdl_tree.specs.declared.expression.Expr.TheVariants as x
 use Rattle.vhdl_tree.specs.declared.expression.Chain.{Chain, out-Chain}
@@ -26,7 +26,8 @@ use Rattle.vhdl_names_rules.specs.Visibility.{Sight}
 use Rattle.vhdl_names_rules.specs.Literals.{values_of_string, values_of_bits}
 use Rattle.vhdl_names_rules.specs.Subtypes.{literal_values}
 use Rattle.vhdl_names_rules.specs.Choices as c
-use Rattle.vhdl_names_expressions.specs.Chosen.{is_name, as_name, is_bare, is_literal, as_character, character_values}
+use Rattle.vhdl_names_rules.specs.Instances.{as_name}
+use Rattle.vhdl_names_expressions.specs.Chosen.{is_name, is_bare, is_literal, as_character, character_values}
 use Rattle.vhdl_names_expressions.specs.Steps.{is_parens}
 
 -- what holds of each binary operation holds of a chain
@@ -35,18 +36,25 @@ chain_as : {A : Type 0} (f : t.Expr → A) (a : A) → ((b : Bool) (op : Operato
 chain_as f a each b op at d e [] = each b op at d e
 chain_as f a each b op at d e (p ∷ ps) = chain_as f a each false p.operator p.at (t.binary b op at d e) p.operand ps
 
-chain_is_as : {A : Type 0} (f : t.Expr → A) (a : A) → ((b : Bool) (op : Operator) (at : ℕ) (d e : t.Expr) → f (t.binary b op at d e) ≡ a) →
-    (e : Expr) (chain : Box Chain Global) → e ≡ x.Chain chain → f (view e) ≡ a
-chain_is_as f a each e chain is =
-    let c = out-Chain chain.value in
-    ap (λ y. f (view y)) is ∙ ap f (chain_is chain.value)
-    ∙ chain_as f a each true c.second.operator c.second.at (view c.first) (view c.second.operand) (map pair_view c.rest.items)
+chain_is_as : {A : Type 0} (f : t.Expr → A) (a : A) → ((b : Bool) (op : Operator) (at : ℕ) (d e : t.Expr) → f (t.binary b op at d e) ≡ a) → (chain : Chain) → a ≡ f (chain_view chain)
+chain_is_as f a each chain =
+    let c = out-Chain chain in
+    sym (ap f (chain_is chain) ∙ chain_as f a each true c.second.operator c.second.at (view c.first) (view c.second.operand) (map pair_view c.rest.items))
 
-pub chain_is_no_parens : (e : Expr) (chain : Box Chain Global) → e ≡ x.Chain chain → is_parens (view e) ≡ false
+pub chain_is_no_parens : (chain : Chain) → false ≡ is_parens (chain_view chain)
 chain_is_no_parens = chain_is_as is_parens false (λ b op at d e. refl)
 
-pub chain_is_no_name : (e : Expr) (chain : Box Chain Global) → e ≡ x.Chain chain → is_name (view e) ≡ false
+pub chain_is_no_name : (chain : Chain) → false ≡ is_name (chain_view chain)
 chain_is_no_name = chain_is_as is_name false (λ b op at d e. refl)
+
+pub chain_has_no_name : (chain : Chain) → None ≡ as_name (chain_view chain)
+chain_has_no_name = chain_is_as as_name None (λ b op at d e. refl)
+
+pub chain_is_no_character : (chain : Chain) → None ≡ as_character (chain_view chain)
+chain_is_no_character = chain_is_as as_character None (λ b op at d e. refl)
+
+pub chain_is_no_literal : (e : Expr) (chain : Box Chain Global) → e ≡ x.Chain chain → is_literal (view e) ≡ false
+chain_is_no_literal e chain is = ap (λ y. is_literal (view y)) is ∙ sym (chain_is_as is_literal false (λ b op at d e. refl) chain.value)
 
 -- ---- arguments that are one name
 
@@ -69,14 +77,18 @@ just_one [] e h is = absurd (omega arith)
 just_one (d ∷ []) e h is = one_name (view d) ∙ ap (λ y. is_name (view y)) (sym is)
 just_one (d ∷ d' ∷ es) e h is = absurd (omega arith)
 
-pub chain_has_no_name : (e : Expr) (chain : Box Chain Global) → e ≡ x.Chain chain → as_name (view e) ≡ None
-chain_has_no_name = chain_is_as as_name None (λ b op at d e. refl)
+-- ---- expressions that are one name
 
-pub chain_is_no_literal : (e : Expr) (chain : Box Chain Global) → e ≡ x.Chain chain → is_literal (view e) ≡ false
-chain_is_no_literal = chain_is_as is_literal false (λ b op at d e. refl)
+is_named : (e : t.Expr) (n : t.Name) → Some n ≡ as_name e → e ≡ t.named n.identifier n.suffix n.attribute
+is_named (t.named x y a) n h = cc
+is_named e n h = cc
 
-pub chain_is_no_character : (e : Expr) (chain : Box Chain Global) → e ≡ x.Chain chain → as_character (view e) ≡ None
-chain_is_no_character = chain_is_as as_character None (λ b op at d e. refl)
+module _ {R : Type 0} (see : R → t.Name) (o : Option R) (e : t.Expr) (h : option_map see o ≡ as_name e) where
+  pub named_as : (r : R) → o ≡ Some r → e ≡ t.named (see r).identifier (see r).suffix (see r).attribute
+  named_as r is = is_named e (see r) (sym (ap (option_map see) is) ∙ h)
+
+  pub unnamed_as : o ≡ None → None ≡ as_name e
+  unnamed_as is = sym (ap (option_map see) is) ∙ h
 
 -- ---- literals, kind by kind
 
@@ -123,13 +135,10 @@ chosen_named sight type n t.plain (Some a) = name_unchosen type n t.plain (Some 
 chosen_named sight type n (t.arguments es) a = name_unchosen type n (t.arguments es) a ∙ sym (none_after (visibility.meaning sight n.text) (c.named_choice type))
 chosen_named sight type n (t.sliced d w e) a = name_unchosen type n (t.sliced d w e) a ∙ sym (none_after (visibility.meaning sight n.text) (c.named_choice type))
 
-abbrev pub chosen_by : Sight → ObjectType → Option t.Name → t.Expr → Option Choice
-chosen_by sight type (Some n) e = c.chosen sight type (t.named n.identifier n.suffix n.attribute)
-chosen_by sight type None e = c.literal_choice type e
-
-pub chosen_is : (sight : Sight) (type : ObjectType) (e : t.Expr) → c.chosen sight type e ≡ chosen_by sight type (as_name e) e
-chosen_is sight type (t.bits at s) = refl
-chosen_is sight type e = refl
+-- what is no name is chosen as a literal
+pub chosen_literal : (sight : Sight) (type : ObjectType) (e : t.Expr) → None ≡ as_name e → c.chosen sight type e ≡ c.literal_choice type e
+chosen_literal sight type (t.named n y a) h = cc
+chosen_literal sight type e h = refl
 
 -- ---- others
 
@@ -148,15 +157,9 @@ just_others (y ∷ []) x h is = ap (λ z. c.is_others (choice_view z ∷ [])) (s
 just_others (y ∷ z ∷ cs) x h is = absurd (omega arith)
 
 pub choices_others : (sight : Sight) (type : ObjectType) (cs : List t.Choice) → c.is_others cs ≡ true → c.choices sight type cs ≡ Some []
-choices_others sight type [] h = absurd (true≢false (sym h))
 choices_others sight type (t.otherwise at ∷ []) h = refl
-choices_others sight type (t.otherwise at ∷ y ∷ cs) h = absurd (true≢false (sym h))
-choices_others sight type (t.chosen e ∷ []) h = absurd (true≢false (sym h))
-choices_others sight type (t.chosen e ∷ y ∷ cs) h = absurd (true≢false (sym h))
+choices_others sight type cs h = absurd (true≢false (sym h))
 
 pub choices_each : (sight : Sight) (type : ObjectType) (cs : List t.Choice) → c.is_others cs ≡ false → c.choices sight type cs ≡ each (c.choice sight type) cs
-choices_each sight type [] h = refl
 choices_each sight type (t.otherwise at ∷ []) h = absurd (true≢false h)
-choices_each sight type (t.otherwise at ∷ y ∷ cs) h = refl
-choices_each sight type (t.chosen e ∷ []) h = refl
-choices_each sight type (t.chosen e ∷ y ∷ cs) h = refl
+choices_each sight type cs h = refl

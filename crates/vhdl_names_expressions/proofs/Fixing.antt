@@ -21,7 +21,8 @@ use Rattle.vhdl_names_sight.specs.Steps.{two}
 use Rattle.vhdl_names_sight.specs.Views.{typed_view}
 use Rattle.vhdl_names_sight.proofs.Meant.{both_views, two_map}
 use Rattle.vhdl_names_expressions.specs.Asked.{unattributed}
-use Rattle.vhdl_names_expressions.specs.Chosen.{as_name, as_character}
+use Rattle.vhdl_names_rules.specs.Instances.{as_name}
+use Rattle.vhdl_names_expressions.specs.Chosen.{as_character}
 use Rattle.vhdl_names_expressions.specs.Fixing.{encoded_fixed, suffixed_value, filled_with}
 use Rattle.vhdl_names_expressions.proofs.Asking.{both}
 use Rattle.vhdl_names_expressions.proofs.Choosing.{no_literal}
@@ -108,13 +109,10 @@ name_fixed sight type n =
     together (Some d) (Some s) true = refl
     together p q b = refl
 
-abbrev pub fixed_by : Sight → ObjectType → Option t.Name → t.Expr → Option Fixed
-fixed_by sight type (Some n) e = r.fixed sight type (t.named n.identifier n.suffix n.attribute)
-fixed_by sight type None e = r.literal_value type e
-
-pub fixed_is : (sight : Sight) (type : ObjectType) (e : t.Expr) → r.fixed sight type e ≡ fixed_by sight type (as_name e) e
-fixed_is sight type (t.bits at s) = refl
-fixed_is sight type e = refl
+-- what is no name has the value of a literal
+pub fixed_literal : (sight : Sight) (type : ObjectType) (e : t.Expr) → None ≡ as_name e → r.fixed sight type e ≡ r.literal_value type e
+fixed_literal sight type (t.named n y a) h = cc
+fixed_literal sight type e h = refl
 
 -- ---- values
 

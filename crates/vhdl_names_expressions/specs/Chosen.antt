@@ -20,11 +20,6 @@ abbrev pub is_name : Expr → Bool
 is_name (t.named n suffix None) = true
 is_name _ = false
 
--- the name that an expression is
-abbrev pub as_name : Expr → Option t.Name
-as_name (t.named n suffix attribute) = Some (record { identifier = n; suffix = suffix; attribute = attribute })
-as_name _ = None
-
 -- nothing stands behind an identifier
 abbrev pub is_bare : t.Suffix → Option Ident → Bool
 is_bare t.plain None = true

@@ -71,14 +71,7 @@ fn stands_in_parens(e: &Expr) -> bool
 {
     match e {
         Expr::Parens { .. } => true,
-        Expr::Integer(_) => false,
-        Expr::Character { .. } => false,
-        Expr::StringLiteral(_) => false,
-        Expr::BitString(_) => false,
-        Expr::Name(_) => false,
-        Expr::Not { .. } => false,
-        Expr::Signed { .. } => false,
-        Expr::Chain(_) => false,
+        _ => false,
     }
 }
 
@@ -89,14 +82,7 @@ fn is_bare_name(e: &Expr) -> bool
 {
     match e {
         Expr::Name(name) => name.attribute.is_none(),
-        Expr::Integer(_) => false,
-        Expr::Character { .. } => false,
-        Expr::StringLiteral(_) => false,
-        Expr::BitString(_) => false,
-        Expr::Parens { .. } => false,
-        Expr::Not { .. } => false,
-        Expr::Signed { .. } => false,
-        Expr::Chain(_) => false,
+        _ => false,
     }
 }
 

@@ -179,18 +179,11 @@ fn fixed(sight: &Sight, object_type: ObjectType, e: &Expr) -> Result<Fixed, Name
 /// The character that an expression is.
 #[tactic(auto, using(crate::proofs::Choosing::chain_is_no_character))]
 fn character_of(e: &Expr) -> Option<u8>
-    ensures { as_character (view e.now) ≡ result }
+    ensures { result ≡ as_character (view e.now) }
 {
     match e {
         Expr::Character { code, .. } => Some(*code),
-        Expr::Integer(_) => None,
-        Expr::StringLiteral(_) => None,
-        Expr::BitString(_) => None,
-        Expr::Name(_) => None,
-        Expr::Parens { .. } => None,
-        Expr::Not { .. } => None,
-        Expr::Signed { .. } => None,
-        Expr::Chain(_) => None,
+        _ => None,
     }
 }
 

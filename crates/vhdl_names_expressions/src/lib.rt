@@ -16,5 +16,6 @@ pub use expressions::{
     as_integer, start, static_integer, static_range, typed, typed_each, typed_suffix,
 };
 pub use fixed::fixed_value;
+pub use literals::name_of;
 pub use objects::{signal, target, variable};
 pub use subtypes::subtype;

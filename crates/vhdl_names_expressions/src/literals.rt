@@ -1,7 +1,7 @@
 //! Literals as they stand, which constants, defaults and choices ask for (IEEE 1076-2008, 9.3.2),
 //! and expressions that are one name.
 
-ghost use Rattle.std.specs.Prelude.{◌≡◌, ℕ, option_map, option_copied, IfErr};
+ghost use Rattle.std.specs.Prelude.{◌≡◌, ℕ, option_map, IfErr};
 ghost use Rattle.vhdl_names_rules.specs.problems.Broken.{Tells, refused};
 ghost use Rattle.vhdl_names_rules.specs.problems.Subtypes as broken;
 ghost use Rattle.vhdl_names_rules.specs.declared.kind.ObjectType.TheVariants.{Elements, Enumeration};
@@ -9,7 +9,8 @@ ghost use Rattle.vhdl_names_rules.specs.declared.fault.NameProblem.TheVariants.{
 ghost use Rattle.vhdl_names_rules.specs.Gives.{Gives};
 ghost use Rattle.vhdl_names_rules.specs.Subtypes as subtypes;
 ghost use Rattle.vhdl_tree.specs.View.{view, name_view};
-ghost use Rattle.vhdl_names_expressions.specs.Chosen.{as_name, character_values as character_values_of};
+ghost use Rattle.vhdl_names_rules.specs.Instances.{as_name};
+ghost use Rattle.vhdl_names_expressions.specs.Chosen.{character_values as character_values_of};
 
 use crate::expressions::start;
 use std::alloc::Global;
@@ -18,21 +19,14 @@ use vhdl_names_sight::{bit_string_values, string_values};
 use vhdl_tree::{Expr, Name};
 use vhdl_values::Nine;
 
-/// The name that an expression is.
+/// The name that an expression is, if it stands in no parentheses.
 #[tactic(auto, using(crate::proofs::Choosing::chain_has_no_name))]
-pub(crate) fn name_of(e: &Expr) -> Option<&Name>
-    ensures { as_name (view e.now) ≡ option_map name_view (option_copied result) }
+pub fn name_of(e: &Expr) -> Option<&Name>
+    ensures { option_map (λ n. name_view n.now) result ≡ as_name (view e.now) }
 {
     match e {
         Expr::Name(name) => Some(name),
-        Expr::Integer(_) => None,
-        Expr::Character { .. } => None,
-        Expr::StringLiteral(_) => None,
-        Expr::BitString(_) => None,
-        Expr::Parens { .. } => None,
-        Expr::Not { .. } => None,
-        Expr::Signed { .. } => None,
-        Expr::Chain(_) => None,
+        _ => None,
     }
 }
 

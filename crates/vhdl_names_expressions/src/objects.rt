@@ -22,8 +22,8 @@ pub(crate) fn unattributed<'a>(
     sight: &'a Sight,
     name: &Name,
 ) -> Result<(&'a Meaning, TypedSuffix), NameFault>
-    ensures given { Gives (λ m. (meaning_view m.0.now, typed_suffix_view m.1)) (unattributed_name sight.now (name_view name.now))
-        result }
+    ensures given { Gives (λ m. (meaning_view m.0.now, typed_suffix_view m.1))
+        (unattributed_name sight.now (name_view name.now)) result }
     ensures told { IfErr result (Tells (broken.named sight.now (name_view name.now))) }
 {
     let meaning = meaning_of(sight, &name.identifier)?;

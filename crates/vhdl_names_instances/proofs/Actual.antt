@@ -1,16 +1,11 @@
 -- Actuals, one after another.
-use Rattle.std.proofs.Common.{◌≡◌, ℕ, zero, suc, Bool, true, false, List, [], ◌∷◌, ◌++◌, map, drop, Option, Some, None, refl, ap, sym, ◌∙◌, true≢false}
+use Rattle.std.proofs.Common.{◌≡◌, ℕ, zero, suc, true, false, List, [], ◌∷◌, ◌++◌, map, drop, Option, Some, None, refl, ap, sym, ◌∙◌, true≢false}
 use Rattle.std.specs.Prelude.{option_map, slice_get}
 use Rattle.std.specs.Borrow.{Bor}
 use Rattle.std.proofs.lemmas.Option.{slice_get-map}
 use Rattle.std.proofs.lemmas.List.{append_assoc, append-nil}
 use Rattle.vhdl_tree.specs.Tree as t
-use Rattle.vhdl_tree.specs.Tree.{Pair, all_joined}
-use Rattle.vhdl_tree.specs.View.{view, chain_view, pair_view}
 use Rattle.vhdl_tree.specs.declared.expression.Expr.{Expr}
-use Rattle.vhdl_tree.specs.declared.expression.Chain.{Chain, out-Chain}
-use Rattle.vhdl_tree.specs.declared.operator.Operator.{Operator}
-use Rattle.vhdl_tree.proofs.Rows.{chain_is}
 use Rattle.vhdl_names_rules.specs.units.Expressions.{SignalPart}
 use Rattle.vhdl_names_rules.specs.Rules.{◌>>=◌}
 use Rattle.vhdl_names_rules.specs.Visibility as visibility
@@ -34,17 +29,6 @@ use Rattle.vhdl_names_expressions.proofs.Each.{behind}
 use Rattle.vhdl_names_instances.specs.declared.actuals.PortType.{PortType}
 use Rattle.vhdl_names_instances.specs.Views.{actual_view}
 use Rattle.vhdl_names_instances.specs.steps.Actuals.{port_entry, port_actuals, entry_of, entry}
-
--- ---- a chain of operators is no name
-
-joined : (b : Bool) (op : Operator) (at : ℕ) (d e : t.Expr) (ps : List Pair) → as_name (all_joined (t.binary b op at d e) ps) ≡ None
-joined b op at d e [] = refl
-joined b op at d e (p ∷ ps) = joined false p.operator p.at (t.binary b op at d e) p.operand ps
-
-pub chain_is_no_name : (chain : Chain) → None ≡ as_name (chain_view chain)
-chain_is_no_name chain =
-    let c = out-Chain chain in
-    sym (ap as_name (chain_is chain) ∙ joined true c.second.operator c.second.at (view c.first) (view c.second.operand) (map pair_view c.rest.items))
 
 -- ---- ports in order
 

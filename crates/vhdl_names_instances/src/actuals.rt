@@ -20,7 +20,7 @@ ghost use Rattle.vhdl_tree.specs.View.{view, name_view, option_ident_view, suffi
 ghost use Rattle.vhdl_names_sight.specs.Views.{meaning_view};
 ghost use Rattle.vhdl_names_units.specs.views.Answers.{signal_name_view};
 
-use vhdl_names_expressions::{signal, start, static_integer, typed_suffix};
+use vhdl_names_expressions::{name_of, signal, start, static_integer, typed_suffix};
 use vhdl_names_rules::{ElementKind, NameFault, NameProblem, ObjectType, SignalPart, Static};
 use vhdl_names_sight::{Meaning, Sight};
 use vhdl_names_units::{Actuals, SignalName};
@@ -31,17 +31,6 @@ use vhdl_tree::{Expr, Mode, Name, Suffix};
 pub struct PortType {
     pub mode: Mode,
     pub kind: ElementKind,
-}
-
-/// The name that an expression is, if it stands in no parentheses.
-#[tactic(auto, using(crate::proofs::Actual::chain_is_no_name))]
-fn as_name(e: &Expr) -> Option<&Name>
-    ensures { option_map (λ n. name_view n.now) result ≡ rules.as_name (view e.now) }
-{
-    match e {
-        Expr::Name(name) => Some(name),
-        _ => None,
-    }
 }
 
 /// Whether an actual has the kind of its formal.
@@ -132,7 +121,7 @@ pub(crate) fn port_actual(sight: &Sight, port: PortType, e: &Expr) -> Result<Sig
     ensures given { Gives place_view (rules.port_actual sight.now (steps.formal port) (view e.now)) result }
     ensures told { IfErr result (Tells (broken.port_actual sight.now (steps.formal port) (view e.now))) }
 {
-    match as_name(e) {
+    match name_of(e) {
         None => Err(NameProblem::LeftOut.at(start(e))),
         Some(name) => {
             let actual = actual_signal(sight, name)?;

@@ -1,5 +1,5 @@
 -- Entities by name.
-use Rattle.std.proofs.Common.{◌≡◌, ℕ, suc, ◌+◌, Bool, true, false, cond, not, nat_lt, ◌||◌, List, [], ◌∷◌, ◌++◌, map, length, position, Option, Some, None, Vec, Global, refl, sym, ap, ◌∙◌, true≢false, arith}
+use Rattle.std.proofs.Common.{◌≡◌, ℕ, suc, ◌+◌, Bool, true, false, cond, not, nat_lt, List, [], ◌∷◌, ◌++◌, map, length, position, Option, Some, None, Vec, Global, refl, sym, ap, ◌∙◌, arith}
 use Rattle.std.specs.Prelude.{option_map, bytes_eq, find, is_some}
 use Rattle.std.specs.List.{enumerate_from, position_or_len}
 use Rattle.std.specs.Map.{keys_of, lookup}
@@ -9,6 +9,7 @@ use Rattle.std.proofs.lemmas.Slice.Eq.{bytes_eq-Decides}
 use Rattle.vhdl_names_rules.specs.Rules.{◌>>=◌, met}
 use Rattle.vhdl_names_rules.specs.Visibility.{Name, is_among}
 use Rattle.vhdl_names_rules.specs.Interfaces.{EntityView}
+use Rattle.vhdl_names_declarations.proofs.Keyed.{among_table}
 use Rattle.vhdl_names_interfaces.specs.declared.interface.EntityInterface.{EntityInterface}
 use Rattle.vhdl_names_interfaces.specs.Views.{entity_view, named_view, one_more}
 
@@ -60,20 +61,7 @@ found n k (e ∷ es) =
 -- ---- one entity more
 
 among : (n : Name) (es : List (Vec ℕ Global × EntityInterface)) → is_some (lookup (λ k. bytes_eq n k.items) es) ≡ is_among n (map (λ d. d.name) (map entry_view es))
-among n [] = refl
-among n (e ∷ es) = by (bytes_eq n e.0.items) (among n es)
-  where
-    by : (b : Bool) → is_some (lookup (λ k. bytes_eq n k.items) es) ≡ is_among n (map (λ d. d.name) (map entry_view es))
-        → is_some (cond b (Some e.1) (lookup (λ k. bytes_eq n k.items) es)) ≡ b || is_among n (map (λ d. d.name) (map entry_view es))
-    by true h = refl
-    by false h = h
-
-none_of : (o : Option EntityInterface) → is_some o ≡ false → o ≡ None
-none_of None h = refl
-none_of (Some m) h = absurd (true≢false h)
-
-pub absent : (es : List (Vec ℕ Global × EntityInterface)) (n : Name) → is_some (lookup (λ k. bytes_eq n k.items) es) ≡ false → lookup (λ k. bytes_eq n k.items) es ≡ None
-absent es n h = none_of (lookup (λ k. bytes_eq n k.items) es) h
+among = among_table entry_view (λ (d : EntityView). d.name) (λ e. refl)
 
 pub refused : (es : List (Vec ℕ Global × EntityInterface)) (e : EntityView) → is_some (lookup (λ k. bytes_eq e.name k.items) es) ≡ true → one_more (map entry_view es) e ≡ None
 refused es e there = ap (λ b. met (not b) >>= λ _. Some (map entry_view es ++ e ∷ [])) (sym (among e.name es) ∙ there)

@@ -29,7 +29,8 @@ use Rattle.vhdl_names_rules.specs.sound.Units.{fixed_fits}
 use Rattle.vhdl_names_laws.specs.Meanings.{Counts, kind_shape, type_shape, IsCounted, MeaningFits, IsInside, TypedFits}
 use Rattle.vhdl_names_laws.proofs.Statics.{some_same, meant}
 use Rattle.vhdl_names_laws.proofs.Operators as p
-use Rattle.vhdl_names_laws.proofs.Operators.{mapped, same_shapes}
+use Rattle.vhdl_names_laws.proofs.Operators.{same_shapes}
+use Rattle.vhdl_names_rules.proofs.kept.Keeping.{mapped}
 use Rattle.vhdl_names_rules.proofs.laws.Rules.{comes, kept}
 use Rattle.vhdl_names_laws.proofs.Values.{literal_values_fit, same_count}
 

@@ -17,7 +17,7 @@ use Rattle.vhdl_names_rules.specs.sound.Units as w
 use Rattle.vhdl_names_rules.specs.sound.Units.{concurrent_fits, concurrents_fit}
 use Rattle.vhdl_names_laws.specs.Meanings.{Counts, IsInside}
 use Rattle.vhdl_names_laws.proofs.Statics.{some_same, HasMore, more_of, keeps_all, all_more}
-use Rattle.vhdl_names_laws.proofs.Operators.{mapped}
+use Rattle.vhdl_names_rules.proofs.kept.Keeping.{mapped}
 use Rattle.vhdl_names_laws.proofs.Expressions.{typed_fits, static_range_fits}
 use Rattle.vhdl_names_laws.proofs.Values.{static_condition_fits}
 use Rattle.vhdl_names_laws.proofs.Processes.{IsOutside, process_is, assignment_is, selected_is}

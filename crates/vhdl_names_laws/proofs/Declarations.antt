@@ -1,5 +1,5 @@
 -- Each declaration fits with those before it in sight (IEEE 1076-2008, clauses 5 and 6).
-use Rattle.std.proofs.Common.{◌≡◌, ℕ, suc, ◌+◌, ◌<◌, Bool, true, false, ◌&&◌, cond, List, [], ◌∷◌, ◌++◌, length, Option, Some, None, refl, ap, sym, ◌∙◌, subst, arith}
+use Rattle.std.proofs.Common.{◌≡◌, ℕ, suc, ◌+◌, ◌<◌, Bool, true, false, cond, List, [], ◌∷◌, ◌++◌, length, Option, Some, None, refl, ap, sym, ◌∙◌, subst, arith}
 use Rattle.std.specs.Prelude.{nat_lt, nat_le, is_none}
 use Rattle.std.specs.List.{slice_get}
 use Rattle.std.proofs.lemmas.Bool.{and_from, lt-ltb}
@@ -21,9 +21,7 @@ use Rattle.vhdl_names_rules.specs.Visibility.{Name, Meaning, Declared, declare, 
 use Rattle.vhdl_names_rules.specs.Expressions.{static}
 use Rattle.vhdl_names_rules.specs.Subtypes.{subtype, fixed_value, declaring_literal, as_integer_type, object}
 use Rattle.vhdl_names_rules.specs.Declarations.{within, as_kind, single_expression, signals, integer_constants, other_constants, constants_by, constants, literals, enumeration}
-use Rattle.vhdl_names_rules.specs.Interfaces.{EntityView, interface, entity_named, component}
-use Rattle.vhdl_names_rules.specs.SameText.{same_generics, same_ports}
-use Rattle.vhdl_names_rules.specs.Visibility.{ends}
+use Rattle.vhdl_names_rules.specs.Interfaces.{EntityView, component}
 use Rattle.vhdl_names_rules.specs.Files.{declaration}
 use Rattle.vhdl_names_rules.specs.sound.Expressions.{Inside, static_fits, shape_of}
 use Rattle.vhdl_names_rules.specs.sound.Units.{form_fits, fixed_fits, object_fits, declaration_fits, with_declaration}
@@ -34,7 +32,8 @@ use Rattle.vhdl_names_laws.proofs.Subtypes.{form_more, fixed_more, object_more, 
 use Rattle.vhdl_names_laws.proofs.InOrder as r
 use Rattle.vhdl_names_laws.proofs.Formals.{same_names, same_formals, no_names, no_formals}
 use Rattle.vhdl_names_rules.proofs.laws.Rules.{comes, kept}
-use Rattle.vhdl_names_laws.proofs.Known.{IsKnown, count_cons, inside_more, inside_with, inside_within, last_form, more_twice, none_first, none_more, nothing_more, one_longer, one_more}
+use Rattle.vhdl_names_rules.proofs.laws.Parts.{component_parts}
+use Rattle.vhdl_names_laws.proofs.Known.{IsKnown, known_one, count_cons, inside_more, inside_with, inside_within, last_form, more_twice, none_first, nothing_more, one_longer, one_more}
 use Rattle.vhdl_names_laws.proofs.Ports.{elements_kind}
 
 -- ---- signals
@@ -69,19 +68,11 @@ signals_step i counts sight d x h q =
     single i counts sight n form type s c k =
         let d : Declared = declare n (visibility.signal (count_of visibility.is_signal sight.region) type) in
         let j : Inside = record i { signals = i.signals ++ form ∷ [] } in
-        record {
-          inside =
-              inside_with j counts sight (d ∷ []) (inside_more i j counts counts sight (more_signals i counts form) refl refl k.inside)
-              (last_form counts type form i.signals (count_of visibility.is_signal sight.region) k.signals s c, tt);
-          generics = none_more visibility.is_generic sight.region d refl ∙ k.generics;
-          integers = none_more visibility.is_integer_constant sight.region d refl ∙ k.integers;
-          constants = none_more visibility.is_constant sight.region d refl ∙ k.constants;
-          ports = none_more visibility.is_port sight.region d refl ∙ k.ports;
-          signals = one_more visibility.is_signal sight.region d refl ∙ (ap suc k.signals ∙ sym (one_longer i.signals form));
-          enumerations = none_more visibility.is_enumeration_type sight.region d refl ∙ k.enumerations;
-          generic_names = same_names sight.region (d ∷ []) i.generics refl k.generic_names;
-          formals = same_formals sight.region (d ∷ []) i.ports refl k.formals;
-        }
+        known_one i j counts sight d
+        (inside_with j counts sight (d ∷ []) (inside_more i j counts counts sight (more_signals i counts form) refl refl k.inside)
+        (last_form counts type form i.signals (count_of visibility.is_signal sight.region) k.signals s c, tt))
+        refl refl refl refl (sym (one_longer i.signals form)) refl (same_names sight.region (d ∷ []) i.generics refl k.generic_names)
+        (same_formals sight.region (d ∷ []) i.ports refl k.formals) k
 
 -- ---- constants
 
@@ -116,20 +107,12 @@ integers_step i counts sight d type x h q =
     single i counts sight n k =
         let d : Declared = declare n (visibility.integer_constant (count_of visibility.is_integer_constant sight.region)) in
         let e : count_of visibility.is_integer_constant sight.region ≡ i.integers = k.integers in
-        record {
-          inside =
-              inside_with (record i { integers = suc i.integers }) counts sight (d ∷ [])
-              (inside_more i (record i { integers = suc i.integers }) counts counts sight (more_integers i counts) refl refl k.inside)
-              (lt-ltb (count_of visibility.is_integer_constant sight.region) (suc i.integers) (omega (arith, e)), tt);
-          generics = none_more visibility.is_generic sight.region d refl ∙ k.generics;
-          integers = one_more visibility.is_integer_constant sight.region d refl ∙ ap suc k.integers;
-          constants = none_more visibility.is_constant sight.region d refl ∙ k.constants;
-          ports = none_more visibility.is_port sight.region d refl ∙ k.ports;
-          signals = none_more visibility.is_signal sight.region d refl ∙ k.signals;
-          enumerations = none_more visibility.is_enumeration_type sight.region d refl ∙ k.enumerations;
-          generic_names = same_names sight.region (d ∷ []) i.generics refl k.generic_names;
-          formals = same_formals sight.region (d ∷ []) i.ports refl k.formals;
-        }
+        known_one i (record i { integers = suc i.integers }) counts sight d
+        (inside_with (record i { integers = suc i.integers }) counts sight (d ∷ [])
+        (inside_more i (record i { integers = suc i.integers }) counts counts sight (more_integers i counts) refl refl k.inside)
+        (lt-ltb (count_of visibility.is_integer_constant sight.region) (suc i.integers) (omega (arith, e)), tt))
+        refl refl refl refl refl refl (same_names sight.region (d ∷ []) i.generics refl k.generic_names)
+        (same_formals sight.region (d ∷ []) i.ports refl k.formals) k
 
 others_step : (i : Inside) (counts : Counts) (sight : Sight) (d : t.Constants) (x : Declares u.Declaration) → IsKnown i counts sight
     → other_constants sight d ≡ Some x → DeclarationStep i sight x
@@ -159,24 +142,16 @@ others_step i counts sight d x h q =
     single i counts sight n form kind v s f k =
         let d : Declared = declare n (visibility.constant (count_of visibility.is_constant sight.region) kind (declaring_literal v)) in
         let j : Inside = record i { constants = i.constants ++ form ∷ [] } in
-        record {
-          inside =
-              inside_with j counts sight (d ∷ []) (inside_more i j counts counts sight (more_constants i counts form) refl refl k.inside) (
-                (
-                  last_form counts (Elements kind) form i.constants (count_of visibility.is_constant sight.region) k.constants s tt,
-                  literal_of_more i j kind (declaring_literal v) (declaring_fits i kind v f),
-                ),
-                tt,
-              );
-          generics = none_more visibility.is_generic sight.region d refl ∙ k.generics;
-          integers = none_more visibility.is_integer_constant sight.region d refl ∙ k.integers;
-          constants = one_more visibility.is_constant sight.region d refl ∙ (ap suc k.constants ∙ sym (one_longer i.constants form));
-          ports = none_more visibility.is_port sight.region d refl ∙ k.ports;
-          signals = none_more visibility.is_signal sight.region d refl ∙ k.signals;
-          enumerations = none_more visibility.is_enumeration_type sight.region d refl ∙ k.enumerations;
-          generic_names = same_names sight.region (d ∷ []) i.generics refl k.generic_names;
-          formals = same_formals sight.region (d ∷ []) i.ports refl k.formals;
-        }
+        known_one i j counts sight d
+        (inside_with j counts sight (d ∷ []) (inside_more i j counts counts sight (more_constants i counts form) refl refl k.inside) (
+          (
+            last_form counts (Elements kind) form i.constants (count_of visibility.is_constant sight.region) k.constants s tt,
+            literal_of_more i j kind (declaring_literal v) (declaring_fits i kind v f),
+          ),
+          tt,
+        ))
+        refl refl (sym (one_longer i.constants form)) refl refl refl (same_names sight.region (d ∷ []) i.generics refl k.generic_names)
+        (same_formals sight.region (d ∷ []) i.ports refl k.formals) k
 
 constants_by_step : (i : Inside) (counts : Counts) (sight : Sight) (d : t.Constants) (w : Option IntegerType) (x : Declares u.Declaration) → IsKnown i counts sight
     → constants_by sight d w ≡ Some x → DeclarationStep i sight x
@@ -274,27 +249,16 @@ enumeration_step i counts sight d x some h q =
 component_known : (i : Inside) (counts : Counts) (sight : Sight) (n : Name) (k : ℕ) → IsKnown i counts sight → IsKnown i counts (with_declared sight (declare n (visibility.component k) ∷ []))
 component_known i counts sight n number k =
     let d : Declared = declare n (visibility.component number) in
-    record {
-      inside = inside_with i counts sight (d ∷ []) k.inside (tt, tt);
-      generics = none_more visibility.is_generic sight.region d refl ∙ k.generics;
-      integers = none_more visibility.is_integer_constant sight.region d refl ∙ k.integers;
-      constants = none_more visibility.is_constant sight.region d refl ∙ k.constants;
-      ports = none_more visibility.is_port sight.region d refl ∙ k.ports;
-      signals = none_more visibility.is_signal sight.region d refl ∙ k.signals;
-      enumerations = none_more visibility.is_enumeration_type sight.region d refl ∙ k.enumerations;
-      generic_names = same_names sight.region (d ∷ []) i.generics refl k.generic_names;
-      formals = same_formals sight.region (d ∷ []) i.ports refl k.formals;
-    }
+    known_one i i counts sight d
+    (inside_with i counts sight (d ∷ []) k.inside (tt, tt))
+    refl refl refl refl refl refl (same_names sight.region (d ∷ []) i.generics refl k.generic_names)
+    (same_formals sight.region (d ∷ []) i.ports refl k.formals) k
 
 pub component_step : (i : Inside) (counts : Counts) (entities : List EntityView) (sight : Sight) (c : t.Component) (x : Declares u.Declaration) → IsKnown i counts sight
     → component entities sight c ≡ Some x → DeclarationStep i sight x
-unfolding component
 component_step i counts entities sight c x h q =
-    let a = comes (entity_named entities c.name.text) _ x q in
-    let b = kept (same_generics c.generics a.value.1.generic_text && same_ports c.ports a.value.1.port_text) _ x a.rest in
-    let f = comes (interface (record sight { region = []; enclosing = sight.region ++ sight.enclosing }) c.generics c.ports) _ x b.1 in
-    let g = kept (ends c.name.text c.end_name) _ x f.rest in
-    subst (DeclarationStep i sight) (some_same _ x g.1) (record { more = counts; fit = refl; after = component_known i counts sight c.name.text a.value.0 h })
+    let p = component_parts entities sight c x q in
+    subst (DeclarationStep i sight) p.is (record { more = counts; fit = refl; after = component_known i counts sight c.name.text p.found.value.0 h })
 
 pub declaration_step : (i : Inside) (counts : Counts) (entities : List EntityView) (sight : Sight) (d : t.Declaration) (x : Declares u.Declaration) → IsDeclaration d → IsKnown i counts sight
     → declaration entities sight d ≡ Some x → DeclarationStep i sight x

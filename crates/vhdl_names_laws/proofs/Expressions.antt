@@ -7,7 +7,7 @@ use Rattle.vhdl_tree.specs.Tree as t
 use Rattle.vhdl_tree.specs.Tree.{Expr, Exprs}
 use Rattle.vhdl_names_rules.specs.declared.kind.ElementKind.TheVariants.{Element, OpenVector}
 use Rattle.vhdl_names_rules.specs.units.Expressions as e
-use Rattle.vhdl_names_rules.specs.units.Expressions.{Static, Range, Vector}
+use Rattle.vhdl_names_rules.specs.units.Expressions.{Static, Range}
 use Rattle.vhdl_names_rules.specs.Visibility.{Sight, meaning}
 use Rattle.vhdl_names_rules.specs.Literals.{number_of, nine_of, values_of_string, values_of_bits}
 use Rattle.vhdl_names_rules.specs.Operators as o
@@ -19,7 +19,8 @@ use Rattle.vhdl_names_rules.specs.sound.Expressions.{Inside, static_fits, range_
 use Rattle.vhdl_names_laws.specs.Meanings.{Counts, IsInside, TypedFits}
 use Rattle.vhdl_names_laws.specs.Laws.{ExpressionsFit}
 use Rattle.vhdl_names_laws.proofs.Statics.{some_same, meant}
-use Rattle.vhdl_names_laws.proofs.Operators.{mapped, inverse_fits, operated_fits}
+use Rattle.vhdl_names_laws.proofs.Operators.{inverse_fits, operated_fits}
+use Rattle.vhdl_names_rules.proofs.kept.Keeping.{mapped}
 use Rattle.vhdl_names_laws.proofs.Names.{EachFits, SuffixFits, denoted_fits, attributed_fits}
 use Rattle.vhdl_names_rules.proofs.laws.Rules.{comes}
 

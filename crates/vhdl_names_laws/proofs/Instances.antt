@@ -20,7 +20,7 @@ use Rattle.vhdl_names_rules.specs.Expressions.{static}
 use Rattle.vhdl_names_rules.specs.Statements.{SignalName, signal, is_input}
 use Rattle.vhdl_names_rules.specs.Interfaces.{EntityView}
 use Rattle.vhdl_names_rules.specs.Instances as n
-use Rattle.vhdl_names_rules.specs.Instances.{Formal, generic_name, port_formal, associated, as_name, is_kind, port_actual, port_actuals, instantiated, instance}
+use Rattle.vhdl_names_rules.specs.Instances.{Formal, generic_name, port_formal, as_name, is_kind, port_actual, port_actuals, instance}
 use Rattle.vhdl_names_rules.specs.sound.Expressions.{Inside, shape_of, place_shape, fits_shape}
 use Rattle.vhdl_names_rules.specs.sound.Units as w
 use Rattle.vhdl_names_rules.specs.sound.Units.{static_default_fits, actual_fits, actuals_fit, instance_fits}
@@ -33,6 +33,7 @@ use Rattle.vhdl_names_laws.proofs.Subtypes.{any_static_fits}
 use Rattle.vhdl_names_laws.proofs.Formals.{IsFormal, AreFormals}
 use Rattle.vhdl_names_rules.proofs.laws.Rules.{comes, kept, not_true}
 use Rattle.vhdl_names_rules.proofs.laws.Associations.{formals_have_actuals}
+use Rattle.vhdl_names_rules.proofs.laws.Parts.{instance_parts}
 
 -- the unit of a number has the formals of an entity
 pub record IsUnit (units : Units) (k : ℕ) (e : EntityView) : Type 0 where
@@ -99,25 +100,19 @@ each_length f (x ∷ xs) ys q =
 
 pub instance_is : (units : Units) (entities : List EntityView) (i : Inside) (counts : Counts) (sight : Sight) (label : Ident) (y : t.Instance) (x : u.Instance) → AreUnits units entities
     → IsInside i counts sight → instance entities sight label y ≡ Some x → instance_fits i x (slice_get units x.unit) ≡ true
-unfolding instance
 instance_is units entities i counts sight label y x all h q =
-    let k = comes (instantiated entities sight y.unit) _ x q in
-    let e = comes (slice_get entities k.value) _ x k.rest in
-    let names = filter_map generic_name e.value.interface.declared in
-    let formals = filter_map port_formal e.value.interface.declared in
-    let gs = comes (associated names (all_of y.generics)) _ x e.rest in
-    let generics = comes (each (if_any (static sight)) gs.value) _ x gs.rest in
-    let ps = comes (associated (map (λ (f : Formal). f.name) formals) (all_of y.ports)) _ x generics.rest in
-    let ports = comes (port_actuals sight formals ps.value) _ x ps.rest in
-    let unit = all k.value e.value e.is in
-    let made : u.Instance = record { at = label.at; label = label.text; unit = k.value; generics = generics.value; ports = ports.value } in
-    let few : length generics.value ≡ length unit.unit.generics =
-    each_length (if_any (static sight)) gs.value generics.value generics.is ∙ ((formals_have_actuals names (all_of y.generics) gs.value gs.is).as_many ∙ unit.generics) in
-    let many : length ps.value ≡ length formals =
-    (formals_have_actuals (map (λ (f : Formal). f.name) formals) (all_of y.ports) ps.value ps.is).as_many ∙ length-map formals (λ (f : Formal). f.name) in
-    subst (λ (x : u.Instance). instance_fits i x (slice_get units x.unit) ≡ true) (some_same made x ports.rest)
+    let p = instance_parts entities sight label y x q in
+    let names = filter_map generic_name p.view.value.interface.declared in
+    let formals = filter_map port_formal p.view.value.interface.declared in
+    let unit = all p.place.value p.view.value p.view.is in
+    let made : u.Instance = record { at = label.at; label = label.text; unit = p.place.value; generics = p.statics.value; ports = p.places.value } in
+    let few : length p.statics.value ≡ length unit.unit.generics =
+    each_length (if_any (static sight)) p.generics.value p.statics.value p.statics.is ∙ ((formals_have_actuals names (all_of y.generics) p.generics.value p.generics.is).as_many ∙ unit.generics) in
+    let many : length p.ports.value ≡ length formals =
+    (formals_have_actuals (map (λ (f : Formal). f.name) formals) (all_of y.ports) p.ports.value p.ports.is).as_many ∙ length-map formals (λ (f : Formal). f.name) in
+    subst (λ (x : u.Instance). instance_fits i x (slice_get units x.unit) ≡ true) p.is
     (ap (instance_fits i made) unit.at
-    ∙ and_from ((length generics.value == length unit.unit.generics) && list_all (static_default_fits i) generics.value) (actuals_fit i unit.unit.ports ports.value)
-    (and_from (length generics.value == length unit.unit.generics) (list_all (static_default_fits i) generics.value) (eq-eqb (length generics.value) (length unit.unit.generics) few)
-    (each_all (if_any (static sight)) (static_default_fits i) (λ d v g. any_static_fits i counts sight d v h g) gs.value generics.value generics.is))
-    (actuals_are i counts sight h formals ps.value unit.unit.ports ports.value unit.ports many ports.is))
+    ∙ and_from ((length p.statics.value == length unit.unit.generics) && list_all (static_default_fits i) p.statics.value) (actuals_fit i unit.unit.ports p.places.value)
+    (and_from (length p.statics.value == length unit.unit.generics) (list_all (static_default_fits i) p.statics.value) (eq-eqb (length p.statics.value) (length unit.unit.generics) few)
+    (each_all (if_any (static sight)) (static_default_fits i) (λ d v g. any_static_fits i counts sight d v h g) p.generics.value p.statics.value p.statics.is))
+    (actuals_are i counts sight h formals p.ports.value unit.unit.ports p.places.value unit.ports many p.places.is))

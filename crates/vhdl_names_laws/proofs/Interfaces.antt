@@ -8,8 +8,8 @@ use Rattle.vhdl_tree.specs.Tree as t
 use Rattle.vhdl_names_rules.specs.units.Units as u
 use Rattle.vhdl_names_rules.specs.Rules.{all_of}
 use Rattle.vhdl_names_rules.specs.Visibility as visibility
-use Rattle.vhdl_names_rules.specs.Visibility.{Name, Meaning, Declared, declare, is_among, are_distinct, ends, with_declared}
-use Rattle.vhdl_names_rules.specs.Packages.{standard, std_logic_1164, numeric_std, Context, no_context, context, visible, sight_of}
+use Rattle.vhdl_names_rules.specs.Visibility.{Name, Meaning, Declared, declare, is_among, are_distinct, with_declared}
+use Rattle.vhdl_names_rules.specs.Packages.{standard, std_logic_1164, numeric_std, Context, visible, sight_of}
 use Rattle.vhdl_names_rules.specs.Declarations.{in_order, generic, port}
 use Rattle.vhdl_names_rules.specs.Interfaces.{Interface, EntityView, declared_names, interface, entity}
 use Rattle.vhdl_names_rules.specs.Instances.{Formal, port_formal}
@@ -23,6 +23,7 @@ use Rattle.vhdl_names_laws.proofs.Formals.{AreFormals}
 use Rattle.vhdl_names_laws.proofs.Known.{IsKnown, nothing_more, more_twice}
 use Rattle.vhdl_names_laws.proofs.Ports.{with_generic, generic_fits, generic_step, with_port, port_is, port_step}
 use Rattle.vhdl_names_rules.proofs.laws.Rules.{comes, kept, neither, not_true}
+use Rattle.vhdl_names_rules.proofs.laws.Parts.{entity_parts}
 
 -- ---- what packages declare
 
@@ -197,9 +198,6 @@ interface_fits c gs ps x q =
     })
 
 pub entity_fits_interface : (items : List t.ContextItem) (e : t.Entity) (a : Option Name) (v : EntityView) → entity items e a ≡ Some v → InterfaceFits v.interface
-unfolding entity
 entity_fits_interface items e a v q =
-    let c = comes (context no_context items) _ v q in
-    let i = comes (interface (sight_of c.value []) e.generics e.ports) _ v c.rest in
-    let k = kept (ends e.name.text e.end_name) _ v i.rest in
-    subst (λ (v : EntityView). InterfaceFits v.interface) (some_same _ v k.1) (interface_fits c.value e.generics e.ports i.value i.is)
+    let p = entity_parts items e a v q in
+    subst (λ (v : EntityView). InterfaceFits v.interface) p.is (interface_fits p.seen.value e.generics e.ports p.own.value p.own.is)

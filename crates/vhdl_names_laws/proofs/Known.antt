@@ -1,5 +1,5 @@
 -- What is known of a region: what is inside, and how many of each class it declares (IEEE 1076-2008, 12.1 and 12.2).
-use Rattle.std.proofs.Common.{◌≡◌, ℕ, suc, ◌+◌, Bool, true, false, cond, List, [], ◌∷◌, ◌++◌, length, Some, ap, ◌∙◌, arith, append_assoc, append-nil}
+use Rattle.std.proofs.Common.{◌≡◌, ℕ, suc, ◌+◌, Bool, true, false, cond, List, [], ◌∷◌, ◌++◌, length, Some, refl, ap, ◌∙◌, arith, append_assoc, append-nil}
 use Rattle.std.specs.List.{slice_get, sum_by, filter_map}
 use Rattle.std.specs.Option.{option_map}
 use Rattle.std.proofs.lemmas.List.{length-append}
@@ -8,7 +8,7 @@ use Rattle.vhdl_tree.specs.Tree.{Ident}
 use Rattle.vhdl_names_rules.specs.declared.kind.ObjectType.{ObjectType}
 use Rattle.vhdl_names_rules.specs.units.Units.{Form}
 use Rattle.vhdl_names_rules.specs.Visibility as visibility
-use Rattle.vhdl_names_rules.specs.Visibility.{Name, Meaning, Declared, all_declared, names_of, count_of, Sight, meaning, with_declared, with_variables}
+use Rattle.vhdl_names_rules.specs.Visibility.{Name, Meaning, Declared, all_declared, names_of, count_of, Sight, with_declared, with_variables}
 use Rattle.vhdl_names_rules.specs.Declarations.{within, within_variables}
 use Rattle.vhdl_names_rules.specs.Instances.{generic_name, port_formal}
 use Rattle.vhdl_names_rules.specs.sound.Expressions.{Inside, shape_of}
@@ -113,3 +113,34 @@ nothing_more sight = ap (λ ds. record sight { region = ds }) (append-nil sight.
 
 pub more_twice : (sight : Sight) (ds es : List Declared) → with_declared (with_declared sight ds) es ≡ with_declared sight (ds ++ es)
 more_twice sight ds es = ap (λ ds. record sight { region = ds }) (append_assoc sight.region ds es)
+
+-- the count of a class with one more declaration
+counted : (class : Meaning → Bool) (ds : List Declared) (d : Declared) (n : ℕ) → count_of class ds ≡ n → count_of class (ds ++ d ∷ []) ≡ cond (class d.meaning) (suc n) n
+counted class ds d n h = go (class d.meaning) refl
+  where
+    go : (b : Bool) → class d.meaning ≡ b → count_of class (ds ++ d ∷ []) ≡ cond b (suc n) n
+    go true e = one_more class ds d e ∙ ap suc h
+    go false e = none_more class ds d e ∙ h
+
+-- what is known with one more declaration, which is no type of an enumeration
+pub known_one : (i j : Inside) (counts : Counts) (sight : Sight) (d : Declared) → IsInside j counts (with_declared sight (d ∷ []))
+    → cond (visibility.is_generic d.meaning) (suc i.generics) i.generics ≡ j.generics
+    → cond (visibility.is_integer_constant d.meaning) (suc i.integers) i.integers ≡ j.integers
+    → cond (visibility.is_constant d.meaning) (suc (length i.constants)) (length i.constants) ≡ length j.constants
+    → cond (visibility.is_port d.meaning) (suc (length i.ports)) (length i.ports) ≡ length j.ports
+    → cond (visibility.is_signal d.meaning) (suc (length i.signals)) (length i.signals) ≡ length j.signals
+    → visibility.is_enumeration_type d.meaning ≡ false
+    → length (filter_map generic_name (sight.region ++ d ∷ [])) ≡ j.generics
+    → AreFormals (filter_map port_formal (sight.region ++ d ∷ [])) j.ports
+    → IsKnown i counts sight → IsKnown j counts (with_declared sight (d ∷ []))
+known_one i j counts sight d inside generics integers constants ports signals no_type names formals k = record {
+  inside = inside;
+  generics = counted visibility.is_generic sight.region d i.generics k.generics ∙ generics;
+  integers = counted visibility.is_integer_constant sight.region d i.integers k.integers ∙ integers;
+  constants = counted visibility.is_constant sight.region d (length i.constants) k.constants ∙ constants;
+  ports = counted visibility.is_port sight.region d (length i.ports) k.ports ∙ ports;
+  signals = counted visibility.is_signal sight.region d (length i.signals) k.signals ∙ signals;
+  enumerations = none_more visibility.is_enumeration_type sight.region d no_type ∙ k.enumerations;
+  generic_names = names;
+  formals = formals;
+}

@@ -1,7 +1,6 @@
 -- The labels of concurrent statements are identifiers of the file.
-use Rattle.std.proofs.Common.{◌≡◌, ℕ, true, ◌&&◌, List, [], ◌∷◌, ◌++◌, map, Option, Some, None, refl, ap, sym, ◌∙◌, subst}
-use Rattle.std.specs.List.{slice_get, filter_map, AllByRecursion}
-use Rattle.std.specs.Option.{option_map}
+use Rattle.std.proofs.Common.{◌≡◌, ℕ, true, ◌&&◌, List, [], ◌∷◌, ◌++◌, Option, Some, None, refl, ap, sym, ◌∙◌, subst}
+use Rattle.std.specs.List.{AllByRecursion}
 use Rattle.std.proofs.lemmas.Bool.{and_from}
 use Rattle.vhdl_lexer.specs.declared.token.TokenKind.TheVariants as k
 use Rattle.vhdl_tree.specs.Tree as t
@@ -13,20 +12,18 @@ use Rattle.vhdl_tree.specs.grammar.Process.{spell_sensitivity, spell_variables}
 use Rattle.vhdl_tree.specs.grammar.Concurrent.{spell_scheme, spell_concurrent, spell_concurrents}
 use Rattle.vhdl_names_rules.specs.units.Statements as s
 use Rattle.vhdl_names_rules.specs.units.Units as u
-use Rattle.vhdl_names_rules.specs.Rules.{each, if_any, all_of}
-use Rattle.vhdl_names_rules.specs.Visibility.{Name, are_distinct, ends, label_ends, Sight, with_variables}
-use Rattle.vhdl_names_rules.specs.Expressions.{typed, static}
-use Rattle.vhdl_names_rules.specs.Choices.{covered, selector, arranged}
-use Rattle.vhdl_names_rules.specs.Statements.{target, statements, statement_labels}
-use Rattle.vhdl_names_rules.specs.Declarations.{in_order, variables}
-use Rattle.vhdl_names_rules.specs.Interfaces.{EntityView, declared_names}
-use Rattle.vhdl_names_rules.specs.Instances.{associated, instantiated, port_actuals, instance, generic_name, port_formal, Formal}
-use Rattle.vhdl_names_rules.specs.Concurrent.{label_of, assigning, assigned, alone, assignment_body, assignment, selected, sensitivity, process, concurrent_labels, sight_within, generated, concurrent, concurrents}
+use Rattle.vhdl_names_rules.specs.Visibility.{Name, are_distinct, ends, Sight, with_variables}
+use Rattle.vhdl_names_rules.specs.Statements.{target}
+use Rattle.vhdl_names_rules.specs.Declarations.{variables}
+use Rattle.vhdl_names_rules.specs.Interfaces.{EntityView}
+use Rattle.vhdl_names_rules.specs.Instances.{instance}
+use Rattle.vhdl_names_rules.specs.Concurrent.{label_of, assigning, assignment_body, assignment, selected, process, concurrent_labels, sight_within, generated, concurrent, concurrents}
 use Rattle.vhdl_names_rules.specs.sound.Named.{has_text, label_is_named, objects_are_named, concurrent_is_named, concurrents_are_named}
 use Rattle.vhdl_names_laws.specs.Words.{AreWords}
 use Rattle.vhdl_names_laws.proofs.Statics.{some_same}
-use Rattle.vhdl_names_laws.proofs.Operators.{mapped}
+use Rattle.vhdl_names_rules.proofs.kept.Keeping.{mapped}
 use Rattle.vhdl_names_rules.proofs.laws.Rules.{comes, kept}
+use Rattle.vhdl_names_rules.proofs.laws.Parts.{selected_parts, process_parts, instance_parts}
 use Rattle.vhdl_names_laws.proofs.Words.{NamesAreWords, ObjectIsWord, all_in_order, each_piece, idents_are, left, objects_named, right, variables_named}
 
 -- ---- concurrent statements
@@ -49,30 +46,18 @@ assignment_named sight a rest x h q =
 
 selected_named : (sight : Sight) (label : Option Ident) (a : t.SelectedAssignment) (rest : List Piece) (x : u.Concurrent) → AreWords (spell_option spell_label label ++ rest) → selected sight label a ≡ Some x
     → concurrent_is_named x ≡ true
-unfolding selected
 selected_named sight label a rest x h q =
-    let e = comes (typed sight a.selector) _ x q in
-    let by = comes (selector e.value) _ x e.rest in
-    let to = comes (target sight a.target) _ x by.rest in
-    let css = comes (covered sight by.value.0 (map (λ (w : t.Waveform). w.choices) a.waveforms)) _ x to.rest in
-    let bodies = comes (each (λ (w : t.Waveform). option_map alone (assigned sight to.value w.value)) a.waveforms) _ x css.rest in
-    let all = comes (arranged css.value bodies.value) _ x bodies.rest in
-    subst (λ x. concurrent_is_named x ≡ true) (some_same _ x all.rest) (assigning_named a.at label rest (s.case_of a.at by.value.1 all.value) h)
+    let p = selected_parts sight label a x q in
+    subst (λ x. concurrent_is_named x ≡ true) p.is (assigning_named a.at label rest (s.case_of a.at p.chosen.by.value.1 p.chosen.all.value) h)
 
 process_named : (sight : Sight) (label : Option Ident) (d : t.Process) (x : u.Process) → label_is_named (label_of label) ≡ true → AllByRecursion (λ (v : t.Variables). NamesAreWords v.names) d.variables
     → process sight label d ≡ Some x → (label_is_named x.label && objects_are_named x.variables) ≡ true
-unfolding process
 process_named sight label d x h vars q =
-    let on = comes (sensitivity sight d.sensitivity) _ x q in
-    let vs = comes (in_order with_variables variables sight d.variables) _ x on.rest in
-    let a = kept (are_distinct (declared_names vs.value.declared)) _ x vs.rest in
-    let b = kept (are_distinct (statement_labels (t.statements_of d.statements))) _ x a.1 in
-    let body = comes (statements (with_variables sight vs.value.declared) (t.statements_of d.statements)) _ x b.1 in
-    let c = kept (label_ends label d.end_label) _ x body.rest in
-    subst (λ (x : u.Process). (label_is_named x.label && objects_are_named x.variables) ≡ true) (some_same _ x c.1)
-    (and_from (label_is_named (label_of label)) (objects_are_named vs.value.analysed) h
-    (objects_named vs.value.analysed
-    (all_in_order with_variables variables (λ (v : t.Variables). NamesAreWords v.names) ObjectIsWord (λ sight v y g e. variables_named sight v y g e) d.variables sight vs.value vars vs.is)))
+    let p = process_parts sight label d x q in
+    subst (λ (x : u.Process). (label_is_named x.label && objects_are_named x.variables) ≡ true) p.is
+    (and_from (label_is_named (label_of label)) (objects_are_named p.own.value.analysed) h
+    (objects_named p.own.value.analysed
+    (all_in_order with_variables variables (λ (v : t.Variables). NamesAreWords v.names) ObjectIsWord (λ sight v y g e. variables_named sight v y g e) d.variables sight p.own.value vars p.own.is)))
 
 -- the variables of a process
 variables_words : (d : t.Process) (label rest : List Piece) → AreWords (label ++ p.one_at k.Process d.at ∷ (spell_sensitivity d.sensitivity ++ (spell_word k.Is d.is_word ++ (spell_each spell_variables d.variables ++ rest))))
@@ -84,15 +69,7 @@ variables_words d label rest h =
     each_piece spell_variables (λ (v : t.Variables). NamesAreWords v.names) (λ v g. idents_are v.names (left (spell_idents v.names) _ g.1)) d.variables (left (spell_each spell_variables d.variables) rest c)
 
 instance_named : (entities : List EntityView) (sight : Sight) (label : Ident) (y : t.Instance) (x : u.Instance) → instance entities sight label y ≡ Some x → x.label ≡ label.text
-unfolding instance
-instance_named entities sight label y x q =
-    let c = comes (instantiated entities sight y.unit) _ x q in
-    let e = comes (slice_get entities c.value) _ x c.rest in
-    let gs = comes (associated (filter_map generic_name e.value.interface.declared) (all_of y.generics)) _ x e.rest in
-    let generics = comes (each (if_any (static sight)) gs.value) _ x gs.rest in
-    let ps = comes (associated (map (λ (f : Formal). f.name) (filter_map port_formal e.value.interface.declared)) (all_of y.ports)) _ x generics.rest in
-    let ports = comes (port_actuals sight (filter_map port_formal e.value.interface.declared) ps.value) _ x ps.rest in
-    ap (λ (x : u.Instance). x.label) (sym (some_same _ x ports.rest))
+instance_named entities sight label y x q = ap (λ (x : u.Instance). x.label) (sym (instance_parts entities sight label y x q).is)
 
 generated_named : (sight : Sight) (label : Name) (at : ℕ) (scheme : t.Scheme) (body : u.Concurrents) (x : u.Concurrent) → has_text label ≡ true → concurrents_are_named body ≡ true
     → generated sight label at scheme body ≡ Some x → concurrent_is_named x ≡ true

@@ -1,6 +1,7 @@
 pub mod Statics
 pub mod Operators
 pub mod Names
+pub mod Parts
 pub mod Expressions
 pub mod Values
 pub mod Choices

@@ -13,18 +13,18 @@ use Rattle.vhdl_tree.specs.grammar.Units.{spell_context, spell_entity, spell_arc
 use Rattle.vhdl_names_rules.specs.units.Units as u
 use Rattle.vhdl_names_rules.specs.units.Units.{Units}
 use Rattle.vhdl_names_rules.specs.Rules.{each, if_any, all_of}
-use Rattle.vhdl_names_rules.specs.Visibility.{Name, are_distinct, ends, Sight, with_declared}
-use Rattle.vhdl_names_rules.specs.Packages.{no_context, context, sight_of}
+use Rattle.vhdl_names_rules.specs.Visibility.{Name, are_distinct, Sight, with_declared}
+use Rattle.vhdl_names_rules.specs.Packages.{context, sight_of}
 use Rattle.vhdl_names_rules.specs.Declarations.{in_order, generic, port}
 use Rattle.vhdl_names_rules.specs.Interfaces.{Interface, EntityView, declared_names, interface, entity}
-use Rattle.vhdl_names_rules.specs.Concurrent.{concurrent_labels, concurrents}
-use Rattle.vhdl_names_rules.specs.Files.{as_entity, as_architecture, entities_of, architectures_of, architecture_of, entity_names, described_names, stand_after, viewed, declaration, labelled, architecture, unit, units_of}
+use Rattle.vhdl_names_rules.specs.Files.{as_entity, as_architecture, entities_of, architectures_of, architecture_of, viewed, declaration, architecture, unit, units_of}
 use Rattle.vhdl_names_rules.specs.sound.Named.{has_text, objects_are_named, declaration_is_named, concurrents_are_named, architecture_is_named, entity_is_named, are_named}
 use Rattle.vhdl_names_laws.specs.Words.{small, AreWords, HasWords}
 use Rattle.vhdl_names_laws.specs.Laws.{UnitsAreNamed, SmallPortsAreDistinct}
 use Rattle.vhdl_names_laws.proofs.Statics.{some_same}
 use Rattle.vhdl_names_laws.proofs.Units.{found, ports_distinct}
 use Rattle.vhdl_names_rules.proofs.laws.Rules.{comes, kept}
+use Rattle.vhdl_names_rules.proofs.laws.Parts.{region_of, entity_parts, architecture_parts, file_parts}
 use Rattle.vhdl_names_laws.proofs.Words.{IsNamed, NamesAreWords, PortIsWord, all_in_order, all_true, declaration_named, each_piece, idents_are, left, list_piece, port_named, port_objects_named, right}
 use Rattle.vhdl_names_laws.proofs.Labels.{concurrents_named, spelled_alike}
 
@@ -32,24 +32,18 @@ use Rattle.vhdl_names_laws.proofs.Labels.{concurrents_named, spelled_alike}
 
 architecture_named : (entities : List EntityView) (e : EntityView) (items : List ContextItem) (a : t.Architecture) (x : u.Architecture) → AreWords (spell_architecture a)
     → architecture entities e items a ≡ Some x → architecture_is_named (Some x) ≡ true
-unfolding architecture
 architecture_named entities e items a x h q =
-    let c = comes (context e.context items) _ x q in
-    let ds = comes (in_order with_declared (declaration entities) (sight_of c.value e.interface.declared) a.declarations) _ x c.rest in
-    let region = e.interface.declared ++ (ds.value.declared ++ labelled (concurrent_labels (t.concurrents_of a.statements))) in
-    let d = kept (are_distinct (declared_names region)) _ x ds.rest in
-    let body = comes (concurrents entities (sight_of c.value region) (t.concurrents_of a.statements)) _ x d.1 in
-    let g = kept (ends a.name.text a.end_name) _ x body.rest in
+    let p = architecture_parts entities e items a x q in
     let inner = h.1.1.1.1.1 in
     let behind = right (spell_each spell_declaration a.declarations) _ inner in
-    subst (λ (x : u.Architecture). architecture_is_named (Some x) ≡ true) (some_same _ x g.1)
-    (and_from (list_all declaration_is_named ds.value.analysed) (concurrents_are_named body.value)
-    (all_true declaration_is_named ds.value.analysed
+    subst (λ (x : u.Architecture). architecture_is_named (Some x) ≡ true) p.is
+    (and_from (list_all declaration_is_named p.own.value.analysed) (concurrents_are_named p.body.value)
+    (all_true declaration_is_named p.own.value.analysed
     (all_in_order with_declared (declaration entities) (λ (d : t.Declaration). AreWords (spell_declaration d)) IsNamed (λ sight d y w e. declaration_named entities sight d y w e)
-    a.declarations (sight_of c.value e.interface.declared) ds.value
-    (each_piece spell_declaration (λ (d : t.Declaration). AreWords (spell_declaration d)) (λ d w. w) a.declarations (left (spell_each spell_declaration a.declarations) _ inner)) ds.is))
-    (concurrents_named (t.concurrents_of a.statements) entities (sight_of c.value region) body.value
-    (subst AreWords (spelled_alike a.statements) (left (spell_each spell_concurrent a.statements) _ behind.1)) body.is))
+    a.declarations (sight_of p.seen.value e.interface.declared) p.own.value
+    (each_piece spell_declaration (λ (d : t.Declaration). AreWords (spell_declaration d)) (λ d w. w) a.declarations (left (spell_each spell_declaration a.declarations) _ inner)) p.own.is))
+    (concurrents_named (t.concurrents_of a.statements) entities (sight_of p.seen.value (region_of e p.own.value.declared a)) p.body.value
+    (subst AreWords (spelled_alike a.statements) (left (spell_each spell_concurrent a.statements) _ behind.1)) p.body.is))
 
 -- an entity as it is seen
 record ViewIsNamed (e : EntityView) : Type 0 where
@@ -73,14 +67,11 @@ interface_named sight gs ps x h q =
     (all_in_order with_declared port (λ (d : t.Port). NamesAreWords d.names) PortIsWord (λ sight d y g e. port_named sight d y g e) (all_of ps) (with_declared sight g.value.declared) d.value h d.is)
 
 entity_named_is : (items : List ContextItem) (e : t.Entity) (a : Option Name) (v : EntityView) → AreWords (spell_entity e) → entity items e a ≡ Some v → ViewIsNamed v
-unfolding entity
 entity_named_is items e a v h q =
-    let c = comes (context no_context items) _ v q in
-    let i = comes (interface (sight_of c.value []) e.generics e.ports) _ v c.rest in
-    let g = kept (ends e.name.text e.end_name) _ v i.rest in
+    let p = entity_parts items e a v q in
     let behind = right (spell_option spell_generics e.generics) _ h.1.1.1 in
-    subst ViewIsNamed (some_same _ v g.1)
-    (record { name = h.1.0.some; ports = interface_named (sight_of c.value []) e.generics e.ports i.value (ports_words e.ports (left (spell_option spell_ports e.ports) _ behind)) i.is })
+    subst ViewIsNamed p.is
+    (record { name = h.1.0.some; ports = interface_named (sight_of p.seen.value []) e.generics e.ports p.own.value (ports_words e.ports (left (spell_option spell_ports e.ports) _ behind)) p.own.is })
 
 -- the units of a file, by what they are
 entity_at : (items : List ContextItem) (x : LibraryUnit) (es : List (List ContextItem × t.Entity)) → AreWords (spell_library_unit x) → AllByRecursion (λ (e : List ContextItem × t.Entity). AreWords (spell_entity e.1)) es
@@ -142,14 +133,10 @@ unit_named entities ds e x words h q =
         (found (λ (a : List ContextItem × t.Architecture). AreWords (spell_architecture a.1)) (λ (a : List ContextItem × t.Architecture). bytes_eq e.name a.1.entity.text) (architectures_of ds) p (architectures_words ds words) w) b.is)
 
 units_named : (f : File) (units : Units) → HasWords f → units_of f ≡ Some units → AllByRecursion UnitIsNamed units
-unfolding units_of
 units_named f units words q =
-    let a = kept (are_distinct (entity_names f.units)) _ units q in
-    let b = kept (are_distinct (described_names f.units)) _ units a.1 in
-    let c = kept (stand_after f.units) _ units b.1 in
-    let v = comes (each (viewed f.units) (entities_of f.units)) _ units c.1 in
-    let views = each_from (viewed f.units) (λ (e : List ContextItem × t.Entity). AreWords (spell_entity e.1)) ViewIsNamed (λ e y w g. entity_named_is e.0 e.1 _ y w g) (entities_of f.units) v.value (entities_words f.units words) v.is in
-    each_from (unit v.value f.units) ViewIsNamed UnitIsNamed (λ e x w g. unit_named v.value f.units e x words w g) v.value units views v.rest
+    let p = file_parts f units q in
+    let views = each_from (viewed f.units) (λ (e : List ContextItem × t.Entity). AreWords (spell_entity e.1)) ViewIsNamed (λ e y w g. entity_named_is e.0 e.1 _ y w g) (entities_of f.units) p.views.value (entities_words f.units words) p.views.is in
+    each_from (unit p.views.value f.units) ViewIsNamed UnitIsNamed (λ e x w g. unit_named p.views.value f.units e x words w g) p.views.value units views p.gives
 
 all_units_named : (units : Units) → AllByRecursion UnitIsNamed units → list_all entity_is_named units ≡ true
 all_units_named [] h = refl

@@ -29,7 +29,8 @@ use Rattle.vhdl_names_rules.specs.Names.{Suffix, part, part_of, place_of, if_pla
 use Rattle.vhdl_names_rules.specs.sound.Expressions.{Inside, one, vector, state, shape_of, static_fits, range_fits, part_shape, port_form, signal_form, place_shape, is_elements, with_static, vector_shape, value_shape, state_shape, edge_fits}
 use Rattle.vhdl_names_laws.specs.Meanings.{Counts, kind_shape, type_shape, IsForm, IsCounted, IsPort, MeaningFits, TypedFits}
 use Rattle.vhdl_names_laws.proofs.Statics.{some_same}
-use Rattle.vhdl_names_laws.proofs.Operators.{given, mapped, shape_elements, fits_self}
+use Rattle.vhdl_names_laws.proofs.Operators.{given, shape_elements, fits_self}
+use Rattle.vhdl_names_rules.proofs.kept.Keeping.{mapped}
 use Rattle.vhdl_names_rules.proofs.laws.Rules.{comes, kept}
 
 -- ---- suffixes

@@ -1,7 +1,6 @@
 -- Operators make of operands that are what their types say such results (IEEE 1076-2008, 9.2).
 use Rattle.std.proofs.Common.{◌≡◌, ℕ, Bool, true, false, ◌&&◌, ◌==◌, Option, Some, None, refl, ap, sym, ◌∙◌, subst}
 use Rattle.std.specs.Prelude.{slice_get}
-use Rattle.std.specs.Option.{option_map}
 use Rattle.std.proofs.lemmas.Bool.{and_from, eqb-true, eq-eqb}
 use Rattle.vhdl_values.specs.declared.kinds.Logic.{Logic}
 use Rattle.vhdl_values.specs.declared.kinds.Cmp.{Cmp}
@@ -21,6 +20,7 @@ use Rattle.vhdl_names_rules.specs.Operators.{Typed, common_kind, joined_kind, is
 use Rattle.vhdl_names_rules.specs.sound.Expressions.{Inside, Shape, one, vector, state, static_fits, static_test_fits, same_shape, is_elements, operated_shape, with_static, vector_shape, value_shape, fits_shape, value_fits, value_fits_beside, values_fit, test_fits}
 use Rattle.vhdl_names_laws.specs.Meanings.{Counts, kind_shape, TypedFits}
 use Rattle.vhdl_names_laws.proofs.Statics.{some_same}
+use Rattle.vhdl_names_rules.proofs.kept.Keeping.{mapped}
 
 -- ---- options
 
@@ -31,15 +31,6 @@ pub record Given {A : Type 0} (b : Bool) (x y : A) : Type 0 where
 pub given : {A : Type 0} (b : Bool) (x y : A) → then_some b x ≡ Some y → Given b x y
 given true x y h = record { holds = refl; is = some_same x y h }
 given false x y h = absurd cc
-
-pub record Mapped {A B : Type 0} (f : A → B) (o : Option A) (y : B) : Type 0 where
-  pub value : A
-  pub from : o ≡ Some value
-  pub is : f value ≡ y
-
-pub mapped : {A B : Type 0} (f : A → B) (o : Option A) (y : B) → option_map f o ≡ Some y → Mapped f o y
-mapped f None y h = absurd cc
-mapped f (Some x) y h = record { value = x; from = refl; is = some_same (f x) y h }
 
 -- ---- shapes
 

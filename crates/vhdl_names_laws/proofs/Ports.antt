@@ -24,7 +24,7 @@ use Rattle.vhdl_names_laws.proofs.Subtypes.{object_more, static_default_more, su
 use Rattle.vhdl_names_laws.proofs.InOrder as r
 use Rattle.vhdl_names_laws.proofs.Formals.{same_names, same_formals, one_name, one_formal}
 use Rattle.vhdl_names_rules.proofs.laws.Rules.{comes}
-use Rattle.vhdl_names_laws.proofs.Known.{IsKnown, inside_more, inside_with, more_twice, none_more, nothing_more, one_longer, one_more}
+use Rattle.vhdl_names_laws.proofs.Known.{IsKnown, known_one, inside_more, inside_with, more_twice, nothing_more, one_longer, one_more}
 
 -- ---- generics
 
@@ -61,20 +61,12 @@ generic_step i counts sight g x h q =
     single i counts sight n k =
         let d : Declared = declare n (visibility.generic (count_of visibility.is_generic sight.region)) in
         let e : count_of visibility.is_generic sight.region ≡ i.generics = k.generics in
-        record {
-          inside =
-              inside_with (record i { generics = suc i.generics }) counts sight (d ∷ [])
-              (inside_more i (record i { generics = suc i.generics }) counts counts sight (more_generics i counts) refl refl k.inside)
-              (lt-ltb (count_of visibility.is_generic sight.region) (suc i.generics) (omega (arith, e)), tt);
-          generics = one_more visibility.is_generic sight.region d refl ∙ ap suc k.generics;
-          integers = none_more visibility.is_integer_constant sight.region d refl ∙ k.integers;
-          constants = none_more visibility.is_constant sight.region d refl ∙ k.constants;
-          ports = none_more visibility.is_port sight.region d refl ∙ k.ports;
-          signals = none_more visibility.is_signal sight.region d refl ∙ k.signals;
-          enumerations = none_more visibility.is_enumeration_type sight.region d refl ∙ k.enumerations;
-          generic_names = one_name sight.region n (count_of visibility.is_generic sight.region) i.generics k.generic_names;
-          formals = same_formals sight.region (d ∷ []) i.ports refl k.formals;
-        }
+        known_one i (record i { generics = suc i.generics }) counts sight d
+        (inside_with (record i { generics = suc i.generics }) counts sight (d ∷ [])
+        (inside_more i (record i { generics = suc i.generics }) counts counts sight (more_generics i counts) refl refl k.inside)
+        (lt-ltb (count_of visibility.is_generic sight.region) (suc i.generics) (omega (arith, e)), tt))
+        refl refl refl refl refl refl (one_name sight.region n (count_of visibility.is_generic sight.region) i.generics k.generic_names)
+        (same_formals sight.region (d ∷ []) i.ports refl k.formals) k
 
 -- ---- ports
 
@@ -116,16 +108,8 @@ port_step i counts sight p x h q =
         → IsKnown (with_port i p) counts (with_declared sight (declare n (visibility.port (count_of visibility.is_port sight.region) mode kind) ∷ []))
     single i counts sight n p mode kind same e s k =
         let d : Declared = declare n (visibility.port (count_of visibility.is_port sight.region) mode kind) in
-        record {
-          inside =
-              inside_with (with_port i p) counts sight (d ∷ []) (inside_more i (with_port i p) counts counts sight (more_ports i counts p) refl refl k.inside)
-              (record { port = p; at = ap (slice_get (i.ports ++ p ∷ [])) k.ports ∙ get_last i.ports p; mode_is = e; shape = s }, tt);
-          generics = none_more visibility.is_generic sight.region d refl ∙ k.generics;
-          integers = none_more visibility.is_integer_constant sight.region d refl ∙ k.integers;
-          constants = none_more visibility.is_constant sight.region d refl ∙ k.constants;
-          ports = one_more visibility.is_port sight.region d refl ∙ (ap suc k.ports ∙ sym (one_longer i.ports p));
-          signals = none_more visibility.is_signal sight.region d refl ∙ k.signals;
-          enumerations = none_more visibility.is_enumeration_type sight.region d refl ∙ k.enumerations;
-          generic_names = same_names sight.region (d ∷ []) i.generics refl k.generic_names;
-          formals = one_formal sight.region d (record { name = n; mode = mode; kind = kind }) i.ports p refl k.formals (record { name = same; mode = e; shape = s });
-        }
+        known_one i (with_port i p) counts sight d
+        (inside_with (with_port i p) counts sight (d ∷ []) (inside_more i (with_port i p) counts counts sight (more_ports i counts p) refl refl k.inside)
+        (record { port = p; at = ap (slice_get (i.ports ++ p ∷ [])) k.ports ∙ get_last i.ports p; mode_is = e; shape = s }, tt))
+        refl refl refl (sym (one_longer i.ports p)) refl refl (same_names sight.region (d ∷ []) i.generics refl k.generic_names)
+        (one_formal sight.region d (record { name = n; mode = mode; kind = kind }) i.ports p refl k.formals (record { name = same; mode = e; shape = s })) k

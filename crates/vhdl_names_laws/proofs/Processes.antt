@@ -12,13 +12,11 @@ use Rattle.vhdl_names_rules.specs.units.Units as u
 use Rattle.vhdl_names_rules.specs.units.Units.{Form}
 use Rattle.vhdl_names_rules.specs.Rules.{each, if_any}
 use Rattle.vhdl_names_rules.specs.Visibility as visibility
-use Rattle.vhdl_names_rules.specs.Visibility.{Name, Declared, declare, count_of, are_distinct, label_ends, Sight, with_variables, Declares}
+use Rattle.vhdl_names_rules.specs.Visibility.{Name, Declared, declare, count_of, Sight, with_variables, Declares}
 use Rattle.vhdl_names_rules.specs.Subtypes.{subtype, fixed_value, object}
 use Rattle.vhdl_names_rules.specs.Declarations.{in_order, within_variables, variables}
-use Rattle.vhdl_names_rules.specs.Interfaces.{declared_names}
-use Rattle.vhdl_names_rules.specs.Expressions.{typed, condition, value_given}
-use Rattle.vhdl_names_rules.specs.Choices.{covered, selector, arranged}
-use Rattle.vhdl_names_rules.specs.Statements.{SignalName, signal, target, statements, statement_labels}
+use Rattle.vhdl_names_rules.specs.Expressions.{condition, value_given}
+use Rattle.vhdl_names_rules.specs.Statements.{SignalName, signal, target}
 use Rattle.vhdl_names_rules.specs.Concurrent.{assigning, assigned, alone, last_branch, branches, assignment_body, assignment, selected, sensitivity, process}
 use Rattle.vhdl_names_rules.specs.sound.Expressions.{Inside, shape_of, place_shape, value_shape, test_fits}
 use Rattle.vhdl_names_rules.specs.sound.Statements.{selector_fits, statement_fits, statements_fit, branches_fit, alternatives_fit}
@@ -26,7 +24,7 @@ use Rattle.vhdl_names_rules.specs.sound.Units.{object_fits, objects_fit, sensiti
 use Rattle.vhdl_names_rules.specs.units.Units.{Units}
 use Rattle.vhdl_names_laws.specs.Meanings.{Counts, type_shape, IsCounted, IsInside}
 use Rattle.vhdl_names_laws.proofs.Statics.{some_same, HasNumbers, HasMore, more_of, Keeps, keeps_all, keeps_before}
-use Rattle.vhdl_names_laws.proofs.Operators.{mapped}
+use Rattle.vhdl_names_rules.proofs.kept.Keeping.{mapped}
 use Rattle.vhdl_names_laws.proofs.Expressions.{typed_fits}
 use Rattle.vhdl_names_laws.proofs.Values.{given_is, condition_fits}
 use Rattle.vhdl_names_laws.proofs.Choices.{selector_is, each_all, covered_fits, arranged_fits}
@@ -34,7 +32,8 @@ use Rattle.vhdl_names_laws.proofs.Statements.{signal_fits, TargetFits, target_fi
 use Rattle.vhdl_names_laws.proofs.Subtypes.{object_more, subtype_fits, no_name, object_is}
 use Rattle.vhdl_names_laws.proofs.Known.{inside_more, inside_variables, inside_within_variables, one_more, one_longer, last_form}
 use Rattle.vhdl_names_laws.proofs.InOrder as r
-use Rattle.vhdl_names_rules.proofs.laws.Rules.{comes, kept}
+use Rattle.vhdl_names_rules.proofs.laws.Rules.{comes}
+use Rattle.vhdl_names_rules.proofs.laws.Parts.{process_parts, selected_parts}
 
 -- ---- variables
 
@@ -148,22 +147,16 @@ variables_are i counts sight ds vs h q =
 
 pub process_is : (i : Inside) (counts : Counts) (sight : Sight) (label : Option Ident) (p : t.Process) (x : u.Process) → IsOutside i counts sight → process sight label p ≡ Some x
     → process_fits i x ≡ true
-unfolding process
 process_is i counts sight label p x h q =
-    let on = comes (sensitivity sight p.sensitivity) _ x q in
-    let vs = comes (in_order with_variables variables sight p.variables) _ x on.rest in
-    let a = kept (are_distinct (declared_names vs.value.declared)) _ x vs.rest in
-    let b = kept (are_distinct (statement_labels (t.statements_of p.statements))) _ x a.1 in
-    let body = comes (statements (with_variables sight vs.value.declared) (t.statements_of p.statements)) _ x b.1 in
-    let c = kept (label_ends label p.end_label) _ x body.rest in
-    let step = variables_are i counts sight p.variables vs.value h vs.is in
-    let in' = within_process i counts sight vs.value h step in
-    let j : Inside = record i { variables = map (λ (o : u.Object). o.form) vs.value.analysed } in
-    subst (λ x. process_fits i x ≡ true) (some_same _ x c.1)
-    (and_from (sensitivity_fits i on.value && objects_fit i vs.value.analysed) (statements_fit j body.value)
-    (and_from (sensitivity_fits i on.value) (objects_fit i vs.value.analysed) (sensitivity_is i counts sight p.sensitivity on.value h.inside on.is)
-    (alone_fit vs.value.analysed i i (record { generics = omega arith; integers = omega arith; generates = omega arith; loops = omega arith }) (keeps_all i.constants) step.fit))
-    (statements_are (t.statements_of p.statements) j in'.0 (with_variables sight vs.value.declared) body.value in'.1 body.is))
+    let d = process_parts sight label p x q in
+    let step = variables_are i counts sight p.variables d.own.value h d.own.is in
+    let in' = within_process i counts sight d.own.value h step in
+    let j : Inside = record i { variables = map (λ (o : u.Object). o.form) d.own.value.analysed } in
+    subst (λ x. process_fits i x ≡ true) d.is
+    (and_from (sensitivity_fits i d.on.value && objects_fit i d.own.value.analysed) (statements_fit j d.body.value)
+    (and_from (sensitivity_fits i d.on.value) (objects_fit i d.own.value.analysed) (sensitivity_is i counts sight p.sensitivity d.on.value h.inside d.on.is)
+    (alone_fit d.own.value.analysed i i (record { generics = omega arith; integers = omega arith; generates = omega arith; loops = omega arith }) (keeps_all i.constants) step.fit))
+    (statements_are (t.statements_of p.statements) j in'.0 (with_variables sight d.own.value.declared) d.body.value in'.1 d.body.is))
 
 -- ---- assignments
 
@@ -231,22 +224,16 @@ select_is i at by alts h k = and_from (selector_fits i by) (alternatives_fit i (
 
 pub selected_is : (units : Units) (i : Inside) (counts : Counts) (sight : Sight) (label : Option Ident) (a : t.SelectedAssignment) (x : u.Concurrent) → IsOutside i counts sight
     → selected sight label a ≡ Some x → concurrent_fits units i x ≡ true
-unfolding selected
 selected_is units i counts sight label a x h q =
-    let e = comes (typed sight a.selector) _ x q in
-    let by = comes (selector e.value) _ x e.rest in
-    let to = comes (target sight a.target) _ x by.rest in
-    let css = comes (covered sight by.value.0 (map (λ (w : t.Waveform). w.choices) a.waveforms)) _ x to.rest in
-    let bodies = comes (each (λ (w : t.Waveform). option_map alone (assigned sight to.value w.value)) a.waveforms) _ x css.rest in
-    let all = comes (arranged css.value bodies.value) _ x bodies.rest in
-    let f = selector_is i counts e.value by.value (typed_fits a.selector i counts sight e.value h.inside e.is) by.is in
-    let g = target_fits i counts sight a.target to.value h.inside to.is in
-    subst (λ x. concurrent_fits units i x ≡ true) (some_same _ x all.rest)
-    (assigning_fits units i a.at label (s.case_of a.at by.value.1 all.value) h.no_variables
-    (select_is i a.at by.value.1 all.value f.fits
-    (arranged_fits i (value_shape i by.value.1) css.value bodies.value all.value
-    (covered_fits i counts sight h.inside (value_shape i by.value.1) by.value.0 f.selects f.counted (map (λ (w : t.Waveform). w.choices) a.waveforms) css.value css.is)
-    (each_all (λ (w : t.Waveform). option_map alone (assigned sight to.value w.value)) (statements_fit i) (λ w y k.
-    let b = mapped alone (assigned sight to.value w.value) y k in
-    subst (λ y. statements_fit i y ≡ true) b.is (alone_is i b.value (assigned_is i counts sight to.value w.value b.value h.inside g b.from))) a.waveforms bodies.value bodies.is)
-    all.is)))
+    let p = selected_parts sight label a x q in
+    let f = selector_is i counts p.chosen.operand.value p.chosen.by.value (typed_fits a.selector i counts sight p.chosen.operand.value h.inside p.chosen.operand.is) p.chosen.by.is in
+    let g = target_fits i counts sight a.target p.to.value h.inside p.to.is in
+    subst (λ x. concurrent_fits units i x ≡ true) p.is
+    (assigning_fits units i a.at label (s.case_of a.at p.chosen.by.value.1 p.chosen.all.value) h.no_variables
+    (select_is i a.at p.chosen.by.value.1 p.chosen.all.value f.fits
+    (arranged_fits i (value_shape i p.chosen.by.value.1) p.chosen.choices.value p.chosen.bodies.value p.chosen.all.value
+    (covered_fits i counts sight h.inside (value_shape i p.chosen.by.value.1) p.chosen.by.value.0 f.selects f.counted (map (λ (w : t.Waveform). w.choices) a.waveforms) p.chosen.choices.value p.chosen.choices.is)
+    (each_all (λ (w : t.Waveform). option_map alone (assigned sight p.to.value w.value)) (statements_fit i) (λ w y k.
+    let b = mapped alone (assigned sight p.to.value w.value) y k in
+    subst (λ y. statements_fit i y ≡ true) b.is (alone_is i b.value (assigned_is i counts sight p.to.value w.value b.value h.inside g b.from))) a.waveforms p.chosen.bodies.value p.chosen.bodies.is)
+    p.chosen.all.is)))

@@ -1,6 +1,5 @@
 -- Each sequential statement fits where it stands (IEEE 1076-2008, clause 10).
 use Rattle.std.proofs.Common.{◌≡◌, ℕ, suc, true, false, ◌&&◌, not, List, [], ◌∷◌, length, Option, Some, None, refl, ap, ◌∙◌, subst, arith}
-use Rattle.std.specs.Prelude.{is_none}
 use Rattle.std.specs.List.{slice_get, list_all}
 use Rattle.std.proofs.lemmas.Bool.{and_from, lt-ltb}
 use Rattle.vhdl_tree.specs.declared.declaration.Mode.{Mode}
@@ -11,26 +10,27 @@ use Rattle.vhdl_names_rules.specs.declared.kind.ElementKind.{ElementKind}
 use Rattle.vhdl_names_rules.specs.declared.kind.ObjectType.{ObjectType}
 use Rattle.vhdl_names_rules.specs.declared.kind.ObjectType.TheVariants.{Elements}
 use Rattle.vhdl_names_rules.specs.units.Expressions as e
-use Rattle.vhdl_names_rules.specs.units.Expressions.{Part, Signal}
+use Rattle.vhdl_names_rules.specs.units.Expressions.{Part}
 use Rattle.vhdl_names_rules.specs.units.Statements as s
 use Rattle.vhdl_names_rules.specs.Rules.{◌>>=◌}
 use Rattle.vhdl_names_rules.specs.Visibility as visibility
-use Rattle.vhdl_names_rules.specs.Visibility.{Meaning, Sight, meaning, label_ends}
+use Rattle.vhdl_names_rules.specs.Visibility.{Meaning, Sight, label_ends}
 use Rattle.vhdl_names_rules.specs.Names.{Suffix, part_of}
-use Rattle.vhdl_names_rules.specs.Expressions.{typed, typed_suffix, static_range, condition, value_given}
-use Rattle.vhdl_names_rules.specs.Choices.{covered, selector, arranged}
+use Rattle.vhdl_names_rules.specs.Expressions.{static_range, condition, value_given}
 use Rattle.vhdl_names_rules.specs.Statements.{SignalName, named_part, as_signal, signal, is_input, target, VariableName, as_variable, variable, choice_lists, statement, statements, conditionals, otherwise, alternatives}
 use Rattle.vhdl_names_rules.specs.sound.Expressions.{Inside, Shape, range_fits, part_shape, port_form, place_shape, value_shape, test_fits}
 use Rattle.vhdl_names_rules.specs.sound.Statements as w
 use Rattle.vhdl_names_rules.specs.sound.Statements.{given_fits, given_fits_target, is_out, is_driven, selector_fits, statement_fits, statements_fit, branches_fit, alternatives_fit}
 use Rattle.vhdl_names_laws.specs.Meanings.{Counts, type_shape, IsCounted, IsPort, MeaningFits, IsInside}
 use Rattle.vhdl_names_laws.proofs.Statics.{some_same, HasMore, more_of, keeps_all, all_more, meant}
-use Rattle.vhdl_names_laws.proofs.Operators.{mapped}
+use Rattle.vhdl_names_rules.proofs.kept.Keeping.{mapped}
 use Rattle.vhdl_names_laws.proofs.Names.{SuffixFits, part_of_fits, port_form_is, the_form}
 use Rattle.vhdl_names_laws.proofs.Expressions.{typed_fits, suffix_fits, static_range_fits}
 use Rattle.vhdl_names_laws.proofs.Values.{given_is, condition_fits}
 use Rattle.vhdl_names_laws.proofs.Choices.{selector_is, covered_fits, arranged_fits}
 use Rattle.vhdl_names_rules.proofs.laws.Rules.{comes, kept, not_true}
+use Rattle.vhdl_names_rules.proofs.laws.Parts.{case_parts}
+use Rattle.vhdl_names_laws.proofs.Parts.{signal_parts, variable_parts}
 
 -- ---- names of signals and variables
 
@@ -67,12 +67,9 @@ as_signal_fits i counts at (visibility.signal k type) suffix x h f q =
 as_signal_fits i counts at _ suffix x h f q = absurd cc
 
 pub signal_fits : (i : Inside) (counts : Counts) (sight : Sight) (n : t.Name) (x : SignalName) → IsInside i counts sight → signal sight n ≡ Some x → SignalFits i counts x
-unfolding signal
 signal_fits i counts sight n x h q =
-    let a = kept (is_none n.attribute) _ x q in
-    let b = comes (typed_suffix sight n.suffix) _ x a.1 in
-    let c = comes (meaning sight n.identifier.text) (λ d. as_signal n.identifier.at d b.value) x b.rest in
-    as_signal_fits i counts n.identifier.at c.value b.value x (meant i counts sight h n.identifier.text c.value c.is) (suffix_fits n.suffix i counts sight b.value h b.is) c.rest
+    let p = signal_parts sight n x q in
+    as_signal_fits i counts n.identifier.at p.meant.value p.suffix.value x (meant i counts sight h n.identifier.text p.meant.value p.meant.is) (suffix_fits n.suffix i counts sight p.suffix.value h p.suffix.is) p.is
 
 pub record TargetFits (i : Inside) (counts : Counts) (x : SignalName) : Type 0 where
   pub fits : SignalFits i counts x
@@ -101,12 +98,9 @@ as_variable_fits i counts at (visibility.variable k type) suffix x h f q =
 as_variable_fits i counts at _ suffix x h f q = absurd cc
 
 pub variable_fits : (i : Inside) (counts : Counts) (sight : Sight) (n : t.Name) (x : VariableName) → IsInside i counts sight → variable sight n ≡ Some x → VariableFits i counts x
-unfolding variable
 variable_fits i counts sight n x h q =
-    let a = kept (is_none n.attribute) _ x q in
-    let b = comes (typed_suffix sight n.suffix) _ x a.1 in
-    let c = comes (meaning sight n.identifier.text) (λ d. as_variable n.identifier.at d b.value) x b.rest in
-    as_variable_fits i counts n.identifier.at c.value b.value x (meant i counts sight h n.identifier.text c.value c.is) (suffix_fits n.suffix i counts sight b.value h b.is) c.rest
+    let p = variable_parts sight n x q in
+    as_variable_fits i counts n.identifier.at p.meant.value p.suffix.value x (meant i counts sight h n.identifier.text p.meant.value p.meant.is) (suffix_fits n.suffix i counts sight p.suffix.value h p.suffix.is) p.is
 
 -- ---- loops
 
@@ -168,18 +162,13 @@ mutual
       subst (λ x. statement_fits i x ≡ true) (some_same _ x c.rest)
       (conditionals_are bs i counts sight b.value c.value h (otherwise_is o i counts sight b.value h b.is) c.is)
   statement_is (t.case_of at d alts end) i counts sight label x h q =
-      let a = kept (label_ends label end) _ x q in
-      let b = comes (typed sight d) _ x a.1 in
-      let by = comes (selector b.value) _ x b.rest in
-      let css = comes (covered sight by.value.0 (choice_lists alts)) _ x by.rest in
-      let bodies = comes (alternatives sight alts) _ x css.rest in
-      let all = comes (arranged css.value bodies.value) _ x bodies.rest in
-      let f = selector_is i counts b.value by.value (typed_fits d i counts sight b.value h b.is) by.is in
-      subst (λ x. statement_fits i x ≡ true) (some_same _ x all.rest)
-      (and_from (selector_fits i by.value.1) (alternatives_fit i (value_shape i by.value.1) all.value) f.fits
-      (arranged_fits i (value_shape i by.value.1) css.value bodies.value all.value
-      (covered_fits i counts sight h (value_shape i by.value.1) by.value.0 f.selects f.counted (choice_lists alts) css.value css.is)
-      (alternatives_are alts i counts sight bodies.value h bodies.is) all.is))
+      let p = case_parts sight label at d alts end x q in
+      let f = selector_is i counts p.chosen.operand.value p.chosen.by.value (typed_fits d i counts sight p.chosen.operand.value h p.chosen.operand.is) p.chosen.by.is in
+      subst (λ x. statement_fits i x ≡ true) p.is
+      (and_from (selector_fits i p.chosen.by.value.1) (alternatives_fit i (value_shape i p.chosen.by.value.1) p.chosen.all.value) f.fits
+      (arranged_fits i (value_shape i p.chosen.by.value.1) p.chosen.choices.value p.chosen.bodies.value p.chosen.all.value
+      (covered_fits i counts sight h (value_shape i p.chosen.by.value.1) p.chosen.by.value.0 f.selects f.counted (choice_lists alts) p.chosen.choices.value p.chosen.choices.is)
+      (alternatives_are alts i counts sight p.chosen.bodies.value h p.chosen.bodies.is) p.chosen.all.is))
   statement_is (t.for_of at n r body end) i counts sight label x h q =
       let a = kept (label_ends label end) _ x q in
       let b = comes (static_range sight r) _ x a.1 in

@@ -27,7 +27,8 @@ use Rattle.vhdl_names_rules.specs.sound.Expressions.{Inside, Shape, one, vector,
 use Rattle.vhdl_names_rules.specs.sound.Units.{form_fits, fixed_fits, default_fits, may_be_resolved, object_fits, static_default_fits}
 use Rattle.vhdl_names_laws.specs.Meanings.{Counts, kind_shape, type_shape, IsCounted, IsLiteralOf, MeaningFits, IsInside}
 use Rattle.vhdl_names_laws.proofs.Statics.{some_same, meant, Keeps, HasNumbers, static_more, range_more}
-use Rattle.vhdl_names_laws.proofs.Operators.{given, mapped, fits_self}
+use Rattle.vhdl_names_laws.proofs.Operators.{given, fits_self}
+use Rattle.vhdl_names_rules.proofs.kept.Keeping.{mapped}
 use Rattle.vhdl_names_laws.proofs.Names.{EachFits}
 use Rattle.vhdl_names_laws.proofs.Expressions.{each_fits, static_integer_fits, static_range_fits}
 use Rattle.vhdl_names_laws.proofs.Values.{same_count, kind_is_vector, literal_values_fit}

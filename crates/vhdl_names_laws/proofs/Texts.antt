@@ -18,9 +18,9 @@ use Rattle.vhdl_tree.specs.Pieces.{Piece, spell_ident, spell_idents, spell_word,
 use Rattle.vhdl_tree.specs.grammar.Expressions.{kind_of, sign_kind, direction_kind, spell, spell_attribute, spell_suffix, spell_exprs, spell_more, spell_value, spell_range}
 use Rattle.vhdl_tree.specs.grammar.Subtypes.{spell_constraint, spell_subtype, spell_default}
 use Rattle.vhdl_tree.specs.grammar.Declarations.{spell_generic_default, spell_mode, spell_generic, spell_generics, spell_port, spell_ports}
-use Rattle.vhdl_names_rules.specs.Interfaces.{entity_named, component}
 use Rattle.vhdl_names_rules.specs.SameText.{same_word, same_name, same_bytes, same_option, same_each, same_expr, same_suffix, same_exprs, same_value, same_range, same_subtype, same_mode, same_generic, same_port, same_generics, same_ports}
-use Rattle.vhdl_names_rules.proofs.laws.Rules.{comes, kept, both}
+use Rattle.vhdl_names_rules.proofs.laws.Rules.{both}
+use Rattle.vhdl_names_rules.proofs.laws.Parts.{component_parts}
 use Rattle.vhdl_names_laws.specs.Words.{small}
 use Rattle.vhdl_names_laws.specs.Texts.{unplaced, AreSameText}
 use Rattle.vhdl_names_laws.specs.Laws.{ComponentsAreTexts}
@@ -229,15 +229,13 @@ ports_text as' bs e =
     (list_text k.Semicolon same_port spell_port port_text as' bs e) (alike (p.some k.RightParen ∷ p.some k.Semicolon ∷ []))))
 
 pub components_are_texts : ComponentsAreTexts
-unfolding component
 components_are_texts entities sight c x q =
-    let a = comes (entity_named entities c.name.text) _ x q in
-    let b = kept (same_generics c.generics a.value.1.generic_text && same_ports c.ports a.value.1.port_text) _ x a.rest in
-    let f = both (same_generics c.generics a.value.1.generic_text) (same_ports c.ports a.value.1.port_text) b.0 in
+    let p = component_parts entities sight c x q in
+    let f = both (same_generics c.generics p.found.value.1.generic_text) (same_ports c.ports p.found.value.1.port_text) p.alike in
     record {
-      number = a.value.0;
-      entity = a.value.1;
-      named = a.is;
-      generics = option_text (same_each same_generic) spell_generics generics_text c.generics a.value.1.generic_text f.0;
-      ports = option_text (same_each same_port) spell_ports ports_text c.ports a.value.1.port_text f.1;
+      number = p.found.value.0;
+      entity = p.found.value.1;
+      named = p.found.is;
+      generics = option_text (same_each same_generic) spell_generics generics_text c.generics p.found.value.1.generic_text f.0;
+      ports = option_text (same_each same_port) spell_ports ports_text c.ports p.found.value.1.port_text f.1;
     }

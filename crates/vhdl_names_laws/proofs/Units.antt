@@ -11,12 +11,11 @@ use Rattle.vhdl_tree.specs.grammar.Units.{IsArchitecture, IsLibraryUnit, IsUnit 
 use Rattle.vhdl_names_rules.specs.units.Units as u
 use Rattle.vhdl_names_rules.specs.units.Units.{Units}
 use Rattle.vhdl_names_rules.specs.Rules.{each, if_any}
-use Rattle.vhdl_names_rules.specs.Visibility.{Name, are_distinct, ends, with_declared}
+use Rattle.vhdl_names_rules.specs.Visibility.{Name, are_distinct, with_declared}
 use Rattle.vhdl_names_rules.specs.Packages.{context, sight_of}
-use Rattle.vhdl_names_rules.specs.Declarations.{in_order}
-use Rattle.vhdl_names_rules.specs.Interfaces.{EntityView, declared_names}
-use Rattle.vhdl_names_rules.specs.Concurrent.{concurrent_labels, concurrents}
-use Rattle.vhdl_names_rules.specs.Files.{as_architecture, architectures_of, entities_of, entity_names, described_names, stand_after, architecture_of, viewed, declaration, labelled, architecture, unit, units_of}
+use Rattle.vhdl_names_rules.specs.Interfaces.{EntityView}
+use Rattle.vhdl_names_rules.specs.Concurrent.{concurrent_labels}
+use Rattle.vhdl_names_rules.specs.Files.{as_architecture, architectures_of, entities_of, architecture_of, viewed, declaration, labelled, architecture, unit}
 use Rattle.vhdl_names_rules.specs.sound.Expressions.{Inside}
 use Rattle.vhdl_names_rules.specs.sound.Units.{objects_fit, port_fits, generics_fit, declaration_fits, with_declaration, declarations_fit, with_declarations, concurrents_fit, nothing_inside, architecture_fits, entity_fits, are_sound}
 use Rattle.vhdl_names_laws.specs.Meanings.{Counts, AllFit, IsInside}
@@ -30,7 +29,8 @@ use Rattle.vhdl_names_laws.proofs.Formals.{AreFormals}
 use Rattle.vhdl_names_laws.proofs.Instances.{AreUnits}
 use Rattle.vhdl_names_laws.proofs.Concurrent.{concurrents_are}
 use Rattle.vhdl_names_laws.proofs.Interfaces.{inside_entity, InterfaceFits, entity_fits_interface}
-use Rattle.vhdl_names_rules.proofs.laws.Rules.{comes, kept, made}
+use Rattle.vhdl_names_rules.proofs.laws.Rules.{comes, made}
+use Rattle.vhdl_names_rules.proofs.laws.Parts.{region_of, architecture_parts, file_parts}
 
 -- ---- declarations of an architecture
 
@@ -63,29 +63,24 @@ each_declaration (d ∷ ds) h = (h.0, each_declaration ds h.1)
 
 architecture_is : (units : Units) (entities : List EntityView) (e : EntityView) (items : List ContextItem) (a : t.Architecture) (x : u.Architecture) → AreUnits units entities → InterfaceFits e.interface
     → IsArchitecture a → architecture entities e items a ≡ Some x → architecture_fits units (inside_entity e.interface.generics e.interface.ports) (Some x) ≡ true
-unfolding architecture
 architecture_is units entities e items a x all f is q =
-    let c = comes (context e.context items) _ x q in
-    let ds = comes (in_order with_declared (declaration entities) (sight_of c.value e.interface.declared) a.declarations) _ x c.rest in
+    let p = architecture_parts entities e items a x q in
     let labels = labelled (concurrent_labels (t.concurrents_of a.statements)) in
-    let region = e.interface.declared ++ (ds.value.declared ++ labels) in
-    let k = kept (are_distinct (declared_names region)) _ x ds.rest in
-    let body = comes (concurrents entities (sight_of c.value region) (t.concurrents_of a.statements)) _ x k.1 in
-    let g = kept (ends a.name.text a.end_name) _ x body.rest in
+    let region = region_of e p.own.value.declared a in
     let i = inside_entity e.interface.generics e.interface.ports in
     let step =
     r.steps with_declaration declaration_fits with_declared IsKnown nothing_more more_twice IsDeclaration (declaration entities) (λ i counts sight d y is h q. declaration_step i counts entities sight d y is h q)
-    a.declarations (each_declaration a.declarations is.0) i f.counts (sight_of c.value e.interface.declared) ds.value (f.known c.value) ds.is in
-    let j = with_declarations i ds.value.analysed in
-    let known : IsInside j step.more (sight_of c.value (e.interface.declared ++ ds.value.declared)) =
-    subst (λ j. IsInside j step.more (sight_of c.value (e.interface.declared ++ ds.value.declared))) (added_declarations ds.value.analysed i) step.after.inside in
-    let inside : IsInside j step.more (sight_of c.value region) =
-    subst (λ ds. IsInside j step.more (sight_of c.value ds)) (append_assoc e.interface.declared ds.value.declared labels)
-    (inside_with j step.more (sight_of c.value (e.interface.declared ++ ds.value.declared)) labels known (labels_fit j step.more (concurrent_labels (t.concurrents_of a.statements)))) in
-    subst (λ (x : u.Architecture). architecture_fits units i (Some x) ≡ true) (some_same _ x g.1)
-    (and_from (declarations_fit i ds.value.analysed) (concurrents_fit units j body.value) (declarations_are ds.value.analysed i step.fit)
-    (concurrents_are (t.concurrents_of a.statements) units entities j step.more (sight_of c.value region) body.value all
-    (record { inside = inside; no_variables = no_variables ds.value.analysed i refl; none_in_sight = refl }) body.is))
+    a.declarations (each_declaration a.declarations is.0) i f.counts (sight_of p.seen.value e.interface.declared) p.own.value (f.known p.seen.value) p.own.is in
+    let j = with_declarations i p.own.value.analysed in
+    let known : IsInside j step.more (sight_of p.seen.value (e.interface.declared ++ p.own.value.declared)) =
+    subst (λ j. IsInside j step.more (sight_of p.seen.value (e.interface.declared ++ p.own.value.declared))) (added_declarations p.own.value.analysed i) step.after.inside in
+    let inside : IsInside j step.more (sight_of p.seen.value region) =
+    subst (λ ds. IsInside j step.more (sight_of p.seen.value ds)) (append_assoc e.interface.declared p.own.value.declared labels)
+    (inside_with j step.more (sight_of p.seen.value (e.interface.declared ++ p.own.value.declared)) labels known (labels_fit j step.more (concurrent_labels (t.concurrents_of a.statements)))) in
+    subst (λ (x : u.Architecture). architecture_fits units i (Some x) ≡ true) p.is
+    (and_from (declarations_fit i p.own.value.analysed) (concurrents_fit units j p.body.value) (declarations_are p.own.value.analysed i step.fit)
+    (concurrents_are (t.concurrents_of a.statements) units entities j step.more (sight_of p.seen.value region) p.body.value all
+    (record { inside = inside; no_variables = no_variables p.own.value.analysed i refl; none_in_sight = refl }) p.body.is))
 
 -- ---- the architectures of a file
 
@@ -179,34 +174,21 @@ unit_is units entities ds e x is all f q =
         (architecture_is units entities e p.0 p.1 b.value all f
         (found (λ (a : List ContextItem × t.Architecture). IsArchitecture a.1) (λ (a : List ContextItem × t.Architecture). bytes_eq e.name a.1.entity.text) (architectures_of ds) p (architectures_are ds is) h) b.is)
 
--- what a file's units come of
-record Comes (f : File) (units : Units) : Type 0 where
-  entities : List EntityView
-  interfaces : AllByRecursion (λ (e : EntityView). InterfaceFits e.interface) entities
-  gives : each (unit entities f.units) entities ≡ Some units
-
-units_come : (f : File) (units : Units) → units_of f ≡ Some units → Comes f units
-unfolding units_of
-units_come f units q =
-    let a = kept (are_distinct (entity_names f.units)) _ units q in
-    let b = kept (are_distinct (described_names f.units)) _ units a.1 in
-    let c = kept (stand_after f.units) _ units b.1 in
-    let v = comes (each (viewed f.units) (entities_of f.units)) _ units c.1 in
-    record {
-      entities = v.value;
-      interfaces = each_given (viewed f.units) (λ (e : EntityView). InterfaceFits e.interface) (λ e y h. entity_fits_interface e.0 e.1 _ y h) (entities_of f.units) v.value v.is;
-      gives = v.rest;
-    }
+-- the interfaces of a file's entities fit
+interfaces_fit : (f : File) (views : List EntityView) → each (viewed f.units) (entities_of f.units) ≡ Some views → AllByRecursion (λ (e : EntityView). InterfaceFits e.interface) views
+interfaces_fit f views h =
+    each_given (viewed f.units) (λ (e : EntityView). InterfaceFits e.interface) (λ e y h. entity_fits_interface e.0 e.1 _ y h) (entities_of f.units) views h
 
 pub units_are_sound : UnitsAreSound
 unfolding are_sound
 units_are_sound f units is q =
-    let c = units_come f units q in
-    let all = are_units f.units c.entities units c.interfaces c.gives in
-    each_passes (unit c.entities f.units) (λ (e : EntityView). InterfaceFits e.interface) (entity_fits units) (λ e x h g. unit_is units c.entities f.units e x is all h g) c.entities units c.interfaces c.gives
+    let p = file_parts f units q in
+    let interfaces = interfaces_fit f p.views.value p.views.is in
+    let all = are_units f.units p.views.value units interfaces p.gives in
+    each_passes (unit p.views.value f.units) (λ (e : EntityView). InterfaceFits e.interface) (entity_fits units) (λ e x h g. unit_is units p.views.value f.units e x is all h g) p.views.value units interfaces p.gives
 
 pub ports_distinct : PortsAreDistinct
 ports_distinct f units q =
-    let c = units_come f units q in
-    each_passes (unit c.entities f.units) (λ (e : EntityView). InterfaceFits e.interface) (λ (x : u.Entity). are_distinct (map (λ (p : u.Port). p.object.name) x.ports))
-    (λ e x h g. ap (λ ps. are_distinct (map (λ (p : u.Port). p.object.name) ps)) (unit_of c.entities f.units e x g).ports ∙ h.distinct) c.entities units c.interfaces c.gives
+    let p = file_parts f units q in
+    each_passes (unit p.views.value f.units) (λ (e : EntityView). InterfaceFits e.interface) (λ (x : u.Entity). are_distinct (map (λ (p : u.Port). p.object.name) x.ports))
+    (λ e x h g. ap (λ ps. are_distinct (map (λ (p : u.Port). p.object.name) ps)) (unit_of p.views.value f.units e x g).ports ∙ h.distinct) p.views.value units (interfaces_fit f p.views.value p.views.is) p.gives

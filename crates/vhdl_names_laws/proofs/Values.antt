@@ -13,7 +13,7 @@ use Rattle.vhdl_names_rules.specs.declared.kind.ElementKind.TheVariants.{Element
 use Rattle.vhdl_names_rules.specs.declared.kind.ObjectType.{ObjectType}
 use Rattle.vhdl_names_rules.specs.declared.kind.ObjectType.TheVariants.{Elements, Enumeration}
 use Rattle.vhdl_names_rules.specs.units.Expressions as e
-use Rattle.vhdl_names_rules.specs.units.Expressions.{Value, Test, StaticTest}
+use Rattle.vhdl_names_rules.specs.units.Expressions.{Test, StaticTest}
 use Rattle.vhdl_names_rules.specs.units.Statements as s
 use Rattle.vhdl_names_rules.specs.units.Statements.{Given}
 use Rattle.vhdl_names_rules.specs.units.Units as u
@@ -31,7 +31,8 @@ use Rattle.vhdl_names_rules.specs.sound.Units.{fixed_fits}
 use Rattle.vhdl_names_laws.specs.Meanings.{Counts, kind_shape, type_shape, IsCounted, IsInside, TypedFits}
 use Rattle.vhdl_names_laws.proofs.Statics.{some_same}
 use Rattle.vhdl_names_laws.proofs.Operators as p
-use Rattle.vhdl_names_laws.proofs.Operators.{mapped, fits_self}
+use Rattle.vhdl_names_laws.proofs.Operators.{fits_self}
+use Rattle.vhdl_names_rules.proofs.kept.Keeping.{mapped}
 use Rattle.vhdl_names_laws.proofs.Expressions.{typed_fits}
 use Rattle.vhdl_names_rules.proofs.laws.Rules.{comes}
 

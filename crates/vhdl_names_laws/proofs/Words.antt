@@ -1,5 +1,5 @@
 -- The names of declarations are identifiers of the file.
-use Rattle.std.proofs.Common.{◌≡◌, Bool, true, ◌&&◌, List, [], ◌∷◌, ◌++◌, map, Option, Some, None, refl, subst}
+use Rattle.std.proofs.Common.{◌≡◌, Bool, true, List, [], ◌∷◌, ◌++◌, map, Option, Some, None, refl, subst}
 use Rattle.std.specs.Prelude.{is_none}
 use Rattle.std.specs.List.{list_all, AllByRecursion}
 use Rattle.std.proofs.lemmas.Bool.{and_from}
@@ -13,17 +13,17 @@ use Rattle.vhdl_tree.specs.grammar.Declarations.{spell_declaration}
 use Rattle.vhdl_names_rules.specs.declared.operator.IntegerType.{IntegerType}
 use Rattle.vhdl_names_rules.specs.units.Units as u
 use Rattle.vhdl_names_rules.specs.Rules.{if_any}
-use Rattle.vhdl_names_rules.specs.Visibility.{Declared, ends, Sight, meaning, Declares}
+use Rattle.vhdl_names_rules.specs.Visibility.{Declared, Sight, meaning, Declares}
 use Rattle.vhdl_names_rules.specs.Expressions.{static}
 use Rattle.vhdl_names_rules.specs.Subtypes.{subtype, fixed_value, as_integer_type}
 use Rattle.vhdl_names_rules.specs.Declarations.{in_order, within, within_variables, as_kind, single_expression, port, signals, variables, constants_by, constants, enumeration}
-use Rattle.vhdl_names_rules.specs.Interfaces.{EntityView, interface, entity_named, component}
-use Rattle.vhdl_names_rules.specs.SameText.{same_generics, same_ports}
+use Rattle.vhdl_names_rules.specs.Interfaces.{EntityView, component}
 use Rattle.vhdl_names_rules.specs.Files.{declaration}
 use Rattle.vhdl_names_rules.specs.sound.Named.{has_text, objects_are_named, declaration_is_named}
 use Rattle.vhdl_names_laws.specs.Words.{IsWord, AreWords}
 use Rattle.vhdl_names_laws.proofs.Statics.{some_same}
 use Rattle.vhdl_names_rules.proofs.laws.Rules.{comes, kept}
+use Rattle.vhdl_names_rules.proofs.laws.Parts.{component_parts}
 
 -- ---- pieces
 
@@ -133,13 +133,7 @@ enumeration_named sight d x q =
     subst (λ x. AllByRecursion IsNamed x.analysed) (some_same _ x a.1) tt
 
 component_named : (entities : List EntityView) (sight : Sight) (c : t.Component) (x : Declares u.Declaration) → component entities sight c ≡ Some x → AllByRecursion IsNamed x.analysed
-unfolding component
-component_named entities sight c x q =
-    let a = comes (entity_named entities c.name.text) _ x q in
-    let b = kept (same_generics c.generics a.value.1.generic_text && same_ports c.ports a.value.1.port_text) _ x a.rest in
-    let f = comes (interface (record sight { region = []; enclosing = sight.region ++ sight.enclosing }) c.generics c.ports) _ x b.1 in
-    let g = kept (ends c.name.text c.end_name) _ x f.rest in
-    subst (λ x. AllByRecursion IsNamed x.analysed) (some_same _ x g.1) tt
+component_named entities sight c x q = subst (λ x. AllByRecursion IsNamed x.analysed) (component_parts entities sight c x q).is tt
 
 pub declaration_named : (entities : List EntityView) (sight : Sight) (d : t.Declaration) (x : Declares u.Declaration) → AreWords (spell_declaration d) → declaration entities sight d ≡ Some x
     → AllByRecursion IsNamed x.analysed

@@ -1,7 +1,8 @@
 //! Laws of soundness (`specs/Laws`), each the contract of a function that does nothing.
 
 ghost use Rattle.vhdl_names_laws.specs.Laws.{ExpressionsFit, StatementsFit, UnitsAreSound, PortsAreDistinct, UnitsAreNamed};
-ghost use Rattle.vhdl_names_laws.specs.Laws.{SmallPortsAreDistinct, SpelledFilesHaveWords, ComponentsAreTexts, WellTypedFilesBreakNoRule, IllTypedFilesBreakARule};
+ghost use Rattle.vhdl_names_laws.specs.Laws.{SmallPortsAreDistinct, SpelledFilesHaveWords, ComponentsAreTexts};
+ghost use Rattle.vhdl_names_laws.specs.Laws.{WellTypedFilesBreakNoRule, IllTypedFilesBreakARule};
 ghost use Rattle.vhdl_names_laws.specs.Laws.{FaultsStandAtTokens, FaultsLieInTheText, UnitsStandAtTokens, UnitsLieInTheText};
 
 /// Each expression is what its type says: integers are in range, vectors have the shape of their

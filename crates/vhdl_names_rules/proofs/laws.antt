@@ -1,5 +1,6 @@
 -- Proofs of the laws.
 pub mod Rules
+pub mod Parts
 pub mod Once
 pub mod Choices
 pub mod Associations

@@ -1,6 +1,6 @@
 -- The rule that a problem breaks.
-use Rattle.fault_rules.specs.declared.naming.NameRule.{NameRule}
-use Rattle.fault_rules.specs.declared.naming.NameRule.TheVariants as rule
+use Rattle.fault_rules.specs.declared.source.NameRule.{NameRule}
+use Rattle.fault_rules.specs.declared.source.NameRule.TheVariants as rule
 use Rattle.vhdl_names_rules.specs.declared.fault.NameProblem.{NameProblem}
 use Rattle.vhdl_names_rules.specs.declared.fault.NameProblem.TheVariants as problem
 

@@ -1,5 +1,5 @@
 -- What stands between quotation marks, and the values of literals in turn.
-use Rattle.std.proofs.Common.{◌≡◌, ◌≢◌, ℕ, suc, ◌+◌, ◌-◌, ◌≤◌, ◌<◌, Bool, true, false, cond, List, [], ◌∷◌, ◌++◌, length, take, drop, get_or, Option, Some, None, Result, Ok, Err, IfErr, append-nil, refl, ap, ◌∙◌, arith}
+use Rattle.std.proofs.Common.{◌≡◌, ℕ, suc, ◌+◌, ◌-◌, ◌≤◌, ◌<◌, Bool, true, false, cond, List, [], ◌∷◌, ◌++◌, length, take, drop, get_or, Option, Some, None, append-nil, refl, ap, ◌∙◌, arith}
 use Rattle.std.proofs.lemmas.Bool.Decides.{nat_tests}
 use Rattle.std.proofs.lemmas.List.{drop_all, take_rest}
 use Rattle.std.specs.List.{position_or_len, after_first}
@@ -9,13 +9,8 @@ use Rattle.vhdl_lexer.specs.Bytes.{quote, underscore}
 use Rattle.vhdl_lexer.specs.Words.{base_class}
 use Rattle.vhdl_names_rules.specs.Rules.{◌>>=◌, each}
 use Rattle.vhdl_names_rules.specs.Literals as rules
-use Rattle.vhdl_names_rules.specs.Gives.{Gives}
-use Rattle.vhdl_names_rules.specs.declared.fault.NameFault.{NameFault}
-use Rattle.vhdl_names_rules.specs.declared.fault.NameFault.TheVariants.{At, NoMemory}
-use Rattle.vhdl_names_rules.specs.declared.fault.NameProblem.TheVariants.{TypeMismatch, LeftOut}
-use Rattle.vhdl_names_rules.specs.problems.Broken.{Tells, refused, lacking}
-use Rattle.vhdl_names_rules.specs.problems.Operators.{characters_problem, string_problem}
-use Rattle.vhdl_names_rules.proofs.Telling.{at_is_told, told_lacking}
+use Rattle.vhdl_names_rules.specs.declared.fault.NameProblem.TheVariants.{TypeMismatch}
+use Rattle.vhdl_names_rules.specs.problems.Operators.{characters_problem}
 
 found : (b : Bool) (n i : ℕ) → cond b (Some n) None ≡ Some i → n ≡ i
 found true n i e = cc
@@ -67,31 +62,3 @@ bits_of_base items h = ap rules.values_of_bits (cons_of items h)
 pub some_character : (q : List ℕ) (i : ℕ) → i < length q → characters_problem q ≡ TypeMismatch
 some_character [] i lt = absurd (omega (arith, lt))
 some_character (c ∷ cs) i lt = refl
-
-none_of : (q : List ℕ) → each rules.nine_of q ≡ Some [] → q ≡ []
-none_of [] e = refl
-none_of (c ∷ cs) e = go (rules.nine_of c) (each rules.nine_of cs) e
-  where
-    go : (o : Option Nine) (vs : Option (List Nine)) → (o >>= λ y. vs >>= λ ys. Some (y ∷ ys)) ≡ Some [] → c ∷ cs ≡ []
-    go None vs e = absurd cc
-    go (Some y) None e = absurd cc
-    go (Some y) (Some ys) e = absurd cc
-
-empty_of : (vs : List Nine) → rules.at_least_one vs ≡ None → vs ≡ []
-empty_of [] e = refl
-empty_of (v ∷ vs) e = absurd cc
-
--- the string is empty
-pub empty_told : {X : Type 0} (view : X → List Nine) (text : List ℕ) (vs : List Nine) (at : ℕ) (r : Result X NameFault) → each rules.nine_of (rules.quoted text) ≡ Some vs →
-    Gives view (rules.at_least_one vs) r → IfErr r (Tells (refused LeftOut at)) → IfErr r (Tells (lacking (string_problem text) at (rules.values_of_string text)))
-empty_told view text vs at (Ok x) all given told = tt
-empty_told view text vs at (Err NoMemory) all given told = tt
-empty_told view text vs at (Err (At p b)) all given told =
-    let none : rules.at_least_one vs ≡ None = given (at_is_told p b) in
-    let empty : rules.quoted text ≡ [] = none_of (rules.quoted text) (all ∙ ap Some (empty_of vs none)) in
-    ap (lacking (string_problem text) at) (ap (λ o. o >>= rules.at_least_one) all ∙ none) ∙ ap (λ q. refused (characters_problem q) at) empty ∙ told
-
--- a character is none of the nine values
-pub mismatch_told : (text : List ℕ) (at : ℕ) (f : NameFault) → (f ≢ NoMemory → each rules.nine_of (rules.quoted text) ≡ None) → Tells (refused (string_problem text) at) f →
-    Tells (lacking (string_problem text) at (rules.values_of_string text)) f
-mismatch_told text at f none told = told_lacking (string_problem text) at (rules.values_of_string text) f (λ n. ap (λ o. o >>= rules.at_least_one) (none n)) told

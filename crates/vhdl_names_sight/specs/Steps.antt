@@ -28,18 +28,18 @@ abbrev pub same_by : (at : ℕ) → Cmp → Value → Value → Test
 same_by at Ne = u.unlike at
 same_by at _ = u.alike at
 
+-- numbers that are found for an operator of numeric_std, where it is in sight
+abbrev pub found : (numbers are_numbers : Bool) → Typed × Typed → Option (Typed × Typed)
+found numbers are_numbers p = do
+  rule NotVisible numbers
+  given_that TypeMismatch are_numbers p
+
 -- the numbers that operands are, as integers and unsigned ones; all but two integers need the operators of numeric_std in sight
 abbrev pub numbers_of : (numbers : Bool) → Typed → Typed → Option (Typed × Typed)
 numbers_of numbers (integer s) (integer t) = Some (integer s, integer t)
-numbers_of numbers (elements j x) (elements k y) = do
-  rule NotVisible numbers
-  given_that TypeMismatch (are_numbers j k) (elements Unsigned x, elements Unsigned y)
-numbers_of numbers (elements j x) (integer t) = do
-  rule NotVisible numbers
-  given_that TypeMismatch (is_number j) (elements Unsigned x, integer t)
-numbers_of numbers (integer s) (elements k y) = do
-  rule NotVisible numbers
-  given_that TypeMismatch (is_number k) (integer s, elements Unsigned y)
+numbers_of numbers (elements j x) (elements k y) = found numbers (are_numbers j k) (elements Unsigned x, elements Unsigned y)
+numbers_of numbers (elements j x) (integer t) = found numbers (is_number j) (elements Unsigned x, integer t)
+numbers_of numbers (integer s) (elements k y) = found numbers (is_number k) (integer s, elements Unsigned y)
 numbers_of numbers _ _ = None
 
 -- what is calculated of numbers, and how they are compared

@@ -17,6 +17,7 @@ ghost use Rattle.vhdl_names_rules.specs.views.Vectors.{part_view, place_view, ve
 ghost use Rattle.vhdl_names_sight.specs.Steps.{edge_by, edge_call_problem, is_signal};
 ghost use Rattle.vhdl_names_sight.specs.Views.{typed_view, typed_suffix_view};
 
+use crate::held::without;
 use crate::parts::sole_argument;
 use crate::types::{Typed, TypedSuffix};
 use vhdl_names_rules::{
@@ -101,8 +102,8 @@ fn element_of(operand: Typed, at: usize) -> Result<Vector, NameFault>
 {
     match operand {
         Typed::Elements(ElementKind::Element, vector) => Ok(vector),
-        Typed::Integer(_integer) => Err(NameProblem::WrongKind.at(at)),
-        _operand => Err(NameProblem::TypeMismatch.at(at)),
+        Typed::Integer(integer) => Err(without(integer, NameProblem::WrongKind.at(at))),
+        operand => Err(without(operand, NameProblem::TypeMismatch.at(at))),
     }
 }
 
@@ -117,10 +118,13 @@ fn static_signal(vector: Vector, at: usize) -> Result<SignalPart, NameFault>
             if is_static_part(&place.part) {
                 Ok(place)
             } else {
-                Err(NameProblem::TypeMismatch.at(at))
+                Err(without(place, NameProblem::TypeMismatch.at(at)))
             }
         }
-        Err(vector) => Err(edge_problem(&vector).at(at)),
+        Err(vector) => {
+            let problem = edge_problem(&vector);
+            Err(without(vector, problem.at(at)))
+        }
     }
 }
 

@@ -18,6 +18,7 @@ ghost use Rattle.vhdl_names_sight.specs.Steps.{conversion, counting, encoded_by,
 ghost use Rattle.vhdl_names_sight.specs.Views.{meaning_view, typed_view, typed_suffix_view};
 
 use crate::edges::{edge_of, edge_signal};
+use crate::held::without;
 use crate::meaning::Meaning;
 use crate::parts::{if_plain, part, sole_argument, two_arguments};
 use crate::types::{Typed, TypedSuffix};
@@ -70,7 +71,7 @@ fn conversion_of(kind: ElementKind, operand: Option<Typed>, at: usize) -> Result
                 vector,
             ),
         ) => { Ok(Typed::Elements(kind, vector)) }
-        _operand => Err(NameProblem::TypeMismatch.at(at)),
+        operand => Err(without(operand, NameProblem::TypeMismatch.at(at))),
     }
 }
 
@@ -82,7 +83,7 @@ fn converted(kind: ElementKind, suffix: TypedSuffix, at: usize) -> Result<Typed,
 {
     match suffix {
         TypedSuffix::Arguments(_, arguments) => conversion_of(kind, sole_argument(arguments), at),
-        _ => Err(NameProblem::TypeMismatch.at(at)),
+        suffix => Err(without(suffix, NameProblem::TypeMismatch.at(at))),
     }
 }
 
@@ -99,9 +100,9 @@ fn number_and_count(arguments: Vec<Typed>, at: usize) -> Result<(Vector, Static)
     match first {
         Typed::Elements(ElementKind::Unsigned, number) => match second {
             Typed::Integer(count) => Ok((number, count)),
-            _second => Err(problem.at(at)),
+            second => Err(without((number, second), problem.at(at))),
         },
-        _first => Err(problem.at(at)),
+        first => Err(without(first, problem.at(at))),
     }
 }
 
@@ -120,9 +121,9 @@ fn encoded(arguments: Vec<Typed>, at: usize) -> Result<Typed, NameFault>
             Typed::Integer(size) => {
                 Ok(Typed::Elements(ElementKind::Unsigned, Vector::Encoded(at, number, size)))
             }
-            _second => Err(problem.at(at)),
+            second => Err(without((number, second), problem.at(at))),
         },
-        _first => Err(problem.at(at)),
+        first => Err(without(first, problem.at(at))),
     }
 }
 

@@ -4,13 +4,15 @@
 ghost use Rattle.vhdl_names_rules.specs.problems.Broken.{Tells, refused};
 ghost use Rattle.vhdl_names_rules.specs.problems.Operators.{is_numeric};
 ghost use Rattle.vhdl_names_rules.specs.declared.fault.NameProblem.TheVariants.{NotVisible};
-ghost use Rattle.std.specs.Prelude.{◌≡◌, ◌&&◌, if◌then◌else◌, true, false, Some, IfOk, OnErr, IfErr};
+ghost use Rattle.std.specs.Prelude.{◌≡◌, ◌&&◌, if◌then◌else◌, Some, IfOk, IfErr};
 ghost use Rattle.vhdl_names_rules.specs.Gives.{Gives};
 ghost use Rattle.vhdl_names_rules.specs.Operators as table;
 ghost use Rattle.vhdl_names_rules.specs.views.Integers.{static_view};
+ghost use Rattle.vhdl_names_sight.specs.Steps as steps;
 ghost use Rattle.vhdl_names_sight.specs.Steps.{numbers_of, calculation, comparing};
 ghost use Rattle.vhdl_names_sight.specs.Views.{typed_view, numbers_view};
 
+use crate::held::without;
 use crate::types::Typed;
 use std::alloc::{AllocError, Global};
 use vhdl_names_rules::{
@@ -19,28 +21,6 @@ use vhdl_names_rules::{
 };
 use vhdl_values::Cmp;
 
-/// What an operator of numeric_std asks for: operands that it takes for numbers, else there is this
-/// problem, and its use clause.
-fn numeric(
-    numbers: bool,
-    are_numbers: bool,
-    problem: NameProblem,
-    at: usize,
-) -> Result<(), NameFault>
-    ensures visible { IfOk result (λ _. numbers ≡ true) }
-    ensures fitting { IfOk result (λ _. are_numbers ≡ true) }
-    ensures lacks { OnErr result ((numbers && are_numbers) ≡ false) }
-    ensures told { IfErr result (Tells (refused (if are_numbers then NotVisible else problem) at)) }
-{
-    if !are_numbers {
-        return Err(problem.at(at));
-    }
-    if !numbers {
-        return Err(NameProblem::NotVisible.at(at));
-    }
-    Ok(())
-}
-
 /// Operands of + - * and of < <= > >=: two integers, two numbers, or a number and an integer.
 #[derive(Drop)]
 pub(crate) enum Numbers {
@@ -48,6 +28,27 @@ pub(crate) enum Numbers {
     Vectors(Vector, Vector),
     IntegerSecond(Vector, Static),
     IntegerFirst(Static, Vector),
+}
+
+/// The numbers that were found for an operator of numeric_std. It asks for operands that it takes
+/// for numbers, else there is this problem, and for its use clause.
+fn numeric(
+    found: Numbers,
+    numbers: bool,
+    are_numbers: bool,
+    problem: NameProblem,
+    at: usize,
+) -> Result<Numbers, NameFault>
+    ensures given { Gives numbers_view (steps.found numbers are_numbers (numbers_view found)) result }
+    ensures told { IfErr result (Tells (refused (if are_numbers then NotVisible else problem) at)) }
+{
+    if !are_numbers {
+        return Err(without(found, problem.at(at)));
+    }
+    if !numbers {
+        return Err(without(found, NameProblem::NotVisible.at(at)));
+    }
+    Ok(found)
 }
 
 /// The numbers that operands are; where they are none, there is this problem.
@@ -67,23 +68,33 @@ pub(crate) fn as_numbers(
         Typed::Integer(s) => match right {
             Typed::Integer(t) => Ok(Numbers::Integers(s, t)),
             Typed::Elements(k, y) => {
-                numeric(numbers, k.is_number(), problem, at)?;
-                Ok(Numbers::IntegerFirst(s, y))
+                numeric(
+                    Numbers::IntegerFirst(s, y),
+                    numbers,
+                    k.is_number(),
+                    problem,
+                    at,
+                )
             }
-            _right => Err(problem.at(at)),
+            right => Err(without((s, right), problem.at(at))),
         },
         Typed::Elements(j, x) => match right {
             Typed::Elements(k, y) => {
-                numeric(numbers, j.is_number() && k.is_number(), problem, at)?;
-                Ok(Numbers::Vectors(x, y))
+                let are_numbers = j.is_number() && k.is_number();
+                numeric(Numbers::Vectors(x, y), numbers, are_numbers, problem, at)
             }
             Typed::Integer(t) => {
-                numeric(numbers, j.is_number(), problem, at)?;
-                Ok(Numbers::IntegerSecond(x, t))
+                numeric(
+                    Numbers::IntegerSecond(x, t),
+                    numbers,
+                    j.is_number(),
+                    problem,
+                    at,
+                )
             }
-            _right => Err(problem.at(at)),
+            right => Err(without((x, right), problem.at(at))),
         },
-        _left => Err(problem.at(at)),
+        left => Err(without((left, right), problem.at(at))),
     }
 }
 

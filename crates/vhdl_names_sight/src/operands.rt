@@ -14,6 +14,7 @@ ghost use Rattle.vhdl_names_rules.specs.views.Vectors.{vector_view};
 ghost use Rattle.vhdl_names_sight.specs.Steps.{closed, integer_literal as integer_of, signed_by};
 ghost use Rattle.vhdl_names_sight.specs.Views.{typed_view};
 
+use crate::held::without;
 use crate::literals::{bit_string_values, string_values};
 use crate::types::Typed;
 use std::alloc::Global;
@@ -86,7 +87,7 @@ pub fn signed(alloc: Global, sign: Sign, operand: Typed, at: usize) -> Result<Ty
             Sign::Plus => Ok(Typed::Integer(integer)),
             Sign::Minus => Ok(Typed::Integer(Static::negated(alloc, at, integer)?)),
         },
-        _operand => Err(NameProblem::TypeMismatch.at(at)),
+        operand => Err(without(operand, NameProblem::TypeMismatch.at(at))),
     }
 }
 

@@ -11,6 +11,7 @@ ghost use Rattle.vhdl_names_rules.specs.views.Vectors.{value_view};
 ghost use Rattle.vhdl_names_sight.specs.Steps.{same_by};
 ghost use Rattle.vhdl_names_sight.specs.Views.{typed_view};
 
+use crate::held::without;
 use crate::numbers::{as_numbers, calculated, compared, integers_compared};
 use crate::types::Typed;
 use std::alloc::{AllocError, Global};
@@ -37,19 +38,19 @@ fn logical(
     match left {
         Typed::Elements(j, x) => match right {
             Typed::Elements(k, y) => match j.common(k) {
-                None => Err(problem.at(at)),
+                None => Err(without((x, y), problem.at(at))),
                 Some(kind) => {
                     let link = VectorLink::Vector(VectorOperator::Logical(operator), at, y);
                     Ok(Typed::Elements(kind, x.with_link(alloc, link)?))
                 }
             },
-            _right => Err(problem.at(at)),
+            right => Err(without((x, right), problem.at(at))),
         },
         Typed::Truth(x) => match right {
             Typed::Truth(y) => Ok(Typed::Truth(x.both(alloc, operator, y)?)),
-            _right => Err(problem.at(at)),
+            right => Err(without((x, right), problem.at(at))),
         },
-        _left => Err(problem.at(at)),
+        left => Err(without((left, right), problem.at(at))),
     }
 }
 
@@ -62,7 +63,7 @@ pub fn inverse(alloc: Global, at: usize, operand: Typed) -> Result<Typed, NameFa
     match operand {
         Typed::Elements(kind, x) => Ok(Typed::Elements(kind, Vector::inverse(alloc, at, x)?)),
         Typed::Truth(x) => Ok(Typed::Truth(x.negated(alloc)?)),
-        _operand => Err(NameProblem::TypeMismatch.at(at)),
+        operand => Err(without(operand, NameProblem::TypeMismatch.at(at))),
     }
 }
 
@@ -76,15 +77,15 @@ fn concatenated(alloc: Global, at: usize, operands: (Typed, Typed)) -> Result<Ty
     match left {
         Typed::Elements(j, x) => match right {
             Typed::Elements(k, y) => match j.joined(k) {
-                None => Err(problem.at(at)),
+                None => Err(without((x, y), problem.at(at))),
                 Some(kind) => {
                     let link = VectorLink::Vector(VectorOperator::Concatenate, at, y);
                     Ok(Typed::Elements(kind, x.with_link(alloc, link)?))
                 }
             },
-            _right => Err(problem.at(at)),
+            right => Err(without((x, right), problem.at(at))),
         },
-        _left => Err(problem.at(at)),
+        left => Err(without((left, right), problem.at(at))),
     }
 }
 
@@ -104,9 +105,9 @@ fn integral(
     match left {
         Typed::Integer(x) => match right {
             Typed::Integer(y) => Ok(Typed::Integer(x.binary(alloc, operator, at, y)?)),
-            _right => Err(problem.at(at)),
+            right => Err(without((x, right), problem.at(at))),
         },
-        _left => Err(problem.at(at)),
+        left => Err(without((left, right), problem.at(at))),
     }
 }
 
@@ -166,11 +167,11 @@ fn equality(
             Typed::Elements(ElementKind::Unsigned, y) => {
                 Ok(Typed::Truth(Test::compared_with(alloc, comparison, at, s, y)?))
             }
-            _right => Err(problem.at(at)),
+            right => Err(without((s, right), problem.at(at))),
         },
         Typed::Elements(j, x) => match right {
             Typed::Elements(k, y) => match j.common(k) {
-                None => Err(problem.at(at)),
+                None => Err(without((x, y), problem.at(at))),
                 Some(ElementKind::Unsigned) => {
                     Ok(Typed::Truth(Test::compared(alloc, comparison, at, x, y)?))
                 }
@@ -186,9 +187,9 @@ fn equality(
                 ElementKind::Unsigned => {
                     Ok(Typed::Truth(Test::compared_to(alloc, comparison, at, x, t)?))
                 }
-                _ => Err(problem.at(at)),
+                _ => Err(without((x, t), problem.at(at))),
             },
-            _right => Err(problem.at(at)),
+            right => Err(without((x, right), problem.at(at))),
         },
         Typed::Enumerated { number, value, .. } => match right {
             Typed::Enumerated {
@@ -196,9 +197,9 @@ fn equality(
                 value: beside,
                 ..
             } if number == other => Ok(same(alloc, comparison, at, value, beside)?),
-            _right => Err(problem.at(at)),
+            right => Err(without((value, right), problem.at(at))),
         },
-        _left => Err(problem.at(at)),
+        left => Err(without((left, right), problem.at(at))),
     }
 }
 

@@ -10,7 +10,7 @@ ghost use Rattle.vhdl_names_rules.specs.views.Vectors.{part_view};
 ghost use Rattle.vhdl_names_sight.specs.Steps.{sole, two, indexed};
 ghost use Rattle.vhdl_names_sight.specs.Views.{typed_view, typed_suffix_view};
 
-use crate::held::before;
+use crate::held::{before, without};
 use crate::types::{Typed, TypedSuffix};
 use vhdl_names_rules::{ElementKind, NameFault, NameProblem, ObjectType, Part};
 
@@ -48,9 +48,9 @@ fn element(
                 Part::Element(index),
                 ElementKind::Element,
             )),
-            _ => Err(NameProblem::TypeMismatch.at(at)),
+            _ => Err(without(index, NameProblem::TypeMismatch.at(at))),
         },
-        _index => Err(NameProblem::TypeMismatch.at(at)),
+        index => Err(without(index, NameProblem::TypeMismatch.at(at))),
     }
 }
 
@@ -102,6 +102,6 @@ pub(crate) fn if_plain(suffix: TypedSuffix, value: Typed, at: usize) -> Result<T
 {
     match suffix {
         TypedSuffix::Plain => Ok(value),
-        _suffix => Err(NameProblem::TypeMismatch.at(at)),
+        suffix => Err(without((suffix, value), NameProblem::TypeMismatch.at(at))),
     }
 }

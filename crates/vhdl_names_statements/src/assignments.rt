@@ -160,22 +160,6 @@ fn body(
     }
 }
 
-/// A conditional assignment, or one of a value alone, in the order of its parts.
-fn assignment_in_turn(sight: &Sight, assignment: &syntax::Assignment) -> Result<Process, NameFault>
-    ensures given { Gives one_process (steps.assignment sight.now (tree.assignment_view assignment.now)) result }
-    ensures told { IfErr result (Tells (problems.assignment sight.now (tree.assignment_view assignment.now))) }
-{
-    let _ = target(sight, &assignment.target)?;
-    let statement = body(
-        sight,
-        &assignment.target,
-        &assignment.branches,
-        &assignment.otherwise,
-    )?;
-    let at = assignment.target.identifier.at;
-    Ok(assigning(sight.alloc, at, &assignment.label, statement)?)
-}
-
 /// `value when choices`.
 fn chosen(
     sight: &Sight,
@@ -246,36 +230,29 @@ fn selected_parts(
     but_last(assignment.at, all)
 }
 
-/// A selected assignment, in the order of its parts.
-fn selected_in_turn(
-    sight: &Sight,
-    label: &Option<Identifier>,
-    assignment: &syntax::SelectedAssignment,
-) -> Result<Process, NameFault>
-    ensures given { Gives one_process
-        (steps.selected sight.now (option_map tree.ident_view label.now) (tree.selected_assignment_view assignment.now))
-        result }
-    ensures told { IfErr result (Tells (problems.selected sight.now (tree.selected_assignment_view assignment.now))) }
-{
-    let (by, value) = selector(sight, &assignment.selector)?;
-    let (alternatives, others) = selected_parts(sight, by, assignment)?;
-    let statement = Statement::selection(assignment.at, value, alternatives, others);
-    Ok(assigning(sight.alloc, assignment.at, label, statement)?)
-}
-
 /// What a conditional assignment, or one of a value alone, is analysed to: a process that is
 /// sensitive to what it reads. It fails at the first byte where a rule is broken, or where memory
 /// is refused.
+#[tactic(auto, using(crate::proofs::steps::Concurrent::assignment_gives))]
 pub fn assignment(sight: &Sight, assignment: &syntax::Assignment) -> Result<Process, NameFault>
     ensures given { Gives one_process (rules.assignment sight.now (tree.assignment_view assignment.now)) result }
     ensures told { IfErr result (Tells (problems.assignment sight.now (tree.assignment_view assignment.now))) }
 {
-    assignment_in_turn(sight, assignment)
+    let _ = target(sight, &assignment.target)?;
+    let statement = body(
+        sight,
+        &assignment.target,
+        &assignment.branches,
+        &assignment.otherwise,
+    )?;
+    let at = assignment.target.identifier.at;
+    Ok(assigning(sight.alloc, at, &assignment.label, statement)?)
 }
 
 /// What a selected assignment behind its label is analysed to: a process with a case that is
 /// sensitive to what it reads. It fails at the first byte where a rule is broken, or where memory
 /// is refused.
+#[tactic(auto, using(crate::proofs::steps::Concurrent::selected_gives))]
 pub fn selected(
     sight: &Sight,
     label: &Option<Identifier>,
@@ -286,5 +263,8 @@ pub fn selected(
         result }
     ensures told { IfErr result (Tells (problems.selected sight.now (tree.selected_assignment_view assignment.now))) }
 {
-    selected_in_turn(sight, label, assignment)
+    let (by, value) = selector(sight, &assignment.selector)?;
+    let (alternatives, others) = selected_parts(sight, by, assignment)?;
+    let statement = Statement::selection(assignment.at, value, alternatives, others);
+    Ok(assigning(sight.alloc, assignment.at, label, statement)?)
 }

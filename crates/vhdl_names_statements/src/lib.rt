@@ -5,7 +5,6 @@
 
 mod assignments;
 mod choices;
-mod held;
 mod statements;
 
 pub use assignments::{assignment, selected};

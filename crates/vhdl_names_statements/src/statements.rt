@@ -18,11 +18,10 @@ ghost use Rattle.vhdl_names_statements.specs.steps.Sequential as steps;
 ghost use Rattle.vhdl_names_statements.specs.steps.Told as told;
 
 use crate::choices::{but_last, choice_lists, covered};
-use crate::held::ended;
 use vhdl_names_expressions::{choices, condition, given, selector, static_range, target, variable};
 use vhdl_names_rules::{NameFault, ObjectType};
 use vhdl_names_sight::{Declared, Meaning, Sight};
-use vhdl_names_units::{Alternative, Branch, Statement};
+use vhdl_names_units::{Alternative, Branch, Statement, ended};
 use vhdl_tree as syntax;
 use vhdl_tree::Identifier;
 

@@ -54,6 +54,24 @@ pub fn label_ends(label: &Option<Identifier>, end: &Option<Identifier>) -> Resul
     }
 }
 
+/// What was analysed, whose end label repeats its label. Where it is refused, what was analysed is
+/// let go here.
+pub fn ended<T: Drop>(
+    label: &Option<Identifier>,
+    end: &Option<Identifier>,
+    found: T,
+) -> Result<T, NameFault>
+    ensures same { IfOk result (λ x. x ≡ found) }
+    ensures asked { Gives (λ _. tt)
+        (rule WrongKind (visibility.label_ends (option_map tree.ident_view label.now)
+        (option_map tree.ident_view end.now))) result }
+    ensures told { IfErr result (Tells
+        (end_label (option_map tree.ident_view label.now) (option_map tree.ident_view end.now))) }
+{
+    label_ends(label, end)?;
+    Ok(found)
+}
+
 /// A copy of an identifier.
 pub fn copied(alloc: Global, name: &Identifier) -> Result<Identifier, AllocError>
     ensures { IfOk result (λ n. tree.ident_view n ≡ tree.ident_view name.now) }

@@ -19,6 +19,6 @@ pub use answers::{Choice, Fixed, Form, Given, SignalName, Subtype, VariableName}
 pub use concurrent::{Concurrent, Generate, Instance, Process, Scheme, Sensitivity};
 pub use declaration::{Declaration, Generics, Objects, Ports};
 pub use faults::{earlier, earlier_in};
-pub use labels::{copied, copied_label, ends, is_text, label_ends};
+pub use labels::{copied, copied_label, ended, ends, is_text, label_ends};
 pub use sequential::{Alternative, Branch, Case, If, Loop, Statement};
 pub use unit::{Architecture, Entity, Units};

@@ -18,6 +18,7 @@ use Rattle.vhdl_names_rules.specs.problems.Interfaces.{same_text}
 use Rattle.vhdl_names_rules.proofs.laws.Rules.{comes, kept, some_is}
 use Rattle.vhdl_names_rules.proofs.Telling.{IsKept}
 use Rattle.vhdl_names_rules.proofs.kept.Named.{of_component}
+use Rattle.vhdl_names_rules.proofs.laws.Parts.{entity_parts}
 use Rattle.vhdl_names_laws.proofs.given.Giving.{IsGiven, this, bound, ruled, parts, holds, given, of_given}
 use Rattle.vhdl_names_laws.proofs.given.Declarations.{IsApart, stands_apart, end_name_given, context_given, in_region_given, generic_given, port_given}
 
@@ -52,17 +53,15 @@ entity_given items e architecture h =
 -- the names of an interface are distinct
 pub interface_distinct : (items : List ContextItem) (e : t.Entity) (architecture : Option Name) (v : EntityView) → are.entity items e architecture ≡ Some v
     → are_distinct (declared_names v.interface.declared) ≡ true
-unfolding are.entity are.interface
+unfolding are.interface
 interface_distinct items e architecture v h =
-    let c = comes (context no_context items) _ v h in
-    let sight : Sight = sight_of c.value [] in
-    let i = comes (are.interface sight e.generics e.ports) _ v c.rest in
-    let k = kept (ends e.name.text e.end_name) _ v i.rest in
-    let g = comes (in_order with_declared generic sight (all_of e.generics)) _ i.value i.is in
-    let p = comes (in_order with_declared port (with_declared sight g.value.declared) (all_of e.ports)) _ i.value g.rest in
-    let d = kept (are_distinct (declared_names (g.value.declared ++ p.value.declared))) _ i.value p.rest in
-    ap (λ (v : EntityView). are_distinct (declared_names v.interface.declared)) (sym (some_is _ v k.1))
-    ∙ ap (λ (i : are.Interface). are_distinct (declared_names i.declared)) (sym (some_is _ i.value d.1)) ∙ d.0
+    let q = entity_parts items e architecture v h in
+    let sight : Sight = sight_of q.seen.value [] in
+    let g = comes (in_order with_declared generic sight (all_of e.generics)) _ q.own.value q.own.is in
+    let p = comes (in_order with_declared port (with_declared sight g.value.declared) (all_of e.ports)) _ q.own.value g.rest in
+    let d = kept (are_distinct (declared_names (g.value.declared ++ p.value.declared))) _ q.own.value p.rest in
+    ap (λ (v : EntityView). are_distinct (declared_names v.interface.declared)) (sym q.is)
+    ∙ ap (λ (i : are.Interface). are_distinct (declared_names i.declared)) (sym (some_is _ q.own.value d.1)) ∙ d.0
 
 component_is : (entities : List EntityView) (sight : Sight) (c : t.Component)
     → IsKept (lacking Undeclared c.name.at (entity_named entities c.name.text) ▸ where_given (entity_named entities c.name.text) (same_text c)

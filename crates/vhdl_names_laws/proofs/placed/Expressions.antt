@@ -10,7 +10,7 @@ use Rattle.vhdl_names_rules.specs.Visibility as visibility
 use Rattle.vhdl_names_rules.specs.Visibility.{Meaning, Sight}
 use Rattle.vhdl_names_rules.specs.Literals.{number_of, nine_of, values_of_string, values_of_bits}
 use Rattle.vhdl_names_rules.specs.Operators.{Typed, inverse, operated}
-use Rattle.vhdl_names_rules.specs.Names.{Suffix, plain, arguments, denoted, edge_signal}
+use Rattle.vhdl_names_rules.specs.Names.{Suffix, plain, denoted, edge_signal}
 use Rattle.vhdl_names_rules.specs.Expressions as are
 use Rattle.vhdl_names_rules.specs.Expressions.{as_integer, beside, as_test, as_static_test, as_value, as_filled}
 use Rattle.vhdl_names_rules.specs.problems.Broken.{◌▸◌, lacking, where_given}

@@ -15,17 +15,17 @@ use Rattle.vhdl_names_rules.specs.units.Statements as s
 use Rattle.vhdl_names_rules.specs.units.Units as u
 use Rattle.vhdl_names_rules.specs.units.Bytes.{range_bytes, static_test_bytes, place_bytes, value_bytes, test_bytes, given_bytes, statement_bytes, statements_bytes, branches_bytes, alternatives_bytes, object_bytes, sensitivity_bytes, process_bytes, concurrent_bytes, concurrents_bytes}
 use Rattle.vhdl_names_rules.specs.Rules.{◌>>=◌, each}
-use Rattle.vhdl_names_rules.specs.Visibility.{Name, Sight, with_variables, are_distinct, label_ends, ends}
+use Rattle.vhdl_names_rules.specs.Visibility.{Name, Sight, with_variables, are_distinct, ends}
 use Rattle.vhdl_names_rules.specs.Expressions.{typed, static_range, condition, as_static_test, value_given}
-use Rattle.vhdl_names_rules.specs.Choices.{covered, selector, arranged}
-use Rattle.vhdl_names_rules.specs.Declarations.{in_order, variables}
-use Rattle.vhdl_names_rules.specs.Interfaces.{EntityView, declared_names}
+use Rattle.vhdl_names_rules.specs.Declarations.{variables}
+use Rattle.vhdl_names_rules.specs.Interfaces.{EntityView}
 use Rattle.vhdl_names_rules.specs.Instances.{instance}
-use Rattle.vhdl_names_rules.specs.Statements.{SignalName, signal, target, statements, statement_labels}
+use Rattle.vhdl_names_rules.specs.Statements.{SignalName, signal, target}
 use Rattle.vhdl_names_rules.specs.Concurrent.{assigning, assigned, alone, last_branch, branches, assignment_body, assignment, selected, sensitivity, process, concurrent_labels, sight_within, generated, concurrent, concurrents}
 use Rattle.vhdl_names_rules.proofs.laws.Rules.{comes, kept}
+use Rattle.vhdl_names_rules.proofs.laws.Parts.{process_parts, selected_parts}
 use Rattle.vhdl_names_laws.proofs.Statics.{some_same}
-use Rattle.vhdl_names_laws.proofs.Operators.{mapped}
+use Rattle.vhdl_names_rules.proofs.kept.Keeping.{mapped}
 use Rattle.vhdl_names_laws.proofs.Words.{all_in_order}
 use Rattle.vhdl_names_laws.proofs.placed.Told.{Stand, EachStands, first, behind, each_stands, list_stands}
 use Rattle.vhdl_names_laws.proofs.placed.Concurrent.{BranchesStand, waveforms_stand}
@@ -112,24 +112,18 @@ waveforms_hold P sight x (w ∷ ws) ys h f q =
 
 selected_holds : (P : ℕ → Type 0) (sight : Sight) (label : Option Ident) (a : t.SelectedAssignment) (x : u.Concurrent) → Stand P (spell_selected a) → selected sight label a ≡ Some x
     → Hold P (concurrent_bytes x)
-unfolding selected
 selected_holds P sight label a x h q =
     let all = (behind P (spell a.selector) _ h.1).1 in
     let n = first P (spell_name a.target) _ all in
     let ws = list_stands P k.Comma spell_waveform a.waveforms (first P (spell_list k.Comma spell_waveform a.waveforms) _ (behind P (spell_name a.target) _ all).1) in
-    let e = comes (typed sight a.selector) _ x q in
-    let by = comes (selector e.value) _ x e.rest in
-    let to = comes (target sight a.target) _ x by.rest in
-    let css = comes (covered sight by.value.0 (map (λ (w : t.Waveform). w.choices) a.waveforms)) _ x to.rest in
-    let bodies = comes (each (λ (w : t.Waveform). option_map alone (assigned sight to.value w.value)) a.waveforms) _ x css.rest in
-    let alts = comes (arranged css.value bodies.value) _ x bodies.rest in
-    subst (λ x. Hold P (concurrent_bytes x)) (some_same _ x alts.rest)
-    (assigning_holds P a.at label (s.case_of a.at by.value.1 alts.value) h.0 (
+    let p = selected_parts sight label a x q in
+    subst (λ x. Hold P (concurrent_bytes x)) p.is
+    (assigning_holds P a.at label (s.case_of a.at p.chosen.by.value.1 p.chosen.all.value) h.0 (
       h.0,
-      hold_both P (value_bytes by.value.1) (alternatives_bytes alts.value)
-          (selector_holds P e.value by.value (typed_holds a.selector P sight e.value (first P (spell a.selector) _ h.1) e.is) by.is)
-          (arranged_holds P css.value bodies.value alts.value
-          (waveforms_hold P sight to.value a.waveforms bodies.value (target_holds P sight a.target to.value n to.is) ws bodies.is) alts.is),
+      hold_both P (value_bytes p.chosen.by.value.1) (alternatives_bytes p.chosen.all.value)
+          (selector_holds P p.chosen.operand.value p.chosen.by.value (typed_holds a.selector P sight p.chosen.operand.value (first P (spell a.selector) _ h.1) p.chosen.operand.is) p.chosen.by.is)
+          (arranged_holds P p.chosen.choices.value p.chosen.bodies.value p.chosen.all.value
+          (waveforms_hold P sight p.to.value a.waveforms p.chosen.bodies.value (target_holds P sight a.target p.to.value n p.to.is) ws p.chosen.bodies.is) p.chosen.all.is),
     ))
 
 -- ---- processes
@@ -156,28 +150,22 @@ sensitivity_holds P sight (t.listed ns) x h q =
 
 process_holds : (P : ℕ → Type 0) (sight : Sight) (label : Option Ident) (p : t.Process) (x : u.Process) → Stand P (spell_process p) → process sight label p ≡ Some x
     → Hold P (process_bytes x)
-unfolding process
 process_holds P sight label p x h q =
     let word = behind P (spell_sensitivity p.sensitivity) _ h.1 in
     let declared = behind P (spell_word k.Is p.is_word) _ word in
     let ds = each_stands P spell_variables p.variables (first P (spell_each spell_variables p.variables) _ declared) in
     let xs = t.statements_of p.statements in
     let inner = first P (spell_statements xs) _ (behind P (spell_each spell_variables p.variables) _ declared).1 in
-    let on = comes (sensitivity sight p.sensitivity) _ x q in
-    let vs = comes (in_order with_variables variables sight p.variables) _ x on.rest in
-    let a = kept (are_distinct (declared_names vs.value.declared)) _ x vs.rest in
-    let b = kept (are_distinct (statement_labels (t.statements_of p.statements))) _ x a.1 in
-    let body = comes (statements (with_variables sight vs.value.declared) (t.statements_of p.statements)) _ x b.1 in
-    let c = kept (label_ends label p.end_label) _ x body.rest in
-    subst (λ (x : u.Process). Hold P (process_bytes x)) (some_same _ x c.1) (
+    let d = process_parts sight label p x q in
+    subst (λ (x : u.Process). Hold P (process_bytes x)) d.is (
       h.0,
-      hold_both P (flat_map object_bytes vs.value.analysed) (sensitivity_bytes on.value ++ statements_bytes body.value)
-          (hold_each P object_bytes vs.value.analysed
+      hold_both P (flat_map object_bytes d.own.value.analysed) (sensitivity_bytes d.on.value ++ statements_bytes d.body.value)
+          (hold_each P object_bytes d.own.value.analysed
           (all_in_order with_variables variables (λ (d : t.Variables). Stand P (spell_variables d)) (λ (o : u.Object). Hold P (object_bytes o)) (λ sight d y g e. variables_hold P sight d y g e)
-          p.variables sight vs.value ds vs.is))
-          (hold_both P (sensitivity_bytes on.value) (statements_bytes body.value)
-          (sensitivity_holds P sight p.sensitivity on.value (first P (spell_sensitivity p.sensitivity) _ h.1) on.is)
-          (statements_hold xs P (with_variables sight vs.value.declared) body.value inner body.is)),
+          p.variables sight d.own.value ds d.own.is))
+          (hold_both P (sensitivity_bytes d.on.value) (statements_bytes d.body.value)
+          (sensitivity_holds P sight p.sensitivity d.on.value (first P (spell_sensitivity p.sensitivity) _ h.1) d.on.is)
+          (statements_hold xs P (with_variables sight d.own.value.declared) d.body.value inner d.body.is)),
     )
 
 -- ---- all statements

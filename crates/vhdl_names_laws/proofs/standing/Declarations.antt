@@ -1,5 +1,5 @@
 -- The bytes of what is declared are those of pieces of its declaration.
-use Rattle.std.proofs.Common.{◌≡◌, ℕ, ◌&&◌, List, [], ◌∷◌, ◌++◌, map, Option, Some, None, subst}
+use Rattle.std.proofs.Common.{◌≡◌, ℕ, List, [], ◌∷◌, map, Option, Some, None, subst}
 use Rattle.std.specs.Prelude.{nat_le, length, is_none}
 use Rattle.std.specs.List.{AllByRecursion}
 use Rattle.vhdl_lexer.specs.declared.token.TokenKind.TheVariants as k
@@ -14,14 +14,14 @@ use Rattle.vhdl_names_rules.specs.declared.operator.IntegerType.{IntegerType}
 use Rattle.vhdl_names_rules.specs.units.Units as u
 use Rattle.vhdl_names_rules.specs.units.Bytes.{if_any_bytes, form_bytes, fixed_bytes, generic_bytes, object_bytes, port_bytes, declaration_bytes}
 use Rattle.vhdl_names_rules.specs.Rules.{if_any}
-use Rattle.vhdl_names_rules.specs.Visibility.{Sight, meaning, Declares, ends}
+use Rattle.vhdl_names_rules.specs.Visibility.{Sight, meaning, Declares}
 use Rattle.vhdl_names_rules.specs.Expressions.{static}
 use Rattle.vhdl_names_rules.specs.Subtypes.{subtype, fixed_value, as_integer_type, object}
 use Rattle.vhdl_names_rules.specs.Declarations.{generic, as_kind, mode_of, port, signals, variables, within, within_variables, single_expression, constants_by, constants, enumeration}
-use Rattle.vhdl_names_rules.specs.Interfaces.{EntityView, interface, entity_named, component}
-use Rattle.vhdl_names_rules.specs.SameText.{same_generics, same_ports}
+use Rattle.vhdl_names_rules.specs.Interfaces.{EntityView, component}
 use Rattle.vhdl_names_rules.specs.Files.{declaration}
 use Rattle.vhdl_names_rules.proofs.laws.Rules.{comes, kept}
+use Rattle.vhdl_names_rules.proofs.laws.Parts.{component_parts}
 use Rattle.vhdl_names_laws.proofs.Statics.{some_same}
 use Rattle.vhdl_names_laws.proofs.placed.Told.{Stand, NamesStand, first, behind, list_stands}
 use Rattle.vhdl_names_laws.proofs.standing.Holding.{Hold, hold_both}
@@ -143,13 +143,7 @@ enumeration_holds P sight d x q =
 
 component_holds : (P : ℕ → Type 0) (entities : List EntityView) (sight : Sight) (c : t.Component) (x : Declares u.Declaration) → component entities sight c ≡ Some x
     → EachHolds P declaration_bytes x.analysed
-unfolding component
-component_holds P entities sight c x q =
-    let a = comes (entity_named entities c.name.text) _ x q in
-    let b = kept (same_generics c.generics a.value.1.generic_text && same_ports c.ports a.value.1.port_text) _ x a.rest in
-    let f = comes (interface (record sight { region = []; enclosing = sight.region ++ sight.enclosing }) c.generics c.ports) _ x b.1 in
-    let g = kept (ends c.name.text c.end_name) _ x f.rest in
-    subst (λ (x : Declares u.Declaration). EachHolds P declaration_bytes x.analysed) (some_same _ x g.1) tt
+component_holds P entities sight c x q = subst (λ (x : Declares u.Declaration). EachHolds P declaration_bytes x.analysed) (component_parts entities sight c x q).is tt
 
 pub declaration_holds : (P : ℕ → Type 0) (entities : List EntityView) (sight : Sight) (d : t.Declaration) (x : Declares u.Declaration) → Stand P (spell_declaration d)
     → declaration entities sight d ≡ Some x → EachHolds P declaration_bytes x.analysed

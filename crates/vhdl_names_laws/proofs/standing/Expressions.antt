@@ -24,7 +24,8 @@ use Rattle.vhdl_names_rules.specs.Expressions as x
 use Rattle.vhdl_names_rules.specs.Expressions.{as_integer, signed, enclosed, beside, is_one_name, typed, typed_suffix, typed_each, static, static_range, as_test, condition, as_static_test, as_value, as_filled, value_given}
 use Rattle.vhdl_names_rules.proofs.laws.Rules.{comes}
 use Rattle.vhdl_names_laws.proofs.Statics.{some_same}
-use Rattle.vhdl_names_laws.proofs.Operators.{given, mapped}
+use Rattle.vhdl_names_laws.proofs.Operators.{given}
+use Rattle.vhdl_names_rules.proofs.kept.Keeping.{mapped}
 use Rattle.vhdl_names_laws.proofs.placed.Told.{Stand, first, behind}
 use Rattle.vhdl_names_laws.proofs.standing.Holding.{Hold, hold_both, TypedHolds, SuffixHolds}
 use Rattle.vhdl_names_laws.proofs.standing.Operators.{inverse_holds, operated_holds}

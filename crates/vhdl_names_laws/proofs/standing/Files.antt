@@ -12,13 +12,13 @@ use Rattle.vhdl_names_rules.specs.units.Units as u
 use Rattle.vhdl_names_rules.specs.units.Units.{Units}
 use Rattle.vhdl_names_rules.specs.units.Bytes.{if_any_bytes, generic_bytes, port_bytes, declaration_bytes, concurrents_bytes, architecture_bytes, entity_bytes, units_bytes}
 use Rattle.vhdl_names_rules.specs.Rules.{each, if_any, all_of}
-use Rattle.vhdl_names_rules.specs.Visibility.{Name, Sight, are_distinct, ends, with_declared}
-use Rattle.vhdl_names_rules.specs.Packages.{no_context, context, sight_of}
+use Rattle.vhdl_names_rules.specs.Visibility.{Name, Sight, are_distinct, with_declared}
+use Rattle.vhdl_names_rules.specs.Packages.{context, sight_of}
 use Rattle.vhdl_names_rules.specs.Declarations.{in_order, generic, port}
 use Rattle.vhdl_names_rules.specs.Interfaces.{Interface, EntityView, declared_names, interface, entity}
-use Rattle.vhdl_names_rules.specs.Concurrent.{concurrent_labels, concurrents}
-use Rattle.vhdl_names_rules.specs.Files.{as_entity, as_architecture, entities_of, architectures_of, architecture_of, entity_names, described_names, stand_after, viewed, declaration, labelled, architecture, unit, units_of}
+use Rattle.vhdl_names_rules.specs.Files.{as_entity, as_architecture, entities_of, architectures_of, architecture_of, viewed, declaration, architecture, unit, units_of}
 use Rattle.vhdl_names_rules.proofs.laws.Rules.{comes, kept}
+use Rattle.vhdl_names_rules.proofs.laws.Parts.{region_of, entity_parts, architecture_parts, file_parts}
 use Rattle.vhdl_names_laws.proofs.Statics.{some_same}
 use Rattle.vhdl_names_laws.proofs.Units.{found}
 use Rattle.vhdl_names_laws.proofs.Words.{all_in_order}
@@ -33,24 +33,18 @@ use Rattle.vhdl_names_laws.proofs.standing.Concurrent.{concurrents_hold}
 
 architecture_holds : (P : ℕ → Type 0) (entities : List EntityView) (e : EntityView) (items : List ContextItem) (a : t.Architecture) (x : u.Architecture) → Stand P (spell_architecture a)
     → architecture entities e items a ≡ Some x → Hold P (architecture_bytes x)
-unfolding architecture
 architecture_holds P entities e items a x h q =
     let inner = h.1.1.1.1.1 in
     let begun = (behind P (spell_each spell_declaration a.declarations) _ inner).1 in
     let body_stands = subst (Stand P) (spelled_alike a.statements) (first P (spell_each spell_concurrent a.statements) _ begun) in
-    let c = comes (context e.context items) _ x q in
-    let ds = comes (in_order with_declared (declaration entities) (sight_of c.value e.interface.declared) a.declarations) _ x c.rest in
-    let region = e.interface.declared ++ (ds.value.declared ++ labelled (concurrent_labels (t.concurrents_of a.statements))) in
-    let d = kept (are_distinct (declared_names region)) _ x ds.rest in
-    let body = comes (concurrents entities (sight_of c.value region) (t.concurrents_of a.statements)) _ x d.1 in
-    let g = kept (ends a.name.text a.end_name) _ x body.rest in
-    subst (λ (x : u.Architecture). Hold P (architecture_bytes x)) (some_same _ x g.1)
-    (hold_both P (flat_map declaration_bytes ds.value.analysed) (concurrents_bytes body.value)
-    (hold_each P declaration_bytes ds.value.analysed
+    let p = architecture_parts entities e items a x q in
+    subst (λ (x : u.Architecture). Hold P (architecture_bytes x)) p.is
+    (hold_both P (flat_map declaration_bytes p.own.value.analysed) (concurrents_bytes p.body.value)
+    (hold_each P declaration_bytes p.own.value.analysed
     (all_in_order with_declared (declaration entities) (λ (d : t.Declaration). Stand P (spell_declaration d)) (λ (d : u.Declaration). Hold P (declaration_bytes d))
-    (λ sight d y w e. declaration_holds P entities sight d y w e) a.declarations (sight_of c.value e.interface.declared) ds.value
-    (each_stands P spell_declaration a.declarations (first P (spell_each spell_declaration a.declarations) _ inner)) ds.is))
-    (concurrents_hold (t.concurrents_of a.statements) P entities (sight_of c.value region) body.value body_stands body.is))
+    (λ sight d y w e. declaration_holds P entities sight d y w e) a.declarations (sight_of p.seen.value e.interface.declared) p.own.value
+    (each_stands P spell_declaration a.declarations (first P (spell_each spell_declaration a.declarations) _ inner)) p.own.is))
+    (concurrents_hold (t.concurrents_of a.statements) P entities (sight_of p.seen.value (region_of e p.own.value.declared a)) p.body.value body_stands p.body.is))
 
 -- ---- entities
 
@@ -81,15 +75,12 @@ interface_holds P sight gs ps x h w q =
     })
 
 entity_holds : (P : ℕ → Type 0) (items : List ContextItem) (e : t.Entity) (a : Option Name) (v : EntityView) → Stand P (spell_entity e) → entity items e a ≡ Some v → ViewHolds P v
-unfolding entity
 entity_holds P items e a v h q =
     let ports = behind P (spell_option spell_generics e.generics) _ h.1.1.1 in
-    let c = comes (context no_context items) _ v q in
-    let i = comes (interface (sight_of c.value []) e.generics e.ports) _ v c.rest in
-    let g = kept (ends e.name.text e.end_name) _ v i.rest in
+    let p = entity_parts items e a v q in
     let f =
-    interface_holds P (sight_of c.value []) e.generics e.ports i.value (first P (spell_option spell_generics e.generics) _ h.1.1.1) (first P (spell_option spell_ports e.ports) _ ports) i.is in
-    subst (ViewHolds P) (some_same _ v g.1) (record { name = h.1.0; generics = f.generics; ports = f.ports })
+    interface_holds P (sight_of p.seen.value []) e.generics e.ports p.own.value (first P (spell_option spell_generics e.generics) _ h.1.1.1) (first P (spell_option spell_ports e.ports) _ ports) p.own.is in
+    subst (ViewHolds P) p.is (record { name = h.1.0; generics = f.generics; ports = f.ports })
 
 -- ---- the units of a file, by what they are
 
@@ -155,13 +146,9 @@ unit_holds P entities ds e x all h q =
         (found (ArchitectureStands P) (λ (a : List ContextItem × t.Architecture). bytes_eq e.name a.1.entity.text) (architectures_of ds) p all w) b.is)
 
 pub units_hold : (P : ℕ → Type 0) (f : File) (units : Units) → Stand P (spell_file f) → units_of f ≡ Some units → Hold P (units_bytes units)
-unfolding units_of
 units_hold P f units h q =
-    let a = kept (are_distinct (entity_names f.units)) _ units q in
-    let b = kept (are_distinct (described_names f.units)) _ units a.1 in
-    let c = kept (stand_after f.units) _ units b.1 in
-    let v = comes (each (viewed f.units) (entities_of f.units)) _ units c.1 in
+    let p = file_parts f units q in
     hold_each P entity_bytes units
-    (each_from (unit v.value f.units) (ViewHolds P) (λ (x : u.Entity). Hold P (entity_bytes x))
-    (λ e x w g. unit_holds P v.value f.units e x (architectures_stand P f.units h) w g) v.value units
-    (each_from (viewed f.units) (EntityStands P) (ViewHolds P) (λ e y w g. entity_holds P e.0 e.1 _ y w g) (entities_of f.units) v.value (entities_stand P f.units h) v.is) v.rest)
+    (each_from (unit p.views.value f.units) (ViewHolds P) (λ (x : u.Entity). Hold P (entity_bytes x))
+    (λ e x w g. unit_holds P p.views.value f.units e x (architectures_stand P f.units h) w g) p.views.value units
+    (each_from (viewed f.units) (EntityStands P) (ViewHolds P) (λ e y w g. entity_holds P e.0 e.1 _ y w g) (entities_of f.units) p.views.value (entities_stand P f.units h) p.views.is) p.gives)

@@ -1,6 +1,6 @@
 -- The bytes of an analysed instance are those of pieces of the instance.
 use Rattle.std.proofs.Common.{◌≡◌, ℕ, Bool, true, false, cond, List, [], ◌∷◌, map, Option, Some, None, subst}
-use Rattle.std.specs.List.{AllByRecursion, flat_map, list_all, slice_get, filter_map}
+use Rattle.std.specs.List.{AllByRecursion, flat_map, list_all, filter_map}
 use Rattle.std.specs.Str.{bytes_eq}
 use Rattle.vhdl_lexer.specs.declared.token.TokenKind.TheVariants as k
 use Rattle.vhdl_tree.specs.Tree as t
@@ -16,8 +16,9 @@ use Rattle.vhdl_names_rules.specs.Visibility.{Name, Sight, is_among, are_distinc
 use Rattle.vhdl_names_rules.specs.Expressions.{static}
 use Rattle.vhdl_names_rules.specs.Statements.{signal}
 use Rattle.vhdl_names_rules.specs.Interfaces.{EntityView}
-use Rattle.vhdl_names_rules.specs.Instances.{Formal, generic_name, port_formal, positional_first, formals_of, expression_of, actual_of, associated, as_name, is_kind, may_join, port_actual, port_actuals, instantiated, instance}
+use Rattle.vhdl_names_rules.specs.Instances.{Formal, generic_name, port_formal, positional_first, formals_of, expression_of, actual_of, associated, as_name, is_kind, may_join, port_actual, port_actuals, instance}
 use Rattle.vhdl_names_rules.proofs.laws.Rules.{comes, kept}
+use Rattle.vhdl_names_rules.proofs.laws.Parts.{instance_parts}
 use Rattle.vhdl_names_laws.proofs.Statics.{some_same}
 use Rattle.vhdl_names_laws.proofs.placed.Told.{Stand, EachStands, first, behind}
 use Rattle.vhdl_names_laws.proofs.placed.Instances.{map_stands}
@@ -111,25 +112,20 @@ ports_hold P sight (f ∷ fs) (d ∷ ds) zs h q =
 
 pub instance_holds : (P : ℕ → Type 0) (entities : List EntityView) (sight : Sight) (label : Ident) (i : t.Instance) (x : u.Instance) → P label.at → Stand P (spell_instance i)
     → instance entities sight label i ≡ Some x → Hold P (instance_bytes x)
-unfolding instance
 instance_holds P entities sight label i x h g q =
     let generics = behind P (spell_instantiated i.unit) _ g in
     let ports = behind P (spell_option (spell_map k.Generic) i.generics) _ generics in
-    let c = comes (instantiated entities sight i.unit) _ x q in
-    let e = comes (slice_get entities c.value) _ x c.rest in
-    let gs = comes (associated (filter_map generic_name e.value.interface.declared) (all_of i.generics)) _ x e.rest in
-    let statics = comes (each (if_any (static sight)) gs.value) _ x gs.rest in
-    let ps = comes (associated (map (λ (f : Formal). f.name) (filter_map port_formal e.value.interface.declared)) (all_of i.ports)) _ x statics.rest in
-    let places = comes (port_actuals sight (filter_map port_formal e.value.interface.declared) ps.value) _ x ps.rest in
-    subst (λ (x : u.Instance). Hold P (instance_bytes x)) (some_same _ x places.rest) (
+    let p = instance_parts entities sight label i x q in
+    let formals = filter_map port_formal p.view.value.interface.declared in
+    subst (λ (x : u.Instance). Hold P (instance_bytes x)) p.is (
       h,
-      hold_both P (flat_map (if_any_bytes static_bytes) statics.value) (flat_map (if_any_bytes place_bytes) places.value)
-          (hold_each P (if_any_bytes static_bytes) statics.value
-          (generics_hold P sight gs.value statics.value
-          (associated_stand P (filter_map generic_name e.value.interface.declared) (all_of i.generics) gs.value
-          (map_stands P k.Generic i.generics (first P (spell_option (spell_map k.Generic) i.generics) _ generics)) gs.is) statics.is))
-          (hold_each P (if_any_bytes place_bytes) places.value
-          (ports_hold P sight (filter_map port_formal e.value.interface.declared) ps.value places.value
-          (associated_stand P (map (λ (f : Formal). f.name) (filter_map port_formal e.value.interface.declared)) (all_of i.ports) ps.value
-          (map_stands P k.Port i.ports (first P (spell_option (spell_map k.Port) i.ports) _ ports)) ps.is) places.is)),
+      hold_both P (flat_map (if_any_bytes static_bytes) p.statics.value) (flat_map (if_any_bytes place_bytes) p.places.value)
+          (hold_each P (if_any_bytes static_bytes) p.statics.value
+          (generics_hold P sight p.generics.value p.statics.value
+          (associated_stand P (filter_map generic_name p.view.value.interface.declared) (all_of i.generics) p.generics.value
+          (map_stands P k.Generic i.generics (first P (spell_option (spell_map k.Generic) i.generics) _ generics)) p.generics.is) p.statics.is))
+          (hold_each P (if_any_bytes place_bytes) p.places.value
+          (ports_hold P sight formals p.ports.value p.places.value
+          (associated_stand P (map (λ (f : Formal). f.name) formals) (all_of i.ports) p.ports.value
+          (map_stands P k.Port i.ports (first P (spell_option (spell_map k.Port) i.ports) _ ports)) p.ports.is) p.places.is)),
     )

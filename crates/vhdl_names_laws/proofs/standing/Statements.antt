@@ -1,6 +1,5 @@
 -- The bytes of an analysed statement are those of pieces of the statement.
 use Rattle.std.proofs.Common.{◌≡◌, ℕ, not, List, [], ◌∷◌, ◌++◌, Option, Some, None, subst}
-use Rattle.std.specs.Prelude.{is_none}
 use Rattle.std.specs.List.{AllByRecursion}
 use Rattle.vhdl_tree.specs.Tree as t
 use Rattle.vhdl_tree.specs.Tree.{Ident}
@@ -15,16 +14,18 @@ use Rattle.vhdl_names_rules.specs.units.Expressions.{Part, Value}
 use Rattle.vhdl_names_rules.specs.units.Statements as s
 use Rattle.vhdl_names_rules.specs.units.Bytes.{range_bytes, part_bytes, place_bytes, value_bytes, test_bytes, given_bytes, statement_bytes, statements_bytes, branches_bytes, alternatives_bytes}
 use Rattle.vhdl_names_rules.specs.Visibility as visibility
-use Rattle.vhdl_names_rules.specs.Visibility.{Meaning, Sight, meaning, label_ends}
+use Rattle.vhdl_names_rules.specs.Visibility.{Meaning, Sight, label_ends}
 use Rattle.vhdl_names_rules.specs.Operators as o
 use Rattle.vhdl_names_rules.specs.Operators.{Typed}
 use Rattle.vhdl_names_rules.specs.Names.{Suffix, part_of}
-use Rattle.vhdl_names_rules.specs.Expressions.{typed, typed_suffix, static_range, condition, value_given}
-use Rattle.vhdl_names_rules.specs.Choices.{covered, selector, arranged}
-use Rattle.vhdl_names_rules.specs.Statements.{SignalName, named_part, as_signal, signal, is_input, target, VariableName, as_variable, variable, choice_lists, statement, statements, conditionals, otherwise, alternatives}
+use Rattle.vhdl_names_rules.specs.Expressions.{static_range, condition, value_given}
+use Rattle.vhdl_names_rules.specs.Choices.{selector, arranged}
+use Rattle.vhdl_names_rules.specs.Statements.{SignalName, named_part, as_signal, signal, is_input, target, VariableName, as_variable, variable, statement, statements, conditionals, otherwise, alternatives}
 use Rattle.vhdl_names_rules.proofs.laws.Rules.{comes, kept}
+use Rattle.vhdl_names_rules.proofs.laws.Parts.{case_parts}
+use Rattle.vhdl_names_laws.proofs.Parts.{signal_parts, variable_parts}
 use Rattle.vhdl_names_laws.proofs.Statics.{some_same}
-use Rattle.vhdl_names_laws.proofs.Operators.{mapped}
+use Rattle.vhdl_names_rules.proofs.kept.Keeping.{mapped}
 use Rattle.vhdl_names_laws.proofs.placed.Told.{Stand, first, behind}
 use Rattle.vhdl_names_laws.proofs.standing.Holding.{Hold, hold_both, TypedHolds, SuffixHolds}
 use Rattle.vhdl_names_laws.proofs.standing.Names.{part_of_holds}
@@ -43,13 +44,9 @@ as_signal_holds P at (visibility.signal k type) suffix x h f q =
 as_signal_holds _ at _ suffix x h f q = absurd cc
 
 pub signal_holds : (P : ℕ → Type 0) (sight : Sight) (n : t.Name) (x : SignalName) → Stand P (spell_name n) → signal sight n ≡ Some x → Hold P (place_bytes x.place)
-unfolding signal
 signal_holds P sight n x h q =
-    let a = kept (is_none n.attribute) _ x q in
-    let b = comes (typed_suffix sight n.suffix) _ x a.1 in
-    let c = comes (meaning sight n.identifier.text) (λ d. as_signal n.identifier.at d b.value) x b.rest in
-    as_signal_holds P n.identifier.at c.value b.value x h.0
-    (suffix_holds n.suffix P sight b.value (first P (spell_suffix n.suffix) (spell_attribute n.attribute) h.1) b.is) c.rest
+    let p = signal_parts sight n x q in
+    as_signal_holds P n.identifier.at p.meant.value p.suffix.value x h.0 (suffix_holds n.suffix P sight p.suffix.value (first P (spell_suffix n.suffix) (spell_attribute n.attribute) h.1) p.suffix.is) p.is
 
 pub target_holds : (P : ℕ → Type 0) (sight : Sight) (n : t.Name) (x : SignalName) → Stand P (spell_name n) → target sight n ≡ Some x → Hold P (place_bytes x.place)
 unfolding target
@@ -70,13 +67,9 @@ as_variable_holds P at (visibility.variable k type) suffix x h f q =
 as_variable_holds _ at _ suffix x h f q = absurd cc
 
 variable_holds : (P : ℕ → Type 0) (sight : Sight) (n : t.Name) (x : VariableName) → Stand P (spell_name n) → variable sight n ≡ Some x → VariableHolds P x
-unfolding variable
 variable_holds P sight n x h q =
-    let a = kept (is_none n.attribute) _ x q in
-    let b = comes (typed_suffix sight n.suffix) _ x a.1 in
-    let c = comes (meaning sight n.identifier.text) (λ d. as_variable n.identifier.at d b.value) x b.rest in
-    as_variable_holds P n.identifier.at c.value b.value x h.0
-    (suffix_holds n.suffix P sight b.value (first P (spell_suffix n.suffix) (spell_attribute n.attribute) h.1) b.is) c.rest
+    let p = variable_parts sight n x q in
+    as_variable_holds P n.identifier.at p.meant.value p.suffix.value x h.0 (suffix_holds n.suffix P sight p.suffix.value (first P (spell_suffix n.suffix) (spell_attribute n.attribute) h.1) p.suffix.is) p.is
 
 -- ---- selectors and alternatives
 
@@ -131,18 +124,13 @@ mutual
       subst (λ x. Hold P (statement_bytes x)) (some_same _ x c.rest)
       (h.0, conditionals_hold bs P sight b.value c.value (first P (spell_conditionals bs) _ h.1) last c.is)
   statement_holds (t.case_of at d alts end) P sight label x h q =
-      let a = kept (label_ends label end) _ x q in
-      let b = comes (typed sight d) _ x a.1 in
-      let by = comes (selector b.value) _ x b.rest in
-      let css = comes (covered sight by.value.0 (choice_lists alts)) _ x by.rest in
-      let bodies = comes (alternatives sight alts) _ x css.rest in
-      let all = comes (arranged css.value bodies.value) _ x bodies.rest in
+      let p = case_parts sight label at d alts end x q in
       let inner = first P (spell_alternatives alts) _ (behind P (spell d) _ h.1).1 in
-      subst (λ x. Hold P (statement_bytes x)) (some_same _ x all.rest) (
+      subst (λ x. Hold P (statement_bytes x)) p.is (
         h.0,
-        hold_both P (value_bytes by.value.1) (alternatives_bytes all.value)
-            (selector_holds P b.value by.value (typed_holds d P sight b.value (first P (spell d) _ h.1) b.is) by.is)
-            (arranged_holds P css.value bodies.value all.value (alternatives_hold alts P sight bodies.value inner bodies.is) all.is),
+        hold_both P (value_bytes p.chosen.by.value.1) (alternatives_bytes p.chosen.all.value)
+            (selector_holds P p.chosen.operand.value p.chosen.by.value (typed_holds d P sight p.chosen.operand.value (first P (spell d) _ h.1) p.chosen.operand.is) p.chosen.by.is)
+            (arranged_holds P p.chosen.choices.value p.chosen.bodies.value p.chosen.all.value (alternatives_hold alts P sight p.chosen.bodies.value inner p.chosen.bodies.is) p.chosen.all.is),
       )
   statement_holds (t.for_of at n r body end) P sight label x h q =
       let a = kept (label_ends label end) _ x q in

@@ -26,7 +26,8 @@ use Rattle.vhdl_names_rules.specs.Expressions.{typed_each, static, static_range}
 use Rattle.vhdl_names_rules.specs.Subtypes.{Subtype, marked, subtype, literal_values, named_value, encoded_value, literal_value, fixed, filled_value, fixed_value}
 use Rattle.vhdl_names_rules.proofs.laws.Rules.{comes, kept}
 use Rattle.vhdl_names_laws.proofs.Statics.{some_same}
-use Rattle.vhdl_names_laws.proofs.Operators.{given, mapped}
+use Rattle.vhdl_names_laws.proofs.Operators.{given}
+use Rattle.vhdl_names_rules.proofs.kept.Keeping.{mapped}
 use Rattle.vhdl_names_laws.proofs.placed.Told.{Stand, first}
 use Rattle.vhdl_names_laws.proofs.standing.Holding.{Hold, hold_both, TypedHolds}
 use Rattle.vhdl_names_laws.proofs.standing.Expressions.{exprs_hold, static_holds, static_range_holds}

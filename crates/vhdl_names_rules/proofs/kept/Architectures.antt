@@ -2,14 +2,13 @@
 use Rattle.std.proofs.Common.{◌≡◌, true, cond, List, [], ◌∷◌, ◌++◌, Some, refl, ap, sym, ◌∙◌}
 use Rattle.std.proofs.lemmas.List.{append_assoc, append-nil}
 use Rattle.vhdl_tree.specs.Tree as t
-use Rattle.vhdl_tree.specs.Tree.{Ident, ContextItem}
+use Rattle.vhdl_tree.specs.Tree.{ContextItem}
 use Rattle.vhdl_names_rules.specs.units.Units as u
-use Rattle.vhdl_names_rules.specs.Visibility.{Name, Declared, Sight, declare, label, are_distinct, ends, with_declared, Declares}
+use Rattle.vhdl_names_rules.specs.Visibility.{Name, Declared, Sight, declare, label, are_distinct, with_declared, Declares}
 use Rattle.vhdl_names_rules.specs.Packages as packages
 use Rattle.vhdl_names_rules.specs.Packages.{sight_of}
 use Rattle.vhdl_names_rules.specs.Declarations.{in_order}
 use Rattle.vhdl_names_rules.specs.Interfaces.{EntityView, declared_names}
-use Rattle.vhdl_names_rules.specs.Concurrent as concurrent
 use Rattle.vhdl_names_rules.specs.Concurrent.{concurrent_labels}
 use Rattle.vhdl_names_rules.specs.Files as are
 use Rattle.vhdl_names_rules.specs.Files.{labelled}
@@ -19,7 +18,7 @@ use Rattle.vhdl_names_rules.specs.problems.Declarations.{standing_twice}
 use Rattle.vhdl_names_rules.specs.problems.Concurrent.{concurrents}
 use Rattle.vhdl_names_rules.specs.problems.Files as broken
 use Rattle.vhdl_names_rules.specs.problems.Files.{with_labels}
-use Rattle.vhdl_names_rules.proofs.laws.Rules.{comes, kept}
+use Rattle.vhdl_names_rules.proofs.laws.Parts.{region_of, architecture_parts}
 use Rattle.vhdl_names_rules.proofs.Telling.{IsKept, both_kept, given_kept}
 use Rattle.vhdl_names_rules.proofs.kept.Keeping.{among_kept}
 use Rattle.vhdl_names_rules.proofs.kept.Twice.{twice_kept, apart, distinct_front, names_append}
@@ -77,26 +76,20 @@ declarations_kept entities sight ds x h distinct = in_region_kept (are.declarati
 
 pub architecture_kept : (entities : List EntityView) (e : EntityView) (items : List ContextItem) (a : t.Architecture) (x : u.Architecture)
     → are.architecture entities e items a ≡ Some x → IsKept (broken.architecture entities e items a)
-unfolding are.architecture
 architecture_kept entities e items a x h =
+    let p = architecture_parts entities e items a x h in
     let before : List Declared = e.interface.declared in
     let body : t.Concurrents = t.concurrents_of a.statements in
     let labels : List Name = concurrent_labels body in
-    let c = comes (packages.context e.context items) _ x h in
-    let ds = comes (in_order with_declared (are.declaration entities) (sight_of c.value before) a.declarations) _ x c.rest in
-    let region : List Declared = before ++ (ds.value.declared ++ labelled labels) in
-    let k = kept (are_distinct (declared_names region)) _ x ds.rest in
-    let statements = comes (concurrent.concurrents entities (sight_of c.value region) body) _ x k.1 in
-    let end = kept (ends a.name.text a.end_name) _ x statements.rest in
-    let all : are_distinct (declared_names (before ++ ds.value.declared) ++ labels) ≡ true = ap are_distinct (region_names before ds.value.declared labels) ∙ k.0 in
-    both_kept _ _ (context_kept items e.context c.value c.is)
+    let all : are_distinct (declared_names (before ++ p.own.value.declared) ++ labels) ≡ true = ap are_distinct (region_names before p.own.value.declared labels) ∙ p.distinct in
+    both_kept _ _ (context_kept items e.context p.seen.value p.seen.is)
     (both_kept _ _
-    (given_kept (λ c. broken.architecture_in entities e c a) (packages.context e.context items) c.value c.is
+    (given_kept (λ c. broken.architecture_in entities e c a) (packages.context e.context items) p.seen.value p.seen.is
     (both_kept _ _
-    (declarations_kept entities (sight_of c.value before) a.declarations ds.value ds.is (distinct_front (declared_names (before ++ ds.value.declared)) labels all))
-    (given_kept (λ ds. broken.body entities (sight_of c.value (before ++ ds.declared)) body)
-    (in_order with_declared (are.declaration entities) (sight_of c.value before) a.declarations) ds.value ds.is
-    (among_kept _ _ (region_labels_kept (before ++ ds.value.declared) body all)
-    (ap (λ region. concurrents entities (sight_of c.value region) body) (region_is before ds.value.declared labels k.0)
-    ∙ concurrents_kept body entities (sight_of c.value region) statements.value refl statements.is)))))
-    (end_name_kept a.name a.end_name end.0))
+    (declarations_kept entities (sight_of p.seen.value before) a.declarations p.own.value p.own.is (distinct_front (declared_names (before ++ p.own.value.declared)) labels all))
+    (given_kept (λ ds. broken.body entities (sight_of p.seen.value (before ++ ds.declared)) body)
+    (in_order with_declared (are.declaration entities) (sight_of p.seen.value before) a.declarations) p.own.value p.own.is
+    (among_kept _ _ (region_labels_kept (before ++ p.own.value.declared) body all)
+    (ap (λ region. concurrents entities (sight_of p.seen.value region) body) (region_is before p.own.value.declared labels p.distinct)
+    ∙ concurrents_kept body entities (sight_of p.seen.value (region_of e p.own.value.declared a)) p.body.value refl p.body.is)))))
+    (end_name_kept a.name a.end_name p.ended))

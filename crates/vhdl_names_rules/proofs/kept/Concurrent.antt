@@ -7,13 +7,13 @@ use Rattle.vhdl_names_rules.specs.declared.kind.ObjectType.{ObjectType}
 use Rattle.vhdl_names_rules.specs.units.Statements as s
 use Rattle.vhdl_names_rules.specs.units.Units as u
 use Rattle.vhdl_names_rules.specs.Rules.{◌>>=◌, each}
-use Rattle.vhdl_names_rules.specs.Visibility.{Name, Sight, are_distinct, ends, label_ends, with_variables}
+use Rattle.vhdl_names_rules.specs.Visibility.{Name, Sight, are_distinct, ends, with_variables}
 use Rattle.vhdl_names_rules.specs.Expressions.{typed, static_range, condition, value_given, as_static_test}
-use Rattle.vhdl_names_rules.specs.Choices.{choices, covered, selector, arranged}
+use Rattle.vhdl_names_rules.specs.Choices.{choices}
 use Rattle.vhdl_names_rules.specs.Declarations.{in_order, variables}
 use Rattle.vhdl_names_rules.specs.Interfaces.{EntityView, declared_names}
 use Rattle.vhdl_names_rules.specs.Instances.{instance}
-use Rattle.vhdl_names_rules.specs.Statements.{SignalName, signal, target, statements, statement_labels}
+use Rattle.vhdl_names_rules.specs.Statements.{SignalName, signal, target, statement_labels}
 use Rattle.vhdl_names_rules.specs.Concurrent as are
 use Rattle.vhdl_names_rules.specs.Concurrent.{alone, sight_within, concurrent_labels}
 use Rattle.vhdl_names_rules.specs.problems.Broken.{any_of, of_any}
@@ -23,6 +23,7 @@ use Rattle.vhdl_names_rules.specs.problems.Covered.{any_alternative}
 use Rattle.vhdl_names_rules.specs.problems.Statements as sequential
 use Rattle.vhdl_names_rules.specs.problems.Concurrent as broken
 use Rattle.vhdl_names_rules.proofs.laws.Rules.{comes, kept}
+use Rattle.vhdl_names_rules.proofs.laws.Parts.{selected_parts, process_parts}
 use Rattle.vhdl_names_rules.proofs.Telling.{IsKept, both_kept, given_kept}
 use Rattle.vhdl_names_rules.proofs.kept.Keeping.{nothing_kept, mapped, each_kept, among_kept}
 use Rattle.vhdl_names_rules.proofs.kept.Twice.{twice_kept}
@@ -95,22 +96,16 @@ any_waveform at [] h = h
 any_waveform at (w ∷ ws) h = h
 
 pub selected_kept : (sight : Sight) (label : Option Ident) (a : t.SelectedAssignment) (y : u.Concurrent) → are.selected sight label a ≡ Some y → IsKept (broken.selected sight a)
-unfolding are.selected
 selected_kept sight label a y h =
     let lists : List (List t.Choice) = map (λ (w : t.Waveform). w.choices) a.waveforms in
-    let e = comes (typed sight a.selector) _ y h in
-    let by = comes (selector e.value) _ y e.rest in
-    let type : ObjectType = by.value.0 in
-    let x = comes (target sight a.target) _ y by.rest in
-    let cs = comes (covered sight type lists) _ y x.rest in
-    let bodies = comes (each (λ (w : t.Waveform). option_map alone (are.assigned sight x.value w.value)) a.waveforms) _ y cs.rest in
-    let all = comes (arranged cs.value bodies.value) _ y bodies.rest in
-    by_selector_kept sight a.selector (λ type. broken.waveforms sight type a) e.value by.value e.is by.is
-    (both_kept _ _ (target_kept sight a.target x.value x.is)
+    let p = selected_parts sight label a y h in
+    let type : ObjectType = p.chosen.by.value.0 in
+    by_selector_kept sight a.selector (λ type. broken.waveforms sight type a) p.chosen.operand.value p.chosen.by.value p.chosen.operand.is p.chosen.by.is
+    (both_kept _ _ (target_kept sight a.target p.to.value p.to.is)
     (both_kept _ _
-    (covered_kept sight type a.at lists (any_of (broken.waveform sight type a.target) a.waveforms) cs.value cs.is
-    (waveforms_kept sight type a.target x.value a.waveforms cs.value bodies.value x.is (choices_of_covered sight type lists cs.value cs.is) bodies.is))
-    (any_waveform a.at a.waveforms (any_alternative_kept sight type a.at lists cs.value bodies.value all.value cs.is all.is))))
+    (covered_kept sight type a.at lists (any_of (broken.waveform sight type a.target) a.waveforms) p.chosen.choices.value p.chosen.choices.is
+    (waveforms_kept sight type a.target p.to.value a.waveforms p.chosen.choices.value p.chosen.bodies.value p.to.is (choices_of_covered sight type lists p.chosen.choices.value p.chosen.choices.is) p.chosen.bodies.is))
+    (any_waveform a.at a.waveforms (any_alternative_kept sight type a.at lists p.chosen.choices.value p.chosen.bodies.value p.chosen.all.value p.chosen.choices.is p.chosen.all.is))))
 
 -- ---- processes
 
@@ -132,22 +127,15 @@ labels_kept cs h = twice_kept [] (labels.labels_of cs) (ap are_distinct (labels_
 -- no variables are in sight of a process but its own
 pub process_kept : (sight : Sight) (label : Option Ident) (p : t.Process) (y : u.Process) → sight.variables ≡ [] → are.process sight label p ≡ Some y
     → IsKept (broken.process sight label p)
-unfolding are.process
 process_kept sight label p y none h =
-    let inside : List Name = statement_labels (t.statements_of p.statements) in
-    let on = comes (are.sensitivity sight p.sensitivity) _ y h in
-    let vs = comes (in_order with_variables variables sight p.variables) _ y on.rest in
-    let a = kept (are_distinct (declared_names vs.value.declared)) _ y vs.rest in
-    let b = kept (are_distinct inside) _ y a.1 in
-    let body = comes (statements (with_variables sight vs.value.declared) (t.statements_of p.statements)) _ y b.1 in
-    let e = kept (label_ends label p.end_label) _ y body.rest in
-    both_kept _ _ (sensitivity_kept sight p.at p.sensitivity on.value on.is)
-    (both_kept _ _ (all_variables_kept p.variables sight vs.value vs.is (ap (λ r. are_distinct (declared_names (r ++ vs.value.declared))) none ∙ a.0))
+    let d = process_parts sight label p y h in
+    both_kept _ _ (sensitivity_kept sight p.at p.sensitivity d.on.value d.on.is)
+    (both_kept _ _ (all_variables_kept p.variables sight d.own.value d.own.is (ap (λ r. are_distinct (declared_names (r ++ d.own.value.declared))) none ∙ d.own_distinct))
     (both_kept _ _
-    (given_kept (λ vs. broken.body (with_variables sight vs.declared) (t.statements_of p.statements)) (in_order with_variables variables sight p.variables) vs.value vs.is
-    (among_kept _ _ (inner_labels_kept (t.statements_of p.statements) b.0)
-    (statements_kept (t.statements_of p.statements) (with_variables sight vs.value.declared) body.value body.is)))
-    (end_label_kept label p.end_label e.0)))
+    (given_kept (λ vs. broken.body (with_variables sight vs.declared) (t.statements_of p.statements)) (in_order with_variables variables sight p.variables) d.own.value d.own.is
+    (among_kept _ _ (inner_labels_kept (t.statements_of p.statements) d.labels_distinct)
+    (statements_kept (t.statements_of p.statements) (with_variables sight d.own.value.declared) d.body.value d.body.is)))
+    (end_label_kept label p.end_label d.ended)))
 
 -- ---- all statements
 

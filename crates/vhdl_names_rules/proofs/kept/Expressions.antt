@@ -6,7 +6,7 @@ use Rattle.vhdl_names_rules.specs.declared.kind.ObjectType.{ObjectType}
 use Rattle.vhdl_names_rules.specs.declared.kind.ObjectType.TheVariants.{Elements}
 use Rattle.vhdl_names_rules.specs.declared.fault.NameProblem.TheVariants.{TypeMismatch, LeftOut}
 use Rattle.vhdl_names_rules.specs.units.Expressions as u
-use Rattle.vhdl_names_rules.specs.units.Expressions.{Static, Test, Range, Vector}
+use Rattle.vhdl_names_rules.specs.units.Expressions.{Static, Test, Range}
 use Rattle.vhdl_names_rules.specs.units.Statements.{Given, filled}
 use Rattle.vhdl_names_rules.specs.Rules.{◌>>=◌, then_some}
 use Rattle.vhdl_names_rules.specs.Visibility as visibility
@@ -14,7 +14,7 @@ use Rattle.vhdl_names_rules.specs.Visibility.{Meaning, Sight}
 use Rattle.vhdl_names_rules.specs.Literals.{number_of, nine_of, values_of_string, values_of_bits}
 use Rattle.vhdl_names_rules.specs.Operators as o
 use Rattle.vhdl_names_rules.specs.Operators.{Typed, inverse, operated}
-use Rattle.vhdl_names_rules.specs.Names.{Suffix, denoted, attributed, edge_signal, plain, arguments, range}
+use Rattle.vhdl_names_rules.specs.Names.{Suffix, denoted, attributed, edge_signal, plain, arguments}
 use Rattle.vhdl_names_rules.specs.Expressions as are
 use Rattle.vhdl_names_rules.specs.Expressions.{as_integer, enclosed, beside, is_one_name, as_test, as_static_test, as_value, as_filled, is_vector}
 use Rattle.vhdl_names_rules.specs.declared.kind.ElementKind.TheVariants.{Element, OpenVector}

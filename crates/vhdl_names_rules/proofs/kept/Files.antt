@@ -12,18 +12,19 @@ use Rattle.vhdl_tree.specs.Tree.{File, DesignUnit, LibraryUnit, ContextItem}
 use Rattle.vhdl_names_rules.specs.declared.fault.NameProblem.TheVariants.{Undeclared, Twice, SecondArchitecture}
 use Rattle.vhdl_names_rules.specs.units.Units as u
 use Rattle.vhdl_names_rules.specs.Rules.{each, if_any}
-use Rattle.vhdl_names_rules.specs.Visibility.{Name, is_among, are_distinct, ends}
-use Rattle.vhdl_names_rules.specs.Packages.{context, no_context, sight_of}
+use Rattle.vhdl_names_rules.specs.Visibility.{Name, is_among, are_distinct}
+use Rattle.vhdl_names_rules.specs.Packages.{context}
 use Rattle.vhdl_names_rules.specs.Interfaces as interfaces
-use Rattle.vhdl_names_rules.specs.Interfaces.{EntityView, interface, entity_named}
+use Rattle.vhdl_names_rules.specs.Interfaces.{EntityView}
 use Rattle.vhdl_names_rules.specs.Files as are
 use Rattle.vhdl_names_rules.specs.Files.{as_entity, as_architecture, entities_of, architectures_of, entity_names, described_names, stands_after, stand_after, architecture_of, viewed, unit, units_of}
 use Rattle.vhdl_names_rules.specs.problems.Broken.{Broken, any_of}
 use Rattle.vhdl_names_rules.specs.problems.Declarations as declarations
 use Rattle.vhdl_names_rules.specs.problems.Interfaces.{entity}
 use Rattle.vhdl_names_rules.specs.problems.Files as broken
-use Rattle.vhdl_names_rules.specs.problems.Files.{placed_architectures, seen, with_entities, entities_given, is_hidden, up_to_hidden, described, name_of_unit}
-use Rattle.vhdl_names_rules.proofs.laws.Rules.{comes, kept, both, some_is, each_passes, each_keeps, made}
+use Rattle.vhdl_names_rules.specs.problems.Files.{with_entities, entities_given, is_hidden, up_to_hidden, described, name_of_unit}
+use Rattle.vhdl_names_rules.proofs.laws.Rules.{comes, both, some_is, each_passes, each_keeps, made}
+use Rattle.vhdl_names_rules.proofs.laws.Parts.{entity_name, file_parts}
 use Rattle.vhdl_names_rules.proofs.laws.Once.{differs}
 use Rattle.vhdl_names_rules.proofs.Telling.{IsKept, both_kept, unless_kept}
 use Rattle.vhdl_names_rules.proofs.kept.Keeping.{nothing_kept, each_kept, at_each_kept, among_kept}
@@ -98,14 +99,6 @@ described_among ds (d ∷ rest) n h = go (as_architecture d) (all_among ds n (de
         (and_parts (is_among (text x) (entity_names ds)) true one).0 more
 
 -- ---- entities
-
-pub entity_name : (items : List ContextItem) (e : t.Entity) (architecture : Option Name) (v : EntityView) → interfaces.entity items e architecture ≡ Some v → v.name ≡ e.name.text
-unfolding interfaces.entity
-entity_name items e architecture v h =
-    let c = comes (context no_context items) _ v h in
-    let i = comes (interface (sight_of c.value []) e.generics e.ports) _ v c.rest in
-    let k = kept (ends e.name.text e.end_name) _ v i.rest in
-    ap (λ (v : EntityView). v.name) (sym (some_is _ v k.1))
 
 abbrev pub view_names : List EntityView → List Name
 view_names = map (λ (e : EntityView). e.name)
@@ -273,13 +266,10 @@ module _ (ds : List DesignUnit) (entities : List EntityView) (distinct : are_dis
       by (Some (k, e)) = up_to_hidden (is_hidden (entity_names ds) entities) a (broken.architecture entities e items a)
 
 pub file_kept : (f : File) (units : List u.Entity) → units_of f ≡ Some units → IsKept (broken.file f)
-unfolding units_of
 file_kept f units e =
-    let a = kept (are_distinct (entity_names f.units)) _ units e in
-    let b = kept (are_distinct (described_names f.units)) _ units a.1 in
-    let c = kept (stand_after f.units) _ units b.1 in
-    let v = comes (each (viewed f.units) (entities_of f.units)) _ units c.1 in
-    among_kept _ _ (names_kept f.units [] f.units 0 refl refl c.0 a.0 b.0)
-    (among_kept _ _ (each_kept (λ (e : NamedEntity). entity e.0 e.1) (viewed f.units) (λ e v h. entity_kept e.0 e.1 _ v h) (entities_of f.units) v.value v.is)
-    (ap (λ es. any_of (described (entity_names f.units) es) (architectures_of f.units)) (entities_are f.units v.value a.0 c.0 v.is)
-    ∙ at_each_kept (described (entity_names f.units) v.value) (architectures_of f.units) (described_kept f.units v.value a.0 c.0 v.is units b.0 v.rest)))
+    let p = file_parts f units e in
+    among_kept _ _ (names_kept f.units [] f.units 0 refl refl p.after p.once p.described_once)
+    (among_kept _ _ (each_kept (λ (e : NamedEntity). entity e.0 e.1) (viewed f.units) (λ e v h. entity_kept e.0 e.1 _ v h) (entities_of f.units) p.views.value p.views.is)
+    (ap (λ es. any_of (described (entity_names f.units) es) (architectures_of f.units)) (entities_are f.units p.views.value p.once p.after p.views.is)
+    ∙ at_each_kept (described (entity_names f.units) p.views.value) (architectures_of f.units)
+    (described_kept f.units p.views.value p.once p.after p.views.is units p.described_once p.gives)))

@@ -26,6 +26,7 @@ use Rattle.vhdl_names_rules.specs.problems.Statements as sequential
 use Rattle.vhdl_names_rules.specs.problems.Instances as broken
 use Rattle.vhdl_names_rules.specs.problems.Instances.{is_value, names_value, actual_signal, ports_named}
 use Rattle.vhdl_names_rules.proofs.laws.Rules.{comes, kept, some_is, made}
+use Rattle.vhdl_names_rules.proofs.laws.Parts.{instance_parts}
 use Rattle.vhdl_names_rules.proofs.laws.Associations.{formals_have_actuals}
 use Rattle.vhdl_names_rules.proofs.Telling.{IsKept, both_kept, unless_kept, lacking_kept, given_kept}
 use Rattle.vhdl_names_rules.proofs.kept.Keeping.{nothing_kept, if_any_kept, at_each_kept}
@@ -151,18 +152,12 @@ port_map_kept sight fs as' es ps h g = associated_kept names (λ n e. any_of (λ
 
 pub instance_kept : (entities : List EntityView) (sight : Sight) (label : Ident) (i : t.Instance) (x : u.Instance) → are.instance entities sight label i ≡ Some x
     → IsKept (broken.instance entities sight label i)
-unfolding are.instance
 instance_kept entities sight label i x h =
-    let k = comes (are.instantiated entities sight i.unit) _ x h in
-    let e = comes (slice_get entities k.value) _ x k.rest in
-    let formals : List Formal = filter_map port_formal e.value.interface.declared in
-    let gs = comes (are.associated (filter_map generic_name e.value.interface.declared) (all_of i.generics)) _ x e.rest in
-    let generics = comes (each (if_any (static sight)) gs.value) _ x gs.rest in
-    let ps = comes (are.associated (map (λ (f : Formal). f.name) formals) (all_of i.ports)) _ x generics.rest in
-    let ports = comes (port_actuals sight formals ps.value) _ x ps.rest in
-    both_kept _ _ (instantiated_kept entities sight i.unit k.value k.is)
-    (given_kept (λ k. lacking Undeclared label.at (slice_get entities k) ▸ of_any (λ e. broken.maps sight e i) (slice_get entities k)) (are.instantiated entities sight i.unit) k.value k.is
-    (both_kept _ _ (lacking_kept Undeclared label.at (slice_get entities k.value) e.value e.is)
-    (ap (λ o. of_any (λ e. broken.maps sight e i) o) e.is
-    ∙ both_kept _ _ (generic_map_kept sight (filter_map generic_name e.value.interface.declared) (all_of i.generics) gs.value generics.value gs.is generics.is)
-    (port_map_kept sight formals (all_of i.ports) ps.value ports.value ps.is ports.is))))
+    let p = instance_parts entities sight label i x h in
+    let formals : List Formal = filter_map port_formal p.view.value.interface.declared in
+    both_kept _ _ (instantiated_kept entities sight i.unit p.place.value p.place.is)
+    (given_kept (λ k. lacking Undeclared label.at (slice_get entities k) ▸ of_any (λ e. broken.maps sight e i) (slice_get entities k)) (are.instantiated entities sight i.unit) p.place.value p.place.is
+    (both_kept _ _ (lacking_kept Undeclared label.at (slice_get entities p.place.value) p.view.value p.view.is)
+    (ap (λ o. of_any (λ e. broken.maps sight e i) o) p.view.is
+    ∙ both_kept _ _ (generic_map_kept sight (filter_map generic_name p.view.value.interface.declared) (all_of i.generics) p.generics.value p.statics.value p.generics.is p.statics.is)
+    (port_map_kept sight formals (all_of i.ports) p.ports.value p.places.value p.ports.is p.places.is))))

@@ -5,7 +5,7 @@ use Rattle.vhdl_tree.specs.Tree.{ContextItem}
 use Rattle.vhdl_names_rules.specs.declared.fault.NameProblem.TheVariants.{Undeclared, WrongKind}
 use Rattle.vhdl_names_rules.specs.units.Units as u
 use Rattle.vhdl_names_rules.specs.Rules.{all_of}
-use Rattle.vhdl_names_rules.specs.Visibility.{Name, Sight, are_distinct, ends, with_declared, Declares}
+use Rattle.vhdl_names_rules.specs.Visibility.{Name, Sight, are_distinct, with_declared, Declares}
 use Rattle.vhdl_names_rules.specs.Packages.{no_context, context, sight_of}
 use Rattle.vhdl_names_rules.specs.Declarations.{in_order, generic, port}
 use Rattle.vhdl_names_rules.specs.SameText.{same_generics, same_ports}
@@ -15,6 +15,7 @@ use Rattle.vhdl_names_rules.specs.problems.Declarations as declarations
 use Rattle.vhdl_names_rules.specs.problems.Interfaces as broken
 use Rattle.vhdl_names_rules.specs.problems.Interfaces.{same_text}
 use Rattle.vhdl_names_rules.proofs.laws.Rules.{comes, kept}
+use Rattle.vhdl_names_rules.proofs.laws.Parts.{entity_parts, component_parts}
 use Rattle.vhdl_names_rules.proofs.Telling.{IsKept, both_kept, unless_kept, lacking_kept, given_kept}
 use Rattle.vhdl_names_rules.proofs.kept.Twice.{distinct_front, names_append}
 use Rattle.vhdl_names_rules.proofs.kept.Named.{of_component}
@@ -46,29 +47,22 @@ interface_kept sight gs ps i none h =
 
 pub entity_kept : (items : List ContextItem) (e : t.Entity) (architecture : Option Name) (v : EntityView) → are.entity items e architecture ≡ Some v
     → IsKept (broken.entity items e)
-unfolding are.entity
 entity_kept items e architecture v h =
-    let c = comes (context no_context items) _ v h in
-    let i = comes (are.interface (sight_of c.value []) e.generics e.ports) _ v c.rest in
-    let k = kept (ends e.name.text e.end_name) _ v i.rest in
-    both_kept _ _ (context_kept items no_context c.value c.is)
+    let p = entity_parts items e architecture v h in
+    both_kept _ _ (context_kept items no_context p.seen.value p.seen.is)
     (both_kept _ _
-    (given_kept (λ c. broken.interface (sight_of c []) e.generics e.ports) (context no_context items) c.value c.is
-    (interface_kept (sight_of c.value []) e.generics e.ports i.value refl i.is))
-    (end_name_kept e.name e.end_name k.0))
+    (given_kept (λ c. broken.interface (sight_of c []) e.generics e.ports) (context no_context items) p.seen.value p.seen.is
+    (interface_kept (sight_of p.seen.value []) e.generics e.ports p.own.value refl p.own.is))
+    (end_name_kept e.name e.end_name p.ended))
 
 pub component_kept : (entities : List EntityView) (sight : Sight) (c : t.Component) (x : Declares u.Declaration) → are.component entities sight c ≡ Some x
     → are_distinct (declared_names (sight.region ++ x.declared)) ≡ true → IsKept (broken.component entities sight c)
-unfolding are.component
 component_kept entities sight c x h distinct =
     let inner : Sight = record sight { region = []; enclosing = sight.region ++ sight.enclosing } in
-    let e = comes (entity_named entities c.name.text) _ x h in
-    let same = kept (same_generics c.generics e.value.1.generic_text && same_ports c.ports e.value.1.port_text) _ x e.rest in
-    let i = comes (are.interface inner c.generics c.ports) _ x same.1 in
-    let k = kept (ends c.name.text c.end_name) _ x i.rest in
+    let p = component_parts entities sight c x h in
     both_kept _ _ (standing_kept sight.region (c.name ∷ []) x (of_component entities sight c x h) distinct)
-    (both_kept _ _ (lacking_kept Undeclared c.name.at (entity_named entities c.name.text) e.value e.is)
+    (both_kept _ _ (lacking_kept Undeclared c.name.at (entity_named entities c.name.text) p.found.value p.found.is)
     (both_kept _ _
-    (given_kept (same_text c) (entity_named entities c.name.text) e.value e.is
-    (unless_kept WrongKind c.name.at (same_generics c.generics e.value.1.generic_text && same_ports c.ports e.value.1.port_text) same.0))
-    (both_kept _ _ (interface_kept inner c.generics c.ports i.value refl i.is) (end_name_kept c.name c.end_name k.0))))
+    (given_kept (same_text c) (entity_named entities c.name.text) p.found.value p.found.is
+    (unless_kept WrongKind c.name.at (same_generics c.generics p.found.value.1.generic_text && same_ports c.ports p.found.value.1.port_text) p.alike))
+    (both_kept _ _ (interface_kept inner c.generics c.ports p.own.value refl p.own.is) (end_name_kept c.name c.end_name p.ended))))

@@ -1,5 +1,5 @@
 -- What keeps the rules of its parts breaks no rule.
-use Rattle.std.proofs.Common.{◌≡◌, ℕ, zero, suc, Bool, true, false, cond, List, [], ◌∷◌, Option, Some, None, refl}
+use Rattle.std.proofs.Common.{◌≡◌, ℕ, suc, Bool, true, false, cond, List, [], ◌∷◌, Option, Some, None, refl}
 use Rattle.std.specs.Prelude.{option_map, nat_le}
 use Rattle.std.specs.List.{slice_get}
 use Rattle.vhdl_names_rules.specs.declared.fault.NameProblem.{NameProblem}

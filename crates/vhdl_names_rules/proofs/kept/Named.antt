@@ -1,17 +1,17 @@
 -- The names that declarations declare are those that stand in them.
-use Rattle.std.proofs.Common.{◌≡◌, ℕ, suc, ◌&&◌, List, [], ◌∷◌, ◌++◌, length, Option, Some, None, refl, ap, sym, ◌∙◌}
+use Rattle.std.proofs.Common.{◌≡◌, ℕ, suc, List, [], ◌∷◌, length, Option, Some, None, refl, ap, sym, ◌∙◌}
 use Rattle.std.specs.Prelude.{nat_le, is_none}
 use Rattle.vhdl_tree.specs.Tree as t
 use Rattle.vhdl_names_rules.specs.declared.operator.IntegerType.{IntegerType}
 use Rattle.vhdl_names_rules.specs.units.Units as u
-use Rattle.vhdl_names_rules.specs.Rules.{◌>>=◌, if_any}
-use Rattle.vhdl_names_rules.specs.Visibility.{ends, Name, Meaning, names_of, numbered, Sight, meaning, Declares}
+use Rattle.vhdl_names_rules.specs.Rules.{if_any}
+use Rattle.vhdl_names_rules.specs.Visibility.{Name, Meaning, names_of, numbered, Sight, meaning, Declares}
 use Rattle.vhdl_names_rules.specs.Subtypes.{subtype, as_integer_type, fixed_value}
 use Rattle.vhdl_names_rules.specs.Expressions.{static}
 use Rattle.vhdl_names_rules.specs.Declarations.{within, within_variables, as_kind, single_expression, literals, generic, port, signals, variables, constants, constants_by, enumeration}
-use Rattle.vhdl_names_rules.specs.Interfaces.{EntityView, declared_names, interface, entity_named, component}
-use Rattle.vhdl_names_rules.specs.SameText.{same_generics, same_ports}
+use Rattle.vhdl_names_rules.specs.Interfaces.{EntityView, declared_names, component}
 use Rattle.vhdl_names_rules.proofs.laws.Rules.{comes, kept, some_is}
+use Rattle.vhdl_names_rules.proofs.laws.Parts.{component_parts}
 
 pub names_numbered : (f : ℕ → Meaning) (k : ℕ) (ns : List Name) → declared_names (numbered f k ns) ≡ ns
 names_numbered f k [] = refl
@@ -25,7 +25,7 @@ names_literals e count p (n ∷ ns) = ap (λ ns. n ∷ ns) (names_literals e cou
 abbrev pub HasNames : {B : Type 0} → Declares B → List Name → Type 0
 HasNames x ns = declared_names x.declared ≡ ns
 
-of_same : {B : Type 0} (x y : Declares B) (ns : List Name) → Some x ≡ Some y → HasNames x ns → HasNames y ns
+pub of_same : {B : Type 0} (x y : Declares B) (ns : List Name) → Some x ≡ Some y → HasNames x ns → HasNames y ns
 of_same {B} x y ns e h = ap (λ (x : Declares B). declared_names x.declared) (sym (some_is x y e)) ∙ h
 
 pub of_generic : (sight : Sight) (g : t.Generic) (x : Declares u.Generic) → generic sight g ≡ Some x → HasNames x (names_of g.names)
@@ -86,10 +86,4 @@ of_enumeration sight d x e =
 
 pub of_component : (entities : List EntityView) (sight : Sight) (c : t.Component) (x : Declares u.Declaration)
     → component entities sight c ≡ Some x → HasNames x (c.name.text ∷ [])
-unfolding component
-of_component entities sight c x e =
-    let a = comes (entity_named entities c.name.text) _ x e in
-    let b = kept (same_generics c.generics a.value.1.generic_text && same_ports c.ports a.value.1.port_text) _ x a.rest in
-    let i = comes (interface (record sight { region = []; enclosing = sight.region ++ sight.enclosing }) c.generics c.ports) _ x b.1 in
-    let h = kept (ends c.name.text c.end_name) _ x i.rest in
-    of_same _ x (c.name.text ∷ []) h.1 refl
+of_component entities sight c x e = of_same _ x (c.name.text ∷ []) (ap Some (component_parts entities sight c x e).is) refl

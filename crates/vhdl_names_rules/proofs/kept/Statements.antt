@@ -13,7 +13,7 @@ use Rattle.vhdl_names_rules.specs.Visibility.{Meaning, Sight, meaning, label_end
 use Rattle.vhdl_names_rules.specs.Operators.{Typed}
 use Rattle.vhdl_names_rules.specs.Names.{Suffix}
 use Rattle.vhdl_names_rules.specs.Expressions.{typed, typed_suffix, static_range, condition, value_given}
-use Rattle.vhdl_names_rules.specs.Choices.{choices, covered, selector, arranged}
+use Rattle.vhdl_names_rules.specs.Choices.{choices, selector}
 use Rattle.vhdl_names_rules.specs.Statements as are
 use Rattle.vhdl_names_rules.specs.Statements.{SignalName, VariableName, as_signal, as_variable, is_input, choice_lists}
 use Rattle.vhdl_names_rules.specs.problems.Broken.{Broken, ◌▸◌, unless, lacking, where_given}
@@ -22,6 +22,7 @@ use Rattle.vhdl_names_rules.specs.problems.Expressions.{no_attribute}
 use Rattle.vhdl_names_rules.specs.problems.Statements as broken
 use Rattle.vhdl_names_rules.specs.problems.Statements.{signal_problem, variable_problem, end_label, by_selector}
 use Rattle.vhdl_names_rules.proofs.laws.Rules.{comes, kept}
+use Rattle.vhdl_names_rules.proofs.laws.Parts.{case_parts}
 use Rattle.vhdl_names_rules.proofs.Telling.{IsKept, both_kept, unless_kept, lacking_kept, given_kept}
 use Rattle.vhdl_names_rules.proofs.kept.Keeping.{nothing_kept, mapped}
 use Rattle.vhdl_names_rules.proofs.kept.Expressions.{meaning_kept, typed_suffix_kept, static_range_kept, condition_kept, value_given_kept}
@@ -122,18 +123,13 @@ mutual
       both_kept _ _ (conditionals_kept bs sight last.value b.value b.is)
       (both_kept _ _ (otherwise_kept o sight last.value last.is) (end_label_kept label end a.0))
   statement_kept (t.case_of at e alts end) sight label x h =
-      let a = kept (label_ends label end) _ x h in
-      let y = comes (typed sight e) _ x a.1 in
-      let by = comes (selector y.value) _ x y.rest in
-      let choices = comes (covered sight by.value.0 (choice_lists alts)) _ x by.rest in
-      let bodies = comes (are.alternatives sight alts) _ x choices.rest in
-      let all = comes (arranged choices.value bodies.value) _ x bodies.rest in
+      let p = case_parts sight label at e alts end x h in
       both_kept _ _
-      (by_selector_kept sight e _ y.value by.value y.is by.is
-      (covered_kept sight by.value.0 at (choice_lists alts) (broken.alternatives sight by.value.0 alts) choices.value choices.is
-      (alternatives_kept alts sight by.value.0 choices.value bodies.value (choices_of_covered sight by.value.0 (choice_lists alts) choices.value choices.is) bodies.is)))
-      (both_kept _ _ (end_label_kept label end a.0)
-      (any_alternative_kept sight by.value.0 at (choice_lists alts) choices.value bodies.value all.value choices.is all.is))
+      (by_selector_kept sight e _ p.chosen.operand.value p.chosen.by.value p.chosen.operand.is p.chosen.by.is
+      (covered_kept sight p.chosen.by.value.0 at (choice_lists alts) (broken.alternatives sight p.chosen.by.value.0 alts) p.chosen.choices.value p.chosen.choices.is
+      (alternatives_kept alts sight p.chosen.by.value.0 p.chosen.choices.value p.chosen.bodies.value (choices_of_covered sight p.chosen.by.value.0 (choice_lists alts) p.chosen.choices.value p.chosen.choices.is) p.chosen.bodies.is)))
+      (both_kept _ _ (end_label_kept label end p.ended)
+      (any_alternative_kept sight p.chosen.by.value.0 at (choice_lists alts) p.chosen.choices.value p.chosen.bodies.value p.chosen.all.value p.chosen.choices.is p.chosen.all.is))
   statement_kept (t.for_of at n r body end) sight label x h =
       let a = kept (label_ends label end) _ x h in
       let range = comes (static_range sight r) _ x a.1 in

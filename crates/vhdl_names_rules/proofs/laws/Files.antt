@@ -1,5 +1,5 @@
 -- Units are the entities in order of the text, and each stands before its architecture.
-use Rattle.std.proofs.Common.{◌≡◌, ℕ, zero, suc, ◌+◌, ◌<◌, true, List, [], ◌∷◌, Option, Some, refl, ap, sym, ◌∙◌, arith, ◌⊎◌, inl, inr}
+use Rattle.std.proofs.Common.{◌≡◌, ℕ, zero, suc, ◌+◌, ◌<◌, true, List, [], ◌∷◌, Some, refl, ap, sym, ◌∙◌, arith, ◌⊎◌, inl, inr}
 use Rattle.std.specs.List.{slice_get, list_all, enumerate_from}
 use Rattle.std.specs.Str.{bytes_eq}
 use Rattle.std.proofs.Math.ListN.{take}
@@ -8,26 +8,17 @@ use Rattle.std.proofs.lemmas.Slice.Eq.{bytes_eq-Decides}
 use Rattle.vhdl_tree.specs.Tree as t
 use Rattle.vhdl_tree.specs.Tree.{File, DesignUnit, LibraryUnit, ContextItem}
 use Rattle.vhdl_names_rules.specs.units.Units as u
-use Rattle.vhdl_names_rules.specs.units.Units.{Units}
-use Rattle.vhdl_names_rules.specs.Rules.{each, if_any}
-use Rattle.vhdl_names_rules.specs.Visibility.{Name, ends, is_among, are_distinct}
-use Rattle.vhdl_names_rules.specs.Packages.{context, no_context, sight_of}
-use Rattle.vhdl_names_rules.specs.Interfaces.{EntityView, entity, interface}
-use Rattle.vhdl_names_rules.specs.Files.{entities_of, entity_names, described_names, stands_after, stand_after, architecture_of, architecture, viewed, unit, units_of}
+use Rattle.vhdl_names_rules.specs.Rules.{if_any}
+use Rattle.vhdl_names_rules.specs.Visibility.{Name, is_among}
+use Rattle.vhdl_names_rules.specs.Packages.{context}
+use Rattle.vhdl_names_rules.specs.Interfaces.{EntityView, entity}
+use Rattle.vhdl_names_rules.specs.Files.{entities_of, entity_names, described_names, stands_after, stand_after, architecture_of, architecture, viewed, unit}
 use Rattle.vhdl_names_rules.specs.laws.Files.{IsEntityAt, EntitiesStandInOrder}
-use Rattle.vhdl_names_rules.proofs.laws.Rules.{comes, kept, some_is, each_passes, each_keeps}
+use Rattle.vhdl_names_rules.proofs.laws.Rules.{comes, some_is, each_passes, each_keeps}
+use Rattle.vhdl_names_rules.proofs.laws.Parts.{entity_name, file_parts}
 use Rattle.vhdl_names_rules.proofs.laws.Once.{stand_once}
 
 -- ---- names
-
-entity_name : (items : List ContextItem) (e : t.Entity) (architecture : Option Name) (v : EntityView)
-    → entity items e architecture ≡ Some v → v.name ≡ e.name.text
-unfolding entity
-entity_name items e architecture v h =
-    let c = comes (context no_context items) _ v h in
-    let i = comes (interface (sight_of c.value []) e.generics e.ports) _ v c.rest in
-    let k = kept (ends e.name.text e.end_name) _ v i.rest in
-    ap (λ (v : EntityView). v.name) (sym (some_is _ v k.1))
 
 unit_name : (entities : List EntityView) (ds : List DesignUnit) (e : EntityView) (x : u.Entity) → unit entities ds e ≡ Some x → x.name ≡ e.name
 unfolding unit
@@ -96,18 +87,14 @@ before f k d a e p h =
     (i.0, w.0, record { unit = i.1.unit; entity = i.1.entity; at = w.1; is = i.1.is; named = i.1.named })
 
 pub entities_stand_in_order : EntitiesStandInOrder
-unfolding units_of
 entities_stand_in_order f units e =
-    let a = kept (are_distinct (entity_names f.units)) _ units e in
-    let b = kept (are_distinct (described_names f.units)) _ units a.1 in
-    let c = kept (stand_after f.units) _ units b.1 in
-    let v = comes (each (viewed f.units) (entities_of f.units)) _ units c.1 in
+    let p = file_parts f units e in
     record {
       in_order =
-          each_keeps (unit v.value f.units) (λ (e : EntityView). e.name) (λ (x : u.Entity). x.name) (unit_name v.value f.units) v.value units v.rest
+          each_keeps (unit p.views.value f.units) (λ (e : EntityView). e.name) (λ (x : u.Entity). x.name) (unit_name p.views.value f.units) p.views.value units p.gives
           ∙ each_keeps (viewed f.units) (λ (e : List ContextItem × t.Entity). e.1.name.text) (λ (e : EntityView). e.name)
-          (λ e x h. entity_name e.0 e.1 _ x h) (entities_of f.units) v.value v.is;
-      once = stand_once (entity_names f.units) a.0;
-      one_architecture = stand_once (described_names f.units) b.0;
-      entity_first = λ k d a p h. before f k d a c.0 p h;
+          (λ e x h. entity_name e.0 e.1 _ x h) (entities_of f.units) p.views.value p.views.is;
+      once = stand_once (entity_names f.units) p.once;
+      one_architecture = stand_once (described_names f.units) p.described_once;
+      entity_first = λ k d a q h. before f k d a p.after q h;
     }

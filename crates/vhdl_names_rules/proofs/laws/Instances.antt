@@ -4,21 +4,22 @@ use Rattle.std.specs.List.{slice_get, filter_map, cons_option}
 use Rattle.std.specs.Option.{is_some}
 use Rattle.std.proofs.lemmas.List.{length-map, length-append}
 use Rattle.vhdl_tree.specs.Tree as t
-use Rattle.vhdl_tree.specs.Tree.{Ident, Expr, Association, ContextItem}
+use Rattle.vhdl_tree.specs.Tree.{Ident, Expr, ContextItem}
 use Rattle.vhdl_names_rules.specs.units.Expressions.{SignalPart}
 use Rattle.vhdl_names_rules.specs.units.Units as u
 use Rattle.vhdl_names_rules.specs.Rules.{◌>>=◌, each, if_any, all_of}
 use Rattle.vhdl_names_rules.specs.Visibility as visibility
-use Rattle.vhdl_names_rules.specs.Visibility.{Name, Meaning, Declared, declare, are_distinct, ends, names_of, numbered, Sight, meaning, with_declared, Declares, followed_by}
-use Rattle.vhdl_names_rules.specs.Packages.{context, no_context, sight_of}
+use Rattle.vhdl_names_rules.specs.Visibility.{Name, Meaning, Declared, declare, are_distinct, names_of, numbered, Sight, meaning, with_declared, Declares, followed_by}
+use Rattle.vhdl_names_rules.specs.Packages.{sight_of}
 use Rattle.vhdl_names_rules.specs.Expressions.{static}
 use Rattle.vhdl_names_rules.specs.Subtypes.{subtype, as_integer_type, fixed_value}
 use Rattle.vhdl_names_rules.specs.Declarations.{in_order, as_kind, mode_of, generic, port}
 use Rattle.vhdl_names_rules.specs.Interfaces.{Interface, EntityView, declared_names, interface, entity}
-use Rattle.vhdl_names_rules.specs.Instances.{Formal, generic_name, port_formal, associated, port_actual, port_actuals, instantiated, instance}
-use Rattle.vhdl_names_rules.specs.Files.{entity_names, described_names, stand_after, entities_of, viewed, architecture, architecture_of, unit, units_of}
+use Rattle.vhdl_names_rules.specs.Instances.{Formal, generic_name, port_formal, port_actual, port_actuals}
+use Rattle.vhdl_names_rules.specs.Files.{entities_of, viewed, architecture, architecture_of, unit}
 use Rattle.vhdl_names_rules.specs.laws.Sound.{InstancesFitUnits}
 use Rattle.vhdl_names_rules.proofs.laws.Rules.{comes, kept, some_is, made}
+use Rattle.vhdl_names_rules.proofs.laws.Parts.{entity_parts, instance_parts, file_parts}
 use Rattle.vhdl_names_rules.proofs.laws.Associations.{formals_have_actuals}
 
 -- ---- formals of an interface
@@ -126,13 +127,9 @@ has_formals sight gs ps i e =
     subst HasFormals (some_is _ i k.1) (record { generics_are = omega arith; ports_are = omega arith })
 
 entity_formals : (items : List ContextItem) (e : t.Entity) (architecture : Option Name) (v : EntityView) → entity items e architecture ≡ Some v → HasFormals v.interface
-unfolding entity
 entity_formals items e architecture v h =
-    let c = comes (context no_context items) _ v h in
-    let i = comes (interface (sight_of c.value []) e.generics e.ports) _ v c.rest in
-    let k = kept (ends e.name.text e.end_name) _ v i.rest in
-    let P : EntityView → Type 0 = λ v. HasFormals v.interface in
-    subst P (some_is _ v k.1) (has_formals (sight_of c.value []) e.generics e.ports i.value i.is)
+    let p = entity_parts items e architecture v h in
+    subst (λ (v : EntityView). HasFormals v.interface) p.is (has_formals (sight_of p.seen.value []) e.generics e.ports p.own.value p.own.is)
 
 -- ---- lists of the same length
 
@@ -178,29 +175,19 @@ unit_lists entities ds e x h =
     (ap (λ (x : u.Entity). x.generics) (sym s), ap (λ (x : u.Entity). x.ports) (sym s))
 
 pub instances_fit_units : InstancesFitUnits
-unfolding instance units_of
 instances_fit_units f units entities sight label i x whole viewed_are h =
-    let k = comes (instantiated entities sight i.unit) _ x h in
-    let e = comes (slice_get entities k.value) _ x k.rest in
-    let gs = comes (associated (filter_map generic_name e.value.interface.declared) (all_of i.generics)) _ x e.rest in
-    let g = comes (each (if_any (static sight)) gs.value) _ x gs.rest in
-    let ps = comes (associated (map (λ (f : Formal). f.name) (filter_map port_formal e.value.interface.declared)) (all_of i.ports)) _ x g.rest in
-    let p = comes (port_actuals sight (filter_map port_formal e.value.interface.declared) ps.value) _ x ps.rest in
-    let s = some_is _ x p.rest in
-    let a = kept (are_distinct (entity_names f.units)) _ units whole in
-    let b = kept (are_distinct (described_names f.units)) _ units a.1 in
-    let c = kept (stand_after f.units) _ units b.1 in
-    let v = comes (each (viewed f.units) (entities_of f.units)) _ units c.1 in
-    let same = some_is v.value entities (sym v.is ∙ viewed_are) in
-    let all : each (unit entities f.units) entities ≡ Some units = ap (λ es. each (unit es f.units) es) (sym same) ∙ v.rest in
-    let m = made (unit entities f.units) entities units k.value e.value all e.is in
-    let lists = unit_lists entities f.units e.value m.value m.is in
-    let has = each_gives (viewed f.units) (λ (v : EntityView). HasFormals v.interface) (λ e v h. entity_formals e.0 e.1 _ v h) (entities_of f.units) entities k.value e.value viewed_are e.is in
-    let generics = (formals_have_actuals (filter_map generic_name e.value.interface.declared) (all_of i.generics) gs.value gs.is).as_many in
-    let ports = (formals_have_actuals (map (λ (f : Formal). f.name) (filter_map port_formal e.value.interface.declared)) (all_of i.ports) ps.value ps.is).as_many
-    ∙ length-map (filter_map port_formal e.value.interface.declared) (λ (f : Formal). f.name) in (
+    let p = instance_parts entities sight label i x h in
+    let w = file_parts f units whole in
+    let same = some_is w.views.value entities (sym w.views.is ∙ viewed_are) in
+    let all : each (unit entities f.units) entities ≡ Some units = ap (λ es. each (unit es f.units) es) (sym same) ∙ w.gives in
+    let m = made (unit entities f.units) entities units p.place.value p.view.value all p.view.is in
+    let lists = unit_lists entities f.units p.view.value m.value m.is in
+    let has = each_gives (viewed f.units) (λ (v : EntityView). HasFormals v.interface) (λ e v h. entity_formals e.0 e.1 _ v h) (entities_of f.units) entities p.place.value p.view.value viewed_are p.view.is in
+    let generics = (formals_have_actuals (filter_map generic_name p.view.value.interface.declared) (all_of i.generics) p.generics.value p.generics.is).as_many in
+    let ports = (formals_have_actuals (map (λ (f : Formal). f.name) (filter_map port_formal p.view.value.interface.declared)) (all_of i.ports) p.ports.value p.ports.is).as_many
+    ∙ length-map (filter_map port_formal p.view.value.interface.declared) (λ (f : Formal). f.name) in (
       m.value,
-      ap (λ (x : u.Instance). slice_get units x.unit) (sym s) ∙ m.at,
-      ap (λ (x : u.Instance). length x.generics) (sym s) ∙ each_length (if_any (static sight)) gs.value g.value g.is ∙ generics ∙ has.generics_are ∙ ap length (sym lists.0),
-      ap (λ (x : u.Instance). length x.ports) (sym s) ∙ ports_length sight (filter_map port_formal e.value.interface.declared) ps.value p.value (sym ports) p.is ∙ has.ports_are ∙ ap length (sym lists.1),
+      ap (λ (x : u.Instance). slice_get units x.unit) (sym p.is) ∙ m.at,
+      ap (λ (x : u.Instance). length x.generics) (sym p.is) ∙ each_length (if_any (static sight)) p.generics.value p.statics.value p.statics.is ∙ generics ∙ has.generics_are ∙ ap length (sym lists.0),
+      ap (λ (x : u.Instance). length x.ports) (sym p.is) ∙ ports_length sight (filter_map port_formal p.view.value.interface.declared) p.ports.value p.places.value (sym ports) p.places.is ∙ has.ports_are ∙ ap length (sym lists.1),
     )

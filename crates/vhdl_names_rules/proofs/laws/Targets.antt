@@ -8,7 +8,7 @@ use Rattle.vhdl_tree.specs.Tree as t
 use Rattle.vhdl_names_rules.specs.declared.kind.ObjectType.{ObjectType}
 use Rattle.vhdl_names_rules.specs.declared.kind.ObjectType.TheVariants.{Elements}
 use Rattle.vhdl_names_rules.specs.units.Expressions as e
-use Rattle.vhdl_names_rules.specs.units.Expressions.{Signal, Part, SignalPart}
+use Rattle.vhdl_names_rules.specs.units.Expressions.{Signal, Part}
 use Rattle.vhdl_names_rules.specs.Visibility as visibility
 use Rattle.vhdl_names_rules.specs.Visibility.{Meaning, Sight, meaning}
 use Rattle.vhdl_names_rules.specs.Names.{Suffix, part_of}

@@ -234,8 +234,16 @@ module _ (sight : Sight) (type : ObjectType) (a : t.SelectedAssignment) (x : Sig
   abbrev given_waveforms : Option (List Chosen)
   given_waveforms = each (steps.chosen sight type a.target) a.waveforms
 
-  pub waveforms_there : (all : List Chosen) → given_waveforms ≡ Some all → each (are.choices sight type) lists ≡ Some (choices_of all)
+  waveforms_there : (all : List Chosen) → given_waveforms ≡ Some all → each (are.choices sight type) lists ≡ Some (choices_of all)
   waveforms_there all e = choices_there _ _ _ (by_waveforms.pairs sight a.target x found type a.waveforms) all e
+
+  -- the lists are those that stand there, the answer gives the waveforms, and they have these choices
+  abbrev pub AreRead : List (List t.Choice) → Result (Vec Alternative Global) NameFault → Type 0
+  AreRead ls r = (ls ≡ lists) × (Gives alternatives_view given_waveforms r) × (IfOk r (told.HasChoices sight type ls))
+
+  pub are_read : (ls : List (List t.Choice)) (r : Result (Vec Alternative Global) NameFault) → ls ≡ lists → Gives alternatives_view given_waveforms r → AreRead ls r
+  are_read ls r same given =
+      (same, given, on_given alternatives_view (told.HasChoices sight type ls) given_waveforms r given (λ y e. ap (each (are.choices sight type)) same ∙ waveforms_there (alternatives_view y) e))
 
   -- the parts, where the waveforms are covered or not
   pub selected_by : (o : Option (List Chosen)) → covering type lists given_waveforms ≡ o → steps.parts sight type a ≡ (o >>= λ all. cases.but_last all)

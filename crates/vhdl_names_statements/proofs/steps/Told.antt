@@ -1,6 +1,6 @@
 -- What is told of the parts of statements is told of the whole.
 use Rattle.std.proofs.Common.{◌≡◌, ℕ, ◌+◌, ◌<◌, arith, List, [], ◌∷◌, ◌++◌, map, length, get_or, drop, Option, Some, None, Result, IfErr, refl, ap, sym, ◌∙◌}
-use Rattle.std.specs.Prelude.{option_map}
+use Rattle.std.specs.Prelude.{IsErrAnd, option_map}
 use Rattle.vhdl_tree.specs.Tree as t
 use Rattle.vhdl_tree.specs.Tree.{Ident}
 use Rattle.vhdl_tree.specs.View as tree
@@ -27,7 +27,8 @@ use Rattle.vhdl_names_rules.specs.problems.Choices as asked
 use Rattle.vhdl_names_rules.specs.problems.Covered.{covered, any_alternative}
 use Rattle.vhdl_names_rules.specs.problems.Statements as broken
 use Rattle.vhdl_names_rules.specs.problems.Statements.{end_label, by_selector}
-use Rattle.vhdl_names_rules.proofs.Telling.{IsKept, both_kept, behind_kept, told_same, told_left, told_right, told_on}
+use Rattle.vhdl_names_rules.proofs.Telling.{IsKept, both_kept, behind_kept, told_same, told_left, told_right, told_given, told_on}
+use Rattle.vhdl_names_sight.proofs.Passing.{told_second}
 use Rattle.vhdl_names_rules.proofs.kept.Keeping.{nothing_kept}
 use Rattle.vhdl_names_rules.proofs.kept.Expressions.{condition_kept, static_range_kept}
 use Rattle.vhdl_names_rules.proofs.kept.Choices.{choices_kept, selected_by_kept}
@@ -44,6 +45,11 @@ use Rattle.vhdl_names_statements.proofs.steps.Cases.{case_is, lists_each}
 
 pub on_along : {X : Type 0} (a b : Broken) (r : Result X NameFault) → a ≡ b → IfErr r (Tells a) → IfErr r (Tells b)
 on_along a b r e h = told_on a b r (λ f. told_same a b f e) h
+
+-- what is told of what is given, behind what breaks nothing
+pub told_wanted : {A X : Type 0} (a : Broken) (b : A → Broken) (o : Option A) (v : A) (fault : NameFault) (P : NameFault → Type 0) (r : Result X NameFault) → IsErrAnd r P
+    → ((e : NameFault) → P e → e ≡ fault) → IsKept a → o ≡ Some v → Tells (b v) fault → IfErr r (Tells (a ▸ where_given o b))
+told_wanted a b o v fault P r h same kept is told = told_second a (where_given o b) fault P r h same kept (told_given b o v fault is told)
 
 pub three : (a b c : Broken) → (a ▸ b) ▸ c ≡ a ▸ (b ▸ c)
 unfolding ◌▸◌

@@ -17,11 +17,10 @@ returns-in_err-all-in-Some-clause-told c =
     let g = c.args.given.now in
     let items = map view.context_view c.args.items.now in
     let a = view.architecture_view c.args.tree.now in
-    let e = c.in-Some.entity.now in
-    let is = described_at g.entities.now.entries items a c.as_slice.result.now c.as_slice.ensures.value (names_view g.names.now) c.in-Some.place e c.in-Some.ensures.index c.in-Some.ensures.value in
+    let is = described_at g.entities.now.entries items a c.as_slice.result.now c.as_slice.ensures.value (names_view g.names.now) c.in-Some.place c.in-Some.entity.now c.in-Some.ensures.index c.in-Some.ensures.value in
     passed_told _ c.in_err-all-in-Some.field-0.0 _ c.from_residual.result c.from_residual.ensures.1 (λ e p. p)
     (told_same _ _ c.in_err-all-in-Some.field-0.0 (sym is)
-    (c.in_err-all-in-Some.ensures.told (broken.architecture (entities_view g.entities.now) (entity_view e) items a) c.architecture-read.ensures.told))
+    (c.in_err-all-in-Some.ensures.told (broken.architecture (entities_view g.entities.now) (entity_view c.in-Some.entity.now) items a) c.architecture-read.ensures.told))
 
 pub returns-in-None-clause-told : goal.returns-in-None-clause-told
 returns-in-None-clause-told c =
@@ -43,9 +42,8 @@ returns-in_ok-all-in-Some-clause-told c =
     let g = c.args.given.now in
     let items = map view.context_view c.args.items.now in
     let a = view.architecture_view c.args.tree.now in
-    let e = c.in-Some.entity.now in
-    described_at g.entities.now.entries items a c.as_slice.result.now c.as_slice.ensures.value (names_view g.names.now) c.in-Some.place e c.in-Some.ensures.index c.in-Some.ensures.value
-    ∙ c.in_ok-all-in-Some.ensures.told (broken.architecture (entities_view g.entities.now) (entity_view e) items a) c.architecture-read.ensures.told
+    described_at g.entities.now.entries items a c.as_slice.result.now c.as_slice.ensures.value (names_view g.names.now) c.in-Some.place c.in-Some.entity.now c.in-Some.ensures.index c.in-Some.ensures.value
+    ∙ c.in_ok-all-in-Some.ensures.told (broken.architecture (entities_view g.entities.now) (entity_view c.in-Some.entity.now) items a) c.architecture-read.ensures.told
 
 pub returns-in_ok-all-in-Some-clause-given : goal.returns-in_ok-all-in-Some-clause-given
 returns-in_ok-all-in-Some-clause-given c = λ hidden.

@@ -1,10 +1,8 @@
 use Rattle.std.proofs.Common.{map, sym, ◌∙◌}
 use Rattle.vhdl_tree.specs.Tree as t
 use Rattle.vhdl_tree.specs.View as view
-use Rattle.vhdl_names_rules.specs.problems.Broken.{◌▸◌}
 use Rattle.vhdl_names_rules.specs.problems.Concurrent.{concurrents}
-use Rattle.vhdl_names_rules.specs.problems.Declarations.{standing_twice, end_name}
-use Rattle.vhdl_names_rules.specs.problems.Files as broken
+use Rattle.vhdl_names_rules.specs.problems.Declarations.{standing_twice}
 use Rattle.vhdl_names_rules.specs.problems.Labels.{labels_of}
 use Rattle.vhdl_names_rules.proofs.Telling.{told_left, told_right, told_same}
 use Rattle.vhdl_names_rules.proofs.kept.Keeping.{among_kept}
@@ -20,16 +18,13 @@ use Rattle.vhdl_names.proofs.bodies.body.Goals as goal
 pub returns-in_err-statements-clause-told : goal.returns-in_err-statements-clause-told
 returns-in_err-statements-clause-told c = λ all are. rw (← c.sight.view_is) (
     let s = sight_view c.sight.inside in
-    let a = view.architecture_view c.args.tree.now in
-    let f = c.in_err-statements.field-0.0 in
     let r = region_view c.declare_each-labels.new.region in
-    let end = end_name a.name a.end_name in
     let labelled = standing_twice s.region (labels_of (t.concurrents_of (map view.concurrent_view c.deref.result.now))) in
     let stated = concurrents all (with_region s r) (t.concurrents_of (map view.concurrent_view c.deref-2.result.now)) in
-    passed_err (broken.body all s (t.concurrents_of a.statements) ▸ end) f _ c.from_residual.result c.from_residual.ensures.1 (λ e p. p)
-    (or_memory (broken.body all s (t.concurrents_of a.statements) ▸ end) f (λ n.
-    told_left (broken.body all s (t.concurrents_of a.statements)) end f
-    (told_same _ (broken.body all s (t.concurrents_of a.statements)) f
+    passed_err _ _ _ c.from_residual.result c.from_residual.ensures.1 (λ e p. p)
+    (or_memory _ _ (λ n.
+    told_left _ _ _
+    (told_same _ _ _
     (body_same all s r c.args.tree.now.statements.items c.deref.result.now c.deref-2.result.now c.deref.ensures.value c.deref-2.ensures.value
     (c.declare_each-labels.ensures.past (c.in_err-statements.ensures.memory n).0))
     (c.in_err-statements.ensures.told labelled stated c.declare_each-labels.ensures.told
@@ -40,20 +35,14 @@ returns-in_err-statements-clause-told c = λ all are. rw (← c.sight.view_is) (
 pub returns-in_err-ends-clause-told : goal.returns-in_err-ends-clause-told
 returns-in_err-ends-clause-told c = λ all are. rw (← c.sight.view_is) (
     let s = sight_view c.sight.inside in
-    let a = view.architecture_view c.args.tree.now in
-    let f = c.in_err-ends.field-0.0 in
     let r = region_view c.declare_each-labels.new.region in
-    let end = end_name a.name a.end_name in
-    let whole = broken.body all s (t.concurrents_of a.statements) in
-    let labelled = standing_twice s.region (labels_of (t.concurrents_of (map view.concurrent_view c.deref.result.now))) in
-    let stated = concurrents all (with_region s r) (t.concurrents_of (map view.concurrent_view c.deref-2.result.now)) in
     let both = c.in_ok-statements.ensures.both in
     let same = body_same all s r c.args.tree.now.statements.items c.deref.result.now c.deref-2.result.now c.deref.ensures.value c.deref-2.ensures.value
     (c.declare_each-labels.ensures.past (ok_memory c.declare_each-labels.result tt both.0)) in
-    passed_err (whole ▸ end) f _ c.from_residual-in_err-ends.result c.from_residual-in_err-ends.ensures.1 (λ e p. p)
-    (told_right whole end f
+    passed_err _ _ _ c.from_residual-in_err-ends.result c.from_residual-in_err-ends.ensures.1 (λ e p. p)
+    (told_right _ _ _
     (sym same
-    ∙ among_kept labelled stated (found_ok labelled c.declare_each-labels.result tt both.0 c.declare_each-labels.ensures.told)
+    ∙ among_kept _ _ (found_ok _ c.declare_each-labels.result tt both.0 c.declare_each-labels.ensures.told)
     (concurrents_kept (t.concurrents_of (map view.concurrent_view c.deref-2.result.now)) all (with_region s r) _ (rw (← c.sight.view_is) at c.requires.outside)
     (given_ok body_view _ c.concurrents.result _ both.1 (c.concurrents.ensures.given all are))))
     c.in_err-ends.ensures.told))

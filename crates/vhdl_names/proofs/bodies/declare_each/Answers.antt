@@ -6,7 +6,8 @@ use Rattle.vhdl_names_sight.specs.Views.{region_view}
 use Rattle.vhdl_names_declarations.specs.Entered.{more}
 use Rattle.vhdl_names_declarations.proofs.Regions.{names_apart}
 use Rattle.vhdl_names_sight.proofs.Along.{gives_along}
-use Rattle.vhdl_names.proofs.Labels.{Labelled, none_labelled, one_more, one_label, label_name, labels_in, next_left, all_told, all_past, all_given}
+use Rattle.vhdl_names_declarations.proofs.Labelling.{labels_in, names_of_label}
+use Rattle.vhdl_names.proofs.Labels.{Labelled, none_labelled, one_more, one_label, next_left, all_told, all_past, all_given}
 use Rattle.vhdl_names.proofs.bodies.declare_each.Goals as goal
 
 pub loop-statement-init : goal.loop-statement-init
@@ -27,7 +28,7 @@ loop-statement-preserved c =
     (one_more begun (labels_in cs) before is left (one_label s) c.loop-statement.told
     (subst (Labelled begun (labels_in cs) before c.loop-statement.told) (next_left cs i c.statement-item.result lt c.statement-item.is) c.loop-statement.invariant)
     c.declare_label.result region
-    (gives_along (λ _. region) _ _ c.declare_label.result (ap (λ ns. more before (labelled ns)) (label_name s)) c.declare_label.ensures.given)
+    (gives_along (λ _. region) _ _ c.declare_label.result (ap (λ ns. more before (labelled ns)) (names_of_label s)) c.declare_label.ensures.given)
     c.declare_label.ensures.told c.declare_label.ensures.kept)
 
 pub returns-clause-told : goal.returns-clause-told

@@ -6,4 +6,4 @@ use Rattle.vhdl_names.proofs.mentions.is_declared.Given as goal
 -- what is left says it of the whole
 abbrev pub invariant-loop-declaration : goal.invariant-loop-declaration
 invariant-loop-declaration l =
-    one_is_hidden l.given l.at (declared_in l.given l.at l.declarations) ≡ one_is_hidden l.given l.at (declared_in l.given l.at (drop l.declaration-index l.declarations))
+    one_is_hidden l.given l.at (declared_in l.declarations) ≡ one_is_hidden l.given l.at (declared_in (drop l.declaration-index l.declarations))

@@ -7,7 +7,8 @@ use Rattle.std.specs.Prelude.{bytes_eq, is_some}
 use Rattle.std.specs.Map.{lookup}
 use Rattle.indexmap.proofs.CallerLemmas.{insert_entry-new}
 use Rattle.vhdl_names.specs.Views.{described_view, architectures_view}
-use Rattle.vhdl_names.proofs.Describing.{among, absent, refused as there, grown}
+use Rattle.vhdl_names.proofs.Describing.{among, refused as there, grown}
+use Rattle.vhdl_names_declarations.proofs.Keyed.{absent}
 use Rattle.vhdl_names.proofs.Finding.{tells_at}
 use Rattle.vhdl_names.proofs.outline.add_described.Goals as goal
 

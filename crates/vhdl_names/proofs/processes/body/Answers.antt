@@ -17,18 +17,16 @@ use Rattle.vhdl_names.proofs.processes.body.Goals as goal
 
 pub returns-in-Ok-clause-told : goal.returns-in-Ok-clause-told
 returns-in-Ok-clause-told c =
-    let s = c.args.sight.now in
     let xs = t.statements_of (map tree.sequential_view c.args.list.now) in
     let a = twice [] (statement_labels xs) in
-    let b = statements s xs in
+    let b = statements c.args.sight.now xs in
     let k = inner_labels_kept xs (met_holds (are_distinct (rules.statement_labels xs)) c.in-Ok.ensures.given) in
-    told_on b (broken.body s xs) _ (λ f. told_same b (broken.body s xs) f (sym (among_second a b k))) c.analysed-statements.ensures.told
+    told_on b (broken.body c.args.sight.now xs) _ (λ f. told_same b (broken.body c.args.sight.now xs) f (sym (among_second a b k))) c.analysed-statements.ensures.told
 
 pub returns-in-Err-clause-told : goal.returns-in-Err-clause-told
 returns-in-Err-clause-told c =
-    let s = c.args.sight.now in
     let xs = t.statements_of (map tree.sequential_view c.args.list.now) in
     let a = twice [] (statement_labels xs) in
-    let b = statements s xs in
+    let b = statements c.args.sight.now xs in
     c.earlier_in.ensures.told a b c.in-Err.ensures.told c.analysed-statements.ensures.told
-    (ok_kept body_view (rules.statements s xs) b _ (statements_kept xs s) c.analysed-statements.ensures.given)
+    (ok_kept body_view (rules.statements c.args.sight.now xs) b _ (statements_kept xs c.args.sight.now) c.analysed-statements.ensures.given)

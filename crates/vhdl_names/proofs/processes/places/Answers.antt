@@ -34,11 +34,8 @@ returns-in_err-named-clause-given c =
     (λ n. none_more name_view c.args.names.now c.loop-name.name-index c.name-item.result lt c.name-item.is g (all_places_view c.loop-name.all) _ c.loop-name.invariant.0
     (ap (λ (o : Option SignalName). o >>= λ x. Some x.place) (c.in_err-named.ensures.given n)))
 
-pub returns-in_err-push-clause-given : goal.returns-in_err-push-clause-given
-returns-in_err-push-clause-given c = memory_gives _ _ _ c.from_residual-in_err-push.result c.from_residual-in_err-push.ensures.1 (λ e p. p)
-
-pub returns-in_err-push-clause-told : goal.returns-in_err-push-clause-told
-returns-in_err-push-clause-told c = memory_told _ _ c.from_residual-in_err-push.result c.from_residual-in_err-push.ensures.1 (λ e p. p)
+pub returns-in_err-push : goal.returns-in_err-push
+returns-in_err-push c = record { given = memory_gives _ _ _ c.from_residual-in_err-push.result c.from_residual-in_err-push.ensures.1 (λ e p. p); told = memory_told _ _ c.from_residual-in_err-push.result c.from_residual-in_err-push.ensures.1 (λ e p. p) }
 
 pub loop-name-preserved : goal.loop-name-preserved
 loop-name-preserved c =

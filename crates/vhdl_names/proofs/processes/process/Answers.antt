@@ -1,11 +1,42 @@
+use Rattle.std.proofs.Common.{map, ap, sym, ◌∙◌}
+use Rattle.vhdl_tree.specs.Tree as t
 use Rattle.vhdl_tree.specs.View as tree
-use Rattle.vhdl_names_sight.proofs.Along.{gives_along}
-use Rattle.vhdl_names_units.specs.views.Concurrent.{process_view}
-use Rattle.vhdl_names.proofs.Running.{process_by}
+use Rattle.vhdl_names_rules.specs.Visibility.{with_variables}
+use Rattle.vhdl_names_rules.specs.Declarations as declarations
+use Rattle.vhdl_names_rules.specs.problems.Declarations.{in_order, variables}
+use Rattle.vhdl_names_rules.specs.problems.Concurrent as broken
+use Rattle.vhdl_names_rules.proofs.Telling.{told_same}
+use Rattle.vhdl_names.specs.steps.Processes as steps
+use Rattle.vhdl_names.proofs.Running.{left_process}
+use Rattle.vhdl_names.proofs.Told.{process_resumed, process_variables, process_body, process_ends}
+use Rattle.vhdl_names.proofs.Finding.{passed_err}
 use Rattle.vhdl_names.proofs.processes.process.Goals as goal
 
-pub returns-clause-given : goal.returns-clause-given
-returns-clause-given c =
-    gives_along process_view _ _ _
-    (process_by c.args.sight.now (tree.option_ident_view c.args.label.now) (tree.process_view c.args.process.now) c.requires.outside)
-    c.process_in_turn.ensures.given
+pub returns-clause-kept : goal.returns-clause-kept
+returns-clause-kept c =
+    left_process c.args.sight.now (map tree.variables_view c.deref.result.now) _ _ _ _ c.requires.outside
+    c.in_ok-variables.ensures.given c.body.ensures.kept c.leave_process.ensures
+
+pub returns-in_err-sensitivity-clause-told : goal.returns-in_err-sensitivity-clause-told
+returns-in_err-sensitivity-clause-told c = passed_err _ _ _ c.from_residual.result c.from_residual.ensures.1 (λ e p. p) (process_resumed c.args.sight.now (tree.option_ident_view c.args.label.now) (tree.process_view c.args.process.now) _ c.in_err-sensitivity.ensures.told)
+
+pub returns-in_err-variables-clause-told : goal.returns-in_err-variables-clause-told
+returns-in_err-variables-clause-told c =
+    passed_err _ _ _ c.from_residual-in_err-variables.result c.from_residual-in_err-variables.ensures.1 (λ e p. p)
+    (process_variables c.args.sight.now (tree.option_ident_view c.args.label.now) (tree.process_view c.args.process.now) _ _ c.in_ok-sensitivity.ensures.given
+    (told_same _ _ _ (ap (λ xs. in_order with_variables declarations.variables variables c.args.sight.now (map tree.variables_view xs)) c.deref.ensures.value) c.in_err-variables.ensures.told))
+
+pub returns-in_err-statements-clause-told : goal.returns-in_err-statements-clause-told
+returns-in_err-statements-clause-told c =
+    passed_err _ _ _ c.from_residual-in_err-statements.result c.from_residual-in_err-statements.ensures.1 (λ e p. p)
+    (process_body c.args.sight.now (tree.option_ident_view c.args.label.now) (tree.process_view c.args.process.now) _ _ c.in_ok-sensitivity.ensures.given _ _
+    (ap (λ xs. steps.variables_in c.args.sight.now (map tree.variables_view xs)) (sym c.deref.ensures.value) ∙ c.in_ok-variables.ensures.given)
+    (told_same _ _ _ (ap (λ xs. broken.body c.variables.new.sight (t.statements_of (map tree.sequential_view xs))) c.deref-2.ensures.value) c.in_err-statements.ensures.told))
+
+pub returns-in_err-label_ends-clause-told : goal.returns-in_err-label_ends-clause-told
+returns-in_err-label_ends-clause-told c =
+    passed_err _ _ _ c.from_residual-in_err-label_ends.result c.from_residual-in_err-label_ends.ensures.1 (λ e p. p)
+    (process_ends c.args.sight.now (tree.option_ident_view c.args.label.now) (tree.process_view c.args.process.now) _ _ c.in_ok-sensitivity.ensures.given _ _
+    (ap (λ xs. steps.variables_in c.args.sight.now (map tree.variables_view xs)) (sym c.deref.ensures.value) ∙ c.in_ok-variables.ensures.given) _
+    (ap (λ xs. steps.body c.variables.new.sight (map tree.sequential_view xs)) (sym c.deref-2.ensures.value) ∙ c.in_ok-statements.ensures.given)
+    c.in_err-label_ends.ensures.told)

@@ -1,9 +1,8 @@
-use Rattle.std.proofs.Common.{arith, ◌≡◌, ◌≢◌, ◌<◌, ◌∷◌, length, map, [], None, refl, ap, sym, ◌∙◌}
+use Rattle.std.proofs.Common.{arith, ◌<◌, ◌∷◌, length, map, [], refl, ap, sym, ◌∙◌}
 use Rattle.std.specs.Prelude.{option_map}
 use Rattle.std.proofs.lemmas.List.{map-append}
 use Rattle.vhdl_tree.specs.Tree as t
 use Rattle.vhdl_tree.specs.View as tree
-use Rattle.vhdl_names_rules.specs.declared.fault.NameFault.TheVariants.{NoMemory}
 use Rattle.vhdl_names_rules.specs.units.Units as u
 use Rattle.vhdl_names_rules.specs.Visibility.{are_distinct}
 use Rattle.vhdl_names_rules.specs.Concurrent.{concurrent_labels}
@@ -35,16 +34,8 @@ use Rattle.vhdl_names.proofs.statements.+concurrent.Goals as goal
 
 pub generate-returns-in_err-by-clause-given : goal.generate-returns-in_err-by-clause-given
 generate-returns-in_err-by-clause-given m c =
-    let f = instance (names_view c.args.entities.now.names) (seens_view c.args.entities.now.formals) in
-    let s = c.args.sight.now in
-    let label = tree.ident_view c.args.written.now.label in
-    let k = tree.scheme_view c.args.written.now.scheme in
-    let cs = tree.concurrents_view c.args.written.now.statements in
-    let end = tree.option_ident_view c.args.written.now.end_label in
-    let at = c.args.written.now.at in
-    let none : c.in_err-by.field-0.0 ≢ NoMemory → steps.generate f s label at k cs end ≡ None =
-    λ n. no_scheme f s label at k cs end (λ b. c.in_err-by.ensures.given label.text at b n) in
-    passed_on _ _ c.in_err-by.field-0.0 _ c.from_residual.result c.from_residual.ensures.1 (λ e p. p) none
+    passed_on _ _ _ _ c.from_residual.result c.from_residual.ensures.1 (λ e p. p)
+    (λ n. no_scheme (instance (names_view c.args.entities.now.names) (seens_view c.args.entities.now.formals)) c.args.sight.now (tree.ident_view c.args.written.now.label) c.args.written.now.at (tree.scheme_view c.args.written.now.scheme) (tree.concurrents_view c.args.written.now.statements) (tree.option_ident_view c.args.written.now.end_label) (λ b. c.in_err-by.ensures.given (tree.ident_view c.args.written.now.label).text c.args.written.now.at b n))
 
 pub statement-returns-in-Generate-clause-given : goal.statement-returns-in-Generate-clause-given
 statement-returns-in-Generate-clause-given m c =
@@ -55,29 +46,15 @@ statement-returns-in-Generate-clause-given m c =
 
 pub generate-returns-in_err-body-clause-given : goal.generate-returns-in_err-body-clause-given
 generate-returns-in_err-body-clause-given m c =
-    let e = c.args.entities.now in
-    let g = instance (names_view e.names) (seens_view e.formals) in
-    let s = c.args.sight.now in
-    let label = tree.ident_view c.args.written.now.label in
-    let k = tree.scheme_view c.args.written.now.scheme in
-    let cs = tree.concurrents_view c.args.written.now.statements in
-    let end = tree.option_ident_view c.args.written.now.end_label in
     let within = c.enter_generate.new.sight in
-    passed_on _ _ c.in_err-body.field-0.0 _ c.from_residual-in_err-body.result c.from_residual-in_err-body.ensures.1 (λ e p. p)
-    (λ n. no_body g s label c.args.written.now.at k cs end within c.in_ok-enter_generate.ensures.given
-    (ap (λ xs. steps.labelled g within (map tree.concurrent_view xs)) (sym c.deref.ensures.value) ∙ c.in_err-body.ensures.given n))
+    passed_on _ _ _ _ c.from_residual-in_err-body.result c.from_residual-in_err-body.ensures.1 (λ e p. p)
+    (λ n. no_body (instance (names_view c.args.entities.now.names) (seens_view c.args.entities.now.formals)) c.args.sight.now (tree.ident_view c.args.written.now.label) c.args.written.now.at (tree.scheme_view c.args.written.now.scheme) (tree.concurrents_view c.args.written.now.statements) (tree.option_ident_view c.args.written.now.end_label) within c.in_ok-enter_generate.ensures.given
+    (ap (λ xs. steps.labelled (instance (names_view c.args.entities.now.names) (seens_view c.args.entities.now.formals)) within (map tree.concurrent_view xs)) (sym c.deref.ensures.value) ∙ c.in_err-body.ensures.given n))
 
 pub generate-returns-in_err-ends-clause-given : goal.generate-returns-in_err-ends-clause-given
 generate-returns-in_err-ends-clause-given m c =
-    let e = c.args.entities.now in
-    let g = instance (names_view e.names) (seens_view e.formals) in
-    let s = c.args.sight.now in
-    let label = tree.ident_view c.args.written.now.label in
-    let k = tree.scheme_view c.args.written.now.scheme in
-    let cs = tree.concurrents_view c.args.written.now.statements in
-    let end = tree.option_ident_view c.args.written.now.end_label in
-    passed_on _ _ c.in_err-ends.field-0.0 _ c.from_residual-in_err-ends.result c.from_residual-in_err-ends.ensures.1 (λ e p. p)
-    (λ n. no_end g s label c.args.written.now.at k cs end (c.in_err-ends.ensures.given n))
+    passed_on _ _ _ _ c.from_residual-in_err-ends.result c.from_residual-in_err-ends.ensures.1 (λ e p. p)
+    (λ n. no_end (instance (names_view c.args.entities.now.names) (seens_view c.args.entities.now.formals)) c.args.sight.now (tree.ident_view c.args.written.now.label) c.args.written.now.at (tree.scheme_view c.args.written.now.scheme) (tree.concurrents_view c.args.written.now.statements) (tree.option_ident_view c.args.written.now.end_label) (c.in_err-ends.ensures.given n))
 
 pub generate-returns-in_err-enter_generate-clause-given : goal.generate-returns-in_err-enter_generate-clause-given
 generate-returns-in_err-enter_generate-clause-given m c =
@@ -97,35 +74,23 @@ generate-returns-in_err-label-clause-told m c = λ es are. memory_told _ _ c.fro
 
 pub statement-returns-in_err-assignment-in-Assignment-clause-given : goal.statement-returns-in_err-assignment-in-Assignment-clause-given
 statement-returns-in_err-assignment-in-Assignment-clause-given m c =
-    let e = c.args.entities.now in
-    let g = instance (names_view e.names) (seens_view e.formals) in
-    let s = c.args.sight.now in
-    passed_on _ _ c.in_err-assignment-in-Assignment.field-0.0 _ c.from_residual.result c.from_residual.ensures.1 (λ e p. p)
-    (λ n. ap (λ x. steps.concurrent g s (tree.concurrent_view x)) c.in-Assignment.is ∙ c.in_err-assignment-in-Assignment.ensures.given n)
+    passed_on _ _ _ _ c.from_residual.result c.from_residual.ensures.1 (λ e p. p)
+    (λ n. ap (λ x. steps.concurrent (instance (names_view c.args.entities.now.names) (seens_view c.args.entities.now.formals)) c.args.sight.now (tree.concurrent_view x)) c.in-Assignment.is ∙ c.in_err-assignment-in-Assignment.ensures.given n)
 
 pub statement-returns-in_err-selected-in-Selected-clause-given : goal.statement-returns-in_err-selected-in-Selected-clause-given
 statement-returns-in_err-selected-in-Selected-clause-given m c =
-    let e = c.args.entities.now in
-    let g = instance (names_view e.names) (seens_view e.formals) in
-    let s = c.args.sight.now in
-    passed_on _ _ c.in_err-selected-in-Selected.field-0.0 _ c.from_residual-in_err-selected-in-Selected.result c.from_residual-in_err-selected-in-Selected.ensures.1 (λ e p. p)
-    (λ n. ap (λ x. steps.concurrent g s (tree.concurrent_view x)) c.in-Selected.is ∙ c.in_err-selected-in-Selected.ensures.given n)
+    passed_on _ _ _ _ c.from_residual-in_err-selected-in-Selected.result c.from_residual-in_err-selected-in-Selected.ensures.1 (λ e p. p)
+    (λ n. ap (λ x. steps.concurrent (instance (names_view c.args.entities.now.names) (seens_view c.args.entities.now.formals)) c.args.sight.now (tree.concurrent_view x)) c.in-Selected.is ∙ c.in_err-selected-in-Selected.ensures.given n)
 
 pub statement-returns-in_err-process-in-Process-clause-given : goal.statement-returns-in_err-process-in-Process-clause-given
 statement-returns-in_err-process-in-Process-clause-given m c =
-    let e = c.args.entities.now in
-    let g = instance (names_view e.names) (seens_view e.formals) in
-    let s = c.args.sight.now in
-    passed_on _ _ c.in_err-process-in-Process.field-0.0 _ c.from_residual-in_err-process-in-Process.result c.from_residual-in_err-process-in-Process.ensures.1 (λ e p. p)
-    (λ n. ap (λ x. steps.concurrent g s (tree.concurrent_view x)) c.in-Process.is ∙ ap (option_map u.process) (c.in_err-process-in-Process.ensures.given n))
+    passed_on _ _ _ _ c.from_residual-in_err-process-in-Process.result c.from_residual-in_err-process-in-Process.ensures.1 (λ e p. p)
+    (λ n. ap (λ x. steps.concurrent (instance (names_view c.args.entities.now.names) (seens_view c.args.entities.now.formals)) c.args.sight.now (tree.concurrent_view x)) c.in-Process.is ∙ ap (option_map u.process) (c.in_err-process-in-Process.ensures.given n))
 
 pub statement-returns-in_err-instance_in_turn-in-Instance-clause-given : goal.statement-returns-in_err-instance_in_turn-in-Instance-clause-given
 statement-returns-in_err-instance_in_turn-in-Instance-clause-given m c =
-    let e = c.args.entities.now in
-    let g = instance (names_view e.names) (seens_view e.formals) in
-    let s = c.args.sight.now in
-    passed_on _ _ c.in_err-instance_in_turn-in-Instance.field-0.0 _ c.from_residual-in_err-instance_in_turn-in-Instance.result c.from_residual-in_err-instance_in_turn-in-Instance.ensures.1 (λ e p. p)
-    (λ n. ap (λ x. steps.concurrent g s (tree.concurrent_view x)) c.in-Instance.is ∙ ap (option_map u.instance) (c.in_err-instance_in_turn-in-Instance.ensures.given n))
+    passed_on _ _ _ _ c.from_residual-in_err-instance_in_turn-in-Instance.result c.from_residual-in_err-instance_in_turn-in-Instance.ensures.1 (λ e p. p)
+    (λ n. ap (λ x. steps.concurrent (instance (names_view c.args.entities.now.names) (seens_view c.args.entities.now.formals)) c.args.sight.now (tree.concurrent_view x)) c.in-Instance.is ∙ ap (option_map u.instance) (c.in_err-instance_in_turn-in-Instance.ensures.given n))
 
 -- ---- what is told
 
@@ -222,64 +187,33 @@ labelled-returns-in-Err-clause-told m c = λ es are.
 
 pub generate-returns-in_err-by-clause-told : goal.generate-returns-in_err-by-clause-told
 generate-returns-in_err-by-clause-told m c = λ es are.
-    let s = c.args.sight.now in
-    let label = tree.ident_view c.args.written.now.label in
-    let k = tree.scheme_view c.args.written.now.scheme in
-    let cs = tree.concurrents_view c.args.written.now.statements in
-    let end = tree.option_ident_view c.args.written.now.end_label in
-    let f = c.in_err-by.field-0.0 in
-    let h : Tells (told.generate es s label k cs end) c.in_err-by.field-0.0 = by.generate_by es s label k cs end f c.in_err-by.ensures.told in
-    passed_err _ c.in_err-by.field-0.0 _ c.from_residual.result c.from_residual.ensures.1 (λ e p. p) h
+    passed_err _ _ _ c.from_residual.result c.from_residual.ensures.1 (λ e p. p) (by.generate_by es c.args.sight.now (tree.ident_view c.args.written.now.label) (tree.scheme_view c.args.written.now.scheme) (tree.concurrents_view c.args.written.now.statements) (tree.option_ident_view c.args.written.now.end_label) _ c.in_err-by.ensures.told)
 
 pub generate-returns-in_err-body-clause-told : goal.generate-returns-in_err-body-clause-told
 generate-returns-in_err-body-clause-told m c = λ es are.
-    let s = c.args.sight.now in
-    let label = tree.ident_view c.args.written.now.label in
-    let k = tree.scheme_view c.args.written.now.scheme in
-    let cs = tree.concurrents_view c.args.written.now.statements in
-    let end = tree.option_ident_view c.args.written.now.end_label in
-    let f = c.in_err-body.field-0.0 in
-    let h : Tells (told.generate es s label k cs end) c.in_err-body.field-0.0 =
-    by.generate_inside es s label k cs end f _ (c.in_ok-by.ensures.given [] 0 u.no_concurrents) c.enter_generate.new.sight c.in_ok-enter_generate.ensures.given
-    (told_same _ _ f (ap (λ xs. told.labelled es c.enter_generate.new.sight (map tree.concurrent_view xs)) c.deref.ensures.value) (c.in_err-body.ensures.told es are)) in
-    passed_err _ c.in_err-body.field-0.0 _ c.from_residual-in_err-body.result c.from_residual-in_err-body.ensures.1 (λ e p. p) h
+    passed_err _ _ _ c.from_residual-in_err-body.result c.from_residual-in_err-body.ensures.1 (λ e p. p)
+    (by.generate_inside es c.args.sight.now (tree.ident_view c.args.written.now.label) (tree.scheme_view c.args.written.now.scheme) (tree.concurrents_view c.args.written.now.statements) (tree.option_ident_view c.args.written.now.end_label) _ _ (c.in_ok-by.ensures.given [] 0 u.no_concurrents) c.enter_generate.new.sight c.in_ok-enter_generate.ensures.given
+    (told_same _ _ _ (ap (λ xs. told.labelled es c.enter_generate.new.sight (map tree.concurrent_view xs)) c.deref.ensures.value) (c.in_err-body.ensures.told es are)))
 
 pub generate-returns-in_err-ends-clause-told : goal.generate-returns-in_err-ends-clause-told
 generate-returns-in_err-ends-clause-told m c = λ es are.
     let s = c.args.sight.now in
-    let e = c.args.entities.now in
-    let label = tree.ident_view c.args.written.now.label in
-    let k = tree.scheme_view c.args.written.now.scheme in
-    let cs = tree.concurrents_view c.args.written.now.statements in
-    let end = tree.option_ident_view c.args.written.now.end_label in
-    let f = c.in_err-ends.field-0.0 in
     let within = c.enter_generate.new.sight in
-    let g = instance (names_view e.names) (seens_view e.formals) in
-    let h : Tells (told.generate es s label k cs end) c.in_err-ends.field-0.0 =
-    by.generate_ends es s label k cs end f _ (c.in_ok-by.ensures.given [] 0 u.no_concurrents) within c.in_ok-enter_generate.ensures.given
-    (by.labelled_kept es within g (instance_gives e es are) (by.within_is s within k c.requires.outside c.in_ok-enter_generate.ensures.given) cs _
+    let k = tree.scheme_view c.args.written.now.scheme in
+    let g = instance (names_view c.args.entities.now.names) (seens_view c.args.entities.now.formals) in
+    passed_err _ _ _ c.from_residual-in_err-ends.result c.from_residual-in_err-ends.ensures.1 (λ e p. p)
+    (by.generate_ends es c.args.sight.now (tree.ident_view c.args.written.now.label) (tree.scheme_view c.args.written.now.scheme) (tree.concurrents_view c.args.written.now.statements) (tree.option_ident_view c.args.written.now.end_label) _ _ (c.in_ok-by.ensures.given [] 0 u.no_concurrents) within c.in_ok-enter_generate.ensures.given
+    (by.labelled_kept es within g (instance_gives c.args.entities.now es are) (by.within_is s within k c.requires.outside c.in_ok-enter_generate.ensures.given)
+    (tree.concurrents_view c.args.written.now.statements) _
     (ap (λ xs. steps.labelled g within (map tree.concurrent_view xs)) (sym c.deref.ensures.value) ∙ c.in_ok-body.ensures.given))
-    c.in_err-ends.ensures.told in
-    passed_err _ c.in_err-ends.field-0.0 _ c.from_residual-in_err-ends.result c.from_residual-in_err-ends.ensures.1 (λ e p. p) h
+    c.in_err-ends.ensures.told)
 
 pub statement-returns-in_err-selected-in-Selected-clause-told : goal.statement-returns-in_err-selected-in-Selected-clause-told
 statement-returns-in_err-selected-in-Selected-clause-told m c = λ es are.
-    let s = c.args.sight.now in
-    let f = c.in_err-selected-in-Selected.field-0.0 in
-    let h : Tells (broken.concurrent es s (tree.concurrent_view c.args.item.now)) c.in_err-selected-in-Selected.field-0.0 =
-    told_same _ _ f
-    (sym (ap (λ x. broken.concurrent es s (tree.concurrent_view x)) c.in-Selected.is
-    ∙ by.selected_is es s (tree.option_ident_view c.in-Selected.label) (tree.selected_assignment_view c.in-Selected.written)))
-    c.in_err-selected-in-Selected.ensures.told in
-    passed_err _ c.in_err-selected-in-Selected.field-0.0 _ c.from_residual-in_err-selected-in-Selected.result c.from_residual-in_err-selected-in-Selected.ensures.1 (λ e p. p) h
+    passed_err _ _ _ c.from_residual-in_err-selected-in-Selected.result c.from_residual-in_err-selected-in-Selected.ensures.1 (λ e p. p)
+    (told_same _ _ _ (sym (ap (λ x. broken.concurrent es c.args.sight.now (tree.concurrent_view x)) c.in-Selected.is ∙ by.selected_is es c.args.sight.now (tree.option_ident_view c.in-Selected.label) (tree.selected_assignment_view c.in-Selected.written))) c.in_err-selected-in-Selected.ensures.told)
 
 pub statement-returns-in_err-process-in-Process-clause-told : goal.statement-returns-in_err-process-in-Process-clause-told
 statement-returns-in_err-process-in-Process-clause-told m c = λ es are.
-    let s = c.args.sight.now in
-    let f = c.in_err-process-in-Process.field-0.0 in
-    let h : Tells (broken.concurrent es s (tree.concurrent_view c.args.item.now)) c.in_err-process-in-Process.field-0.0 =
-    told_same _ _ f
-    (sym (ap (λ x. broken.concurrent es s (tree.concurrent_view x)) c.in-Process.is
-    ∙ by.process_is es s (tree.option_ident_view c.in-Process.label) (tree.process_view c.in-Process.written)))
-    c.in_err-process-in-Process.ensures.told in
-    passed_err _ c.in_err-process-in-Process.field-0.0 _ c.from_residual-in_err-process-in-Process.result c.from_residual-in_err-process-in-Process.ensures.1 (λ e p. p) h
+    passed_err _ _ _ c.from_residual-in_err-process-in-Process.result c.from_residual-in_err-process-in-Process.ensures.1 (λ e p. p)
+    (told_same _ _ _ (sym (ap (λ x. broken.concurrent es c.args.sight.now (tree.concurrent_view x)) c.in-Process.is ∙ by.process_is es c.args.sight.now (tree.option_ident_view c.in-Process.label) (tree.process_view c.in-Process.written))) c.in_err-process-in-Process.ensures.told)

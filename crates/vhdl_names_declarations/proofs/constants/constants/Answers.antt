@@ -1,4 +1,4 @@
-use Rattle.std.proofs.Common.{arith, ◌≡◌, ◌≢◌, map, ap, ◌∙◌, sym}
+use Rattle.std.proofs.Common.{arith, ◌≡◌, map, ap, ◌∙◌, sym}
 use Rattle.std.proofs.lemmas.List.{length-map}
 use Rattle.vhdl_names_rules.specs.Declarations.{within}
 use Rattle.vhdl_names_rules.specs.Visibility as visibility
@@ -12,7 +12,7 @@ use Rattle.vhdl_names_declarations.specs.Constants.{TypedConstant}
 use Rattle.vhdl_names_declarations.specs.Entered.{more}
 use Rattle.vhdl_names_declarations.specs.Settled.{settled}
 use Rattle.vhdl_names_declarations.proofs.Classes.{constants_is, constant_number, number_below}
-use Rattle.vhdl_names_declarations.proofs.Turns.{refused, unknown, hidden, settled_whole, grows_by, first_below, more_is}
+use Rattle.vhdl_names_declarations.proofs.Turns.{refused, unknown, hidden, settled_whole, first_within, first_below, more_is}
 use Rattle.vhdl_names_sight.proofs.Passing.{passed_on}
 use Rattle.vhdl_names_declarations.proofs.constants.constants.Goals as goal
 use Rattle.vhdl_names_rules.specs.problems.Declarations as broken
@@ -36,9 +36,7 @@ returns-in_err-typed-clause-given c = rw (← c.sight.view_is) (
     ∙ unknown (λ s. s.region) with_declared s (names_of g.names) (constant_number s) k.declared_as (k.declarations g.names) (k.constant (within s g.names) g) (ap (λ r. k.constant (record s { region = r }) g) (sym (more_is s.region (all_declared visibility.unfinished (names_of g.names)) _ (hidden s.region c.deref.result.now c.args.declaration.now.names.items c.deref.ensures.value _ c.in_ok-hide.ensures.given))) ∙ c.in_err-typed.ensures.given n)))
 
 pub settle-requires-clause-place : goal.settle-requires-clause-place
-settle-requires-clause-place c =
-    let h = grows_by c.sight.inside.region.entries c.hide.new.region.entries _ c.in_ok-hide.ensures.given in
-    omega (arith, h, c.len-first.ensures.len)
+settle-requires-clause-place c = first_within c.sight.inside.region.entries c.hide.new.region.entries _ _ c.in_ok-hide.ensures.given c.len-first.ensures.len
 
 pub settle-requires-clause-number : goal.settle-requires-clause-number
 settle-requires-clause-number c =

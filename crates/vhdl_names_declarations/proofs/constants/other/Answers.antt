@@ -16,13 +16,11 @@ returns-in_err-subtype-clause-told c = told_first _ _ _ _ c.from_residual.result
 pub returns-in_err-kind-clause-told : goal.returns-in_err-kind-clause-told
 returns-in_err-kind-clause-told c =
     let d = tree.constants_view c.args.declaration.now in
-    let x = subtype_view c.in_ok-subtype.subtype in
-    behind_subtype c.args.sight.now d.subtype (λ y. broken.nine_valued d.subtype.mark y ▸ subtypes_broken.fixed_value c.args.sight.now y.type d.value) x _ _ c.from_residual-in_err-kind.result c.from_residual-in_err-kind.ensures.1 (λ e p. p) c.in_ok-subtype.ensures.given
-    (told_left _ _ _ (told_lacking LeftOut d.subtype.mark.at (as_kind x.type) _ c.in_err-kind.ensures.given c.in_err-kind.ensures.told))
+    behind_subtype c.args.sight.now d.subtype (λ y. broken.nine_valued d.subtype.mark y ▸ subtypes_broken.fixed_value c.args.sight.now y.type d.value) (subtype_view c.in_ok-subtype.subtype) _ _ c.from_residual-in_err-kind.result c.from_residual-in_err-kind.ensures.1 (λ e p. p) c.in_ok-subtype.ensures.given
+    (told_left _ _ _ (told_lacking LeftOut d.subtype.mark.at (as_kind c.in_ok-subtype.subtype.object_type) _ c.in_err-kind.ensures.given c.in_err-kind.ensures.told))
 
 pub returns-in_err-value-clause-told : goal.returns-in_err-value-clause-told
 returns-in_err-value-clause-told c =
     let d = tree.constants_view c.args.declaration.now in
-    let x = subtype_view c.in_ok-subtype.subtype in
-    behind_subtype c.args.sight.now d.subtype (λ y. broken.nine_valued d.subtype.mark y ▸ subtypes_broken.fixed_value c.args.sight.now y.type d.value) x _ _ c.from_residual-in_err-value.result c.from_residual-in_err-value.ensures.1 (λ e p. p) c.in_ok-subtype.ensures.given
-    (told_right _ _ _ (lacking_kept LeftOut d.subtype.mark.at (as_kind x.type) c.in_ok-kind.kind c.in_ok-kind.ensures.given) c.in_err-value.ensures.told)
+    behind_subtype c.args.sight.now d.subtype (λ y. broken.nine_valued d.subtype.mark y ▸ subtypes_broken.fixed_value c.args.sight.now y.type d.value) (subtype_view c.in_ok-subtype.subtype) _ _ c.from_residual-in_err-value.result c.from_residual-in_err-value.ensures.1 (λ e p. p) c.in_ok-subtype.ensures.given
+    (told_right _ _ _ (lacking_kept LeftOut d.subtype.mark.at (as_kind c.in_ok-subtype.subtype.object_type) c.in_ok-kind.kind c.in_ok-kind.ensures.given) c.in_err-value.ensures.told)

@@ -1,4 +1,4 @@
-use Rattle.std.proofs.Common.{arith, ◌≡◌, ◌≢◌, ◌≤◌, [], ◌∷◌, length, map, None, refl, ap, ◌∙◌, sym, subst}
+use Rattle.std.proofs.Common.{arith, ◌≡◌, ◌≢◌, [], ◌∷◌, length, map, None, refl, ap, ◌∙◌, sym, subst}
 use Rattle.std.proofs.lemmas.List.{length-map}
 use Rattle.vhdl_names_rules.specs.declared.fault.NameFault.TheVariants.{NoMemory}
 use Rattle.vhdl_names_rules.specs.Interfaces.{declared_names}
@@ -28,10 +28,8 @@ pub returns-in_err-declare-clause-given : goal.returns-in_err-declare-clause-giv
 returns-in_err-declare-clause-given c = rw (← c.sight.view_is) (
     let s = sight_view c.sight.inside in
     let d' = enumeration_view c.args.declaration.now in
-    let size = length-map c.args.declaration.now.literals.items ident_view in
-    let count : c.len-count.result ≡ length (enumeration_view c.args.declaration.now).literals = omega (arith, size) in
     let f : c.in_err-declare.field-0.0 ≢ NoMemory → entering d.enumeration (sight_view c.sight.inside) (enumeration_view c.args.declaration.now) ≡ None =
-    λ n. enumeration_is s d' c.args.number c.len-count.result (rw (← c.sight.view_is) at c.requires) count (omega arith)
+    λ n. enumeration_is s d' c.args.number c.len-count.result (rw (← c.sight.view_is) at c.requires) (omega (arith, length-map c.args.declaration.now.literals.items ident_view)) (omega arith)
     ∙ ap (λ o. (o >>= λ r. more r (d.literals c.args.number c.len-count.result 0 (names_of d'.literals))) >>= in_region s) (c.in_err-declare.ensures.given n) in
     passed_on _ _ c.in_err-declare.field-0.0 _ c.from_residual.result c.from_residual.ensures.1 (λ e p. p) f)
 
@@ -39,11 +37,9 @@ pub returns-in_err-literals-clause-given : goal.returns-in_err-literals-clause-g
 returns-in_err-literals-clause-given c = rw (← c.sight.view_is) (
     let s = sight_view c.sight.inside in
     let d' = enumeration_view c.args.declaration.now in
-    let size = length-map c.args.declaration.now.literals.items ident_view in
-    let count : c.len-count.result ≡ length (enumeration_view c.args.declaration.now).literals = omega (arith, size) in
     let same : c.len-count.result ≡ length c.deref.result.now = omega (arith, c.deref.ensures.len) in
     let f : c.in_err-literals.field-0.0 ≢ NoMemory → entering d.enumeration (sight_view c.sight.inside) (enumeration_view c.args.declaration.now) ≡ None =
-    λ n. enumeration_is s d' c.args.number c.len-count.result (rw (← c.sight.view_is) at c.requires) count (omega arith)
+    λ n. enumeration_is s d' c.args.number c.len-count.result (rw (← c.sight.view_is) at c.requires) (omega (arith, length-map c.args.declaration.now.literals.items ident_view)) (omega arith)
     ∙ ap (λ o. (o >>= λ r. more r (d.literals c.args.number c.len-count.result 0 (names_of d'.literals))) >>= in_region s) c.in_ok-declare.ensures.given
     ∙ ap (λ k. more (region_view c.declare.new.region) (d.literals c.args.number k 0 (names_of d'.literals)) >>= in_region s) same
     ∙ ap (λ l. more (region_view c.declare.new.region) (d.literals c.args.number (length c.deref.result.now) 0 (names_of (map ident_view l))) >>= in_region s) (sym c.deref.ensures.value)
@@ -54,10 +50,8 @@ pub returns-clause-given : goal.returns-clause-given
 returns-clause-given c = rw (← c.sight.view_is) (
     let s = sight_view c.sight.inside in
     let d' = enumeration_view c.args.declaration.now in
-    let size = length-map c.args.declaration.now.literals.items ident_view in
-    let count : c.len-count.result ≡ length (enumeration_view c.args.declaration.now).literals = omega (arith, size) in
     let same : c.len-count.result ≡ length c.deref.result.now = omega (arith, c.deref.ensures.len) in
-    enumeration_is s d' c.args.number c.len-count.result (rw (← c.sight.view_is) at c.requires) count (omega arith)
+    enumeration_is s d' c.args.number c.len-count.result (rw (← c.sight.view_is) at c.requires) (omega (arith, length-map c.args.declaration.now.literals.items ident_view)) (omega arith)
     ∙ ap (λ o. (o >>= λ r. more r (d.literals c.args.number c.len-count.result 0 (names_of d'.literals))) >>= in_region s) c.in_ok-declare.ensures.given
     ∙ ap (λ k. more (region_view c.declare.new.region) (d.literals c.args.number k 0 (names_of d'.literals)) >>= in_region s) same
     ∙ ap (λ l. more (region_view c.declare.new.region) (d.literals c.args.number (length c.deref.result.now) 0 (names_of (map ident_view l))) >>= in_region s) (sym c.deref.ensures.value)
@@ -73,10 +67,8 @@ pub returns-in_err-declare-clause-told : goal.returns-in_err-declare-clause-told
 returns-in_err-declare-clause-told c = rw (← c.sight.view_is) (
     let s = sight_view c.sight.inside in
     let d' = enumeration_view c.args.declaration.now in
-    let size = length-map c.args.declaration.now.literals.items ident_view in
-    let few : length (enumeration_view c.args.declaration.now).literals ≤ 256 = omega (arith, size) in
     let f : Tells (broken.enumeration (sight_view c.sight.inside) (enumeration_view c.args.declaration.now)) c.in_err-declare.field-0.0 =
-    told_same (standing_twice s.region (d'.name ∷ d'.literals)) (broken.enumeration s d') c.in_err-declare.field-0.0 (sym (few_enough s d' few))
+    told_same (standing_twice s.region (d'.name ∷ d'.literals)) (broken.enumeration s d') c.in_err-declare.field-0.0 (sym (few_enough s d' (omega (arith, length-map c.args.declaration.now.literals.items ident_view))))
     (twice_more (declared_names s.region) (d'.name ∷ []) d'.literals c.in_err-declare.field-0.0 c.in_err-declare.ensures.told) in
     told_by _ c.in_err-declare.field-0.0 _ c.from_residual.result c.from_residual.ensures.1 (λ e p. p) f)
 
@@ -84,12 +76,10 @@ pub returns-in_err-literals-clause-told : goal.returns-in_err-literals-clause-to
 returns-in_err-literals-clause-told c = rw (← c.sight.view_is) (
     let s = sight_view c.sight.inside in
     let d' = enumeration_view c.args.declaration.now in
-    let size = length-map c.args.declaration.now.literals.items ident_view in
-    let few : length (enumeration_view c.args.declaration.now).literals ≤ 256 = omega (arith, size) in
     let r = region_view c.declare.new.region in
     let first = declare d'.name.text (visibility.enumeration_type c.args.number c.len-count.result) in
     let f : Tells (broken.enumeration (sight_view c.sight.inside) (enumeration_view c.args.declaration.now)) c.in_err-literals.field-0.0 =
     told_same (standing_twice r d'.literals) (broken.enumeration s d') c.in_err-literals.field-0.0
-    (sym (few_enough s d' few ∙ standing_behind s.region (first ∷ []) (d'.name ∷ []) refl r c.in_ok-declare.ensures.given d'.literals))
+    (sym (few_enough s d' (omega (arith, length-map c.args.declaration.now.literals.items ident_view)) ∙ standing_behind s.region (first ∷ []) (d'.name ∷ []) refl r c.in_ok-declare.ensures.given d'.literals))
     (subst (λ l. Tells (standing_twice r (map ident_view l)) c.in_err-literals.field-0.0) c.deref.ensures.value c.in_err-literals.ensures.told) in
     told_by _ c.in_err-literals.field-0.0 _ c.from_residual-in_err-literals.result c.from_residual-in_err-literals.ensures.1 (λ e p. p) f)

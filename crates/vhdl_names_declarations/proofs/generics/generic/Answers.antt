@@ -1,4 +1,4 @@
-use Rattle.std.proofs.Common.{arith, ◌≡◌, ◌≢◌, map, option_map, Option, ap, ◌∙◌, sym}
+use Rattle.std.proofs.Common.{arith, map, option_map, Option, ap, ◌∙◌, sym}
 use Rattle.std.proofs.lemmas.List.{length-map}
 use Rattle.vhdl_names_rules.specs.declared.operator.IntegerType.{IntegerType}
 use Rattle.vhdl_names_rules.specs.units.Expressions.{Static}
@@ -12,7 +12,7 @@ use Rattle.vhdl_names_sight.specs.Views.{region_view, entry_view}
 use Rattle.vhdl_names_declarations.specs.Entered.{more}
 use Rattle.vhdl_names_declarations.specs.Typed.{typed_generic}
 use Rattle.vhdl_names_declarations.proofs.Declaring.{generic_is, generics_of}
-use Rattle.vhdl_names_declarations.proofs.Turns.{refused, unknown, hidden, settled_whole, grows_by, first_below}
+use Rattle.vhdl_names_declarations.proofs.Turns.{refused, unknown, hidden, settled_whole, first_within, first_below}
 use Rattle.vhdl_names_sight.proofs.Passing.{passed_on}
 use Rattle.vhdl_names_declarations.proofs.generics.generic.Goals as goal
 use Rattle.vhdl_names_rules.specs.problems.Declarations as broken
@@ -36,9 +36,7 @@ returns-in_err-integer_type-clause-given c = rw (← c.sight.view_is) (
     ∙ unknown (λ s. s.region) with_declared s (names_of g.names) (λ x. c.args.number) (λ x. visibility.generic) (generics_of g) (typed_generic s g) (rw (← c.sight.view_is) at (c.in_err-integer_type.ensures.given n))))
 
 pub settle-requires-clause-place : goal.settle-requires-clause-place
-settle-requires-clause-place c =
-    let h = grows_by c.sight.inside.region.entries c.hide.new.region.entries _ c.in_ok-hide.ensures.given in
-    omega (arith, h, c.len-first.ensures.len)
+settle-requires-clause-place c = first_within c.sight.inside.region.entries c.hide.new.region.entries _ _ c.in_ok-hide.ensures.given c.len-first.ensures.len
 
 pub settle-requires-clause-number : goal.settle-requires-clause-number
 settle-requires-clause-number c =

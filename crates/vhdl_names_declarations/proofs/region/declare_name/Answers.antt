@@ -8,7 +8,8 @@ use Rattle.vhdl_names_rules.specs.problems.Broken.{Tells}
 use Rattle.vhdl_names_rules.specs.problems.Declarations.{standing_twice}
 use Rattle.vhdl_names_declarations.specs.Entered.{ident}
 use Rattle.vhdl_names_declarations.proofs.Breaking.{twice_here}
-use Rattle.vhdl_names_declarations.proofs.Regions.{absent, refused, grown, among_keys}
+use Rattle.vhdl_names_declarations.proofs.Regions.{refused, grown, among_keys}
+use Rattle.vhdl_names_declarations.proofs.Keyed.{absent}
 use Rattle.vhdl_names_declarations.proofs.region.declare_name.Goals as goal
 
 pub returns-then-contains_key-clause-given : goal.returns-then-contains_key-clause-given

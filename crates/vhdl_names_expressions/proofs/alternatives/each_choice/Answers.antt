@@ -24,11 +24,8 @@ returns-in_err-next-clause-given c =
     (c.in_err-next.ensures.given n) in
     passed_on _ _ c.in_err-next.field-0.0 _ c.from_residual.result c.from_residual.ensures.1 (λ e p. p) n
 
-pub returns-in_err-push-clause-given : goal.returns-in_err-push-clause-given
-returns-in_err-push-clause-given c = memory_gives _ _ _ c.from_residual-in_err-push.result c.from_residual-in_err-push.ensures.1 (λ e p. p)
-
-pub returns-in_err-push-clause-told : goal.returns-in_err-push-clause-told
-returns-in_err-push-clause-told c = memory_told _ _ c.from_residual-in_err-push.result c.from_residual-in_err-push.ensures.1 (λ e p. p)
+pub returns-in_err-push : goal.returns-in_err-push
+returns-in_err-push c = record { given = memory_gives _ _ _ c.from_residual-in_err-push.result c.from_residual-in_err-push.ensures.1 (λ e p. p); told = memory_told _ _ c.from_residual-in_err-push.result c.from_residual-in_err-push.ensures.1 (λ e p. p) }
 
 pub loop-one-init : goal.loop-one-init
 loop-one-init c =

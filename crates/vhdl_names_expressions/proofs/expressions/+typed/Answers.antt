@@ -160,12 +160,10 @@ links-returns-in_err-done-clause-told t c =
 
 pub links-loop-next-preserved : goal.links-loop-next-preserved
 links-loop-next-preserved t c =
-    let s = c.args.sight.now in
-    let i = c.loop-next.next-index in
     let lt : c.loop-next.next-index < length c.args.links.now = omega arith in
     let next : suc c.loop-next.next-index ≡ c.loop-next.next-index + 1 = omega arith in (
-      c.loop-next.invariant.0 ∙ link_goes s (typed_view c.loop-next.done) (typed_view c.in_ok-done.done) c.args.links.now i (c.loop-next.next-index + 1) c.next-item.result lt c.next-item.is next c.in_ok-done.ensures.given,
-      c.loop-next.invariant.1 ∙ rest_goes s (typed_view c.loop-next.done) (typed_view c.in_ok-done.done) c.args.links.now i (c.loop-next.next-index + 1) c.next-item.result lt c.next-item.is next c.in_ok-done.ensures.given,
+      c.loop-next.invariant.0 ∙ link_goes _ (typed_view c.loop-next.done) (typed_view c.in_ok-done.done) c.args.links.now _ _ c.next-item.result lt c.next-item.is next c.in_ok-done.ensures.given,
+      c.loop-next.invariant.1 ∙ rest_goes _ (typed_view c.loop-next.done) (typed_view c.in_ok-done.done) c.args.links.now _ _ c.next-item.result lt c.next-item.is next c.in_ok-done.ensures.given,
     )
 
 pub begun-returns-in_err-first-clause-told : goal.begun-returns-in_err-first-clause-told

@@ -1,28 +1,17 @@
-use Rattle.std.proofs.Common.{option_map, option_copied, ap, sym, ◌∙◌}
-use Rattle.vhdl_tree.specs.View.{view, name_view}
+use Rattle.std.proofs.Common.{ap, sym}
+use Rattle.vhdl_tree.specs.View.{view}
+use Rattle.vhdl_names_rules.specs.Subtypes as rules
+use Rattle.vhdl_names_rules.specs.problems.Subtypes as broken
 use Rattle.vhdl_names_sight.proofs.Along.{gives_along}
 use Rattle.vhdl_names_units.specs.views.Answers.{fixed_view}
-use Rattle.vhdl_names_expressions.proofs.Fixing.{fixed_by, fixed_is}
 use Rattle.vhdl_names_expressions.proofs.Breaking.{told_as}
+use Rattle.vhdl_names_expressions.proofs.Choosing.{named_as, unnamed_as}
+use Rattle.vhdl_names_expressions.proofs.Fixing.{fixed_literal}
 use Rattle.vhdl_names_expressions.proofs.BreakingValues as breaking
 use Rattle.vhdl_names_expressions.proofs.fixed.fixed.Goals as goal
 
-pub returns-in-Some-clause-given : goal.returns-in-Some-clause-given
-returns-in-Some-clause-given c =
-    let named = c.name_of.ensures ∙ ap (λ o. option_map name_view (option_copied o)) c.in-Some.is in
-    gives_along fixed_view _ _ _ (fixed_is c.args.sight.now c.args.object_type (view c.args.e.now) ∙ ap (λ o. fixed_by c.args.sight.now c.args.object_type o (view c.args.e.now)) named) c.fixed_name.ensures.given
+pub returns-in-Some : goal.returns-in-Some
+returns-in-Some c = record { given = gives_along fixed_view _ _ _ (ap (rules.fixed c.args.sight.now c.args.object_type) (named_as _ _ _ c.name_of.ensures _ c.in-Some.is)) c.fixed_name.ensures.given; told = told_as _ _ _ (ap (broken.fixed c.args.sight.now c.args.object_type) (sym (named_as _ _ _ c.name_of.ensures _ c.in-Some.is))) c.fixed_name.ensures.told }
 
-pub returns-in-Some-clause-told : goal.returns-in-Some-clause-told
-returns-in-Some-clause-told c =
-    let named = c.name_of.ensures ∙ ap (λ o. option_map name_view (option_copied o)) c.in-Some.is in
-    told_as _ _ _ (sym (breaking.fixed_is c.args.sight.now c.args.object_type (view c.args.e.now) ∙ ap (λ o. breaking.fixed_by c.args.sight.now c.args.object_type o (view c.args.e.now)) named)) c.fixed_name.ensures.told
-
-pub returns-in-None-clause-given : goal.returns-in-None-clause-given
-returns-in-None-clause-given c =
-    let named = c.name_of.ensures ∙ ap (λ o. option_map name_view (option_copied o)) c.in-None.is in
-    gives_along fixed_view _ _ _ (fixed_is c.args.sight.now c.args.object_type (view c.args.e.now) ∙ ap (λ o. fixed_by c.args.sight.now c.args.object_type o (view c.args.e.now)) named) c.literal_value.ensures.given
-
-pub returns-in-None-clause-told : goal.returns-in-None-clause-told
-returns-in-None-clause-told c =
-    let named = c.name_of.ensures ∙ ap (λ o. option_map name_view (option_copied o)) c.in-None.is in
-    told_as _ _ _ (sym (breaking.fixed_is c.args.sight.now c.args.object_type (view c.args.e.now) ∙ ap (λ o. breaking.fixed_by c.args.sight.now c.args.object_type o (view c.args.e.now)) named)) c.literal_value.ensures.told
+pub returns-in-None : goal.returns-in-None
+returns-in-None c = record { given = gives_along fixed_view _ _ _ (fixed_literal c.args.sight.now c.args.object_type (view c.args.e.now) (unnamed_as _ _ _ c.name_of.ensures c.in-None.is)) c.literal_value.ensures.given; told = told_as _ _ _ (breaking.fixed_literal c.args.sight.now c.args.object_type (view c.args.e.now) (unnamed_as _ _ _ c.name_of.ensures c.in-None.is)) c.literal_value.ensures.told }

@@ -1,4 +1,4 @@
-use Rattle.std.proofs.Common.{refl, sym, ◌∙◌, None, arith}
+use Rattle.std.proofs.Common.{refl, sym, ◌∙◌, None, slice_index_or, arith}
 use Rattle.std.proofs.lemmas.Bool.{false≢true}
 use Rattle.vhdl_lexer.proofs.Reached.{cut_within}
 use Rattle.vhdl_lexer.proofs.Walks.{depth_within}
@@ -24,5 +24,5 @@ loop-others-preserved c =
       walked = walked_more _ _ _ _ _ ts c.in-len1-up.len_at_least held.walked;
       out = out_more _ _ _ _ _ c.take_once-is_out.ensures.out;
       within = rest_within _ ts c.in-len1-up.len_at_least held.within;
-      few = depth_within _ _ _ _ ts c.in-len1-up.len_at_least held.few;
+      few = depth_within _ _ c.loop-others.last (slice_index_or ts 0 _).kind ts c.in-len1-up.len_at_least held.few;
     }

@@ -13,17 +13,11 @@ use Rattle.vhdl_names_instances.proofs.instances.entity_of.Goals as goal
 
 pub returns-in-None-clause-told : goal.returns-in-None-clause-told
 returns-in-None-clause-told c =
-    let a = option_map tree.ident_view c.args.architecture.now in
-    let at = c.args.name.now.at in
-    let o = position_from (bytes_eq c.args.name.now.text.items) 0 (names_view c.args.entities.now.names) in
     let q : bytes_eq c.args.library.now.text.items (codes "work") ≡ true = first_of (cc, search rules, grind (arith, common_steps)) in
-    let of_library = unless Undeclared c.args.library.now.at (bytes_eq c.args.library.now.text.items (codes "work")) in
-    let of_entity = where_given o (breaking.with_architecture (seens_view c.args.entities.now.formals) a at) in
-    told_right of_library (lacking Undeclared at o ▸ of_entity) c.at-in-None.result (unless_kept Undeclared c.args.library.now.at (bytes_eq c.args.library.now.text.items (codes "work")) q)
-    (told_left (lacking Undeclared at o) of_entity c.at-in-None.result
-    (told_lacking Undeclared at o c.at-in-None.result
+    told_right _ _ _ (unless_kept Undeclared _ _ q)
+    (told_left _ _ _ (told_lacking Undeclared _ _ _
     (λ m. sym (c.in-None.ensures ∙ ap (λ n. position_from (bytes_eq n) 0 (names_view c.args.entities.now.names)) c.deref-2.ensures.value))
-    (subst (Tells (refused Undeclared at)) (sym c.at-in-None.ensures) refl)))
+    (subst (Tells (refused Undeclared c.args.name.now.at)) (sym c.at-in-None.ensures) refl)))
 
 pub returns-in-Some-clause-told : goal.returns-in-Some-clause-told
 returns-in-Some-clause-told c =

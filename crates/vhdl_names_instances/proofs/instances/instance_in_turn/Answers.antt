@@ -1,7 +1,6 @@
 use Rattle.std.proofs.Common.{refl, sym, subst}
 use Rattle.vhdl_names_rules.specs.declared.fault.NameProblem.TheVariants.{Undeclared}
 use Rattle.vhdl_names_rules.specs.problems.Broken.{Tells, refused}
-use Rattle.vhdl_names_rules.specs.problems.Instances as broken
 use Rattle.vhdl_names_instances.proofs.Told.{passed_told}
 use Rattle.vhdl_names_instances.proofs.Instanced.{unit_told, unseen_told, maps_told, of_each}
 use Rattle.vhdl_tree.specs.View as tree
@@ -22,27 +21,15 @@ returns-in-Some-clause-given c =
 
 pub returns-in_err-unit-clause-told : goal.returns-in_err-unit-clause-told
 returns-in_err-unit-clause-told c = λ es are.
-    let e = c.args.entities.now in
-    let s = c.args.sight.now in
-    let l = tree.ident_view c.args.label.now in
-    let i = tree.instance_view c.args.instance.now in
-    passed_told (broken.instance es s l i) c.in_err-unit.field-0.0 _ c.from_residual.result c.from_residual.ensures.1 (λ e p. p)
-    (unit_told e es are s l i c.in_err-unit.field-0.0 (c.in_err-unit.ensures.told es are))
+    passed_told _ _ _ c.from_residual.result c.from_residual.ensures.1 (λ e p. p)
+    (unit_told c.args.entities.now es are c.args.sight.now (tree.ident_view c.args.label.now) (tree.instance_view c.args.instance.now) c.in_err-unit.field-0.0 (c.in_err-unit.ensures.told es are))
 
 pub returns-in-None-clause-told : goal.returns-in-None-clause-told
 returns-in-None-clause-told c = λ es are.
-    let e = c.args.entities.now in
-    let s = c.args.sight.now in
-    let l = tree.ident_view c.args.label.now in
-    let i = tree.instance_view c.args.instance.now in
-    unseen_told e es are s l i c.at.result c.in_ok-unit.unit c.in_ok-unit.ensures.given (sym c.in-None.ensures) (subst (Tells (refused Undeclared c.args.label.now.at)) (sym c.at.ensures) refl)
+    unseen_told c.args.entities.now es are c.args.sight.now (tree.ident_view c.args.label.now) (tree.instance_view c.args.instance.now) c.at.result c.in_ok-unit.unit c.in_ok-unit.ensures.given (sym c.in-None.ensures) (subst (Tells (refused Undeclared c.args.label.now.at)) (sym c.at.ensures) refl)
 
 pub returns-in-Some-clause-told : goal.returns-in-Some-clause-told
 returns-in-Some-clause-told c = λ es are.
-    let e = c.args.entities.now in
-    let s = c.args.sight.now in
-    let l = tree.ident_view c.args.label.now in
-    let i = tree.instance_view c.args.instance.now in
-    of_each (broken.instance es s l i) c.with_formals.result
-    (λ f told. maps_told e es are s l i f c.in_ok-unit.unit (seen_view c.in-Some.formals.now) c.in_ok-unit.ensures.given (sym c.in-Some.ensures) told)
+    of_each _ c.with_formals.result
+    (λ f told. maps_told c.args.entities.now es are c.args.sight.now (tree.ident_view c.args.label.now) (tree.instance_view c.args.instance.now) f c.in_ok-unit.unit (seen_view c.in-Some.formals.now) c.in_ok-unit.ensures.given (sym c.in-Some.ensures) told)
     c.with_formals.ensures.told

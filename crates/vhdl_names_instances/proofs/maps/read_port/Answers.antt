@@ -20,8 +20,7 @@ returns-in_err-take-clause-told c = λ all h k.
     let fs = map (λ (f : Formal). f.name) all in
     let ts = names_view c.args.taken.now in
     let a = association_view c.args.association.now in
-    let s = c.args.sight.now in
-    let actual : Name → Expr → Broken = λ n e. any_of (λ f. port_actual s f e) (ports_named all n) in
+    let actual : Name → Expr → Broken = λ n e. any_of (λ f. port_actual c.args.sight.now f e) (ports_named all n) in
     let fault = c.in_err-take.field-0.0 in
     passed_told (association fs actual (drop c.args.index fs) c.args.is_behind_named ts a) fault _ c.from_residual.result c.from_residual.ensures.1 (λ e p. p)
     (formal_told fs actual c.args.index c.args.is_behind_named ts a fault
@@ -32,8 +31,7 @@ returns-in_err-name-in-Some-clause-told c = λ all h k.
     let fs = map (λ (f : Formal). f.name) all in
     let ts = names_view c.args.taken.now in
     let a = association_view c.args.association.now in
-    let s = c.args.sight.now in
-    let actual : Name → Expr → Broken = λ n e. any_of (λ f. port_actual s f e) (ports_named all n) in
+    let actual : Name → Expr → Broken = λ n e. any_of (λ f. port_actual c.args.sight.now f e) (ports_named all n) in
     let fault = c.in_err-name-in-Some.field-0.0 in
     let r = is_read (names_view c.args.formals.now.ports) c.args.index c.args.is_behind_named ts a (names_view c.take.new.taken) c.in_ok-take.ensures.given in
     passed_told (association fs actual (drop c.args.index fs) c.args.is_behind_named ts a) fault _ c.from_residual-in_err-name-in-Some.result
@@ -46,10 +44,9 @@ returns-in_ok-name-in-Some-clause-told c = λ all h k.
     let ts = names_view c.args.taken.now in
     let ts' = names_view c.take.new.taken in
     let a = association_view c.args.association.now in
-    let s = c.args.sight.now in
     let n = c.in_ok-name-in-Some.name.now in
     let e = view c.in-Some.e.now in
-    let actual : Name → Expr → Broken = λ n e. any_of (λ f. port_actual s f e) (ports_named all n) in
+    let actual : Name → Expr → Broken = λ n e. any_of (λ f. port_actual c.args.sight.now f e) (ports_named all n) in
     let taken = ap (λ fs. one_taken fs c.args.index c.args.is_behind_named ts a) (sym h) ∙ c.in_ok-take.ensures.given in
     let formal = ap (λ fs. formal_at fs c.args.index a.formal) (sym h) ∙ c.in_ok-name-in-Some.ensures.given in
     told_on (actual n e) (association fs actual (drop c.args.index fs) c.args.is_behind_named ts a) c.named_ports.result
@@ -61,19 +58,17 @@ returns-in-None-clause-read c = λ all h k.
     let fs = map (λ (f : Formal). f.name) all in
     let ts = names_view c.args.taken.now in
     let a = association_view c.args.association.now in
-    let s = c.args.sight.now in
     let taken = ap (λ fs. one_taken fs c.args.index c.args.is_behind_named ts a) (sym h) ∙ c.in_ok-take.ensures.given in
-    one_read_is fs (fits s all) c.args.index c.args.is_behind_named ts a (names_view c.take.new.taken) taken (λ n e. ap (holds_if_any (fits s all n)) (sym c.in-None.ensures))
+    one_read_is fs (fits c.args.sight.now all) c.args.index c.args.is_behind_named ts a (names_view c.take.new.taken) taken (λ n e. ap (holds_if_any (fits c.args.sight.now all n)) (sym c.in-None.ensures))
 
 pub returns-in_ok-name-in-Some-clause-read : goal.returns-in_ok-name-in-Some-clause-read
 returns-in_ok-name-in-Some-clause-read c = λ all h k.
     let fs = map (λ (f : Formal). f.name) all in
     let ts = names_view c.args.taken.now in
     let a = association_view c.args.association.now in
-    let s = c.args.sight.now in
     let e = view c.in-Some.e.now in
     let taken = ap (λ fs. one_taken fs c.args.index c.args.is_behind_named ts a) (sym h) ∙ c.in_ok-take.ensures.given in
     let formal = ap (λ fs. formal_at fs c.args.index a.formal) (sym h) ∙ c.in_ok-name-in-Some.ensures.given in
     ok_on c.named_ports.result (c.named_ports.ensures.fits all h k) (λ fit.
-    one_read_is fs (fits s all) c.args.index c.args.is_behind_named ts a (names_view c.take.new.taken) taken
-    (λ n q. ap (holds_if_any (fits s all n)) (sym c.in-Some.ensures) ∙ ap (λ n. fits s all n e) (some_is n c.in_ok-name-in-Some.name.now (sym q ∙ formal)) ∙ fit))
+    one_read_is fs (fits c.args.sight.now all) c.args.index c.args.is_behind_named ts a (names_view c.take.new.taken) taken
+    (λ n q. ap (holds_if_any (fits c.args.sight.now all n)) (sym c.in-Some.ensures) ∙ ap (λ n. fits c.args.sight.now all n e) (some_is n c.in_ok-name-in-Some.name.now (sym q ∙ formal)) ∙ fit))

@@ -13,7 +13,7 @@ use Rattle.vhdl_names_rules.specs.problems.Declarations as declarations_broken
 use Rattle.vhdl_names_rules.specs.problems.Files as broken
 use Rattle.vhdl_names_declarations.proofs.Breaking.{told_at, told_behind}
 use Rattle.vhdl_names_rules.proofs.kept.Architectures.{declaration_kept}
-use Rattle.vhdl_names_declarations.proofs.Listed.{in_region, left, begins, fails, goes, ends, counts_before, place_within, region_size}
+use Rattle.vhdl_names_declarations.proofs.Listed.{in_region, left, begins, fails, goes, ends, counts_after, place_after}
 use Rattle.vhdl_names_declarations.proofs.Regions.{names_apart}
 use Rattle.vhdl_names_sight.proofs.Passing.{passed_on, told_by}
 use Rattle.vhdl_names_interfaces.proofs.architecture.declarations.Goals as goal
@@ -36,17 +36,11 @@ returns-in_err-next-clause-given c =
     passed_on _ _ c.in_err-next.field-0.0 _ c.from_residual.result c.from_residual.ensures.1 (λ e p. p) f
 
 pub of-counts-requires-in-loop-one-clause-place : goal.of-counts-requires-in-loop-one-clause-place
-of-counts-requires-in-loop-one-clause-place c =
-    let h = place_within (declaration (entities_view c.args.entities.now)) c.loop-one.sight c.declaration.new.sight (tree.declaration_view c.one-item.result) (analysed_view c.in_ok-next.next) c.in_ok-next.ensures.given in
-    let p = region_size c.sight-in-loop-one.inside _ c.sight-in-loop-one.view_is in
-    let q = region_size c.sight-in-loop-one-2.inside _ c.sight-in-loop-one-2.view_is in
-    omega (arith, h, p, q, c.len-first.ensures.len)
+of-counts-requires-in-loop-one-clause-place c = place_after (declaration (entities_view c.args.entities.now)) c.loop-one.sight c.declaration.new.sight (tree.declaration_view c.one-item.result) (analysed_view c.in_ok-next.next) c.sight-in-loop-one.inside c.sight-in-loop-one-2.inside c.len-first.result c.in_ok-next.ensures.given c.sight-in-loop-one.view_is c.sight-in-loop-one-2.view_is c.len-first.ensures.len
 
 pub of-counts-requires-in-loop-one-clause-before : goal.of-counts-requires-in-loop-one-clause-before
 of-counts-requires-in-loop-one-clause-before c =
-    rw (← c.sight-in-loop-one-2.view_is) at
-    (counts_before (declaration (entities_view c.args.entities.now)) c.loop-one.counts c.loop-one.sight c.declaration.new.sight (tree.declaration_view c.one-item.result) (analysed_view c.in_ok-next.next) c.len-first.result
-    c.in_ok-next.ensures.given (c.len-first.ensures.len ∙ sym (region_size c.sight-in-loop-one.inside _ c.sight-in-loop-one.view_is)) c.loop-one.invariant.1)
+    counts_after (declaration (entities_view c.args.entities.now)) c.loop-one.counts c.loop-one.sight c.declaration.new.sight (tree.declaration_view c.one-item.result) (analysed_view c.in_ok-next.next) c.sight-in-loop-one.inside c.sight-in-loop-one-2.inside c.len-first.result c.in_ok-next.ensures.given c.sight-in-loop-one.view_is c.sight-in-loop-one-2.view_is c.len-first.ensures.len c.loop-one.invariant.1
 
 pub loop-one-preserved : goal.loop-one-preserved
 loop-one-preserved c =

@@ -3,7 +3,8 @@ use Rattle.std.specs.Prelude.{bytes_eq, is_some}
 use Rattle.std.specs.Map.{lookup}
 use Rattle.indexmap.proofs.CallerLemmas.{insert_entry-new}
 use Rattle.vhdl_names_interfaces.specs.Views.{entity_view}
-use Rattle.vhdl_names_interfaces.proofs.Named.{absent, refused, grown}
+use Rattle.vhdl_names_interfaces.proofs.Named.{refused, grown}
+use Rattle.vhdl_names_declarations.proofs.Keyed.{absent}
 use Rattle.vhdl_names_interfaces.proofs.entities.add_entity.Goals as goal
 
 pub returns-then-contains_key-clause-given : goal.returns-then-contains_key-clause-given

@@ -14,8 +14,8 @@ use Rattle.vhdl_names_sight.proofs.Operating.{told_of}
 use Rattle.vhdl_names_sight.proofs.Quotations.{bits_of_base}
 use Rattle.vhdl_names_sight.proofs.literals.bit_string_values.Goals as goal
 
-pub returns-clause-given : goal.returns-clause-given
-returns-clause-given c =
+pub returns : goal.returns
+returns c =
     let s = c.as_slice.result.now in
     let base : base_class (get_or s 0 0) ≡ Some (class_of c.in-Some.base) = c.base_of.ensures ∙ ap (option_map class_of) c.in-Some.is in
     let whole : values_of_bits c.args.literal.now.text.items ≡ at_least_one c.in_ok-values.values.items =
@@ -23,16 +23,9 @@ returns-clause-given c =
     ∙ ap (λ b. values_by b (filter (λ d. not (d == underscore)) (quoted (drop 1 s))) >>= at_least_one) base
     ∙ ap (λ q. Some (flat_map (λ d. bits_of (class_of c.in-Some.base) (digit_value d)) (filter (λ d. not (d == underscore)) q)) >>= at_least_one) (ap quoted (sym (take_rest s 1)) ∙ sym c.quoted.ensures)
     ∙ ap (λ o. o >>= at_least_one) c.in_ok-values.ensures.given in
-    gives_along (λ (v : Vec Nine Global). v.items) _ _ _ whole c.at_least_one.ensures.given
-
-pub returns-clause-told : goal.returns-clause-told
-returns-clause-told c =
-    let s = c.as_slice.result.now in
-    let base : base_class (get_or s 0 0) ≡ Some (class_of c.in-Some.base) = c.base_of.ensures ∙ ap (option_map class_of) c.in-Some.is in
-    let whole : values_of_bits c.args.literal.now.text.items ≡ at_least_one c.in_ok-values.values.items =
-    ap values_of_bits (sym c.as_slice.ensures.value) ∙ bits_of_base s c.in-len1-up.len_at_least
-    ∙ ap (λ b. values_by b (filter (λ d. not (d == underscore)) (quoted (drop 1 s))) >>= at_least_one) base
-    ∙ ap (λ q. Some (flat_map (λ d. bits_of (class_of c.in-Some.base) (digit_value d)) (filter (λ d. not (d == underscore)) q)) >>= at_least_one) (ap quoted (sym (take_rest s 1)) ∙ sym c.quoted.ensures)
-    ∙ ap (λ o. o >>= at_least_one) c.in_ok-values.ensures.given in
-    subst (λ o. IfErr c.at_least_one.result (Tells (lacking LeftOut c.args.literal.now.at o))) (sym whole)
-    (told_of (λ (v : Vec Nine Global). v.items) LeftOut c.args.literal.now.at (at_least_one c.in_ok-values.values.items) c.at_least_one.result c.at_least_one.ensures.given c.at_least_one.ensures.told)
+    record {
+      given = gives_along (λ (v : Vec Nine Global). v.items) _ _ _ whole c.at_least_one.ensures.given;
+      told =
+          subst (λ o. IfErr c.at_least_one.result (Tells (lacking LeftOut c.args.literal.now.at o))) (sym whole)
+          (told_of (λ (v : Vec Nine Global). v.items) LeftOut c.args.literal.now.at (at_least_one c.in_ok-values.values.items) c.at_least_one.result c.at_least_one.ensures.given c.at_least_one.ensures.told);
+    }

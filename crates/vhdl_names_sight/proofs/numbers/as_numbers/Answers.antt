@@ -1,5 +1,4 @@
 use Rattle.std.proofs.Common.{◌≡◌, ◌&&◌, ℕ, Bool, true, false, if◌then◌else◌, None, refl, ap, sym, ◌∙◌, subst}
-use Rattle.std.specs.Bool.{then_some}
 use Rattle.vhdl_names_rules.specs.declared.kind.ElementKind.{ElementKind}
 use Rattle.vhdl_names_rules.specs.declared.integer.Static.{Static}
 use Rattle.vhdl_names_rules.specs.declared.vector.Vector.{Vector}
@@ -13,9 +12,8 @@ use Rattle.vhdl_names_rules.specs.problems.Broken.{Tells, refused}
 use Rattle.vhdl_names_rules.specs.problems.Operators.{is_numeric}
 use Rattle.vhdl_names_sight.specs.declared.types.Typed.{Typed}
 use Rattle.vhdl_names_sight.specs.declared.types.Typed.TheVariants as t
-use Rattle.vhdl_names_sight.specs.Views.{typed_view, numbers_view}
+use Rattle.vhdl_names_sight.specs.Views.{typed_view}
 use Rattle.vhdl_names_sight.specs.Steps.{numbers_of}
-use Rattle.vhdl_names_sight.proofs.Passing.{passed_on, told_by}
 use Rattle.vhdl_names_sight.proofs.numbers.as_numbers.Goals as goal
 
 -- ---- operands that are neither integers nor elements
@@ -50,20 +48,6 @@ and_false false = refl
 told_at : (b : Bool) (problem : NameProblem) (at : ℕ) (fault : NameFault) → b ≡ false → fault ≡ At problem at → Tells (refused (if b then NotVisible else problem) at) fault
 told_at b problem at fault e h = subst (Tells (refused (if b then NotVisible else problem) at)) (sym h) (ap (λ x. refused (if x then NotVisible else problem) at) e)
 
--- ---- numbers that are not in sight, or none
-
-none_given : {A : Type 0} (b : Bool) (x : A) → b ≡ false → then_some b x ≡ None
-none_given true x e = absurd cc
-none_given false x e = refl
-
-integer_refused : (numbers : Bool) (s : u.Static) (k : ElementKind) (y : u.Vector) → (numbers && o.is_number k) ≡ false → numbers_of numbers (o.integer s) (o.elements k y) ≡ None
-integer_refused true s k y e = none_given (o.is_number k) _ e
-integer_refused false s k y e = refl
-
-elements_refused : (numbers : Bool) (j : ElementKind) (x : u.Vector) (s : u.Static) → (numbers && o.is_number j) ≡ false → numbers_of numbers (o.elements j x) (o.integer s) ≡ None
-elements_refused true j x s e = none_given (o.is_number j) _ e
-elements_refused false j x s e = refl
-
 pub returns-in_default-right-clause-given : goal.returns-in_default-right-clause-given
 returns-in_default-right-clause-given c =
     λ n. ap (λ x. numbers_of c.args.numbers (typed_view x) (typed_view c.args.operands.1)) c.in-Integer.is
@@ -71,8 +55,8 @@ returns-in_default-right-clause-given c =
 
 pub returns-in_default-right-clause-told : goal.returns-in_default-right-clause-told
 returns-in_default-right-clause-told c =
-    told_at _ c.args.problem c.args.at c.at.result
-    (ap (λ x. is_numeric (typed_view x) && is_numeric (typed_view c.args.operands.1)) c.in-Integer.is ∙ no_number c.args.operands.1 c.in_default-right.not-Integer c.in_default-right.not-Elements) c.at.ensures
+    told_at _ c.args.problem c.args.at c.without.result
+    (ap (λ x. is_numeric (typed_view x) && is_numeric (typed_view c.args.operands.1)) c.in-Integer.is ∙ no_number c.args.operands.1 c.in_default-right.not-Integer c.in_default-right.not-Elements) (c.without.ensures ∙ c.at.ensures)
 
 pub returns-in_default-right-2-clause-given : goal.returns-in_default-right-2-clause-given
 returns-in_default-right-2-clause-given c =
@@ -81,30 +65,12 @@ returns-in_default-right-2-clause-given c =
 
 pub returns-in_default-right-2-clause-told : goal.returns-in_default-right-2-clause-told
 returns-in_default-right-2-clause-told c =
-    told_at _ c.args.problem c.args.at c.at-in_default-right-2.result
-    (ap (λ b. is_numeric (typed_view c.args.operands.0) && b) (no_number c.args.operands.1 c.in_default-right-2.not-Integer c.in_default-right-2.not-Elements) ∙ and_false (is_numeric (typed_view c.args.operands.0))) c.at-in_default-right-2.ensures
+    told_at _ c.args.problem c.args.at c.without-in_default-right-2.result
+    (ap (λ b. is_numeric (typed_view c.args.operands.0) && b) (no_number c.args.operands.1 c.in_default-right-2.not-Integer c.in_default-right-2.not-Elements) ∙ and_false (is_numeric (typed_view c.args.operands.0))) (c.without-in_default-right-2.ensures ∙ c.at-in_default-right-2.ensures)
 
 pub returns-in_default-clause-given : goal.returns-in_default-clause-given
 returns-in_default-clause-given c = λ n. before_any c.args.numbers c.args.operands.0 _ c.in_default.not-Integer c.in_default.not-Elements
 
 pub returns-in_default-clause-told : goal.returns-in_default-clause-told
 returns-in_default-clause-told c =
-    told_at _ c.args.problem c.args.at c.at-in_default.result (ap (λ b. b && is_numeric (typed_view c.args.operands.1)) (no_number c.args.operands.0 c.in_default.not-Integer c.in_default.not-Elements)) c.at-in_default.ensures
-
-pub returns-in_err-numeric-in-Elements-right-clause-given : goal.returns-in_err-numeric-in-Elements-right-clause-given
-returns-in_err-numeric-in-Elements-right-clause-given c = passed_on numbers_view _ _ _ c.from_residual.result c.from_residual.ensures.1 (λ e p. p)
-    (λ n. ap (λ x. numbers_of c.args.numbers (typed_view x) (typed_view c.args.operands.1)) c.in-Integer.is
-    ∙ (ap (λ y. numbers_of c.args.numbers (typed_view (t.Integer c.in-Integer.s)) (typed_view y)) c.in-Elements-right.is
-    ∙ integer_refused c.args.numbers _ c.in-Elements-right.k _ (ap (λ b. c.args.numbers && b) (sym c.is_number.ensures) ∙ c.in_err-numeric-in-Elements-right.ensures.lacks)))
-
-pub returns-in_err-numeric-in-Elements-right-clause-told : goal.returns-in_err-numeric-in-Elements-right-clause-told
-returns-in_err-numeric-in-Elements-right-clause-told c = told_by _ c.in_err-numeric-in-Elements-right.field-0.0 _ c.from_residual.result c.from_residual.ensures.1 (λ e p. p)
-    (subst (λ b. Tells (refused (if b then NotVisible else c.args.problem) c.args.at) c.in_err-numeric-in-Elements-right.field-0.0)
-    (c.is_number.ensures ∙ sym (ap (λ x. is_numeric (typed_view x) && is_numeric (typed_view c.args.operands.1)) c.in-Integer.is ∙ ap (λ y. is_numeric (typed_view y)) c.in-Elements-right.is))
-    c.in_err-numeric-in-Elements-right.ensures.told)
-
-pub returns-in_err-numeric-in-Integer-right-2-clause-given : goal.returns-in_err-numeric-in-Integer-right-2-clause-given
-returns-in_err-numeric-in-Integer-right-2-clause-given c = passed_on numbers_view _ _ _ c.from_residual-in_err-numeric-in-Integer-right-2.result c.from_residual-in_err-numeric-in-Integer-right-2.ensures.1 (λ e p. p)
-    (λ n. ap (λ x. numbers_of c.args.numbers (typed_view x) (typed_view c.args.operands.1)) c.in-Elements.is
-    ∙ (ap (λ y. numbers_of c.args.numbers (typed_view (t.Elements c.in-Elements.j c.in-Elements.x)) (typed_view y)) c.in-Integer-right-2.is
-    ∙ elements_refused c.args.numbers c.in-Elements.j _ _ (ap (λ b. c.args.numbers && b) (sym c.is_number-in-Integer-right-2.ensures) ∙ c.in_err-numeric-in-Integer-right-2.ensures.lacks)))
+    told_at _ c.args.problem c.args.at c.without-in_default.result (ap (λ b. b && is_numeric (typed_view c.args.operands.1)) (no_number c.args.operands.0 c.in_default.not-Integer c.in_default.not-Elements)) (c.without-in_default.ensures ∙ c.at-in_default.ensures)

@@ -35,7 +35,7 @@ no_number at op same Unsigned x s not_unsigned = absurd (not_unsigned refl)
 no_number at op same j x s not_unsigned = refl
 
 pub returns-in_default-right-clause-told : goal.returns-in_default-right-clause-told
-returns-in_default-right-clause-told c = told_at TypeMismatch c.args.at c.at.result c.at.ensures
+returns-in_default-right-clause-told c = told_at TypeMismatch c.args.at c.without.result (c.without.ensures ∙ c.at.ensures)
 
 pub returns-in-None-clause-given : goal.returns-in-None-clause-given
 returns-in-None-clause-given c =
@@ -44,14 +44,14 @@ returns-in-None-clause-given c =
     ∙ ap (option_map (o.equal_by c.args.at c.args.comparison (same_by c.args.at c.args.comparison) (vector_view c.in-Elements.x) (vector_view c.in-Elements-right.y))) (sym c.common.ensures ∙ c.in-None.is))
 
 pub returns-in-None-clause-told : goal.returns-in-None-clause-told
-returns-in-None-clause-told c = told_at TypeMismatch c.args.at c.at-in-None.result c.at-in-None.ensures
+returns-in-None-clause-told c = told_at TypeMismatch c.args.at c.without-in-None.result (c.without-in-None.ensures ∙ c.at-in-None.ensures)
 
 pub returns-in_default-j : goal.returns-in_default-j
 returns-in_default-j c = record {
   given = λ n. ap (λ x. o.equality c.args.at c.args.comparison (same_by c.args.at c.args.comparison) (typed_view x) (typed_view c.args.operands.1)) c.in-Elements.is
       ∙ (ap (λ y. o.equality c.args.at c.args.comparison (same_by c.args.at c.args.comparison) (typed_view (t.Elements c.in-Elements.j c.in-Elements.x)) (typed_view y)) c.in-Integer-right-2.is
       ∙ no_number c.args.at c.args.comparison (same_by c.args.at c.args.comparison) c.in-Elements.j (vector_view c.in-Elements.x) _ c.in_default-j.not-Unsigned);
-  told = told_at TypeMismatch c.args.at c.at-in_default-j.result c.at-in_default-j.ensures;
+  told = told_at TypeMismatch c.args.at c.without-in_default-j.result (c.without-in_default-j.ensures ∙ c.at-in_default-j.ensures);
 }
 
 pub returns-in_default-right-2-clause-given : goal.returns-in_default-right-2-clause-given
@@ -60,13 +60,13 @@ returns-in_default-right-2-clause-given c =
     ∙ behind_elements c.args.at c.args.comparison (same_by c.args.at c.args.comparison) c.in-Elements.j (vector_view c.in-Elements.x) c.args.operands.1 c.in_default-right-2.not-Integer c.in_default-right-2.not-Elements
 
 pub returns-in_default-right-2-clause-told : goal.returns-in_default-right-2-clause-told
-returns-in_default-right-2-clause-told c = told_at TypeMismatch c.args.at c.at-in_default-right-2.result c.at-in_default-right-2.ensures
+returns-in_default-right-2-clause-told c = told_at TypeMismatch c.args.at c.without-in_default-right-2.result (c.without-in_default-right-2.ensures ∙ c.at-in_default-right-2.ensures)
 
 pub returns-in_default-right-3-clause-told : goal.returns-in_default-right-3-clause-told
-returns-in_default-right-3-clause-told c = told_at TypeMismatch c.args.at c.at-in_default-right-3.result c.at-in_default-right-3.ensures
+returns-in_default-right-3-clause-told c = told_at TypeMismatch c.args.at c.without-in_default-right-3.result (c.without-in_default-right-3.ensures ∙ c.at-in_default-right-3.ensures)
 
 pub returns-in_default-clause-told : goal.returns-in_default-clause-told
-returns-in_default-clause-told c = told_at TypeMismatch c.args.at c.at-in_default.result c.at-in_default.ensures
+returns-in_default-clause-told c = told_at TypeMismatch c.args.at c.without-in_default.result (c.without-in_default.ensures ∙ c.at-in_default.ensures)
 
 pub returns-in_err-compared_with-in-Elements-Unsigned-default-clause-given : goal.returns-in_err-compared_with-in-Elements-Unsigned-default-clause-given
 returns-in_err-compared_with-in-Elements-Unsigned-default-clause-given c = memory_gives typed_view _ _ c.from_residual.result c.from_residual.ensures.1 (λ e p. p)

@@ -3,7 +3,6 @@ use Rattle.std.proofs.lemmas.List.{map-append}
 use Rattle.vhdl_tree.specs.View as tree
 use Rattle.vhdl_names_sight.proofs.Memory.{memory_gives, memory_told}
 use Rattle.vhdl_names_units.specs.views.Sequential as views
-use Rattle.vhdl_names_rules.specs.problems.Broken.{Tells, any_of}
 use Rattle.vhdl_names_rules.specs.problems.Concurrent as broken
 use Rattle.vhdl_names_statements.specs.steps.Concurrent as steps
 use Rattle.vhdl_names_units.proofs.Behind.{next_told, next_left}
@@ -13,39 +12,24 @@ use Rattle.vhdl_names_statements.proofs.steps.Turns.{none_done, all_done}
 use Rattle.vhdl_names_statements.proofs.steps.Assigning.{branch_kept}
 use Rattle.vhdl_names_statements.proofs.assignments.waveforms.Goals as goal
 
-pub returns-in_err-next-clause-told : goal.returns-in_err-next-clause-told
-returns-in_err-next-clause-told c =
-    let xs = c.args.list.now in
-    let b = broken.branch c.args.sight.now (tree.name_view c.args.target.now) in
+pub returns-in_err-next : goal.returns-in_err-next
+returns-in_err-next c =
     let lt : c.loop-item.item-index < length c.args.list.now = omega arith in
-    let h : Tells (any_of b (map tree.branch_view xs)) c.in_err-next.field-0.0 =
-    next_told tree.branch_view xs c.loop-item.item-index c.item-item.result lt c.item-item.is b c.in_err-next.field-0.0 c.loop-item.invariant.1 c.in_err-next.ensures.told in
-    told_by _ c.in_err-next.field-0.0 _ c.from_residual.result c.from_residual.ensures.1 (λ e p. p) h
+    record {
+      given = passed_on _ _ _ _ c.from_residual.result c.from_residual.ensures.1 (λ e p. p) (λ n. none_more tree.branch_view c.args.list.now c.loop-item.item-index c.item-item.result lt c.item-item.is (steps.waveform c.args.sight.now (tree.name_view c.args.target.now)) (views.branches_view c.loop-item.all) _ c.loop-item.invariant.0 (c.in_err-next.ensures.given n));
+      told = told_by _ _ _ c.from_residual.result c.from_residual.ensures.1 (λ e p. p) (next_told tree.branch_view c.args.list.now c.loop-item.item-index c.item-item.result lt c.item-item.is (broken.branch c.args.sight.now (tree.name_view c.args.target.now)) _ c.loop-item.invariant.1 c.in_err-next.ensures.told);
+    }
 
-pub returns-in_err-next-clause-given : goal.returns-in_err-next-clause-given
-returns-in_err-next-clause-given c =
-    let lt : c.loop-item.item-index < length c.args.list.now = omega arith in
-    passed_on _ _ c.in_err-next.field-0.0 _ c.from_residual.result c.from_residual.ensures.1 (λ e p. p)
-    (λ n. none_more tree.branch_view c.args.list.now c.loop-item.item-index c.item-item.result lt c.item-item.is (steps.waveform c.args.sight.now (tree.name_view c.args.target.now)) (views.branches_view c.loop-item.all) _
-    c.loop-item.invariant.0 (c.in_err-next.ensures.given n))
-
-pub returns-in_err-push-clause-given : goal.returns-in_err-push-clause-given
-returns-in_err-push-clause-given c = memory_gives _ _ _ c.from_residual-in_err-push.result c.from_residual-in_err-push.ensures.1 (λ e p. p)
-
-pub returns-in_err-push-clause-told : goal.returns-in_err-push-clause-told
-returns-in_err-push-clause-told c = memory_told _ _ c.from_residual-in_err-push.result c.from_residual-in_err-push.ensures.1 (λ e p. p)
+pub returns-in_err-push : goal.returns-in_err-push
+returns-in_err-push c = record { given = memory_gives _ _ _ c.from_residual-in_err-push.result c.from_residual-in_err-push.ensures.1 (λ e p. p); told = memory_told _ _ c.from_residual-in_err-push.result c.from_residual-in_err-push.ensures.1 (λ e p. p) }
 
 pub loop-item-preserved : goal.loop-item-preserved
 loop-item-preserved c =
-    let xs = c.args.list.now in
-    let i = c.loop-item.item-index in
-    let x = c.item-item.result in
-    let s = c.args.sight.now in
     let lt : c.loop-item.item-index < length c.args.list.now = omega arith in (
-      more_done tree.branch_view xs i x lt c.item-item.is (steps.waveform s (tree.name_view c.args.target.now)) (views.branches_view c.loop-item.all) _ (views.branch_view c.in_ok-next.next) _ c.loop-item.invariant.0
+      more_done tree.branch_view c.args.list.now c.loop-item.item-index c.item-item.result lt c.item-item.is (steps.waveform c.args.sight.now (tree.name_view c.args.target.now)) (views.branches_view c.loop-item.all) _ (views.branch_view c.in_ok-next.next) _ c.loop-item.invariant.0
           c.in_ok-next.ensures.given
           (ap (map views.branch_view) c.in_ok-push.ensures.items ∙ map-append views.branch_view c.loop-item.all.items (c.in_ok-next.next ∷ [])),
-      next_left tree.branch_view xs i x lt c.item-item.is (broken.branch s (tree.name_view c.args.target.now)) c.loop-item.invariant.1 (branch_kept s (tree.name_view c.args.target.now) (tree.branch_view x) _ c.in_ok-next.ensures.given),
+      next_left tree.branch_view c.args.list.now c.loop-item.item-index c.item-item.result lt c.item-item.is (broken.branch c.args.sight.now (tree.name_view c.args.target.now)) c.loop-item.invariant.1 (branch_kept c.args.sight.now (tree.name_view c.args.target.now) (tree.branch_view c.item-item.result) _ c.in_ok-next.ensures.given),
     )
 
 pub loop-item-init : goal.loop-item-init
