@@ -4,7 +4,6 @@ use Rattle.std.specs.Prelude.{OnOk}
 use Rattle.std.specs.Result.{result_and}
 use Rattle.rtl_model.specs.bodies.Body as bodies
 use Rattle.rtl_net.specs.declared.body.Test.{Test}
-use Rattle.rtl_net.specs.declared.body.Test.TheVariants as vt
 use Rattle.rtl_net.specs.declared.body.Value.{Value}
 use Rattle.rtl_net.specs.Bodies.{value_view, test_view}
 use Rattle.vhdl_connect.specs.declared.connection.Connection.{Connection}
@@ -28,16 +27,12 @@ module _ {A E : Type 0} {P Q R W : Type 0} where
 -- ---- nodes
 
 module _ (c : Connection) {A E : Type 0} where
-  pub equal_becomes : (r : Result A E) (x : Test) (a b k l m n : Value) → x ≡ vt.Equal a b → k ≡ a → l ≡ b
-      → OnOk r (value_view m ≡ value_in c (value_view k)) → OnOk r (value_view n ≡ value_in c (value_view l)) → OnOk r (test_view (vt.Equal m n) ≡ test_in c (test_view x))
-  equal_becomes (Ok y) x a b k l m n h f g d e =
-      ap (λ v. bodies.equal v (value_view n)) (d ∙ ap (λ (v : Value). value_in c (value_view v)) f)
-      ∙ ap (bodies.equal (value_in c (value_view a))) (e ∙ ap (λ (v : Value). value_in c (value_view v)) g) ∙ ap (λ (t : Test). test_in c (test_view t)) (sym h)
-  equal_becomes (Err y) x a b k l m n h f g d e = tt
-
-  pub unequal_becomes : (r : Result A E) (x : Test) (a b k l m n : Value) → x ≡ vt.Unequal a b → k ≡ a → l ≡ b
-      → OnOk r (value_view m ≡ value_in c (value_view k)) → OnOk r (value_view n ≡ value_in c (value_view l)) → OnOk r (test_view (vt.Unequal m n) ≡ test_in c (test_view x))
-  unequal_becomes (Ok y) x a b k l m n h f g d e =
-      ap (λ v. bodies.unequal v (value_view n)) (d ∙ ap (λ (v : Value). value_in c (value_view v)) f)
-      ∙ ap (bodies.unequal (value_in c (value_view a))) (e ∙ ap (λ (v : Value). value_in c (value_view v)) g) ∙ ap (λ (t : Test). test_in c (test_view t)) (sym h)
-  unequal_becomes (Err y) x a b k l m n h f g d e = tt
+  -- a condition of two values
+  pub pair_becomes : (form : bodies.Value → bodies.Value → bodies.Test) (make : Value → Value → Test) → ((a b : Value) → test_view (make a b) ≡ form (value_view a) (value_view b))
+      → ((v w : bodies.Value) → test_in c (form v w) ≡ form (value_in c v) (value_in c w)) → (r : Result A E) (x : Test) (a b k l m n : Value) → x ≡ make a b → k ≡ a → l ≡ b
+      → OnOk r (value_view m ≡ value_in c (value_view k)) → OnOk r (value_view n ≡ value_in c (value_view l)) → OnOk r (test_view (make m n) ≡ test_in c (test_view x))
+  pair_becomes form make viewed made (Ok y) x a b k l m n h f g d e =
+      viewed m n ∙ ap (λ v. form v (value_view n)) (d ∙ ap (λ (v : Value). value_in c (value_view v)) f)
+      ∙ ap (form (value_in c (value_view a))) (e ∙ ap (λ (v : Value). value_in c (value_view v)) g)
+      ∙ sym (made (value_view a) (value_view b)) ∙ ap (test_in c) (sym (viewed a b)) ∙ ap (λ (t : Test). test_in c (test_view t)) (sym h)
+  pair_becomes form make viewed made (Err y) x a b k l m n h f g d e = tt

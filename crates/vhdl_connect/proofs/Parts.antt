@@ -5,18 +5,16 @@ use Rattle.std.specs.Vec.{with_items}
 use Rattle.std.proofs.lemmas.List.{with_items_is}
 use Rattle.rtl_model.specs.bodies.Body as bodies
 use Rattle.rtl_net.specs.declared.body.Expr.{Expr}
-use Rattle.rtl_net.specs.declared.body.Expr.TheVariants as ve
 use Rattle.rtl_net.specs.declared.body.Link.{Link}
 use Rattle.rtl_net.specs.declared.body.Test.{Test}
-use Rattle.rtl_net.specs.declared.body.Test.TheVariants as vt
 use Rattle.rtl_net.specs.declared.body.TestLink.{TestLink}
 use Rattle.rtl_net.specs.declared.body.Value.{Value}
 use Rattle.rtl_net.specs.declared.body.Statement.{Statement}
 use Rattle.rtl_net.specs.declared.body.Statement.TheVariants as vs
 use Rattle.rtl_net.specs.declared.body.Branch.{Branch, roll-Branch}
 use Rattle.rtl_net.specs.declared.body.Alternative.{Alternative, roll-Alternative}
-use Rattle.rtl_net.specs.Bodies.{operator_view, expr_view, links_of, value_view, test_view, test_links_of, statement_view, statements_of, branches_of, otherwise_of, alternatives_of}
-use Rattle.rtl_net.proofs.Rows.{view_chain, view_combined, view_if, view_case}
+use Rattle.rtl_net.specs.Bodies.{links_of, value_view, test_view, test_links_of, statement_view, statements_of, branches_of, otherwise_of, alternatives_of}
+use Rattle.rtl_net.proofs.Rows.{view_if, view_case}
 use Rattle.vhdl_elab_rules.specs.Bodies.{connected_branches, connected_alternatives}
 use Rattle.vhdl_connect.specs.declared.connection.Connection.{Connection}
 use Rattle.vhdl_connect.specs.Connected.{LinkView, link_view, link_in, expr_in, value_in, TestLinkView, test_link_view, test_link_in, test_in, statement_in, body_in}
@@ -24,23 +22,23 @@ use Rattle.vhdl_connect.specs.Connected.{BranchView, branch_view, branch_in, Alt
 
 -- ---- lists of parts, by their views
 
-linked : bodies.Expr → List LinkView → bodies.Expr
-linked left [] = left
-linked left (l ∷ ls) = linked (bodies.binary l.operator left l.operand) ls
+-- a chain of parts behind a first one
+module _ {V K W : Type 0} (chain : V → List K → V) (part : K → W) (join : V → W → V) (none : (v : V) → chain v [] ≡ v) (more : (v : V) (k : K) (ks : List K) → chain v (k ∷ ks) ≡ chain (join v (part k)) ks)
+    (made : V → V) (part_made : W → W) (joins : (v : V) (w : W) → made (join v w) ≡ join (made v) (part_made w)) where
+  abbrev joined : V → List W → V
+  joined v [] = v
+  joined v (w ∷ ws) = joined (join v w) ws
 
-links-linked : (left : bodies.Expr) (ls : List Link) → links_of left ls ≡ linked left (map link_view ls)
-unfolding linked
-links-linked left [] = refl
-links-linked left (l ∷ ls) = links-linked (bodies.Expr.binary (operator_view l.operator) left (expr_view l.operand)) ls
+  is-joined : (v : V) (ks : List K) → chain v ks ≡ joined v (map part ks)
+  is-joined v [] = none v
+  is-joined v (k ∷ ks) = more v k ks ∙ is-joined (join v (part k)) ks
 
-combined : bodies.Test → List TestLinkView → bodies.Test
-combined left [] = left
-combined left (l ∷ ls) = combined (bodies.combined l.operator left l.operand) ls
+  joined-made : (v : V) (ws : List W) → made (joined v ws) ≡ joined (made v) (map part_made ws)
+  joined-made v [] = refl
+  joined-made v (w ∷ ws) = joined-made (join v w) ws ∙ ap (λ (u : V). joined u (map part_made ws)) (joins v w)
 
-links-combined : (left : bodies.Test) (ls : List TestLink) → test_links_of left ls ≡ combined left (map test_link_view ls)
-unfolding combined
-links-combined left [] = refl
-links-combined left (l ∷ ls) = links-combined (bodies.combined l.operator left (test_view l.operand)) ls
+  chain-in : (v : V) (old new : List K) → Became part part_made old new → chain (made v) new ≡ made (chain v old)
+  chain-in v old new h = is-joined (made v) new ∙ ap (joined (made v)) h ∙ sym (joined-made v (map part old)) ∙ ap made (sym (is-joined v old))
 
 sequence : List bodies.Stmt → bodies.Stmts
 sequence [] = bodies.done
@@ -69,26 +67,26 @@ unfolding selected
 in-alternatives last [] = refl
 in-alternatives last (a ∷ as') = ap (bodies.alternative (alternative_view a).choices (statements_of a.statements.items)) (in-alternatives last as')
 
+-- a node with a first part and a list of others
+module _ {X V K W : Type 0} (view : X → V) (joined : V → List K → V) (made : V → V) (part : K → W) (part_made : W → W) (node : Box X Global → Vec K Global → X)
+    (viewed : (first : Box X Global) (rest : Vec K Global) → view (node first rest) ≡ joined (view first.value) rest.items)
+    (in' : (left : V) (old new : List K) → Became part part_made old new → joined (made left) new ≡ made (joined left old)) where
+  pub node_becomes : (x : X) (first new : Box X Global) (rest over : Vec K Global) (f : X) (ls more : List K) → x ≡ node first rest → f ≡ first.value → ls ≡ rest.items → length more ≡ over.len
+      → view new.value ≡ made (view f) → Became part part_made ls more → view (node new (with_items over more)) ≡ made (view x)
+  node_becomes x first new rest over f ls more h i j n k l =
+      viewed new (with_items over more) ∙ ap (joined (view new.value)) (with_items_is over more n)
+      ∙ ap (λ e. joined e more) (k ∙ ap (λ (y : X). made (view y)) i)
+      ∙ in' (view first.value) rest.items more (l ∙ ap (λ xs. map part_made (map part xs)) j)
+      ∙ ap made (sym (viewed first rest)) ∙ ap (λ (y : X). made (view y)) (sym h)
+
 module _ (c : Connection) where
   -- ---- what is made of them
 
-  linked-in : (left : bodies.Expr) (ls : List LinkView) → expr_in c (linked left ls) ≡ linked (expr_in c left) (map (link_in c) ls)
-  unfolding linked
-  linked-in left [] = refl
-  linked-in left (l ∷ ls) = linked-in (bodies.Expr.binary l.operator left l.operand) ls
+  pub links_in : (left : bodies.Expr) (old new : List Link) → Became link_view (link_in c) old new → links_of (expr_in c left) new ≡ expr_in c (links_of left old)
+  links_in = chain-in links_of link_view (λ (v : bodies.Expr) (w : LinkView). bodies.Expr.binary w.operator v w.operand) (λ v. refl) (λ v k ks. refl) (expr_in c) (link_in c) (λ v w. refl)
 
-  links-in : (left : bodies.Expr) (old new : List Link) → Became link_view (link_in c) old new → links_of (expr_in c left) new ≡ expr_in c (links_of left old)
-  links-in left old new h =
-      links-linked (expr_in c left) new ∙ ap (linked (expr_in c left)) h ∙ sym (linked-in left (map link_view old)) ∙ ap (expr_in c) (sym (links-linked left old))
-
-  combined-in : (left : bodies.Test) (ls : List TestLinkView) → test_in c (combined left ls) ≡ combined (test_in c left) (map (test_link_in c) ls)
-  unfolding combined
-  combined-in left [] = refl
-  combined-in left (l ∷ ls) = combined-in (bodies.combined l.operator left l.operand) ls
-
-  tests-in : (left : bodies.Test) (old new : List TestLink) → Became test_link_view (test_link_in c) old new → test_links_of (test_in c left) new ≡ test_in c (test_links_of left old)
-  tests-in left old new h =
-      links-combined (test_in c left) new ∙ ap (combined (test_in c left)) h ∙ sym (combined-in left (map test_link_view old)) ∙ ap (test_in c) (sym (links-combined left old))
+  pub tests_in : (left : bodies.Test) (old new : List TestLink) → Became test_link_view (test_link_in c) old new → test_links_of (test_in c left) new ≡ test_in c (test_links_of left old)
+  tests_in = chain-in test_links_of test_link_view (λ (v : bodies.Test) (w : TestLinkView). bodies.combined w.operator v w.operand) (λ v. refl) (λ v k ks. refl) (test_in c) (test_link_in c) (λ v w. refl)
 
   sequence-in : (xs : List bodies.Stmt) → body_in c (sequence xs) ≡ sequence (map (statement_in c) xs)
   unfolding sequence
@@ -126,27 +124,6 @@ module _ (c : Connection) where
       ∙ ap alternatives-made (sym (in-alternatives last old))
 
   -- ---- nodes with lists
-
-  module _ {A E : Type 0} where
-    pub chain_becomes : (r : Result A E) (x : Expr) (first new : Box Expr Global) (rest over : Vec Link Global) (f : Expr) (ls more : List Link)
-        → x ≡ ve.Chain first rest → f ≡ first.value → ls ≡ rest.items → expr_view new.value ≡ expr_in c (expr_view f) → length more ≡ over.len
-        → OnOk r (Became link_view (link_in c) ls more) → OnOk r (expr_view (ve.Chain new (with_items over more)) ≡ expr_in c (expr_view x))
-    chain_becomes (Ok y) x first new rest over f ls more h i j k n l =
-        view_chain new (with_items over more) ∙ ap (links_of (expr_view new.value)) (with_items_is over more n)
-        ∙ ap (λ e. links_of e more) (k ∙ ap (λ (e : Expr). expr_in c (expr_view e)) i)
-        ∙ links-in (expr_view first.value) rest.items more (l ∙ ap (λ xs. map (link_in c) (map link_view xs)) j)
-        ∙ ap (expr_in c) (sym (view_chain first rest)) ∙ ap (λ (e : Expr). expr_in c (expr_view e)) (sym h)
-    chain_becomes (Err e) x first new rest over f ls more h i j k n l = tt
-
-    pub combined_becomes : (r : Result A E) (x : Test) (first new : Box Test Global) (rest over : Vec TestLink Global) (f : Test) (ls more : List TestLink)
-        → x ≡ vt.Combined first rest → f ≡ first.value → ls ≡ rest.items → test_view new.value ≡ test_in c (test_view f) → length more ≡ over.len
-        → OnOk r (Became test_link_view (test_link_in c) ls more) → OnOk r (test_view (vt.Combined new (with_items over more)) ≡ test_in c (test_view x))
-    combined_becomes (Ok y) x first new rest over f ls more h i j k n l =
-        view_combined new (with_items over more) ∙ ap (test_links_of (test_view new.value)) (with_items_is over more n)
-        ∙ ap (λ e. test_links_of e more) (k ∙ ap (λ (e : Test). test_in c (test_view e)) i)
-        ∙ tests-in (test_view first.value) rest.items more (l ∙ ap (λ xs. map (test_link_in c) (map test_link_view xs)) j)
-        ∙ ap (test_in c) (sym (view_combined first rest)) ∙ ap (λ (e : Test). test_in c (test_view e)) (sym h)
-    combined_becomes (Err e) x first new rest over f ls more h i j k n l = tt
 
   abbrev items-of : Option (Vec Statement Global) → Option (List Statement)
   items-of = option_map (λ v. v.items)

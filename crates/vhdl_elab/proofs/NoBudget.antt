@@ -1,8 +1,7 @@
 -- What is refused of an interface is told of its own rules, and is never TooMany.
 use Rattle.std.proofs.Common.{◌≡◌, ℕ, Bool, true, false, cond, not, ◌==◌, List, [], ◌∷◌, ◌++◌, length, Option, Some, None, Ok, Err, refl, subst}
-use Rattle.std.specs.Prelude.{◌≢◌, ℤ, pos, negsuc, ◌+ℤ◌, ◌-ℤ◌, ◌*ℤ◌, nat_le, neg_ℤ, int_div, int_rem, slice_get}
+use Rattle.std.specs.Prelude.{◌≢◌, ℤ, pos, negsuc, nat_le, neg_ℤ, slice_get}
 use Rattle.vhdl_names_rules.specs.declared.operator.Arithmetic.{Arithmetic}
-use Rattle.vhdl_names_rules.specs.declared.operator.Arithmetic.TheVariants.{Add, Subtract, Multiply, Divide, Modulo, Remainder}
 use Rattle.vhdl_names_rules.specs.declared.operator.IntegerType.{IntegerType}
 use Rattle.vhdl_names_rules.specs.units.Expressions as e
 use Rattle.vhdl_names_rules.specs.units.Expressions.{Static, Range}
@@ -11,11 +10,12 @@ use Rattle.vhdl_names_rules.specs.units.Units.{Form, Fixed, Generic, Port, Entit
 use Rattle.vhdl_expand_rules.specs.declared.fault.ElabProblem.{ElabProblem}
 use Rattle.vhdl_expand_rules.specs.declared.fault.ElabProblem.TheVariants.{NoGeneric, GenericRange, StaticError, Length, Index, TooWide, TooMany}
 use Rattle.vhdl_expand_rules.specs.Elab.{Told, Elab, ◌>>=◌, ◌>>◌, unless, item_or, same_length}
-use Rattle.vhdl_expand_rules.specs.Integers.{Integers, checked_integer, division_with, modulus, integer_operation, integer, as_natural, natural, is_of, integer_of, is_null, extent}
+use Rattle.vhdl_expand_rules.specs.Integers.{Integers, checked_integer, integer_operation, integer, as_natural, natural, is_of, integer_of, is_null, extent}
 use Rattle.vhdl_expand_rules.specs.Kinds.{ObjectKind, one, vector, enumeration, size, declared_bounds, kind_of, as_size, size_of}
 use Rattle.vhdl_expand_rules.specs.Site.{Site, no_integers, no_site}
 use Rattle.vhdl_expand_rules.specs.Tree.{Role}
 use Rattle.vhdl_expand_rules.specs.Declarations.{first_of, rest_of, generic, generics, fixed_values, given_starts, starts, object, role_of, InstanceObjects, with_port, ports, interface}
+use Rattle.vhdl_expand_rules.proofs.Chains.{each_operation}
 use Rattle.vhdl_expand_rules.proofs.Steps.{given}
 use Rattle.vhdl_expand_tree.proofs.Alike.{wrong, same_told}
 
@@ -69,16 +69,8 @@ unlike-lengths found needed e = absurd cc
 checked : (at : ℕ) (x : ℤ) → TellsNoBudget (checked_integer at x)
 checked at x = chosen _ _ _ (none x) (one-told (StaticError, at) static-error)
 
-divided : (at : ℕ) (by : ℤ → ℤ → ℤ) (x y : ℤ) → TellsNoBudget (division_with at by x y)
-divided at by x y = chosen _ _ _ (one-told (StaticError, at) static-error) (checked at (by x y))
-
 operated : (at : ℕ) (op : Arithmetic) (x y : ℤ) → TellsNoBudget (integer_operation at op x y)
-operated at Add x y = checked at (x +ℤ y)
-operated at Subtract x y = checked at (x -ℤ y)
-operated at Multiply x y = checked at (x *ℤ y)
-operated at Divide x y = divided at int_div x y
-operated at Modulo x y = divided at modulus x y
-operated at Remainder x y = divided at int_rem x y
+operated at op x y = each_operation (λ r. TellsNoBudget r) at (checked at) (one-told (StaticError, at) static-error) op x y
 
 of-integer : (here : Integers) (at : ℕ) (s : Static) → TellsNoBudget (integer here at s)
 unfolding integer

@@ -170,7 +170,8 @@ module _ (d : Numbered) (m : Made) (h : IsTold d m) (same : length m.kinds.items
       let f = found-at (limits.is_read_of_shared (flat_net d)) (elements d) told.1 (sym (reads-are table t there) ∙ e) in
       wired-by false true (none-found limits.is_two_unresolved (elements d) (sym two-is ∙ resolved)) f.0 ∙ (λ i. refused (sym is i, f.1 i))
 
-  pub is-shown : (w : Wires) (p : Parts) → NetsAreThere d → IsWires m w → p ≡ record {
+  abbrev made : Wires → Parts
+  made w = record {
     kinds = m.kinds;
     starts = w.starts;
     idle = w.idle;
@@ -178,25 +179,16 @@ module _ (d : Numbered) (m : Made) (h : IsTold d m) (same : length m.kinds.items
     processes = m.processes;
     scopes = m.scopes;
     signals = m.signals;
-  } → as_shown (wired d) ≡ Ok (net_shown (assembled p))
+  }
+
+  pub is-shown : (w : Wires) (p : Parts) → NetsAreThere d → IsWires m w → p ≡ made w → as_shown (wired d) ≡ Ok (net_shown (assembled p))
   unfolding flat_net
   is-shown w p there k e =
       wired-by false false (none-found limits.is_two_unresolved (elements d) (sym two-is ∙ k.resolved))
       (none-found (limits.is_read_of_shared (flat_net d)) (elements d) (sym (reads-are k.table k.held there) ∙ k.unread))
       ∙ ap (λ (s : Shown). Ok s) (sym parts-are) ∙ ap (λ (q : Parts). Ok (net_shown (assembled q))) (sym e)
     where
-      made : Parts
-      made = record {
-        kinds = m.kinds;
-        starts = w.starts;
-        idle = w.idle;
-        inputs = w.inputs;
-        processes = m.processes;
-        scopes = m.scopes;
-        signals = m.signals;
-      }
-
-      parts-are : net_shown (assembled made) ≡ shown (net_of d)
+      parts-are : net_shown (assembled (made w)) ≡ shown (net_of d)
       parts-are = λ i. record {
         flat = record {
           types = h.kinds i;

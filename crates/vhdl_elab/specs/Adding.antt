@@ -1,11 +1,11 @@
 -- What the objects of an instance add to the tables (IEEE 1076-2008, 6.4.2.3).
-use Rattle.std.specs.Prelude.{◌≡◌, ℕ, ◌+◌, Bool, List, [], ◌∷◌, ◌++◌, map, replicate, flat_map, slice_index, slice_range, Option, Some, None, is_none}
+use Rattle.std.specs.Prelude.{◌≡◌, ℕ, ◌+◌, Bool, List, [], ◌∷◌, ◌++◌, map, replicate, flat_map, slice_index, Option, Some, None, is_none}
 use Rattle.std.specs.List.{range_with_len}
 use Rattle.rtl_model.specs.bodies.Types.{ElementType}
 use Rattle.rtl_net.specs.Nets.{type_of}
 use Rattle.vhdl_expand_rules.specs.Kinds.{size, element_type}
 use Rattle.vhdl_expand_rules.specs.Tree.{Object}
-use Rattle.vhdl_elab_rules.specs.Names.{Signal, is_port_role, signals_from}
+use Rattle.vhdl_elab_rules.specs.Names.{signals_from}
 use Rattle.vhdl_elab.specs.declared.made.Made.{Made}
 use Rattle.vhdl_elab.specs.declared.place.InstancePlace.{InstancePlace}
 use Rattle.vhdl_elab.specs.Signals.{signal_with_byte, shown_with_byte}
@@ -36,19 +36,6 @@ object_statics top nets first o = map (static_at top nets o first) (range_with_l
 abbrev pub statics_from : (top : Bool) (nets : List ℕ) (first : ℕ) → List Object → List Static
 statics_from top nets first [] = []
 statics_from top nets first (o ∷ os) = object_statics top nets first o ++ statics_from top nets (first + size o.kind) os
-
--- ---- signals
-
--- the signal that an object is, whose first element has this number
-abbrev pub signal_of : (scope : ℕ) (nets : List ℕ) (first : ℕ) → Object → Signal
-signal_of scope nets first o = record {
-  at = o.at;
-  scope = scope;
-  name = o.name;
-  is_port = is_port_role o.role;
-  kind = o.kind;
-  nets = slice_range nets first (first + size o.kind);
-}
 
 -- ---- nets of their own
 

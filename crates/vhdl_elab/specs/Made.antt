@@ -14,7 +14,7 @@ use Rattle.vhdl_connect.specs.Uses.{sources_of}
 use Rattle.vhdl_connect.specs.declared.uses.Use.{Use}
 use Rattle.vhdl_elab.specs.declared.made.Element.{Element}
 use Rattle.vhdl_elab.specs.declared.made.ElementRole.{ElementRole}
-use Rattle.vhdl_elab.specs.declared.made.ElementRole.TheVariants.{InputOfTop, OutputOfTop, SignalOfTop, Input, Output, Signal}
+use Rattle.vhdl_elab.specs.declared.made.ElementRole.TheVariants.{InputOfTop, OutputOfTop, SignalOfTop, Input, Output}
 use Rattle.vhdl_elab.specs.declared.made.Made.{Made}
 use Rattle.vhdl_elab.specs.Signals.{signal_with_byte, shown_with_byte}
 
@@ -33,18 +33,15 @@ pub record Static : Type 0 where
 abbrev pub role_of : ElementRole → tree.Role
 role_of InputOfTop = tree.input
 role_of OutputOfTop = tree.output
-role_of SignalOfTop = tree.internal
 role_of Input = tree.input
 role_of Output = tree.output
-role_of Signal = tree.internal
+role_of _ = tree.internal
 
 abbrev pub is_of_top : ElementRole → Bool
 is_of_top InputOfTop = true
 is_of_top OutputOfTop = true
 is_of_top SignalOfTop = true
-is_of_top Input = false
-is_of_top Output = false
-is_of_top Signal = false
+is_of_top _ = false
 
 abbrev pub element_view : Element → Static
 element_view e = record {

@@ -3,11 +3,11 @@
 ghost use Rattle.std.specs.Prelude.{◌≡◌, ◌+◌, ◌≤◌, ◌++◌, map, slice_index, vec_len, take, drop, IfOk, OnOk};
 ghost use Rattle.vhdl_expand_rules.specs.Kinds.{size};
 ghost use Rattle.vhdl_expand_rules.specs.views.Kinds.{kind_view};
-ghost use Rattle.vhdl_elab_rules.specs.Names.{is_port_role};
+ghost use Rattle.vhdl_elab_rules.specs.Names as names;
 ghost use Rattle.vhdl_expand_tree.specs.Views.{object_view, role_view};
 ghost use Rattle.vhdl_elab.specs.Made.{element_view};
 ghost use Rattle.vhdl_elab.specs.Signals.{signal_with_byte, shown_with_byte};
-ghost use Rattle.vhdl_elab.specs.Adding.{object_statics, signal_of};
+ghost use Rattle.vhdl_elab.specs.Adding.{object_statics};
 
 use crate::made::{Element, ElementRole};
 use crate::nets::start_at;
@@ -41,7 +41,7 @@ fn net_at(nets: &[u32], element: usize) -> u32
 
 /// Whether a port.
 fn is_port(role: Role) -> bool
-    ensures { result ≡ is_port_role (role_view role) }
+    ensures { result ≡ names.is_port_role (role_view role) }
 {
     match role {
         Role::Input => true,
@@ -98,7 +98,7 @@ impl InstancePlace<'_> {
     /// the tree.
     pub(crate) fn signal(&self, first: usize, object: &mut Object) -> Result<Signal, AllocError>
         ensures { IfOk result (λ s. signal_with_byte s ≡
-            shown_with_byte (signal_of self.now.scope self.now.nets.now first (object_view object.old))) }
+            shown_with_byte (names.signal_of self.now.scope self.now.nets.now first (object_view object.old))) }
     {
         let kind = signal_kind(object.kind);
         let nets = self.nets_from(first, object.kind.size())?;

@@ -1,19 +1,17 @@
 -- In an expanded tree the ports of an instance stand before its signals, in the order of its unit's.
 use Rattle.std.proofs.Common.{◌≡◌, ℕ, true, false, List, ◌++◌, Some, Ok, All, refl, sym, ap, ◌∙◌, subst}
-use Rattle.std.specs.Prelude.{⊤}
 use Rattle.std.specs.List.{AllZip}
 use Rattle.vhdl_tree.specs.declared.declaration.Mode.{Mode}
 use Rattle.vhdl_tree.specs.declared.declaration.Mode.TheVariants.{In, Out}
 use Rattle.vhdl_names_rules.specs.units.Units as u
 use Rattle.vhdl_names_rules.specs.units.Units.{Port, Entity, Units}
 use Rattle.vhdl_expand_rules.specs.Site.{Site}
-use Rattle.vhdl_expand_rules.specs.Tree.{Role, internal, Object, Instance, Parts, no_parts, inner, followed_by, objects_of}
-use Rattle.vhdl_expand_rules.specs.Tree as t
+use Rattle.vhdl_expand_rules.specs.Tree.{Role, internal, Object, Instance, Parts, EachInstance, EachInner, objects_of}
 use Rattle.vhdl_expand_rules.specs.Declarations.{object, role_of}
 use Rattle.vhdl_expand_rules.specs.Expansion.{entity_named, Design, expanded_design}
 use Rattle.vhdl_expand_rules.specs.laws.Trees.{is_port}
 use Rattle.vhdl_expand_rules.proofs.Items.{all_any, all_of_zip}
-use Rattle.vhdl_expand_rules.proofs.laws.Expanded.{object_made, OfObjects, Any, any_ports, any_signals, AnyAt, any_parts, Filled, OfUnits, design_filled}
+use Rattle.vhdl_expand_rules.proofs.laws.Expanded.{object_made, OfObjects, Any, any_ports, any_signals, OfInstances, instance_holds, each_filled}
 
 -- ---- objects
 
@@ -51,33 +49,23 @@ port-role Out = refl
 
 -- ---- the tree
 
-abbrev mutual
-  pub InstanceIsOrdered : Instance → Type 0
-  InstanceIsOrdered (t.instance os turns parts) = PortsFirst os × PartsAreOrdered parts
+abbrev pub InstanceIsOrdered : Instance → Type 0
+InstanceIsOrdered i = EachInstance PortsFirst i
 
-  pub PartsAreOrdered : Parts → Type 0
-  PartsAreOrdered no_parts = ⊤
-  PartsAreOrdered (t.process p rest) = PartsAreOrdered rest
-  PartsAreOrdered (inner label i rest) = InstanceIsOrdered i × PartsAreOrdered rest
+abbrev pub PartsAreOrdered : Parts → Type 0
+PartsAreOrdered ps = EachInner PortsFirst ps
 
-followed-ordered : (a b : Parts) → PartsAreOrdered a → PartsAreOrdered b → PartsAreOrdered (followed_by a b)
-followed-ordered no_parts b h k = k
-followed-ordered (t.process p rest) b h k = followed-ordered rest b h k
-followed-ordered (inner label i rest) b h k = (h.0, followed-ordered rest b h.1 k)
+ports-first : (unit : Entity) (ports signals : List Object) → AllZip PortOf unit.ports ports → All IsSignal signals → PortsFirst (ports ++ signals)
+ports-first unit ports signals h k =
+    let are_ports = all_of_zip PortOf IsPort (λ p o is. ap is_port is.0 ∙ port-role p.mode) unit.ports ports h in
+    record { ports = ports; signals = signals; are = refl; are_ports = are_ports; are_signals = k }
 
-instance-ordered : (unit : Entity) (i : Instance) → Filled PortOf IsSignal PartsAreOrdered unit i → InstanceIsOrdered i
-instance-ordered unit i f =
-    let ports = all_of_zip PortOf IsPort (λ p o h. ap is_port h.0 ∙ port-role p.mode) unit.ports f.ports f.of_ports in
-    subst InstanceIsOrdered {x = t.instance (f.ports ++ f.signals) f.turns f.parts} f.is
-    (record { ports = f.ports; signals = f.signals; are = refl; are_ports = ports; are_signals = f.of_signals }, f.of_parts)
-
-each-unit : OfUnits Any Any PortOf IsSignal AnyAt AnyAt PartsAreOrdered
-each-unit = record {
+instances : OfInstances Any Any PortOf IsSignal PortsFirst
+instances = record {
   objects = objects;
-  parts = any_parts PartsAreOrdered tt followed-ordered (λ p. tt);
   of_unit = λ unit k. any_ports unit.ports;
-  of_architecture = λ unit a site k there. (any_signals a.declarations, tt);
-  of_instance = λ at x unit i s f. (instance-ordered unit i f, tt);
+  of_architecture = λ unit a k there. any_signals a.declarations;
+  of_instance = ports-first;
 }
 
 -- ---- the top
@@ -96,12 +84,12 @@ pub record IsOrdered (units : Units) (top : List ℕ) (design : Design) : Type 0
 
 pub is-ordered : (units : Units) (top : List ℕ) (design : Design) → expanded_design units top ≡ Ok design → IsOrdered units top design
 is-ordered units top design h =
-    let m = design_filled Any Any PortOf IsSignal AnyAt AnyAt PartsAreOrdered each-unit units (all_any Any (λ x. tt) units) top design h in
+    let m = each_filled Any Any PortOf IsSignal PortsFirst instances units (all_any Any (λ x. tt) units) top design h in
     let f = m.filled in
     subst (IsOrdered units top) m.is (record {
       unit = m.unit;
       named = m.there;
-      tree = instance-ordered m.unit m.tree f;
+      tree = instance_holds Any Any PortOf IsSignal PortsFirst instances m.unit m.tree f;
       ports = f.ports;
       signals = f.signals;
       are = ap objects_of (sym f.is);

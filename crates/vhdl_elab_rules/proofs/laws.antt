@@ -10,6 +10,7 @@ pub mod Inputs
 pub mod Rising
 pub mod Wiring
 pub mod States
+pub mod Growing
 pub mod Shared
 pub mod Sound
 pub mod Scopes

@@ -35,18 +35,21 @@ is_port_role input = true
 is_port_role output = true
 is_port_role internal = false
 
+-- the signal that an object is, whose first element has this number
+abbrev pub signal_of : (scope : ℕ) → (nets : List ℕ) → (first : ℕ) → Object → Signal
+signal_of scope nets first o = record {
+  at = o.at;
+  scope = scope;
+  name = o.name;
+  is_port = is_port_role o.role;
+  kind = o.kind;
+  nets = slice_range nets first (first + size o.kind);
+}
+
 -- of these objects, the first element of which has this number
 abbrev pub signals_from : (scope : ℕ) → (nets : List ℕ) → (first : ℕ) → List Object → List Signal
 signals_from scope nets first [] = []
-signals_from scope nets first (o ∷ os) =
-    record {
-      at = o.at;
-      scope = scope;
-      name = o.name;
-      is_port = is_port_role o.role;
-      kind = o.kind;
-      nets = slice_range nets first (first + size o.kind);
-    } ∷ signals_from scope nets (first + size o.kind) os
+signals_from scope nets first (o ∷ os) = signal_of scope nets first o ∷ signals_from scope nets (first + size o.kind) os
 
 abbrev pub signals_of : ℕ × Placed → List Signal
 signals_of x = signals_from x.0 x.1.nets 0 x.1.objects

@@ -9,6 +9,7 @@ use Rattle.rtl_model.specs.simulation.Netlist.{Source}
 use Rattle.rtl_model.specs.simulation.Cycle.{source_value}
 use Rattle.vhdl_expand_rules.specs.Kinds.{size, element_type}
 use Rattle.vhdl_expand_rules.specs.Tree.{Role, input, output, internal, Object, Variable, Sensitivity, listed, every, as_read, Process}
+pub use Rattle.vhdl_expand_rules.specs.Declarations.{is_input}
 use Rattle.vhdl_expand_rules.specs.Prefixes.{is_among, in_order}
 use Rattle.vhdl_elab_rules.specs.Bodies.{connected_body}
 use Rattle.vhdl_elab_rules.specs.Numbering.{Placed, Located, Numbered}
@@ -57,11 +58,6 @@ elements_of p = elements_from p 0 p.objects
 -- all elements that have nets of their own: these are the nets, in order
 abbrev pub own_elements : Numbered → List Element
 own_elements d = filter (λ (e : Element). e.is_own) (flat_map elements_of d.instances)
-
-abbrev pub is_input : Role → Bool
-is_input input = true
-is_input output = false
-is_input internal = false
 
 abbrev pub is_output : Role → Bool
 is_output input = false

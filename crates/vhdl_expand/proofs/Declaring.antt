@@ -1,5 +1,5 @@
 -- Variables of declarations, one after another.
-use Rattle.std.proofs.Common.{◌≡◌, ℕ, suc, ◌+◌, ◌<◌, List, [], ◌∷◌, ◌++◌, length, map, flat_map, get_or, drop, drop-cons, add-one, All, Ok, Err, refl, sym, ap, ◌∙◌, subst}
+use Rattle.std.proofs.Common.{◌≡◌, ℕ, ◌+◌, ◌<◌, List, [], ◌∷◌, ◌++◌, length, map, flat_map, get_or, drop, All, Ok, Err, refl, sym, ap, ◌∙◌, subst}
 use Rattle.std.specs.List.{AllByRecursion}
 use Rattle.std.proofs.lemmas.List.{append-nil, append_assoc}
 use Rattle.std.proofs.lemmas.List.Sums.{sum_by-cons}
@@ -19,6 +19,7 @@ use Rattle.vhdl_expand_rules.specs.Tree as t
 use Rattle.vhdl_expand_rules.specs.Declarations.{variable, starts}
 use Rattle.vhdl_expand_rules.proofs.Steps.{given, ok, bound, each-all}
 use Rattle.vhdl_expand_rules.proofs.laws.Kinds.{kind_width}
+use Rattle.vhdl_expand_rules.proofs.Items.{next_left}
 use Rattle.vhdl_expand_bodies.proofs.Sequences.{behind}
 use Rattle.vhdl_elab_rules.specs.Limits.{Counts}
 use Rattle.vhdl_expand_tree.specs.declared.tree.Variable.{Variable}
@@ -63,21 +64,18 @@ behind-stops : {told : Told} → {B : Type 0} (made : List B) (p q : Elab (List 
 behind-stops made (Ok front) q h = absurd cc
 behind-stops made (Err other) q h = h
 
-next-left : {X : Type 0} (xs : List X) (i : ℕ) (x : X) → i < length xs → x ≡ get_or xs i x → drop i xs ≡ x ∷ drop (i + 1) xs
-next-left xs i x h e = drop-cons xs i x h ∙ ap (λ y. y ∷ drop (suc i) xs) (sym e) ∙ ap (λ j. x ∷ drop j xs) (sym (add-one i))
-
 module _ {A B X : Type 0} (f : A → Elab B) (g : X → List A) where
   pub groups_go : (total : Elab (List B)) (made new : List B) (xs : List X) (i : ℕ) (x : X) → i < length xs → x ≡ get_or xs i x
       → total ≡ behind made (each f (flat_map g (drop i xs))) → behind made (each f (g x)) ≡ Ok new → total ≡ behind new (each f (flat_map g (drop (i + 1) xs)))
   groups_go total made new xs i x below is so_far h =
-      so_far ∙ ap (λ ys. behind made (each f (flat_map g ys))) (next-left xs i x below is) ∙ ap (behind made) (each-append f (g x) (flat_map g (drop (i + 1) xs)))
+      so_far ∙ ap (λ ys. behind made (each f (flat_map g ys))) (next_left xs i x below is) ∙ ap (behind made) (each-append f (g x) (flat_map g (drop (i + 1) xs)))
       ∙ behind-goes made new (each f (g x)) (each f (flat_map g (drop (i + 1) xs))) h
 
   pub groups_stop : {told : Told} → (total : Elab (List B)) (made : List B) (xs : List X) (i : ℕ) (x : X) → i < length xs → x ≡ get_or xs i x
       → total ≡ behind made (each f (flat_map g (drop i xs))) → (behind made (each f (g x))) ≡ Err told → total ≡ Err told
   groups_stop {told} total made xs i x below is so_far h =
       subst (λ (r : Elab (List B)). r ≡ Err told)
-      (sym (so_far ∙ ap (λ ys. behind made (each f (flat_map g ys))) (next-left xs i x below is) ∙ ap (behind made) (each-append f (g x) (flat_map g (drop (i + 1) xs)))))
+      (sym (so_far ∙ ap (λ ys. behind made (each f (flat_map g ys))) (next_left xs i x below is) ∙ ap (behind made) (each-append f (g x) (flat_map g (drop (i + 1) xs)))))
       (behind-stops made (each f (g x)) (each f (flat_map g (drop (i + 1) xs))) h)
 
   pub groups_end : (total : Elab (List B)) (made : List B) (left : List X) → left ≡ [] → total ≡ behind made (each f (flat_map g left)) → total ≡ Ok made
@@ -124,7 +122,7 @@ seen_push {A} {B} v xs ys x h = ap (map v) h ∙ go xs
 pub kinds_go : {A B : Type 0} (v : A → B) (total made new : List B) (xs : List A) (i : ℕ) (x : A) → i < length xs → x ≡ get_or xs i x
     → made ++ map v (drop i xs) ≡ total → new ≡ made ++ v x ∷ [] → new ++ map v (drop (i + 1) xs) ≡ total
 kinds_go v total made new xs i x below is so_far h =
-    ap (λ ys. ys ++ map v (drop (i + 1) xs)) h ∙ append_assoc made (v x ∷ []) (map v (drop (i + 1) xs)) ∙ ap (λ ys. made ++ map v ys) (sym (next-left xs i x below is)) ∙ so_far
+    ap (λ ys. ys ++ map v (drop (i + 1) xs)) h ∙ append_assoc made (v x ∷ []) (map v (drop (i + 1) xs)) ∙ ap (λ ys. made ++ map v ys) (sym (next_left xs i x below is)) ∙ so_far
 
 pub kinds_end : {A B : Type 0} (v : A → B) (total made : List B) (left : List A) → left ≡ [] → made ++ map v left ≡ total → made ≡ total
 kinds_end v total made left h so_far = sym (append-nil made) ∙ ap (λ ys. made ++ map v ys) (sym h) ∙ so_far

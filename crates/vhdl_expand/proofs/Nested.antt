@@ -23,7 +23,7 @@ use Rattle.vhdl_expand_tree.specs.Views.{process_view, instance_view, parts_of}
 use Rattle.vhdl_expand_tree.proofs.Parts.{view_instance, parts_push}
 use Rattle.vhdl_expand_tree.specs.Costs.{no_costs, an_instance, nets, turns, plus, less, spent, charged, process_costs, instance_costs, parts_costs}
 use Rattle.vhdl_expand_tree.proofs.Alike.{Alike, alike_same, alike_after, alike_trans, alike_then, tells, tells_spent, tells_same, tells_first, tells_next}
-use Rattle.vhdl_expand_tree.proofs.Charging.{left_with, charged_made, spent_told}
+use Rattle.vhdl_expand_tree.proofs.Charging.{each_number, left_with, charged_made, spent_told}
 use Rattle.vhdl_expand.specs.Limits.{within_limits}
 use Rattle.vhdl_expand.specs.Making as made
 use Rattle.vhdl_expand.specs.Making.{Made, Progress, and_then, made_costs, made_process, made_instance, adding, together, nothing_yet}
@@ -185,14 +185,7 @@ no-more : (n : ℕ) → n + 0 ≡ n
 no-more n = omega arith
 
 alone : (c : Counts) → plus (turns 0) (plus c no_costs) ≡ c
-alone c = λ i. record {
-  processes = none-more c.processes i;
-  instances = none-more c.instances i;
-  nets = none-more c.nets i;
-  turns = none-more c.turns i;
-  statements = none-more c.statements i;
-  variable_elements = none-more c.variable_elements i;
-}
+alone c = each_number (λ k l m. 0 + (m + 0)) (λ k l m. m) (λ k l m. none-more m) c c c
 
 pub process_added : (p : Progress) (r : Elab Process)
     → adding p (r >>= λ q. given (made_process q)) ≡ (charged p.left process_costs r >>= λ a. given (progress (and_then p.made (made_process a.0)) a.1))

@@ -8,12 +8,12 @@ use Rattle.vhdl_expand_rules.specs.declared.fault.ElabProblem.TheVariants.{TooMa
 use Rattle.vhdl_expand_rules.specs.Elab.{Elab, ◌>>=◌, fault_told, MayTell}
 use Rattle.vhdl_elab_rules.specs.Limits.{Counts}
 use Rattle.vhdl_elab_rules.specs.Numbering.{own_size, own_sizes}
+use Rattle.vhdl_expand_rules.proofs.Items.{next_left, none_left}
 use Rattle.vhdl_expand_tree.specs.declared.tree.Object.{Object}
 use Rattle.vhdl_expand_tree.specs.Costs.{nets, spent}
 use Rattle.vhdl_expand_tree.specs.Views.{object_view}
 use Rattle.vhdl_expand_tree.proofs.Alike.{tells_same, tells_first}
 use Rattle.vhdl_expand_tree.proofs.Charging.{spent-plus, spent-none}
-use Rattle.vhdl_expand_processes.proofs.Walks.{next-left, none_left}
 use Rattle.vhdl_expand_rules.specs.Tree as t
 use Rattle.vhdl_expand.proofs.Among.{Among}
 use Rattle.vhdl_expand.proofs.Spending.{spent_here, spent_stops, told_where}
@@ -24,7 +24,7 @@ own os = nets (own_sizes (map object_view os))
 next : (now : Counts) (os : List Object) (i : ℕ) (o : Object) (k : ℕ) → i < length os → o ≡ get_or os i o → k ≡ own_size (object_view o)
     → spent 0 now (own (drop i os)) ≡ spent 0 now (nets k) >>= λ left. spent 0 left (own (drop (i + 1) os))
 next now os i o k below is e =
-    ap (λ (zs : List Object). spent 0 now (own zs)) (next-left os i o below is)
+    ap (λ (zs : List Object). spent 0 now (own zs)) (next_left os i o below is)
     ∙ ap (λ j. spent 0 now (nets (j + own_sizes (map object_view (drop (i + 1) os))))) (sym e)
     ∙ spent-plus 0 (nets k) (own (drop (i + 1) os)) now
 

@@ -1,5 +1,5 @@
 -- Costs that are paid one after another, and those of lists and of turns.
-use Rattle.std.proofs.Common.{◌≡◌, ℕ, zero, suc, ◌+◌, ◌<◌, ◌≤◌, List, [], ◌∷◌, length, map, get_or, drop, drop-cons, add-one, Result, Ok, Err, refl, sym, ap, ◌∙◌, subst, arith}
+use Rattle.std.proofs.Common.{◌≡◌, ℕ, ◌+◌, ◌<◌, ◌≤◌, List, [], ◌∷◌, length, map, get_or, drop, Result, Ok, Err, refl, sym, ap, ◌∙◌, subst}
 use Rattle.std.specs.Prelude.{ℤ}
 use Rattle.vhdl_tree.specs.declared.operator.Direction.{Direction}
 use Rattle.vhdl_expand_rules.specs.declared.fault.ElabFault.{ElabFault}
@@ -7,6 +7,7 @@ use Rattle.vhdl_expand_rules.specs.Elab.{Elab, ◌>>=◌, MayTell, Told}
 use Rattle.vhdl_expand_rules.specs.Integers.{numbers_from}
 use Rattle.vhdl_expand_rules.specs.Parameters.{parameter}
 use Rattle.vhdl_expand_rules.proofs.Parameters.{next-turn, no-turn}
+use Rattle.vhdl_expand_rules.proofs.Items.{next_left}
 use Rattle.vhdl_expand_bodies.specs.Results.{Expands, Charges}
 use Rattle.vhdl_elab_rules.specs.Limits.{Counts}
 use Rattle.vhdl_expand_tree.specs.Costs.{spent}
@@ -41,30 +42,21 @@ paid_stop total n p q so_far h = (alike_trans so_far (paid_in_turn n p q)).stops
 
 -- ---- of lists
 
-next-left : {X : Type 0} (xs : List X) (i : ℕ) (x : X) → i < length xs → x ≡ get_or xs i x → drop i xs ≡ x ∷ drop (i + 1) xs
-next-left xs i x h e = drop-cons xs i x h ∙ ap (λ y. y ∷ drop (suc i) xs) (sym e) ∙ ap (λ j. x ∷ drop j xs) (sym (add-one i))
-
 module _ {A X : Type 0} (f : A → Elab Counts) (v : X → A) where
   pub list_go : (total : Elab Counts) (n m : Counts) (xs : List X) (i : ℕ) (x : X) → i < length xs → x ≡ get_or xs i x
       → Alike total (paid n (together f (map v (drop i xs)))) → paid n (f (v x)) ≡ Ok m → Alike total (paid m (together f (map v (drop (i + 1) xs))))
   list_go total n m xs i x below is so_far h =
       paid_go total n m (f (v x)) (together f (map v (drop (i + 1) xs)))
-      (alike_trans so_far (alike_same (ap (λ ys. paid n (together f (map v ys))) (next-left xs i x below is)))) h
+      (alike_trans so_far (alike_same (ap (λ ys. paid n (together f (map v ys))) (next_left xs i x below is)))) h
 
   pub list_stop : {bytes : List ℕ} {told : Told} → (total : Elab Counts) (n : Counts) (xs : List X) (i : ℕ) (x : X) → i < length xs → x ≡ get_or xs i x
       → Alike total (paid n (together f (map v (drop i xs)))) → MayTell bytes (paid n (f (v x))) told → MayTell bytes total told
   list_stop total n xs i x below is so_far h =
       paid_stop total n (f (v x)) (together f (map v (drop (i + 1) xs)))
-      (alike_trans so_far (alike_same (ap (λ ys. paid n (together f (map v ys))) (next-left xs i x below is)))) h
+      (alike_trans so_far (alike_same (ap (λ ys. paid n (together f (map v ys))) (next_left xs i x below is)))) h
 
   pub list_end : (total : Elab Counts) (n : Counts) (xs : List X) → xs ≡ [] → Alike total (paid n (together f (map v xs))) → total ≡ Ok n
   list_end total n xs h so_far = so_far.gives n (ap (λ ys. paid n (together f (map v ys))) h ∙ spent-none 0 n)
-
-pub none_left : {X : Type 0} (xs : List X) (i : ℕ) → length xs ≤ i → drop i xs ≡ []
-none_left [] zero h = refl
-none_left [] (suc i) h = refl
-none_left (x ∷ xs) zero h = absurd (omega arith)
-none_left (x ∷ xs) (suc i) h = none_left xs i (omega arith)
 
 -- ---- of turns
 

@@ -1,5 +1,5 @@
 -- Concurrent statements, behind what is made so far.
-use Rattle.std.proofs.Common.{◌≡◌, ℕ, zero, suc, ◌+◌, ◌<◌, ◌≤◌, List, [], ◌∷◌, ◌++◌, length, map, get_or, drop, drop-cons, add-one, Ok, Err, refl, sym, ap, ◌∙◌, arith}
+use Rattle.std.proofs.Common.{◌≡◌, ℕ, ◌+◌, ◌<◌, List, [], ◌++◌, length, map, get_or, drop, Ok, Err, refl, ap, ◌∙◌}
 use Rattle.vhdl_names_rules.specs.units.Units as u
 use Rattle.vhdl_names_rules.specs.units.Units.{Units}
 use Rattle.vhdl_names_units.specs.declared.concurrent.Concurrent.{Concurrent}
@@ -10,6 +10,7 @@ use Rattle.vhdl_expand_rules.specs.Tree.{Parts, no_parts, followed_by, Process, 
 use Rattle.vhdl_expand_rules.specs.Expansion as definition
 use Rattle.vhdl_expand_rules.specs.Expansion.{Spot, instance_of}
 use Rattle.vhdl_expand_rules.proofs.Steps.{given}
+use Rattle.vhdl_expand_rules.proofs.Items.{next_left}
 use Rattle.vhdl_expand_tree.proofs.Alike.{Alike, alike_same, alike_after, alike_trans}
 use Rattle.vhdl_expand.specs.Making as made
 use Rattle.vhdl_expand.specs.Making.{Made, Progress, adding, together, made_process, made_instance}
@@ -25,15 +26,6 @@ apart (Ok x) (Ok y) (Err told) n counted = alike_same refl
 apart (Ok x) (Err told) (Ok a) n counted = alike_same refl
 apart (Ok x) (Err told) (Err other) n counted = let e = (counted x refl).1 in absurd cc
 apart (Err told) q m n counted = alike_same refl
-
-pub next-left : {X : Type 0} (xs : List X) (i : ℕ) (x : X) → i < length xs → x ≡ get_or xs i x → drop i xs ≡ x ∷ drop (i + 1) xs
-next-left xs i x h e = drop-cons xs i x h ∙ ap (λ y. y ∷ drop (suc i) xs) (sym e) ∙ ap (λ j. x ∷ drop j xs) (sym (add-one i))
-
-pub none_left : {X : Type 0} (xs : List X) (i : ℕ) → length xs ≤ i → drop i xs ≡ []
-none_left [] zero h = refl
-none_left [] (suc i) h = refl
-none_left (x ∷ xs) zero h = absurd (omega arith)
-none_left (x ∷ xs) (suc i) h = none_left xs i (omega arith)
 
 module _ (units : Units) (levels : ℕ) (here : Spot) where
   concurrents-in_turn : (x : u.Concurrent) (rest : u.Concurrents)
@@ -54,7 +46,7 @@ module _ (units : Units) (levels : ℕ) (here : Spot) where
   next : (now : Progress) (xs : List Concurrent) (i : ℕ) (x : Concurrent) → i < length xs → x ≡ get_or xs i x
       → Alike (adding now (listed (drop i xs))) (adding now (in_turn (made.concurrent units levels here (views.concurrent_view x)) (listed (drop (i + 1) xs))))
   next now xs i x below is =
-      alike_after (ap (λ ys. adding now (listed ys)) (next-left xs i x below is))
+      alike_after (ap (λ ys. adding now (listed ys)) (next_left xs i x below is))
       (added_alike now _ _ (concurrents-in_turn (views.concurrent_view x) (views.concurrents_of (map views.concurrent_view (drop (i + 1) xs)))))
 
   pub list_goes : (total : Elab Progress) (now new : Progress) (xs : List Concurrent) (i : ℕ) (x : Concurrent) → i < length xs → x ≡ get_or xs i x

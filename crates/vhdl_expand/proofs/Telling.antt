@@ -1,10 +1,9 @@
 -- Where TooMany may be told of what expansion refuses: turns tell it at their byte, and static integers, truths and names of signals not at all.
-use Rattle.std.proofs.Common.{◌≡◌, ℕ, Bool, true, false, cond, not, ◌==◌, List, [], ◌∷◌, Option, Some, None, Result, Ok, Err, refl, sym, ap, ◌∙◌, subst}
-use Rattle.std.specs.Prelude.{◌≢◌, Contains, IsErrAnd, ℤ, pos, ◌+ℤ◌, ◌-ℤ◌, ◌*ℤ◌, nat_le, nat_abs, neg_ℤ, int_rem, int_div, slice_get}
+use Rattle.std.proofs.Common.{◌≡◌, ℕ, Bool, true, false, cond, not, List, [], ◌∷◌, Option, Some, None, Result, Ok, Err, refl, sym, ap, ◌∙◌, subst}
+use Rattle.std.specs.Prelude.{◌≢◌, Contains, IsErrAnd, ℤ, pos, nat_le, nat_abs, neg_ℤ, slice_get}
 use Rattle.vhdl_lexer.specs.Literals.{greatest_integer}
 use Rattle.vhdl_tree.specs.declared.operator.Direction.{Direction}
 use Rattle.vhdl_names_rules.specs.declared.operator.Arithmetic.{Arithmetic}
-use Rattle.vhdl_names_rules.specs.declared.operator.Arithmetic.TheVariants.{Add, Subtract, Multiply, Divide, Modulo, Remainder}
 use Rattle.vhdl_names_rules.specs.units.Expressions as u
 use Rattle.vhdl_names_rules.specs.units.Expressions.{Static, StaticTest, Range, Signal, Part, SignalPart}
 use Rattle.vhdl_names_rules.specs.units.Statements.{Statements}
@@ -14,12 +13,13 @@ use Rattle.vhdl_expand_rules.specs.declared.fault.ElabFault.{ElabFault}
 use Rattle.vhdl_expand_rules.specs.declared.fault.ElabProblem.{ElabProblem}
 use Rattle.vhdl_expand_rules.specs.declared.fault.ElabProblem.TheVariants.{StaticError, Index, TooMany}
 use Rattle.vhdl_expand_rules.specs.Elab.{Told, Elab, ◌>>=◌, unless, item_or, each, fault_told, MayTell}
-use Rattle.vhdl_expand_rules.specs.Integers.{Integers, checked_integer, division_with, modulus, integer_operation, integer, decision, is_null, extent, most_turns, turns}
+use Rattle.vhdl_expand_rules.specs.Integers.{Integers, checked_integer, integer_operation, integer, decision, is_null, extent, most_turns, turns}
 use Rattle.vhdl_expand_rules.specs.Kinds.{Bounds, ObjectKind, vector, is_within, place_of, is_same_direction, slice_places, places}
 use Rattle.vhdl_expand_rules.specs.Site.{Site, elements_count, part_elements, signal_elements, place_elements}
 use Rattle.vhdl_expand_rules.specs.Prefixes.{prefix, targets, names, names_elements, prefixes_elements}
 use Rattle.vhdl_expand_rules.specs.Expansion.{sensitivity}
 use Rattle.vhdl_expand_processes.specs.Driven.{drives_of}
+use Rattle.vhdl_expand_rules.proofs.Chains.{each_operation}
 use Rattle.vhdl_expand_rules.proofs.Steps.{given}
 use Rattle.vhdl_expand_rules.proofs.Tells.{Tells}
 use Rattle.vhdl_expand_tree.proofs.Alike.{wrong, same_told, tells}
@@ -90,16 +90,8 @@ module _ (bytes : List ℕ) where
   checked : (at : ℕ) (x : ℤ) → Places bytes (checked_integer at x)
   checked at x = chosen (nat_le (nat_abs x) greatest_integer) _ _ (none x) (other StaticError at static-error)
 
-  divided : (at : ℕ) (by : ℤ → ℤ → ℤ) (x y : ℤ) → Places bytes (division_with at by x y)
-  divided at by x y = chosen (nat_abs y == 0) _ _ (other StaticError at static-error) (checked at (by x y))
-
   operated : (at : ℕ) (op : Arithmetic) (x y : ℤ) → Places bytes (integer_operation at op x y)
-  operated at Add x y = checked at (x +ℤ y)
-  operated at Subtract x y = checked at (x -ℤ y)
-  operated at Multiply x y = checked at (x *ℤ y)
-  operated at Divide x y = divided at int_div x y
-  operated at Modulo x y = divided at modulus x y
-  operated at Remainder x y = divided at int_rem x y
+  operated at op x y = each_operation (λ r. Places bytes r) at (checked at) (other StaticError at static-error) op x y
 
   computed : (here : Integers) (at : ℕ) (s : Static) → Places bytes (integer here at s)
   unfolding integer

@@ -2,9 +2,9 @@
 use Rattle.std.proofs.Common.{◌≡◌, ℕ, zero, suc, ◌+◌, ◌<◌, ◌≤◌, List, [], ◌∷◌, ◌++◌, length, map, get_or, drop, add-one, Ok, Err, refl, sym, ap, ◌∙◌, subst, arith}
 use Rattle.std.specs.Prelude.{flat_map}
 use Rattle.vhdl_expand_rules.specs.Elab.{Elab, ◌>>=◌, Told}
+use Rattle.vhdl_expand_rules.proofs.Items.{next_left, none_left}
 use Rattle.vhdl_expand.specs.Stepwise.{stepwise}
 use Rattle.vhdl_expand_rules.proofs.Chains.{err_first}
-use Rattle.vhdl_expand_processes.proofs.Walks.{next-left, none_left}
 
 module _ {S X : Type 0} (step : S → X → Elab S) where
   pub walk_behind : (s : S) (xs ys : List X) → stepwise step s (xs ++ ys) ≡ stepwise step s xs >>= λ t. stepwise step t ys
@@ -21,12 +21,12 @@ module _ {S X : Type 0} (step : S → X → Elab S) where
     pub one_goes : (total : Elab S) (now new : S) (ys : List Y) (i : ℕ) (y : Y) → i < length ys → y ≡ get_or ys i y
         → total ≡ stepwise step now (map v (drop i ys)) → step now (v y) ≡ Ok new → total ≡ stepwise step new (map v (drop (i + 1) ys))
     one_goes total now new ys i y below is so_far h =
-        so_far ∙ ap (λ zs. stepwise step now (map v zs)) (next-left ys i y below is) ∙ ap (λ r. r >>= λ t. stepwise step t (map v (drop (i + 1) ys))) h
+        so_far ∙ ap (λ zs. stepwise step now (map v zs)) (next_left ys i y below is) ∙ ap (λ r. r >>= λ t. stepwise step t (map v (drop (i + 1) ys))) h
 
     pub one_stops : {told : Told} → (total : Elab S) (now : S) (ys : List Y) (i : ℕ) (y : Y) → i < length ys → y ≡ get_or ys i y
         → total ≡ stepwise step now (map v (drop i ys)) → (step now (v y)) ≡ Err told → total ≡ Err told
     one_stops {told} total now ys i y below is so_far h =
-        subst (λ (r : Elab S). r ≡ Err told) (sym (so_far ∙ ap (λ zs. stepwise step now (map v zs)) (next-left ys i y below is)))
+        subst (λ (r : Elab S). r ≡ Err told) (sym (so_far ∙ ap (λ zs. stepwise step now (map v zs)) (next_left ys i y below is)))
         (err_first (step now (v y)) (λ t. stepwise step t (map v (drop (i + 1) ys))) h)
 
     pub one_ends : (total : Elab S) (now : S) (ys : List Y) (i : ℕ) → length ys ≤ i → total ≡ stepwise step now (map v (drop i ys)) → total ≡ Ok now
@@ -38,14 +38,14 @@ module _ {S X : Type 0} (step : S → X → Elab S) where
     pub all_go : (total : Elab S) (now new : S) (ys : List Y) (i : ℕ) (y : Y) → i < length ys → y ≡ get_or ys i y
         → total ≡ stepwise step now (flat_map v (drop i ys)) → stepwise step now (v y) ≡ Ok new → total ≡ stepwise step new (flat_map v (drop (i + 1) ys))
     all_go total now new ys i y below is so_far h =
-        so_far ∙ ap (λ zs. stepwise step now (flat_map v zs)) (next-left ys i y below is) ∙ walk_behind now (v y) (flat_map v (drop (i + 1) ys))
+        so_far ∙ ap (λ zs. stepwise step now (flat_map v zs)) (next_left ys i y below is) ∙ walk_behind now (v y) (flat_map v (drop (i + 1) ys))
         ∙ ap (λ r. r >>= λ t. stepwise step t (flat_map v (drop (i + 1) ys))) h
 
     pub all_stop : {told : Told} → (total : Elab S) (now : S) (ys : List Y) (i : ℕ) (y : Y) → i < length ys → y ≡ get_or ys i y
         → total ≡ stepwise step now (flat_map v (drop i ys)) → (stepwise step now (v y)) ≡ Err told → total ≡ Err told
     all_stop {told} total now ys i y below is so_far h =
         subst (λ (r : Elab S). r ≡ Err told)
-        (sym (so_far ∙ ap (λ zs. stepwise step now (flat_map v zs)) (next-left ys i y below is) ∙ walk_behind now (v y) (flat_map v (drop (i + 1) ys))))
+        (sym (so_far ∙ ap (λ zs. stepwise step now (flat_map v zs)) (next_left ys i y below is) ∙ walk_behind now (v y) (flat_map v (drop (i + 1) ys))))
         (err_first (stepwise step now (v y)) (λ t. stepwise step t (flat_map v (drop (i + 1) ys))) h)
 
     pub all_end : (total : Elab S) (now : S) (ys : List Y) (i : ℕ) → length ys ≤ i → total ≡ stepwise step now (flat_map v (drop i ys)) → total ≡ Ok now
@@ -70,6 +70,3 @@ module _ {S X : Type 0} (step : S → X → Elab S) where
     same_stops {told} total now ys i below so_far h =
         subst (λ (r : Elab S). r ≡ Err told) (sym (so_far ∙ ap (stepwise step now) (same-left ys i below)))
         (err_first (step now x) (λ t. stepwise step t (map (λ (y : Y). x) (drop (suc i) ys))) h)
-
-    pub same_ends : (total : Elab S) (now : S) (ys : List Y) (i : ℕ) → length ys ≤ i → total ≡ stepwise step now (map (λ (y : Y). x) (drop i ys)) → total ≡ Ok now
-    same_ends total now ys i h so_far = so_far ∙ ap (λ zs. stepwise step now (map (λ (y : Y). x) zs)) (none_left ys i h)

@@ -11,7 +11,7 @@ ghost use Rattle.vhdl_names_units.specs.views.Answers.{fixed_view, form_view};
 ghost use Rattle.vhdl_expand.specs.Constants.{constant_of};
 
 use vhdl_expand_bodies::{Constant, Site};
-use vhdl_expand_processes::kind;
+use vhdl_expand_processes::{kind, one_for};
 use vhdl_expand_rules::{ElabFault, ElabProblem};
 use vhdl_names_rules::Static;
 use vhdl_names_units::{Fixed, Form};
@@ -70,13 +70,7 @@ pub(crate) fn fixed(site: &Site, len: usize, value: &Fixed, at: usize) -> Result
 {
     match value {
         Fixed::Literal(values) => literal(len, values, at),
-        Fixed::Position(_) => {
-            Err(ElabProblem::Length {
-                found: 1,
-                needed: len,
-            }
-            .at(at))
-        }
+        Fixed::Position(_) => Err(one_for(len, at)),
         Fixed::Constant(number) => {
             let Some(constant) = site.constants.get(*number) else {
                 return Err(ElabProblem::Index.at(at));

@@ -1,4 +1,5 @@
 pub mod Places
+pub mod Chained
 pub mod Links
 pub mod TestChains
 pub mod Assigned

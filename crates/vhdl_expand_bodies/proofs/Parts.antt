@@ -1,5 +1,5 @@
 -- Statements by their parts, in the order in which the code comes to them.
-use Rattle.std.proofs.Common.{◌≡◌, ℕ, zero, suc, ◌≤◌, List, [], ◌∷◌, length, map, drop, Option, Vec, Global, Result, Ok, Err, refl, sym, ap, ◌∙◌, subst, arith}
+use Rattle.std.proofs.Common.{◌≡◌, ℕ, List, [], ◌∷◌, length, map, Option, Vec, Global, Result, Ok, Err, refl, sym, ap, ◌∙◌, subst}
 use Rattle.std.specs.Prelude.{ℤ}
 use Rattle.vhdl_names_rules.specs.units.Expressions.{Part, SignalPart, Range}
 use Rattle.vhdl_names_rules.specs.units.Statements as u
@@ -53,17 +53,17 @@ added_gives now new d whole (Err why) (Err fault) h e a = λ n.
     subst (λ (f : ElabFault). after (net.statements_of now) whole ≡ Err (fault_told f)) (sym a)
     (after_stops (net.statements_of now) whole (h ∙ ap (λ q. q >>= λ s. given (one s)) (e (λ q. n (a ∙ q)))))
 
-pub none_left : {X : Type 0} (xs : List X) (i : ℕ) → length xs ≤ i → drop i xs ≡ []
-none_left [] zero h = refl
-none_left [] (suc i) h = refl
-none_left (x ∷ xs) zero h = absurd (omega arith)
-none_left (x ∷ xs) (suc i) h = none_left xs i (omega arith)
+abbrev branch_made : bodies.Test → bodies.Stmts → steps.Branch
+branch_made c x = record { test = c; statements = x }
 
 abbrev pub branch_of : bodies.Test → bodies.Stmts → Elab steps.Branch
-branch_of c x = Ok (record { test = c; statements = x })
+branch_of c x = Ok (branch_made c x)
+
+abbrev alternative_made : List (List ℕ) → bodies.Stmts → steps.Alternative
+alternative_made c x = record { choices = c; statements = x }
 
 abbrev pub alternative_of : List (List ℕ) → bodies.Stmts → Elab steps.Alternative
-alternative_of c x = Ok (record { choices = c; statements = x })
+alternative_of c x = Ok (alternative_made c x)
 
 case_of_each : (w : bodies.Value) (n : Elab (List steps.Alternative)) (l : Elab bodies.Stmts) → ((n >>= λ bs. l >>= λ y. given (steps.alternatives_before y bs)) >>= λ cs. given (one (bodies.case_of w cs)))
     ≡ ((n >>= λ bs. l >>= λ y. given (bodies.case_of w (steps.alternatives_before y bs))) >>= λ y. given (one y))
@@ -95,6 +95,17 @@ module _ (here : Site) where
   unfolding definition.statement
   set_by at k part g = as_one (variable_elements here at k part) (λ es. definition.value_given here at (length es) g) bodies.set
 
+  -- ---- one part more before others
+
+  one-before : {C X Y Z L : Type 0} (join : C → X → Y → Y) (make : C → X → Z) (before : L → List Z → Y) → ((c : C) (x : X) (y : L) (zs : List Z) → before y (make c x ∷ zs) ≡ join c x (before y zs))
+      → (c : Elab C) (x : Elab X) (q : Elab Y) (m : Elab (List Z)) (l : Elab L) → q ≡ (m >>= λ zs. l >>= λ y. given (before y zs))
+      → (c >>= λ c. x >>= λ x. q >>= λ y. given (join c x y)) ≡ (((c >>= λ c. x >>= λ x. given (make c x)) >>= λ z. m >>= λ zs. given (z ∷ zs)) >>= λ zs. l >>= λ y. given (before y zs))
+  one-before join make before same (Err p) x q m l h = refl
+  one-before join make before same (Ok c) (Err p) q m l h = refl
+  one-before join make before same (Ok c) (Ok x) q (Err p) l h = ap (λ r. r >>= λ y. given (join c x y)) h
+  one-before join make before same (Ok c) (Ok x) q (Ok zs) (Err p) h = ap (λ r. r >>= λ y. given (join c x y)) h
+  one-before join make before same (Ok c) (Ok x) q (Ok zs) (Ok y) h = ap (λ r. r >>= λ y. given (join c x y)) h ∙ ap given (sym (same c x y zs))
+
   -- ---- if
 
   branches-each : (gs : List Guarded) (last : u.Branches)
@@ -106,17 +117,8 @@ module _ (here : Site) where
       go (Ok y) = refl
       go (Err p) = refl
   branches-each (g ∷ gs) last =
-      go (test here g.condition) (definition.statements here (units.statements_of g.statements)) (definition.branches here (units.branches_of gs last))
+      one-before bodies.branch branch_made steps.branches_before (λ c x y bs. refl) (test here g.condition) (definition.statements here (units.statements_of g.statements)) (definition.branches here (units.branches_of gs last))
       (each (steps.branch here) gs) (definition.branches here last) (branches-each gs last)
-    where
-      go : (c : Elab bodies.Test) (x : Elab bodies.Stmts) (q : Elab bodies.Branches) (m : Elab (List steps.Branch)) (l : Elab bodies.Branches) → q ≡ (m >>= λ bs. l >>= λ y. given (steps.branches_before y bs))
-          → (c >>= λ c. x >>= λ x. q >>= λ y. given (bodies.branch c x y))
-          ≡ (((c >>= λ c. x >>= λ x. branch_of c x) >>= λ z. m >>= λ zs. given (z ∷ zs)) >>= λ bs. l >>= λ y. given (steps.branches_before y bs))
-      go (Err p) x q m l h = refl
-      go (Ok c) (Err p) q m l h = refl
-      go (Ok c) (Ok x) q (Err p) l h = ap (λ r. r >>= λ y. given (bodies.branch c x y)) h
-      go (Ok c) (Ok x) q (Ok bs) (Err p) h = ap (λ r. r >>= λ y. given (bodies.branch c x y)) h
-      go (Ok c) (Ok x) q (Ok bs) (Ok y) h = ap (λ r. r >>= λ y. given (bodies.branch c x y)) h
 
   if-is : (x : If) → units.statement_view (t.If x) ≡ u.if_of (out-If x).at (units.branches_of (units.branches_view (out-If x).branches) (units.last_of (units.option_statements_view (out-If x).otherwise)))
   if-is x = ap (λ y. units.statement_view (t.If y)) (sym (roll-out-If x)) ∙ rows.view_if (out-If x).at (out-If x).branches (out-If x).otherwise
@@ -144,17 +146,8 @@ module _ (here : Site) where
   unfolding definition.alternatives
   alternatives-each at len [] last = refl
   alternatives-each at len (g ∷ gs) last =
-      go (each (choice at len) g.choices) (definition.statements here (units.statements_of g.statements)) (definition.alternatives here at len (units.alternatives_of gs last))
+      one-before bodies.alternative alternative_made steps.alternatives_before (λ c x y bs. refl) (each (choice at len) g.choices) (definition.statements here (units.statements_of g.statements)) (definition.alternatives here at len (units.alternatives_of gs last))
       (each (steps.alternative here at len) gs) (definition.statements here last) (alternatives-each at len gs last)
-    where
-      go : (c : Elab (List (List ℕ))) (x : Elab bodies.Stmts) (q : Elab bodies.Alternatives) (m : Elab (List steps.Alternative)) (l : Elab bodies.Stmts) → q ≡ (m >>= λ bs. l >>= λ y. given (steps.alternatives_before y bs))
-          → (c >>= λ c. x >>= λ x. q >>= λ y. given (bodies.alternative c x y))
-          ≡ (((c >>= λ c. x >>= λ x. alternative_of c x) >>= λ z. m >>= λ zs. given (z ∷ zs)) >>= λ bs. l >>= λ y. given (steps.alternatives_before y bs))
-      go (Err p) x q m l h = refl
-      go (Ok c) (Err p) q m l h = refl
-      go (Ok c) (Ok x) q (Err p) l h = ap (λ r. r >>= λ y. given (bodies.alternative c x y)) h
-      go (Ok c) (Ok x) q (Ok bs) (Err p) h = ap (λ r. r >>= λ y. given (bodies.alternative c x y)) h
-      go (Ok c) (Ok x) q (Ok bs) (Ok y) h = ap (λ r. r >>= λ y. given (bodies.alternative c x y)) h
 
   case-is : (x : Case) → units.statement_view (t.Case x)
       ≡ u.case_of (out-Case x).at (analysed.value_view (out-Case x).selector) (units.alternatives_of (units.alternatives_view (out-Case x).alternatives) (units.statements_of (units.statements_view (out-Case x).others)))

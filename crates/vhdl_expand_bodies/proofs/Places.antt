@@ -1,92 +1,28 @@
 -- The places of a part lie within what it is a part of.
-use Rattle.std.proofs.Common.{◌≡◌, ℕ, zero, suc, ◌+◌, ◌-◌, ◌^◌, ◌<◌, ◌≤◌, Bool, true, false, not, cond, List, [], ◌∷◌, length, get_or, map, take, drop, drop-cons, add-one, Ok, Err, refl, sym, ap, ◌∙◌, arith}
-use Rattle.std.specs.Prelude.{◌&&◌, ℤ, pos, negsuc, ◌-ℤ◌, int_le, int_lt, nat_abs, nat_le, slice_get, slice_index_or, Some, option_map}
+use Rattle.std.proofs.Common.{◌≡◌, ℕ, zero, suc, ◌+◌, ◌-◌, ◌^◌, ◌<◌, ◌≤◌, List, [], ◌∷◌, length, get_or, map, take, drop, drop-cons, add-one, Ok, refl, sym, ap, ◌∙◌, arith}
+use Rattle.std.specs.Prelude.{nat_le, slice_get, slice_index_or, Some, option_map}
 use Rattle.std.specs.List.{range_with_len}
-use Rattle.std.proofs.lemmas.Int.{ints}
 use Rattle.std.proofs.lemmas.Bool.{leb-true}
-use Rattle.std.proofs.lemmas.Bool.Decides.{nat_tests}
-use Rattle.std.proofs.lemmas.List.FromFn.{length-range_with_len}
+use Rattle.std.proofs.lemmas.List.FromFn.{length-range_with_len, get_or-range_with_len}
 use Rattle.std.proofs.lemmas.Option.{same_Some, slice_get-map, slice_get-get_or}
 use Rattle.vhdl_values.specs.declared.scalar.Nine.{Nine}
 use Rattle.vhdl_values.specs.declared.scalar.Nine.TheVariants.{X}
 use Rattle.rtl_model.specs.bodies.Fits.{IsWidth}
-use Rattle.vhdl_tree.specs.declared.operator.Direction.{Direction}
-use Rattle.vhdl_tree.specs.declared.operator.Direction.TheVariants.{To, Downto}
 use Rattle.vhdl_names_rules.specs.units.Expressions as u
 use Rattle.vhdl_names_rules.specs.units.Expressions.{Static, Part}
 use Rattle.vhdl_expand_rules.specs.declared.fault.ElabProblem.TheVariants.{Index, TooWide}
 use Rattle.vhdl_expand_rules.specs.Elab.{◌>>=◌, unless}
-use Rattle.vhdl_expand_rules.specs.Integers.{Integers, integer, natural, is_null, extent}
-use Rattle.vhdl_expand_rules.specs.Kinds.{ObjectKind, vector, Bounds, bounds_size, size, is_within, place_of, slice_places, is_same_direction, places, size_of}
+use Rattle.vhdl_expand_rules.specs.Integers.{Integers, integer, natural}
+use Rattle.vhdl_expand_rules.specs.Kinds.{ObjectKind, vector, bounds_size, size, place_of, places, size_of}
 use Rattle.vhdl_expand_rules.specs.Elab.{item_or as found_kind}
 use Rattle.vhdl_expand_rules.specs.Site.{Site, Constant, elements_count, part_elements, constant_values, the_element}
 use Rattle.vhdl_expand_rules.proofs.Steps.{given, ok, bound, kept}
 use Rattle.vhdl_expand_rules.proofs.laws.Names.{count-cons}
+use Rattle.vhdl_expand_rules.proofs.laws.Places.{Within, place_below, slice_within}
 use Rattle.vhdl_expand_bodies.specs.declared.site.Placed.{Placed}
 use Rattle.vhdl_expand_bodies.specs.Sites.{IsSitePlaced, placed_kind}
 
--- ---- distances
-
-up : (a b : ℕ) → a ≤ b → nat_abs (pos b -ℤ pos a) ≡ b - a
-up a b h = omega (arith, ints)
-
-down : (a b : ℕ) → a ≤ b → nat_abs (pos a -ℤ pos b) ≡ b - a
-down a b h = omega (arith, ints)
-
--- ---- the place of an index
-
-record InRange (low high : ℕ) (i : ℤ) : Type 0 where
-  n : ℕ
-  is : i ≡ pos n
-  above : low ≤ n
-  below : n ≤ high
-
-in_range : (low high : ℕ) (i : ℤ) → (int_le (pos low) i && int_le i (pos high)) ≡ true → InRange low high i
-in_range low high (pos n) h = record { n = n; is = refl; above = grind (arith, nat_tests); below = grind (arith, nat_tests) }
-in_range low high (negsuc n) h = absurd (cc)
-
--- this place of this index, by the test that finds it
-record Found (b : Bounds) (i : ℤ) (p : ℕ) : Type 0 where
-  within : is_within b i ≡ true
-  place : p ≡ nat_abs (i -ℤ pos b.left)
-
-found : (b : Bounds) (at : ℕ) (i : ℤ) (p : ℕ) → place_of b at i ≡ Ok p → Found b i p
-found b at i p h = go (is_within b i) refl h
-  where
-    go : (w : Bool) → is_within b i ≡ w → cond w (given (nat_abs (i -ℤ pos b.left))) (Err (Index, at)) ≡ Ok p → Found b i p
-    go true e k = record { within = e; place = sym (ok (nat_abs (i -ℤ pos b.left)) p k) }
-    go false e k = absurd cc
-
-element-short : (at l r : ℕ) (d : Direction) (i : ℤ) (p : ℕ) → place_of (record { left = l; direction = d; right = r }) at i ≡ Ok p → p + 1 ≤ extent d (pos l) (pos r)
-element-short at l r To i p h =
-    let f = found (record { left = l; direction = To; right = r }) at i p h in
-    let w = in_range l r i f.within in
-    let e : p ≡ w.n - l = f.place ∙ ap (λ j. nat_abs (j -ℤ pos l)) w.is ∙ up l w.n w.above in
-    let s : nat_abs (pos l -ℤ pos r) ≡ r - l = down l r (omega (arith, w.above, w.below)) in
-    grind (arith, nat_tests, w.above, w.below)
-element-short at l r Downto i p h =
-    let f = found (record { left = l; direction = Downto; right = r }) at i p h in
-    let w = in_range r l i f.within in
-    let e : p ≡ l - w.n = f.place ∙ ap (λ j. nat_abs (j -ℤ pos l)) w.is ∙ down w.n l w.below in
-    let s : nat_abs (pos l -ℤ pos r) ≡ l - r = up r l (omega (arith, w.above, w.below)) in
-    grind (arith, nat_tests, w.above, w.below)
-
--- ---- slices
-
-record Sliced (b : Bounds) (at : ℕ) (direction : Direction) (x y : ℤ) (f len : ℕ) : Type 0 where
-  same : is_same_direction b.direction direction ≡ true
-  some : is_null direction x y ≡ false
-  last : ℕ
-  first_is : place_of b at x ≡ Ok f
-  last_is : place_of b at y ≡ Ok last
-  extent_is : len ≡ extent direction x y
-
-not-true : (b : Bool) → not b ≡ true → b ≡ false
-not-true true h = absurd cc
-not-true false h = refl
-
-extent-some : (direction : Direction) (x y : ℤ) → is_null direction x y ≡ false → extent direction x y ≡ nat_abs (x -ℤ y) + 1
-extent-some direction x y h = ap (λ b. cond b 0 (nat_abs (x -ℤ y) + 1)) h
+-- ---- runs
 
 -- a range with a number in it is of one first number and one length
 range-first : (a n f len : ℕ) → range_with_len a (suc n) ≡ range_with_len f len → a ≡ f
@@ -96,68 +32,20 @@ range-first a n f (suc len) h = cc
 range-length : (a n f len : ℕ) → range_with_len a n ≡ range_with_len f len → n ≡ len
 range-length a n f len h = sym (length-range_with_len a n) ∙ ap length h ∙ length-range_with_len f len
 
-sliced : (b : Bounds) (at : ℕ) (direction : Direction) (x y : ℤ) (f len : ℕ) → slice_places b at direction x y ≡ Ok (range_with_len f len) → Sliced b at direction x y f len
-sliced b at direction x y f len h =
-    let s = bound (unless Index at (is_same_direction b.direction direction)) _ _ h in
-    let n = bound (unless Index at (not (is_null direction x y))) _ _ s.then_gave in
-    let p = bound (place_of b at x) _ _ n.then_gave in
-    let q = bound (place_of b at y) _ _ p.then_gave in
-    let none = not-true (is_null direction x y) (kept Index at (not (is_null direction x y)) n.x n.gave) in
-    let e = ok (range_with_len p.x (extent direction x y)) (range_with_len f len) q.then_gave in
-    let k = extent-some direction x y none in
-    record {
-      same = kept Index at (is_same_direction b.direction direction) s.x s.gave;
-      some = none;
-      last = q.x;
-      first_is = p.gave ∙ ap given (range-first p.x (nat_abs (x -ℤ y)) f len (ap (range_with_len p.x) (suc-is (extent direction x y) (nat_abs (x -ℤ y)) k) ∙ e));
-      last_is = q.gave;
-      extent_is = sym (range-length p.x (extent direction x y) f len e);
-    }
-  where
-    suc-is : (m n : ℕ) → m ≡ n + 1 → suc n ≡ m
-    suc-is m n h = omega arith
-
 abbrev Fits : (f len most : ℕ) → Type 0
 Fits f len most = (1 ≤ len) × (f + len ≤ most)
 
-slice-to : (at l r : ℕ) (x y : ℤ) (f len : ℕ) → Sliced (record { left = l; direction = To; right = r }) at To x y f len → Fits f len (extent To (pos l) (pos r))
-slice-to at l r x y f len s =
-    let b : Bounds = record { left = l; direction = To; right = r } in
-    let p = found b at x f s.first_is in
-    let q = found b at y s.last s.last_is in
-    let v = in_range l r x p.within in
-    let w = in_range l r y q.within in
-    let e : f ≡ v.n - l = p.place ∙ ap (λ j. nat_abs (j -ℤ pos l)) v.is ∙ up l v.n v.above in
-    let some : int_lt (pos w.n) (pos v.n) ≡ false = sym (ap (λ j. int_lt j (pos v.n)) w.is) ∙ sym (ap (int_lt y) v.is) ∙ s.some in
-    let up_to : v.n ≤ w.n = grind (arith, nat_tests) in
-    let n : len ≡ (w.n - v.n) + 1 = s.extent_is ∙ extent-some To x y s.some
-    ∙ ap (λ j. nat_abs (j -ℤ y) + 1) v.is ∙ ap (λ j. nat_abs (pos v.n -ℤ j) + 1) w.is ∙ ap (λ k. k + 1) (down v.n w.n up_to) in
-    let z : nat_abs (pos l -ℤ pos r) ≡ r - l = down l r (omega (arith, w.above, w.below)) in
-    (omega arith, grind (arith, nat_tests, v.above, v.below, w.above, w.below))
-
-slice-down : (at l r : ℕ) (x y : ℤ) (f len : ℕ) → Sliced (record { left = l; direction = Downto; right = r }) at Downto x y f len → Fits f len (extent Downto (pos l) (pos r))
-slice-down at l r x y f len s =
-    let b : Bounds = record { left = l; direction = Downto; right = r } in
-    let p = found b at x f s.first_is in
-    let q = found b at y s.last s.last_is in
-    let v = in_range r l x p.within in
-    let w = in_range r l y q.within in
-    let e : f ≡ l - v.n = p.place ∙ ap (λ j. nat_abs (j -ℤ pos l)) v.is ∙ down v.n l v.below in
-    let some : int_lt (pos v.n) (pos w.n) ≡ false = sym (ap (λ j. int_lt j (pos w.n)) v.is) ∙ sym (ap (int_lt x) w.is) ∙ s.some in
-    let down_to : w.n ≤ v.n = grind (arith, nat_tests) in
-    let n : len ≡ (v.n - w.n) + 1 = s.extent_is ∙ extent-some Downto x y s.some
-    ∙ ap (λ j. nat_abs (j -ℤ y) + 1) v.is ∙ ap (λ j. nat_abs (pos v.n -ℤ j) + 1) w.is ∙ ap (λ k. k + 1) (up w.n v.n down_to) in
-    let z : nat_abs (pos l -ℤ pos r) ≡ l - r = up r l (omega (arith, w.above, w.below)) in
-    (omega arith, grind (arith, nat_tests, v.above, v.below, w.above, w.below))
-
-slice-short : (at l r : ℕ) (d e : Direction) (x y : ℤ) (f len : ℕ) → Sliced (record { left = l; direction = d; right = r }) at e x y f len → Fits f len (extent d (pos l) (pos r))
-slice-short at l r To To x y f len s = slice-to at l r x y f len s
-slice-short at l r Downto Downto x y f len s = slice-down at l r x y f len s
-slice-short at l r _ _ x y f len s = absurd (let h = s.same in cc)
+run-fits : (f len most : ℕ) → Within most (range_with_len f len) → Fits f len most
+run-fits f zero most w = absurd (let some : 1 ≤ 0 = w.some in omega (arith, some))
+run-fits f (suc k) most w =
+    let long : length (range_with_len f (suc k)) ≡ suc k = length-range_with_len f (suc k) in
+    let is : slice_index_or (range_with_len f (suc k)) k 0 ≡ f + k = get_or-range_with_len f (suc k) k 0 (omega arith) in
+    let last : slice_index_or (range_with_len f (suc k)) k 0 < most = w.below k 0 (omega (arith, long)) in
+    (omega arith, omega (arith, is, last))
 
 -- ---- any part
 
-one-short : (p f len most : ℕ) → p + 1 ≤ most → p ∷ [] ≡ range_with_len f len → Fits f len most
+one-short : (p f len most : ℕ) → p < most → p ∷ [] ≡ range_with_len f len → Fits f len most
 one-short p f len most h e =
     let a = range-first p 0 f len e in
     let b = range-length p 1 f len e in
@@ -176,11 +64,11 @@ places-short here at kind u.whole f len h e = whole-short (size kind) f len h (o
 places-short here at (vector b) (u.Part.element s) f len h e =
     let i = bound (integer here at s) _ _ e in
     let p = bound (place_of b at i.x) _ _ i.then_gave in
-    one-short p.x f len (bounds_size b) (element-short at b.left b.right b.direction i.x p.x p.gave) (ok (p.x ∷ []) (range_with_len f len) p.then_gave)
+    one-short p.x f len (bounds_size b) (place_below b at i.x p.x p.gave) (ok (p.x ∷ []) (range_with_len f len) p.then_gave)
 places-short here at (vector b) (u.slice r) f len h e =
     let x = bound (integer here at r.left) _ _ e in
     let y = bound (integer here at r.right) _ _ x.then_gave in
-    slice-short at b.left b.right b.direction r.direction x.x y.x f len (sliced b at r.direction x.x y.x f len y.then_gave)
+    run-fits f len (bounds_size b) (slice_within b at r.direction x.x y.x (range_with_len f len) y.then_gave)
 places-short here at _ _ f len h e = absurd cc
 
 -- ---- of one thing among several

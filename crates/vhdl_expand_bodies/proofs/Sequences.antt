@@ -1,5 +1,5 @@
 -- Statements behind one another, and lists whose elements come one after another.
-use Rattle.std.proofs.Common.{◌≡◌, ℕ, suc, ◌+◌, ◌<◌, ◌≤◌, List, [], ◌∷◌, ◌++◌, length, map, get_or, drop, drop-cons, add-one, Result, Ok, Err, refl, sym, ap, ◌∙◌, subst}
+use Rattle.std.proofs.Common.{◌≡◌, ℕ, ◌+◌, ◌<◌, ◌≤◌, List, [], ◌∷◌, ◌++◌, length, map, get_or, drop, Result, Ok, Err, refl, sym, ap, ◌∙◌, subst}
 use Rattle.std.specs.Prelude.{◌≢◌, ℤ}
 use Rattle.std.proofs.lemmas.List.{append-nil, append_assoc, map-append}
 use Rattle.vhdl_tree.specs.declared.operator.Direction.{Direction}
@@ -18,6 +18,7 @@ use Rattle.vhdl_expand_rules.specs.Statements.{joined_bodies, one, statement, st
 use Rattle.vhdl_expand_rules.proofs.Steps.{given, ok}
 use Rattle.vhdl_expand_rules.proofs.Chains.{err_first}
 use Rattle.vhdl_expand_rules.proofs.Parameters.{next-turn, no-turn}
+use Rattle.vhdl_expand_rules.proofs.Items.{next_left}
 use Rattle.vhdl_expand_bodies.specs.Results.{Expands, Adds}
 use Rattle.vhdl_expand_bodies.specs.steps.Statements as steps
 use Rattle.vhdl_expand_bodies.specs.steps.Statements.{after}
@@ -48,16 +49,13 @@ after_stops : {told : Told} (made : bodies.Stmts) (r q : Elab bodies.Stmts) → 
 after_stops made (Ok x) q h = absurd cc
 after_stops made (Err p) q h = h
 
-next-left : {X : Type 0} (xs : List X) (i : ℕ) (x : X) → i < length xs → x ≡ get_or xs i x → drop i xs ≡ x ∷ drop (i + 1) xs
-next-left xs i x h e = drop-cons xs i x h ∙ ap (λ y. y ∷ drop (suc i) xs) (sym e) ∙ ap (λ j. x ∷ drop j xs) (sym (add-one i))
-
 module _ (here : Site) where
   pub list_goes : {X : Type 0} (v : X → u.Statement) (total : Elab bodies.Stmts) (now new : bodies.Stmts) (xs : List X) (i : ℕ) (x : X) → i < length xs → x ≡ get_or xs i x
       → total ≡ after now (statements here (units.statements_of (map v (drop i xs)))) → after now (statement here (v x)) ≡ Ok new
       → total ≡ after new (statements here (units.statements_of (map v (drop (i + 1) xs))))
   unfolding statements
   list_goes v total now new xs i x below is so_far h =
-      so_far ∙ ap (λ ys. after now (statements here (units.statements_of (map v ys)))) (next-left xs i x below is)
+      so_far ∙ ap (λ ys. after now (statements here (units.statements_of (map v ys)))) (next_left xs i x below is)
       ∙ after_goes now new (statement here (v x)) (statements here (units.statements_of (map v (drop (i + 1) xs)))) h
 
   pub list_stops : {told : Told} {X : Type 0} (v : X → u.Statement) (total : Elab bodies.Stmts) (now : bodies.Stmts) (xs : List X) (i : ℕ) (x : X) → i < length xs → x ≡ get_or xs i x
@@ -65,7 +63,7 @@ module _ (here : Site) where
   unfolding statements
   list_stops {told} v total now xs i x below is so_far h =
       subst (λ (r : Elab bodies.Stmts). r ≡ Err told)
-      (sym (so_far ∙ ap (λ ys. after now (statements here (units.statements_of (map v ys)))) (next-left xs i x below is)))
+      (sym (so_far ∙ ap (λ ys. after now (statements here (units.statements_of (map v ys)))) (next_left xs i x below is)))
       (after_stops now (statement here (v x)) (statements here (units.statements_of (map v (drop (i + 1) xs)))) h)
 
   pub list_ends : {X : Type 0} (v : X → u.Statement) (total : Elab bodies.Stmts) (now : bodies.Stmts) (xs left : List X) → left ≡ []
@@ -123,7 +121,7 @@ module _ {A B X : Type 0} (f : A → Elab B) (v : X → A) where
   pub each_goes : (total : Elab (List B)) (made more : List B) (xs : List X) (i : ℕ) (x : X) (y : B) → i < length xs → x ≡ get_or xs i x
       → total ≡ behind made (each f (map v (drop i xs))) → f (v x) ≡ Ok y → more ≡ made ++ y ∷ [] → total ≡ behind more (each f (map v (drop (i + 1) xs)))
   each_goes total made more xs i x y below is so_far h pushed =
-      so_far ∙ ap (λ zs. behind made (each f (map v zs))) (next-left xs i x below is)
+      so_far ∙ ap (λ zs. behind made (each f (map v zs))) (next_left xs i x below is)
       ∙ ap (λ r. behind made (r >>= λ z. each f (map v (drop (i + 1) xs)) >>= λ zs. given (z ∷ zs))) h
       ∙ go (each f (map v (drop (i + 1) xs))) ∙ ap (λ d. behind d (each f (map v (drop (i + 1) xs)))) (sym pushed)
     where
@@ -134,7 +132,7 @@ module _ {A B X : Type 0} (f : A → Elab B) (v : X → A) where
   pub each_stops : {told : Told} (total : Elab (List B)) (made : List B) (xs : List X) (i : ℕ) (x : X) → i < length xs → x ≡ get_or xs i x
       → total ≡ behind made (each f (map v (drop i xs))) → (f (v x)) ≡ Err told → total ≡ Err told
   each_stops {told} total made xs i x below is so_far h =
-      subst (λ (r : Elab (List B)). r ≡ Err told) (sym (so_far ∙ ap (λ zs. behind made (each f (map v zs))) (next-left xs i x below is)))
+      subst (λ (r : Elab (List B)). r ≡ Err told) (sym (so_far ∙ ap (λ zs. behind made (each f (map v zs))) (next_left xs i x below is)))
       (err_first (f (v x) >>= λ z. each f (map v (drop (i + 1) xs)) >>= λ zs. given (z ∷ zs)) (λ ys. given (made ++ ys)) (err_first (f (v x)) _ h))
 
   pub each_ends : (total : Elab (List B)) (made : List B) (left : List X) → left ≡ [] → total ≡ behind made (each f (map v left)) → total ≡ Ok made

@@ -1,5 +1,5 @@
 -- Conditions: what a chain of operators is not, levels, and chains of logical operators.
-use Rattle.std.proofs.Common.{◌≡◌, ℕ, suc, ◌≤◌, ◌<◌, ◌+◌, Bool, List, [], ◌∷◌, ◌++◌, length, get_or, replicate, drop, drop-cons, add-one, None, Box, Vec, Global, Ok, Err, refl, sym, ap, ◌∙◌, subst, arith}
+use Rattle.std.proofs.Common.{◌≡◌, ℕ, suc, ◌≤◌, ◌+◌, Bool, List, [], ◌∷◌, ◌++◌, replicate, Option, None, Box, Vec, Global, Ok, refl, sym, ap, ◌∙◌, arith}
 use Rattle.std.specs.List.{range_with_len}
 use Rattle.vhdl_values.specs.declared.scalar.Nine.{Nine}
 use Rattle.rtl_model.specs.bodies.Body as bodies
@@ -20,39 +20,39 @@ use Rattle.vhdl_names_rules.specs.views.Tests.{test_view, start_view, test_chain
 use Rattle.vhdl_names_rules.specs.units.Expressions as u
 use Rattle.vhdl_names_rules.proofs.rows.Vectors as rows
 use Rattle.vhdl_names_rules.proofs.rows.Tests.{view_chain}
-use Rattle.vhdl_expand_rules.specs.Elab.{Elab, ◌>>=◌, Told}
+use Rattle.vhdl_expand_rules.specs.Elab.{Elab, ◌>>=◌}
 use Rattle.vhdl_expand_rules.specs.Site.{Site, signal_elements, the_element}
 use Rattle.vhdl_expand_rules.specs.Expressions.{level_test, test}
-use Rattle.vhdl_expand_rules.proofs.Chains.{bind-assoc, err_first}
 use Rattle.vhdl_expand_rules.proofs.Steps.{given, ok}
+use Rattle.vhdl_expand_bodies.specs.steps.Chains.{chained}
 use Rattle.vhdl_expand_bodies.specs.steps.Tests as steps
+use Rattle.vhdl_expand_bodies.proofs.Chained.{chain_of}
 use Rattle.vhdl_expand_bodies.specs.steps.Tests.{name_in, character_in}
 
 -- ---- a chain is no name and no literal
+
+-- what is nothing of one link is nothing of a chain
+chain-none : {A : Type 0} (in' : u.Vector → Option A) → ((x : u.Vector) (k : VectorLink) → in' (linked x k) ≡ None) → (start : Box VectorStart Global) (links : Vec VectorLink Global)
+    → in' (vector_view (v.Chain start links)) ≡ None
+chain-none {A} in' one start links = ap in' (rows.view_chain start links) ∙ links-none (vectors.start_view start.value) links.items (one (vector_view start.value.first) start.value.link)
+  where
+    links-none : (x : u.Vector) (ks : List VectorLink) → in' x ≡ None → in' (vector_chained x ks) ≡ None
+    links-none x [] h = h
+    links-none x (k ∷ ks) h = links-none (linked x k) ks (one x k)
 
 linked-no_name : (x : u.Vector) (k : VectorLink) → name_in (linked x k) ≡ None
 linked-no_name x (l.Vector op pos y) = refl
 linked-no_name x (l.Integer op pos s) = refl
 
-chained-no_name : (x : u.Vector) (ls : List VectorLink) → name_in x ≡ None → name_in (vector_chained x ls) ≡ None
-chained-no_name x [] h = h
-chained-no_name x (k ∷ ls) h = chained-no_name (linked x k) ls (linked-no_name x k)
-
 pub chain_is_no_name : (start : Box VectorStart Global) (links : Vec VectorLink Global) → name_in (vector_view (v.Chain start links)) ≡ None
-chain_is_no_name start links = ap name_in (rows.view_chain start links)
-    ∙ chained-no_name (vectors.start_view start.value) links.items (linked-no_name (vector_view start.value.first) start.value.link)
+chain_is_no_name start links = chain-none name_in linked-no_name start links
 
 linked-no_character : (x : u.Vector) (k : VectorLink) → character_in (linked x k) ≡ None
 linked-no_character x (l.Vector op pos y) = refl
 linked-no_character x (l.Integer op pos s) = refl
 
-chained-no_character : (x : u.Vector) (ls : List VectorLink) → character_in x ≡ None → character_in (vector_chained x ls) ≡ None
-chained-no_character x [] h = h
-chained-no_character x (k ∷ ls) h = chained-no_character (linked x k) ls (linked-no_character x k)
-
 pub chain_is_no_character : (start : Box VectorStart Global) (links : Vec VectorLink Global) → character_in (vector_view (v.Chain start links)) ≡ None
-chain_is_no_character start links = ap character_in (rows.view_chain start links)
-    ∙ chained-no_character (vectors.start_view start.value) links.items (linked-no_character (vector_view start.value.first) start.value.link)
+chain_is_no_character start links = chain-none character_in linked-no_character start links
 
 -- ---- levels
 
@@ -87,25 +87,6 @@ one_level here plain p x f len e there one found =
     ap (λ r. r >>= λ es. one_more (level_test plain es x)) there ∙ ap (λ n. one_more (level_test plain (range_with_len f n) x)) one ∙ ap (λ m. one_more (bodies.level plain m x)) first
 
 module _ (here : Site) where
-  next-left : (xs : List TestLink) (i : ℕ) (x : TestLink) → i < length xs → x ≡ get_or xs i x → drop i xs ≡ x ∷ drop (i + 1) xs
-  next-left xs i x h e = drop-cons xs i x h ∙ ap (λ y. y ∷ drop (suc i) xs) (sym e) ∙ ap (λ j. x ∷ drop j xs) (sym (add-one i))
-
-  -- one more
-  pub next_goes : (begun now new : bodies.Test) (ls : List TestLink) (i : ℕ) (k : TestLink) → i < length ls → k ≡ get_or ls i k
-      → steps.all_linked here begun ls ≡ steps.all_linked here now (drop i ls) → steps.linked here now k ≡ Ok new
-      → steps.all_linked here begun ls ≡ steps.all_linked here new (drop (i + 1) ls)
-  next_goes begun now new ls i k below is so_far h =
-      so_far ∙ ap (λ left. steps.all_linked here now left) (next-left ls i k below is)
-      ∙ ap (λ r. r >>= λ d. steps.all_linked here d (drop (i + 1) ls)) h
-
-  -- one that is refused
-  pub next_stops : {told : Told} (begun now : bodies.Test) (ls : List TestLink) (i : ℕ) (k : TestLink) → i < length ls → k ≡ get_or ls i k
-      → steps.all_linked here begun ls ≡ steps.all_linked here now (drop i ls) → (steps.linked here now k) ≡ Err told → (steps.all_linked here begun ls) ≡ Err told
-  next_stops {told} begun now ls i k below is so_far h =
-      subst (λ (r : Elab bodies.Test). r ≡ Err told)
-      (sym (so_far ∙ ap (λ left. steps.all_linked here now left) (next-left ls i k below is)))
-      (err_first (steps.linked here now k) _ h)
-
   -- an operator with its right operand, behind a chain
   pub link_given : (first : bodies.Test) (rest more : List m.TestLink) (k : TestLink) (x : m.TestLink)
       → test here (test_view k.operand) ≡ Ok (net.test_view x.operand) → x.operator ≡ k.operator → more ≡ rest ++ x ∷ []
@@ -119,37 +100,8 @@ module _ (here : Site) where
   unfolding test
   linked-step c k = refl
 
-  last-ok : (r : Elab bodies.Test) → r ≡ (r >>= λ d. Ok d)
-  last-ok (Ok x) = refl
-  last-ok (Err p) = refl
-
-  chained : (c : u.Test) (ls : List TestLink) → test here (test_chained c ls) ≡ (test here c >>= λ d. steps.all_linked here d ls)
-  chained c [] = last-ok (test here c)
-  chained c (k ∷ ls) = chained (u.Test.both k.operator c (test_view k.operand)) ls ∙ ap (λ r. r >>= λ d. steps.all_linked here d ls) (linked-step c k)
-      ∙ bind-assoc (test here c) (λ d. steps.linked here d k) (λ d. steps.all_linked here d ls)
-
-  chain_is : (e : Test) (start : Box TestStart Global) (links : Vec TestLink Global) (st : TestStart) (ls : List TestLink)
-      → e ≡ t.Chain start links → st ≡ start.value → ls ≡ links.items
-      → test here (test_view e) ≡ (steps.started here st >>= λ d. steps.all_linked here d ls)
+  pub chain_is : (e : Test) (start : Box TestStart Global) (links : Vec TestLink Global) (st : TestStart) (ls : List TestLink) → e ≡ t.Chain start links → st ≡ start.value → ls ≡ links.items
+      → test here (test_view e) ≡ (steps.started here st >>= λ d. chained (steps.linked here) d ls)
   chain_is e start links st ls h j k =
-      ap (λ (a : Test). test here (test_view a)) h ∙ ap (λ a. test here a) (view_chain start links)
-      ∙ ap (λ (a : TestStart). test here (test_chained (start_view a) links.items)) (sym j)
-      ∙ ap (λ xs. test here (test_chained (start_view st) xs)) (sym k)
-      ∙ chained (start_view st) ls
-      ∙ ap (λ r. r >>= λ d. steps.all_linked here d ls) (linked-step (test_view st.first) st.link)
-
-  pub chain_goes : (e : Test) (start : Box TestStart Global) (links : Vec TestLink Global) (st : TestStart) (ls : List TestLink) (d : bodies.Test)
-      → e ≡ t.Chain start links → st ≡ start.value → ls ≡ links.items → steps.started here st ≡ Ok d
-      → test here (test_view e) ≡ steps.all_linked here d ls
-  chain_goes e start links st ls d h j k given = chain_is e start links st ls h j k ∙ ap (λ r. r >>= λ d. steps.all_linked here d ls) given
-
-  pub chain_stops : {told : Told} (e : Test) (start : Box TestStart Global) (links : Vec TestLink Global) (st : TestStart)
-      → e ≡ t.Chain start links → st ≡ start.value → (steps.started here st) ≡ Err told → (test here (test_view e)) ≡ Err told
-  chain_stops {told} e start links st h j given =
-      subst (λ (r : Elab bodies.Test). r ≡ Err told) (sym (chain_is e start links st links.items h j refl)) (err_first (steps.started here st) _ given)
-
-  pub more_stops : {told : Told} (e : Test) (start : Box TestStart Global) (links : Vec TestLink Global) (st : TestStart) (ls : List TestLink) (d : bodies.Test)
-      → e ≡ t.Chain start links → st ≡ start.value → ls ≡ links.items → steps.started here st ≡ Ok d
-      → (steps.all_linked here d ls) ≡ Err told → (test here (test_view e)) ≡ Err told
-  more_stops {told} e start links st ls d h j k given stopped =
-      subst (λ (r : Elab bodies.Test). r ≡ Err told) (sym (chain_goes e start links st ls d h j k given)) stopped
+      chain_of (steps.linked here) (test here) (λ c k. u.Test.both k.operator c (test_view k.operand)) test_chained (λ x. refl) (λ x k ks. refl) linked-step (λ (s : TestStart). test_view s.first) (λ (s : TestStart). s.link)
+      _ start.value st links.items ls (ap (λ (a : Test). test here (test_view a)) h ∙ ap (test here) (view_chain start links)) j k

@@ -1,4 +1,5 @@
 -- What the code makes step by step.
+pub mod Chains
 pub mod Vectors
 pub mod Tests
 pub mod Assignments

@@ -12,6 +12,7 @@ ghost use Rattle.vhdl_expand_rules.specs.Expressions as definition;
 ghost use Rattle.vhdl_expand_bodies.specs.Results.{Expands};
 ghost use Rattle.vhdl_expand_bodies.specs.Sites.{IsSite, site_view};
 ghost use Rattle.vhdl_expand_bodies.specs.Characters.{named_view, character_view, chain_view};
+ghost use Rattle.vhdl_expand_bodies.specs.steps.Chains.{chained};
 ghost use Rattle.vhdl_expand_bodies.specs.steps.Tests as steps;
 
 use crate::both::both;
@@ -351,7 +352,7 @@ impl Site<'_> {
     ) -> Result<(), ElabFault>
         requires { IsSite self.now }
         ensures { Expands (λ _. chain_view chain.new)
-            (steps.all_linked (site_view self.now) (chain_view chain.old) links.now) result }
+            (chained (steps.linked (site_view self.now)) (chain_view chain.old) links.now) result }
     {
         for link in links {
             self.add_test(alloc, link, chain)?;

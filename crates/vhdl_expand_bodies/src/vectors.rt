@@ -1,12 +1,11 @@
 //! Elements and vectors of the nine values, expanded (IEEE 1076-2008, clause 9; numeric_std).
 
-ghost use Rattle.std.specs.Prelude.{◌≡◌, length};
-ghost use Rattle.vhdl_names_rules.specs.units.Expressions as units;
 ghost use Rattle.vhdl_names_rules.specs.views.Integers.{static_view};
 ghost use Rattle.vhdl_names_rules.specs.views.Vectors.{part_view, place_view, vector_view};
 ghost use Rattle.vhdl_expand_rules.specs.Expressions as definition;
 ghost use Rattle.vhdl_expand_bodies.specs.Results.{Expands};
 ghost use Rattle.vhdl_expand_bodies.specs.Sites.{IsSite, site_view};
+ghost use Rattle.vhdl_expand_bodies.specs.steps.Chains.{chained};
 ghost use Rattle.vhdl_expand_bodies.specs.steps.Vectors as steps;
 ghost use Rattle.vhdl_expand_bodies.specs.Operands.{operand_view, chain_view};
 
@@ -170,7 +169,7 @@ impl Site<'_> {
     ) -> Result<(), ElabFault>
         requires { IsSite self.now }
         ensures { Expands (λ _. chain_view chain.new)
-            (steps.all_linked (site_view self.now) (chain_view chain.old) links.now) result }
+            (chained (steps.linked (site_view self.now)) (chain_view chain.old) links.now) result }
     {
         for link in links {
             self.add_link(alloc, link, chain)?;

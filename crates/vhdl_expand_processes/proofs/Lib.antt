@@ -1,5 +1,5 @@
 pub mod Walks
-pub mod Assigning
+pub mod Statements
 pub mod Reading
 pub mod Rising
 pub mod Prefixed

@@ -20,10 +20,10 @@ use Rattle.vhdl_expand_rules.proofs.Chains.{err_first}
 use Rattle.vhdl_expand_rules.proofs.laws.Names.{count-cons, was_found}
 use Rattle.vhdl_expand_rules.proofs.laws.Prefixes.{places_below}
 use Rattle.vhdl_expand_rules.proofs.laws.Targets.{all_concatenated}
+use Rattle.vhdl_expand_rules.proofs.Items.{next_left, none_left}
 use Rattle.vhdl_expand_bodies.proofs.Sequences.{behind}
 use Rattle.vhdl_expand_processes.specs.Driven.{drives_of}
 use Rattle.vhdl_expand_processes.proofs.Rising.{sorted_in_order}
-use Rattle.vhdl_expand_processes.proofs.Walks.{next-left, none_left}
 
 -- ---- one name after another
 
@@ -39,14 +39,14 @@ module _ {A X : Type 0} (f : A → Elab (List ℕ)) (v : X → A) where
   goes : (total : Elab (List ℕ)) (made more es : List ℕ) (xs : List X) (i : ℕ) (x : X) → i < length xs → x ≡ get_or xs i x
       → total ≡ behind made (all (drop i xs)) → f (v x) ≡ Ok es → more ≡ made ++ es → total ≡ behind more (all (drop (i + 1) xs))
   goes total made more es xs i x below is so_far h pushed =
-      so_far ∙ ap (λ zs. behind made (all zs)) (next-left xs i x below is)
+      so_far ∙ ap (λ zs. behind made (all zs)) (next_left xs i x below is)
       ∙ ap (λ r. behind made ((r >>= λ y. each f (map v (drop (i + 1) xs)) >>= λ zs. given (y ∷ zs)) >>= λ ess. given (concatenation_of ess))) h
       ∙ step made more es (each f (map v (drop (i + 1) xs))) pushed
 
   stops : {told : Told} (total : Elab (List ℕ)) (made : List ℕ) (xs : List X) (i : ℕ) (x : X) → i < length xs → x ≡ get_or xs i x
       → total ≡ behind made (all (drop i xs)) → (f (v x)) ≡ Err told → total ≡ Err told
   stops {told} total made xs i x below is so_far h =
-      subst (λ (r : Elab (List ℕ)). r ≡ Err told) (sym (so_far ∙ ap (λ zs. behind made (all zs)) (next-left xs i x below is)))
+      subst (λ (r : Elab (List ℕ)). r ≡ Err told) (sym (so_far ∙ ap (λ zs. behind made (all zs)) (next_left xs i x below is)))
       (err_first (each f (map v (x ∷ drop (i + 1) xs)) >>= λ ess. given (concatenation_of ess)) (λ ys. given (made ++ ys))
       (err_first (each f (map v (x ∷ drop (i + 1) xs))) (λ ess. given (concatenation_of ess)) (err_first (f (v x)) _ h)))
 

@@ -1,6 +1,6 @@
 pub mod Named
 pub mod Adding
-pub mod Targets
+pub mod Bodies
 pub mod Names
 pub mod Driven
 pub mod Starting

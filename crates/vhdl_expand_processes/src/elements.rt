@@ -13,9 +13,8 @@ ghost use Rattle.vhdl_names_units.specs.views.Sequential.{statement_view, statem
 ghost use Rattle.vhdl_expand_processes.specs.Driven.{IsRising, drives_of, read_by};
 ghost use Rattle.vhdl_expand_processes.specs.Named.{name_view};
 
+use crate::bodies::{names_in, targets_of};
 use crate::name::Name;
-use crate::names::names_in;
-use crate::targets::targets_of;
 use rtl_body_facts::sort_once;
 use std::alloc::{AllocError, Global};
 use vhdl_expand_bodies::Site;

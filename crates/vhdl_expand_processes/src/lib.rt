@@ -2,16 +2,15 @@
 //! 1076-2008, 11.3, 14.7.2). Its statements are expanded by vhdl_expand_bodies.
 #![tactic(auto)]
 
+mod bodies;
 mod elements;
 mod name;
 mod names;
 mod reads;
-mod targets;
 mod variables;
 
+pub use bodies::{names_in, targets_of};
 pub use elements::{drives, listed, read_elements};
 pub use name::Name;
-pub use names::names_in;
 pub use reads::read_of;
-pub use targets::targets_of;
-pub use variables::{kind, starts};
+pub use variables::{kind, one_for, starts};

@@ -1,31 +1,16 @@
-//! The names that a body reads, in order of the text (IEEE 1076-2008, 11.3).
+//! The names that values and conditions read, in order of the text (IEEE 1076-2008, 11.3).
 
-ghost use Rattle.std.specs.Prelude.{◌≡◌, ◌++◌, flat_map, map, IfOk};
+ghost use Rattle.std.specs.Prelude.{◌++◌, flat_map};
 ghost use Rattle.vhdl_expand_rules.specs.Prefixes as definition;
 ghost use Rattle.vhdl_names_rules.specs.views.Tests.{test_view};
 ghost use Rattle.vhdl_names_rules.specs.views.Vectors.{value_view, vector_view};
-ghost use Rattle.vhdl_names_units.specs.declared.sequential.Case.{out-Case};
-ghost use Rattle.vhdl_names_units.specs.declared.sequential.If.{out-If};
 ghost use Rattle.vhdl_names_units.specs.views.Answers.{given_view};
-ghost use Rattle.vhdl_names_units.specs.views.Sequential.{statements_of};
-ghost use Rattle.vhdl_names_units.specs.views.Sequential as analysed;
-ghost use Rattle.vhdl_expand_processes.specs.Named.{named_by};
 ghost use Rattle.vhdl_expand_processes.specs.Adding.{Adds};
-ghost use Rattle.vhdl_expand_processes.specs.Names.{link_names, test_link_names, statement_names, branch_names, last_names, alternative_names};
+ghost use Rattle.vhdl_expand_processes.specs.Names.{link_names, test_link_names};
 
-use crate::name::{Gathered, Name};
-use std::alloc::{AllocError, Global};
+use crate::name::Gathered;
 use vhdl_names_rules::{Test, TestLink, TestStart, Value, Vector, VectorLink, VectorStart};
-use vhdl_names_units::{Alternative, Branch, Case, Given, If, Statement};
-
-/// The names that statements read, before loops are unrolled. It takes the memory of the list.
-pub fn names_in<'a>(alloc: Global, list: &'a [Statement]) -> Result<Vec<Name<'a>>, AllocError>
-    ensures { IfOk result (λ v. named_by v ≡ definition.names (statements_of (map analysed.statement_view list.now))) }
-{
-    let mut found = Gathered::new(alloc);
-    of_statements(list, &mut found);
-    found.whole()
-}
+use vhdl_names_units::Given;
 
 /// Puts the names in a vector behind others.
 #[cycle(vectors)]
@@ -82,14 +67,13 @@ fn of_links<'a>(list: &'a [VectorLink], found: &mut Gathered<'a>)
 }
 
 /// Puts the names in a value behind others.
-fn of_value<'a>(value: &'a Value, found: &mut Gathered<'a>)
+pub(crate) fn of_value<'a>(value: &'a Value, found: &mut Gathered<'a>)
     ensures { Adds found.old found.new (definition.value_names (value_view value.now)) }
 {
     match value {
         Value::Elements(vector) => of_vector(vector, found),
-        Value::Position(_) => {}
         Value::StateOf(signal) => found.add_whole(*signal),
-        Value::StateOfVariable(_) => {}
+        Value::Position(_) | Value::StateOfVariable(_) => {}
     }
 }
 
@@ -112,7 +96,7 @@ fn of_vectors<'a>(left: &'a Vector, right: &'a Vector, found: &mut Gathered<'a>)
 }
 
 /// Puts the names in what is assigned behind others.
-fn of_given<'a>(given: &'a Given, found: &mut Gathered<'a>)
+pub(crate) fn of_given<'a>(given: &'a Given, found: &mut Gathered<'a>)
     ensures { Adds found.old found.new (definition.given_names (given_view given.now)) }
 {
     match given {
@@ -123,7 +107,7 @@ fn of_given<'a>(given: &'a Given, found: &mut Gathered<'a>)
 
 /// Puts the names in a condition behind others.
 #[cycle(conditions)]
-fn of_test<'a>(test: &'a Test, found: &mut Gathered<'a>)
+pub(crate) fn of_test<'a>(test: &'a Test, found: &mut Gathered<'a>)
     ensures { Adds found.old found.new (definition.test_names (test_view test.now)) }
 {
     match test {
@@ -161,76 +145,5 @@ fn of_test_links<'a>(list: &'a [TestLink], found: &mut Gathered<'a>)
 {
     for item in list {
         of_test(&item.operand, found);
-    }
-}
-
-/// Puts the names that statements read behind others.
-#[cycle(names)]
-fn of_statements<'a>(list: &'a [Statement], found: &mut Gathered<'a>)
-    ensures { Adds found.old found.new (flat_map statement_names list.now) }
-{
-    for item in list {
-        of_statement(item, found);
-    }
-}
-
-/// Puts the names that a statement reads behind others.
-#[cycle(names)]
-fn of_statement<'a>(statement: &'a Statement, found: &mut Gathered<'a>)
-    ensures { Adds found.old found.new (statement_names statement.now) }
-{
-    match statement {
-        Statement::Null => {}
-        Statement::Assign { value, .. } => of_given(value, found),
-        Statement::Set { value, .. } => of_given(value, found),
-        Statement::If(conditional) => of_if(conditional, found),
-        Statement::Case(selection) => of_case(selection, found),
-        Statement::Loop(repeated) => of_statements(&repeated.statements, found),
-    }
-}
-
-/// Puts the names that an if statement reads behind others.
-#[cycle(names)]
-fn of_if<'a>(conditional: &'a If, found: &mut Gathered<'a>)
-    ensures { Adds found.old found.new
-        (flat_map branch_names (out-If conditional.now).branches.items ++ last_names (out-If conditional.now).otherwise) }
-{
-    of_branches(&conditional.branches, found);
-    match &conditional.otherwise {
-        None => {}
-        Some(list) => of_statements(list, found),
-    }
-}
-
-/// Puts the names that branches read behind others.
-#[cycle(names)]
-fn of_branches<'a>(list: &'a [Branch], found: &mut Gathered<'a>)
-    ensures { Adds found.old found.new (flat_map branch_names list.now) }
-{
-    for item in list {
-        of_test(&item.condition, found);
-        of_statements(&item.statements, found);
-    }
-}
-
-/// Puts the names that a case statement reads behind others.
-#[cycle(names)]
-fn of_case<'a>(selection: &'a Case, found: &mut Gathered<'a>)
-    ensures { Adds found.old found.new (definition.value_names (value_view (out-Case selection.now).selector)
-        ++ (flat_map alternative_names (out-Case selection.now).alternatives.items
-        ++ flat_map statement_names (out-Case selection.now).others.items)) }
-{
-    of_value(&selection.selector, found);
-    of_alternatives(&selection.alternatives, found);
-    of_statements(&selection.others, found);
-}
-
-/// Puts the names that alternatives read behind others.
-#[cycle(names)]
-fn of_alternatives<'a>(list: &'a [Alternative], found: &mut Gathered<'a>)
-    ensures { Adds found.old found.new (flat_map alternative_names list.now) }
-{
-    for item in list {
-        of_statements(&item.statements, found);
     }
 }

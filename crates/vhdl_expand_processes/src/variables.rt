@@ -2,6 +2,8 @@
 
 ghost use Rattle.std.specs.Prelude.{◌≡◌, [], ◌∷◌, map, option_map, replicate, IfOk, Ok};
 ghost use Rattle.vhdl_values.specs.Scalar.{code_of};
+ghost use Rattle.vhdl_expand_rules.specs.declared.fault.ElabFault.TheVariants.{At};
+ghost use Rattle.vhdl_expand_rules.specs.declared.fault.ElabProblem.TheVariants.{Length};
 ghost use Rattle.vhdl_expand_rules.specs.Declarations as definition;
 ghost use Rattle.vhdl_expand_rules.specs.Kinds as kinds;
 ghost use Rattle.vhdl_expand_rules.specs.views.Integers.{Makes, integers_view};
@@ -70,6 +72,13 @@ fn vector_codes(alloc: Global, values: Vec9) -> Result<SmallVec<u8, 8>, AllocErr
     Ok(codes)
 }
 
+/// The fault where one value stands for so many elements.
+pub fn one_for(needed: usize, at: usize) -> ElabFault
+    ensures { result ≡ At (Length 1 needed) at }
+{
+    ElabProblem::Length { found: 1, needed }.at(at)
+}
+
 /// The codes of as many values; a fault is Length.
 fn literal(
     alloc: Global,
@@ -135,13 +144,7 @@ fn fixed(
 {
     match value {
         Fixed::Literal(values) => literal(alloc, len, values, at),
-        Fixed::Position(_) => {
-            Err(ElabProblem::Length {
-                found: 1,
-                needed: len,
-            }
-            .at(at))
-        }
+        Fixed::Position(_) => Err(one_for(len, at)),
         Fixed::Constant(number) => {
             let Some(constant) = site.constants.get(*number) else {
                 return Err(ElabProblem::Index.at(at));

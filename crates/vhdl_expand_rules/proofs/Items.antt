@@ -1,5 +1,5 @@
--- What holds of each item of a list holds of one that is looked up, found or zipped.
-use Rattle.std.proofs.Common.{◌≡◌, ℕ, zero, suc, Bool, true, false, cond, List, [], ◌∷◌, Some, All, subst}
+-- What holds of each item of a list holds of one that is looked up, found or zipped; and what is left of a list.
+use Rattle.std.proofs.Common.{◌≡◌, ℕ, zero, suc, ◌+◌, ◌<◌, ◌≤◌, Bool, true, false, cond, List, [], ◌∷◌, length, get_or, drop, drop-cons, add-one, Some, All, refl, sym, ap, ◌∙◌, subst, arith}
 use Rattle.std.specs.Prelude.{slice_get, find}
 use Rattle.std.specs.List.{AllZip, list_all}
 use Rattle.std.proofs.lemmas.Bool.{and_parts}
@@ -33,3 +33,14 @@ pub all_of_zip : {A B : Type 0} (R : A → B → Type 0) (Q : B → Type 0) → 
 all_of_zip {A} {B} R Q h [] [] z = All-nil Q
 all_of_zip {A} {B} R Q h (x ∷ xs) (y ∷ ys) z = All-cons Q y ys (h x y z.0) (all_of_zip R Q h xs ys z.1)
 all_of_zip {A} {B} R Q h _ _ z = elim z [ ]
+
+-- ---- the items that are left of a list
+
+pub next_left : {X : Type 0} (xs : List X) (i : ℕ) (x : X) → i < length xs → x ≡ get_or xs i x → drop i xs ≡ x ∷ drop (i + 1) xs
+next_left xs i x h e = drop-cons xs i x h ∙ ap (λ y. y ∷ drop (suc i) xs) (sym e) ∙ ap (λ j. x ∷ drop j xs) (sym (add-one i))
+
+pub none_left : {X : Type 0} (xs : List X) (i : ℕ) → length xs ≤ i → drop i xs ≡ []
+none_left [] zero h = refl
+none_left [] (suc i) h = refl
+none_left (x ∷ xs) zero h = absurd (omega arith)
+none_left (x ∷ xs) (suc i) h = none_left xs i (omega arith)

@@ -1,11 +1,18 @@
--- A modulus is the remainder with the sign of the divisor.
-use Rattle.std.proofs.Common.{◌≡◌, ℕ, Bool, true, false, if◌then◌else◌, nat_le, ℤ, Ok, ap, sym, ◌∙◌}
+-- Integers of 32 bits, and the modulus: the remainder with the sign of the divisor.
+use mir.Syntax.{w32}
+use mir.Val.{SFits, to_z, of_z}
+use Rattle.std.proofs.Common.{◌≡◌, ℕ, Bool, true, false, if◌then◌else◌, nat_le, ℤ, Ok, ap, sym, ◌∙◌, arith}
+use Rattle.std.proofs.lemmas.Int.{ints}
 use Rattle.std.specs.Prelude.{◌==◌, int_rem, nat_abs}
 use Rattle.vhdl_expand_rules.specs.declared.fault.ElabProblem.TheVariants.{StaticError}
 use Rattle.vhdl_expand_rules.specs.Elab.{refused}
 use Rattle.vhdl_expand_rules.specs.Integers.{checked_integer, division_with, modulus}
 use Rattle.vhdl_expand_rules.specs.views.Integers.{with_sign}
 use Rattle.vhdl_expand_rules.proofs.Steps.{given, ok}
+
+-- an integer is the same behind its bits
+pub same_word : (x : ℤ) → SFits w32 x → to_z w32 (of_z w32 x) ≡ x
+same_word x h = omega (arith, ints)
 
 was-checked : (at : ℕ) (q r : ℤ) → checked_integer at q ≡ Ok r → q ≡ r
 was-checked at q r h = by (nat_le (nat_abs q) 2147483647) h

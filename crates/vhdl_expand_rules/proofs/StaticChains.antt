@@ -7,7 +7,7 @@ use Rattle.vhdl_names_rules.specs.declared.integer.StaticStart.{StaticStart}
 use Rattle.vhdl_names_rules.specs.views.Integers.{static_view, start_view, static_chained}
 use Rattle.vhdl_names_rules.specs.units.Expressions as u
 use Rattle.vhdl_names_rules.proofs.rows.Integers.{view_chain}
-use Rattle.vhdl_expand_rules.specs.Prefixes.{is_static}
+use Rattle.vhdl_names_rules.specs.Names.{is_static}
 use Rattle.vhdl_expand_rules.specs.views.Prefixes.{all_static}
 
 and-assoc : (a b c : Bool) → ((a && b) && c) ≡ (a && (b && c))

@@ -1,6 +1,6 @@
 -- The rule that a problem breaks.
-use Rattle.fault_rules.specs.declared.elaboration.ElabRule.{ElabRule}
-use Rattle.fault_rules.specs.declared.elaboration.ElabRule.TheVariants as rule
+use Rattle.fault_rules.specs.declared.source.ElabRule.{ElabRule}
+use Rattle.fault_rules.specs.declared.source.ElabRule.TheVariants as rule
 use Rattle.vhdl_expand_rules.specs.declared.fault.ElabProblem.{ElabProblem}
 use Rattle.vhdl_expand_rules.specs.declared.fault.ElabProblem.TheVariants as problem
 

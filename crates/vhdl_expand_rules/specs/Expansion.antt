@@ -3,8 +3,9 @@
 use Rattle.std.specs.Prelude.{ℕ, zero, suc, ◌+◌, if◌then◌else◌, List, [], ◌∷◌, ◌++◌, length, map, sum, find, slice_get, Option, ℤ, Ok, bytes_eq, codes}
 use Rattle.std.specs.Fmt.{signed_decimal}
 use Rattle.std.specs.Char.{to_ascii_lowercase}
+use Rattle.rtl_model.specs.bodies.Body.{Stmts}
 use Rattle.vhdl_names_rules.specs.units.Units as u
-use Rattle.vhdl_names_rules.specs.units.Units.{Units, Entity, Architecture}
+use Rattle.vhdl_names_rules.specs.units.Units.{Units, Entity}
 use Rattle.vhdl_names_rules.specs.units.Statements as s
 use Rattle.vhdl_expand_rules.specs.declared.fault.ElabProblem.TheVariants.{NoTop, TooDeep}
 use Rattle.vhdl_expand_rules.specs.Elab.{Elab, ◌>>=◌, refused, item_or, each}
@@ -12,7 +13,7 @@ use Rattle.vhdl_expand_rules.specs.Integers.{decision, turns}
 use Rattle.vhdl_expand_rules.specs.Site.{Site, no_integers, in_generate, elements_count}
 use Rattle.vhdl_expand_rules.specs.Tree.{Sensitivity, listed, every, as_read, Variable, Process, Instance, Parts, no_parts, inner, followed_by}
 use Rattle.vhdl_expand_rules.specs.Tree as t
-use Rattle.vhdl_expand_rules.specs.Statements.{statements, statements_turns}
+use Rattle.vhdl_expand_rules.specs.Statements.{statements, added, statements_turns}
 use Rattle.vhdl_expand_rules.specs.Prefixes.{targets, names, names_elements, prefixes_elements, in_order}
 use Rattle.vhdl_expand_rules.specs.Declarations.{InstanceObjects, interface, declarations, variable, associations}
 
@@ -50,6 +51,19 @@ sensitivity here u.as_read body = Ok as_read
 abbrev pub with_variables : Site → List Variable → Site
 with_variables here vs = record here { variables = map (λ (v : Variable). v.kind) vs }
 
+-- of its variables, the elements that it drives, its sensitivity, its turns and its body
+abbrev pub made_process : Spot → u.Process → List Variable → List ℕ → Sensitivity → ℕ → Stmts → t.Process
+made_process here p vs ds on n body = record {
+  at = p.at;
+  prefix = here.prefix;
+  label = p.label;
+  drives = in_order (elements_count here.site.ports + elements_count here.site.signals) ds;
+  sensitivity = on;
+  variables = vs;
+  body = body;
+  turns = n;
+}
+
 unfoldable pub process : Spot → u.Process → Elab t.Process
 process here p = do
   vs ← each (variable here.site) p.variables
@@ -57,16 +71,7 @@ process here p = do
   on ← sensitivity here.site p.sensitivity p.body
   n ← statements_turns here.site p.body
   body ← statements (with_variables here.site vs) p.body
-  Ok (record {
-    at = p.at;
-    prefix = here.prefix;
-    label = p.label;
-    drives = in_order (elements_count here.site.ports + elements_count here.site.signals) ds;
-    sensitivity = on;
-    variables = vs;
-    body = body;
-    turns = n;
-  })
+  Ok (made_process here p vs ds on n body)
 
 -- ---- concurrent statements
 
@@ -124,10 +129,7 @@ unfoldable mutual
 
   pub concurrents_turns : Spot → u.Concurrents → Elab ℕ
   concurrents_turns here u.no_concurrents = Ok 0
-  concurrents_turns here (u.concurrent x rest) = do
-    m ← concurrent_turns here x
-    n ← concurrents_turns here rest
-    Ok (m + n)
+  concurrents_turns here (u.concurrent x rest) = added (concurrent_turns here x) (concurrents_turns here rest)
 
 -- ---- instances and the top
 

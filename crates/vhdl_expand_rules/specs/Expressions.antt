@@ -14,7 +14,7 @@ use Rattle.vhdl_names_rules.specs.declared.operator.Numeric.TheVariants.{Add, Su
 use Rattle.vhdl_names_rules.specs.declared.operator.VectorOperator.{VectorOperator}
 use Rattle.vhdl_names_rules.specs.declared.operator.VectorOperator.TheVariants as v
 use Rattle.vhdl_names_rules.specs.units.Expressions as u
-use Rattle.vhdl_names_rules.specs.units.Expressions.{Static, SignalPart, Vector, Value, Test}
+use Rattle.vhdl_names_rules.specs.units.Expressions.{SignalPart, Vector, Value, Test}
 use Rattle.rtl_model.specs.bodies.Body as bodies
 use Rattle.rtl_model.specs.bodies.Fits.{width}
 use Rattle.vhdl_expand_rules.specs.declared.fault.ElabProblem.TheVariants.{TooWide}
@@ -119,19 +119,16 @@ abbrev pub level_test : (plain : Bool) → (es : List ℕ) → Nine → bodies.T
 level_test plain (e ∷ []) x = bodies.level plain e x
 level_test plain es x = bodies.equal (bodies.elements (bodies.signal es)) (bodies.elements (bodies.constant (x ∷ [])))
 
+abbrev pub place_level : Site → (plain : Bool) → SignalPart → Nine → Elab bodies.Test
+place_level here plain p x = do
+  es ← place_elements here p
+  Ok (level_test plain es x)
+
 abbrev pub alike : Site → (at : ℕ) → Value → Value → Elab bodies.Test
-alike here at (u.Value.elements (u.of_signal p)) (u.Value.elements (u.character x)) = do
-  es ← place_elements here p
-  Ok (level_test true es x)
-alike here at (u.Value.elements (u.of_signal p)) (u.Value.elements (u.enclosed_character x)) = do
-  es ← place_elements here p
-  Ok (level_test false es x)
-alike here at (u.Value.elements (u.character x)) (u.Value.elements (u.of_signal p)) = do
-  es ← place_elements here p
-  Ok (level_test false es x)
-alike here at (u.Value.elements (u.enclosed_character x)) (u.Value.elements (u.of_signal p)) = do
-  es ← place_elements here p
-  Ok (level_test false es x)
+alike here at (u.Value.elements (u.of_signal p)) (u.Value.elements (u.character x)) = place_level here true p x
+alike here at (u.Value.elements (u.of_signal p)) (u.Value.elements (u.enclosed_character x)) = place_level here false p x
+alike here at (u.Value.elements (u.character x)) (u.Value.elements (u.of_signal p)) = place_level here false p x
+alike here at (u.Value.elements (u.enclosed_character x)) (u.Value.elements (u.of_signal p)) = place_level here false p x
 alike here at v w = do
   d ← value here at v
   e ← value here at w

@@ -1,21 +1,18 @@
 -- The longest static prefixes of the names in a text, before its loops are unrolled: a process has a driver for each
 -- element of those of its targets, and `process (all)` is sensitive to those of the names that it reads (IEEE 1076-2008,
 -- 8.1, 14.7.2, 11.3).
-use Rattle.std.specs.Prelude.{ℕ, Bool, true, false, ◌&&◌, ◌==◌, if◌then◌else◌, List, [], ◌∷◌, ◌++◌, filter, Ok}
+use Rattle.std.specs.Prelude.{ℕ, Bool, true, ◌&&◌, ◌==◌, if◌then◌else◌, List, [], ◌∷◌, ◌++◌, filter, Ok}
 use Rattle.std.specs.List.{list_any, range_with_len}
 use Rattle.vhdl_names_rules.specs.units.Expressions as u
-use Rattle.vhdl_names_rules.specs.units.Expressions.{Static, Part, SignalPart, Vector, Value, Test}
+use Rattle.vhdl_names_rules.specs.units.Expressions.{Part, SignalPart, Vector, Value, Test}
 use Rattle.vhdl_names_rules.specs.units.Statements as s
+use Rattle.vhdl_names_rules.specs.Names.{is_static}
+use Rattle.vhdl_expand_rules.specs.declared.prefix.Sought.{Sought}
+use Rattle.vhdl_expand_rules.specs.declared.prefix.Sought.TheVariants.{Read, Assigned}
 use Rattle.vhdl_expand_rules.specs.Elab.{Elab, ◌>>=◌, each}
 use Rattle.vhdl_expand_rules.specs.Site.{Site, place_elements}
 
 -- ---- prefixes: a loop's parameter is not static
-
-abbrev pub is_static : Static → Bool
-is_static (u.loop_parameter k) = false
-is_static (u.Static.negated at x) = is_static x
-is_static (u.Static.binary at op x y) = is_static x && is_static y
-is_static _ = true
 
 abbrev pub is_static_part : Part → Bool
 is_static_part u.whole = true
@@ -26,31 +23,7 @@ is_static_part (u.slice r) = is_static r.left && is_static r.right
 abbrev pub prefix : SignalPart → SignalPart
 prefix p = if is_static_part p.part then p else record p { part = u.whole }
 
--- ---- the signals that a text assigns
-
-abbrev mutual
-  pub statement_targets : s.Statement → List SignalPart
-  statement_targets s.null_of = []
-  statement_targets (s.assign p g) = p ∷ []
-  statement_targets (s.set at k part g) = []
-  statement_targets (s.if_of at bs) = branches_targets bs
-  statement_targets (s.case_of at v alts) = alternatives_targets alts
-  statement_targets (s.for_of at r body) = targets body
-
-  pub targets : s.Statements → List SignalPart
-  targets s.done = []
-  targets (s.step x rest) = statement_targets x ++ targets rest
-
-  pub branches_targets : s.Branches → List SignalPart
-  branches_targets s.no_else = []
-  branches_targets (s.otherwise body) = targets body
-  branches_targets (s.branch t body bs) = targets body ++ branches_targets bs
-
-  pub alternatives_targets : s.Alternatives → List SignalPart
-  alternatives_targets (s.others body) = targets body
-  alternatives_targets (s.alternative cs body alts) = targets body ++ alternatives_targets alts
-
--- ---- the signals that a text reads
+-- ---- the signals that a text names: those that it reads, or those that it assigns
 
 abbrev pub vector_names : Vector → List SignalPart
 vector_names (u.of_signal p) = p ∷ []
@@ -88,27 +61,42 @@ abbrev pub given_names : s.Given → List SignalPart
 given_names (s.single x) = value_names x
 given_names (s.filled x) = vector_names x
 
+-- of these, which are read, the sought ones
+abbrev pub read_ones : Sought → List SignalPart → List SignalPart
+read_ones Read ps = ps
+read_ones Assigned ps = []
+
+abbrev pub assignment_names : Sought → SignalPart → s.Given → List SignalPart
+assignment_names Read p g = given_names g
+assignment_names Assigned p g = p ∷ []
+
 abbrev mutual
-  pub statement_names : s.Statement → List SignalPart
-  statement_names s.null_of = []
-  statement_names (s.assign p g) = given_names g
-  statement_names (s.set at k part g) = given_names g
-  statement_names (s.if_of at bs) = branches_names bs
-  statement_names (s.case_of at v alts) = value_names v ++ alternatives_names alts
-  statement_names (s.for_of at r body) = names body
+  pub statement_names : Sought → s.Statement → List SignalPart
+  statement_names sought s.null_of = []
+  statement_names sought (s.assign p g) = assignment_names sought p g
+  statement_names sought (s.set at k part g) = read_ones sought (given_names g)
+  statement_names sought (s.if_of at bs) = branches_names sought bs
+  statement_names sought (s.case_of at v alts) = read_ones sought (value_names v) ++ alternatives_names sought alts
+  statement_names sought (s.for_of at r body) = body_names sought body
 
-  pub names : s.Statements → List SignalPart
-  names s.done = []
-  names (s.step x rest) = statement_names x ++ names rest
+  pub body_names : Sought → s.Statements → List SignalPart
+  body_names sought s.done = []
+  body_names sought (s.step x rest) = statement_names sought x ++ body_names sought rest
 
-  pub branches_names : s.Branches → List SignalPart
-  branches_names s.no_else = []
-  branches_names (s.otherwise body) = names body
-  branches_names (s.branch t body bs) = test_names t ++ (names body ++ branches_names bs)
+  pub branches_names : Sought → s.Branches → List SignalPart
+  branches_names sought s.no_else = []
+  branches_names sought (s.otherwise body) = body_names sought body
+  branches_names sought (s.branch t body bs) = read_ones sought (test_names t) ++ (body_names sought body ++ branches_names sought bs)
 
-  pub alternatives_names : s.Alternatives → List SignalPart
-  alternatives_names (s.others body) = names body
-  alternatives_names (s.alternative cs body alts) = names body ++ alternatives_names alts
+  pub alternatives_names : Sought → s.Alternatives → List SignalPart
+  alternatives_names sought (s.others body) = body_names sought body
+  alternatives_names sought (s.alternative cs body alts) = body_names sought body ++ alternatives_names sought alts
+
+abbrev pub names : s.Statements → List SignalPart
+names xs = body_names Read xs
+
+abbrev pub targets : s.Statements → List SignalPart
+targets xs = body_names Assigned xs
 
 -- ---- their elements
 

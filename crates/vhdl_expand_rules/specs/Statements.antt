@@ -91,6 +91,13 @@ unfoldable mutual
 
 -- ---- how many turns the loops of a body have together: each turn of an outer loop counts, and those inside it
 
+-- the sum of two numbers, one computed before the other
+abbrev pub added : Elab ℕ → Elab ℕ → Elab ℕ
+added first second = do
+  m ← first
+  n ← second
+  Ok (m + n)
+
 unfoldable mutual
   pub statement_turns : Site → u.Statement → Elab ℕ
   statement_turns here (u.if_of at bs) = branches_turns here bs
@@ -103,22 +110,13 @@ unfoldable mutual
 
   pub statements_turns : Site → u.Statements → Elab ℕ
   statements_turns here u.done = Ok 0
-  statements_turns here (u.step s rest) = do
-    m ← statement_turns here s
-    n ← statements_turns here rest
-    Ok (m + n)
+  statements_turns here (u.step s rest) = added (statement_turns here s) (statements_turns here rest)
 
   pub branches_turns : Site → u.Branches → Elab ℕ
   branches_turns here u.no_else = Ok 0
   branches_turns here (u.otherwise s) = statements_turns here s
-  branches_turns here (u.branch t s bs) = do
-    m ← statements_turns here s
-    n ← branches_turns here bs
-    Ok (m + n)
+  branches_turns here (u.branch t s bs) = added (statements_turns here s) (branches_turns here bs)
 
   pub alternatives_turns : Site → u.Alternatives → Elab ℕ
   alternatives_turns here (u.others s) = statements_turns here s
-  alternatives_turns here (u.alternative choices s alts) = do
-    m ← statements_turns here s
-    n ← alternatives_turns here alts
-    Ok (m + n)
+  alternatives_turns here (u.alternative choices s alts) = added (statements_turns here s) (alternatives_turns here alts)

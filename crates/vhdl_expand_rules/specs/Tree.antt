@@ -2,7 +2,7 @@
 -- are unrolled. Nothing in it speaks of nets: names stand for the elements of the declarations of the instance that they
 -- stand in, numbered from 0 in order of declaration, ports before signals, and from the left (IEEE 1076-2008, 14.2 to
 -- 14.5).
-use Rattle.std.specs.Prelude.{ℕ, Bool, List, Option}
+use Rattle.std.specs.Prelude.{ℕ, ⊤, Bool, List, Option}
 use Rattle.rtl_model.specs.bodies.Body.{Stmts}
 use Rattle.vhdl_expand_rules.specs.Kinds.{ObjectKind}
 
@@ -75,3 +75,13 @@ followed_by (inner label i more) rest = inner label i (followed_by more rest)
 
 abbrev pub objects_of : Instance → List Object
 objects_of (instance objects turns parts) = objects
+
+-- where this holds of the objects of each instance in a tree
+abbrev mutual
+  pub EachInstance : (List Object → Type 0) → Instance → Type 0
+  EachInstance Holds (instance objects turns parts) = Holds objects × EachInner Holds parts
+
+  pub EachInner : (List Object → Type 0) → Parts → Type 0
+  EachInner Holds no_parts = ⊤
+  EachInner Holds (process p rest) = EachInner Holds rest
+  EachInner Holds (inner label i rest) = EachInstance Holds i × EachInner Holds rest

@@ -15,6 +15,6 @@ mod words;
 pub use fault::{ElabFault, ElabProblem};
 pub use integer::Integers;
 pub use kind::{Bounds, ObjectKind, Run};
-pub use prefix::{is_static, is_static_part};
+pub use prefix::{Sought, is_static, is_static_part};
 pub use turns::Turns;
 pub use words::byte;

@@ -2,6 +2,7 @@
 //! 1076-2008, 8.1).
 
 ghost use Rattle.std.specs.Prelude.{◌≡◌};
+ghost use Rattle.vhdl_names_rules.specs.Names as names;
 ghost use Rattle.vhdl_names_rules.specs.views.Integers.{static_view, start_view};
 ghost use Rattle.vhdl_names_rules.specs.views.Vectors.{part_view};
 ghost use Rattle.vhdl_expand_rules.specs.Prefixes as definition;
@@ -9,11 +10,18 @@ ghost use Rattle.vhdl_expand_rules.specs.views.Prefixes.{all_static};
 
 use vhdl_names_rules::{Part, Static, StaticLink, StaticStart};
 
+/// Which names of a body are sought.
+#[derive(Clone, Copy)]
+pub enum Sought {
+    Read,
+    Assigned,
+}
+
 /// Whether an integer is static: no parameter of a loop stands in it.
 #[cycle(is_static)]
 #[tactic(auto, using(crate::proofs::StaticChains::start_stops, crate::proofs::StaticChains::start_goes_on))]
 pub fn is_static(value: &Static) -> bool
-    ensures { result ≡ definition.is_static (static_view value.now) }
+    ensures { result ≡ names.is_static (static_view value.now) }
 {
     match value {
         Static::LoopParameter(_) => false,
@@ -34,7 +42,7 @@ pub fn is_static(value: &Static) -> bool
 /// Whether the first operator of a chain has static operands.
 #[cycle(is_static)]
 fn is_start_static(start: &StaticStart) -> bool
-    ensures { result ≡ definition.is_static (start_view start.now) }
+    ensures { result ≡ names.is_static (start_view start.now) }
 {
     is_static(&start.first) && is_static(&start.link.operand)
 }

@@ -27,8 +27,8 @@ between true true r s = refl
 with-number : (a b n : ℕ) (r p q : Bool) → r ≡ (p && q) → (nat_le (a + b) n && r) ≡ ((nat_le a n && p) && (nat_le b (n - a) && q))
 with-number a b n r p q h = (λ i. both-within a b n i && h i) ∙ between (nat_le a n) (nat_le b (n - a)) p q
 
-sum-assoc : (a b c : ℕ) → a + b + c ≡ a + (b + c)
-sum-assoc a b c = omega arith
+pub sum_assoc : (a b c : ℕ) → a + b + c ≡ a + (b + c)
+sum_assoc a b c = omega arith
 
 none-taken : (n : ℕ) → n - 0 ≡ n
 none-taken n = omega arith
@@ -37,6 +37,20 @@ none-more : (n : ℕ) → 0 + n ≡ n
 none-more n = omega arith
 
 -- ---- counts
+
+abbrev by_number : (ℕ → ℕ → ℕ → ℕ) → Counts → Counts → Counts → Counts
+by_number f a b c = record {
+  processes = f a.processes b.processes c.processes;
+  instances = f a.instances b.instances c.instances;
+  nets = f a.nets b.nets c.nets;
+  turns = f a.turns b.turns c.turns;
+  statements = f a.statements b.statements c.statements;
+  variable_elements = f a.variable_elements b.variable_elements c.variable_elements;
+}
+
+-- what is the same of all numbers
+pub each_number : (f g : ℕ → ℕ → ℕ → ℕ) → ((a b c : ℕ) → f a b c ≡ g a b c) → (a b c : Counts) → by_number f a b c ≡ by_number g a b c
+each_number f g same a b c = λ i. by_number (λ k m n. same k m n i) a b c
 
 abbrev statements-within : Counts → Counts → Bool
 statements-within a n = nat_le a.statements n.statements && nat_le a.variable_elements n.variable_elements
@@ -63,14 +77,7 @@ within-plus a b n =
     with-number a.processes b.processes n.processes (instances-within c n) (instances-within a n) (instances-within b m) i
 
 pub less-plus : (a b n : Counts) → less n (plus a b) ≡ less (less n a) b
-less-plus a b n = λ i. record {
-  processes = both-taken a.processes b.processes n.processes i;
-  instances = both-taken a.instances b.instances n.instances i;
-  nets = both-taken a.nets b.nets n.nets i;
-  turns = both-taken a.turns b.turns n.turns i;
-  statements = both-taken a.statements b.statements n.statements i;
-  variable_elements = both-taken a.variable_elements b.variable_elements n.variable_elements i;
-}
+less-plus a b n = each_number (λ k l m. m - (k + l)) (λ k l m. m - k - l) both-taken a b n
 
 -- a budget that does not suffice is one problem
 pub spent_told : (at : ℕ) (n c : Counts) (told : Told) → spent at n c ≡ Err told → told.0 ≡ TooMany
@@ -92,37 +99,16 @@ none-within : (n : Counts) → is_within no_costs n ≡ true
 none-within n = grind (arith, nat_tests)
 
 all-left : (n : Counts) → less n no_costs ≡ n
-all-left n = λ i. record {
-  processes = none-taken n.processes i;
-  instances = none-taken n.instances i;
-  nets = none-taken n.nets i;
-  turns = none-taken n.turns i;
-  statements = none-taken n.statements i;
-  variable_elements = none-taken n.variable_elements i;
-}
+all-left n = each_number (λ k l m. m - 0) (λ k l m. m) (λ k l m. none-taken m) n n n
 
 pub spent-none : (at : ℕ) (n : Counts) → spent at n no_costs ≡ Ok n
 spent-none at n = (λ i. unless TooMany at (none-within n i) >> given (all-left n i))
 
 pub plus-none : (a : Counts) → plus no_costs a ≡ a
-plus-none a = λ i. record {
-  processes = none-more a.processes i;
-  instances = none-more a.instances i;
-  nets = none-more a.nets i;
-  turns = none-more a.turns i;
-  statements = none-more a.statements i;
-  variable_elements = none-more a.variable_elements i;
-}
+plus-none a = each_number (λ k l m. 0 + m) (λ k l m. m) (λ k l m. none-more m) a a a
 
 pub plus-assoc : (a b c : Counts) → plus (plus a b) c ≡ plus a (plus b c)
-plus-assoc a b c = λ i. record {
-  processes = sum-assoc a.processes b.processes c.processes i;
-  instances = sum-assoc a.instances b.instances c.instances i;
-  nets = sum-assoc a.nets b.nets c.nets i;
-  turns = sum-assoc a.turns b.turns c.turns i;
-  statements = sum-assoc a.statements b.statements c.statements i;
-  variable_elements = sum-assoc a.variable_elements b.variable_elements c.variable_elements i;
-}
+plus-assoc a b c = each_number (λ k l m. k + l + m) (λ k l m. k + (l + m)) sum_assoc a b c
 
 -- ---- charging in turn
 

@@ -7,6 +7,8 @@ use Rattle.vhdl_elab_rules.specs.Numbering.{own_sizes, Placed, Located, Numbered
 use Rattle.vhdl_elab_rules.specs.Limits.{Counts, statements_count, variable_elements_count, counts, is_within_limits}
 use Rattle.vhdl_expand_tree.specs.Costs.{no_costs, plus, own_costs, process_costs, instance_costs, parts_costs}
 use Rattle.vhdl_expand_tree.specs.Counts.{EachDesignCostsItsParts}
+use Rattle.vhdl_expand_tree.proofs.Charging as charging
+use Rattle.vhdl_expand_tree.proofs.Charging.{sum_assoc, each_number, plus-assoc}
 
 -- ---- sums
 
@@ -19,41 +21,8 @@ sum-push f xs x = ap sum (map-append f xs (x ∷ [])) ∙ sum_by_push (λ n. n) 
 before-last : (a b c : ℕ) → a + c + b ≡ a + b + c
 before-last a b c = omega arith
 
-assoc : (a b c : ℕ) → a + b + c ≡ a + (b + c)
-assoc a b c = omega arith
-
-plus-assoc : (a b c : Counts) → plus (plus a b) c ≡ plus a (plus b c)
-plus-assoc a b c = λ i. record {
-  processes = assoc a.processes b.processes c.processes i;
-  instances = assoc a.instances b.instances c.instances i;
-  nets = assoc a.nets b.nets c.nets i;
-  turns = assoc a.turns b.turns c.turns i;
-  statements = assoc a.statements b.statements c.statements i;
-  variable_elements = assoc a.variable_elements b.variable_elements c.variable_elements i;
-}
-
 plus-none : (a : Counts) → a ≡ plus a no_costs
-plus-none a = λ i. record {
-  processes = none-more a.processes i;
-  instances = none-more a.instances i;
-  nets = none-more a.nets i;
-  turns = none-more a.turns i;
-  statements = none-more a.statements i;
-  variable_elements = none-more a.variable_elements i;
-}
-
-no-less : (n : ℕ) → 0 + n ≡ n
-no-less n = omega arith
-
-none-plus : (a : Counts) → plus no_costs a ≡ a
-none-plus a = λ i. record {
-  processes = no-less a.processes i;
-  instances = no-less a.instances i;
-  nets = no-less a.nets i;
-  turns = no-less a.turns i;
-  statements = no-less a.statements i;
-  variable_elements = no-less a.variable_elements i;
-}
+plus-none a = each_number (λ k l m. m) (λ k l m. m + 0) (λ k l m. none-more m) a a a
 
 -- ---- one part more
 
@@ -78,7 +47,7 @@ process-counts number round q d =
     let turns : sum (map (λ (p : Placed). p.turns) d.instances) + sum (map (λ (y : Located). y.process.turns) (d.processes ++ x ∷ []))
     ≡ sum (map (λ (p : Placed). p.turns) d.instances) + sum (map (λ (y : Located). y.process.turns) d.processes) + q.turns =
     ap (λ n. sum (map (λ (p : Placed). p.turns) d.instances) + n) (sum-push (λ (y : Located). y.process.turns) d.processes x)
-    ∙ sym (assoc (sum (map (λ (p : Placed). p.turns) d.instances)) (sum (map (λ (y : Located). y.process.turns) d.processes)) q.turns) in
+    ∙ sym (sum_assoc (sum (map (λ (p : Placed). p.turns) d.instances)) (sum (map (λ (y : Located). y.process.turns) d.processes)) q.turns) in
     λ i. record {
       processes = length-append d.processes (x ∷ []) i;
       instances = none-more (length d.instances) i;
@@ -107,5 +76,5 @@ mutual
 pub each-design-costs-its-parts : EachDesignCostsItsParts
 unfolding numbered_design
 each-design-costs-its-parts design =
-    let same : counts (numbered_design design) ≡ instance_costs design.top = instance-counts design.top above_top design.name nothing_numbered ∙ none-plus (instance_costs design.top) in
+    let same : counts (numbered_design design) ≡ instance_costs design.top = instance-counts design.top above_top design.name nothing_numbered ∙ charging.plus-none (instance_costs design.top) in
     record { together = same; within = ap is_within_limits same }

@@ -11,19 +11,6 @@ ghost use Rattle.vhdl_expand_tree.specs.Views.{budget_view};
 
 use vhdl_expand_rules::{ElabFault, ElabProblem};
 
-// What a whole design may have.
-const MAX_PROCESSES: u32 = 65_536;
-
-const MAX_INSTANCES: u32 = 65_536;
-
-const MAX_NETS: u32 = 1_048_576;
-
-const MAX_TURNS: u32 = 4_194_304;
-
-const MAX_STATEMENTS: u32 = 1_048_576;
-
-const MAX_VARIABLE_ELEMENTS: u32 = 1_048_576;
-
 /// How many parts of each sort may still be made.
 #[derive(Clone, Copy)]
 pub struct Budget {
@@ -38,17 +25,17 @@ pub struct Budget {
 }
 
 impl Budget {
-    /// The limits of a whole design.
+    /// What a whole design may have.
     pub fn whole() -> Budget
         ensures { budget_view result ≡ limits }
     {
         Budget {
-            processes: MAX_PROCESSES,
-            instances: MAX_INSTANCES,
-            nets: MAX_NETS,
-            turns: MAX_TURNS,
-            statements: MAX_STATEMENTS,
-            variable_elements: MAX_VARIABLE_ELEMENTS,
+            processes: 65_536,
+            instances: 65_536,
+            nets: 1_048_576,
+            turns: 4_194_304,
+            statements: 1_048_576,
+            variable_elements: 1_048_576,
         }
     }
 

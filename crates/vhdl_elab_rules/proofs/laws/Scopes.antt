@@ -1,5 +1,5 @@
 -- Scopes stand in order of the text: going through the tree.
-use Rattle.std.proofs.Common.{◌≡◌, ℕ, zero, suc, ◌+◌, ◌-◌, ◌<◌, ◌≤◌, List, [], ◌∷◌, ◌++◌, length, map, Option, Some, None, refl, sym, ap, ◌∙◌, subst, arith, append_assoc, append-nil, ◌⊎◌, inl, inr}
+use Rattle.std.proofs.Common.{◌≡◌, ℕ, zero, suc, ◌+◌, ◌-◌, ◌<◌, ◌≤◌, List, [], ◌∷◌, ◌++◌, length, map, Option, Some, None, refl, sym, ap, ◌∙◌, subst, arith, ◌⊎◌, inl, inr}
 use Rattle.std.specs.Prelude.{slice_index_or}
 use Rattle.std.proofs.lemmas.Bool.{cases_lt}
 use Rattle.std.proofs.lemmas.List.{length-append, length-map, map-append}
@@ -12,6 +12,7 @@ use Rattle.vhdl_elab_rules.specs.Numbering.{Placed, Numbered, nothing_numbered, 
 use Rattle.vhdl_elab_rules.specs.Names.{Scope, scope_of}
 use Rattle.vhdl_elab_rules.specs.Elaboration.{Elaborated, elaborated_net}
 use Rattle.vhdl_elab_rules.specs.laws.Scopes.{scope_views, StandInText, EachScopeFollows}
+use Rattle.vhdl_elab_rules.proofs.laws.Growing.{parts_grow}
 use Rattle.vhdl_elab_rules.proofs.laws.Sound.{accepted}
 
 abbrev parents : List ScopeView → List (Option ℕ)
@@ -56,9 +57,12 @@ views ps = scope_views (map scope_of ps)
 length-views : (ps : List Placed) → length (views ps) ≡ length ps
 length-views ps = length-map (map scope_of ps) (λ (s : Scope). record { label = s.label; parent = s.parent }) ∙ length-map ps scope_of
 
+views-append : (ps qs : List Placed) → views (ps ++ qs) ≡ views ps ++ views qs
+views-append ps qs =
+    ap scope_views (map-append scope_of ps qs) ∙ map-append (λ (s : Scope). record { label = s.label; parent = s.parent }) (map scope_of ps) (map scope_of qs)
+
 views-more : (ps : List Placed) (p : Placed) → views (ps ++ p ∷ []) ≡ views ps ++ (record { label = p.label; parent = p.parent } ∷ [])
-views-more ps p =
-    ap scope_views (map-append scope_of ps (p ∷ [])) ∙ map-append (λ (s : Scope). record { label = s.label; parent = s.parent }) (map scope_of ps) (scope_of p ∷ [])
+views-more ps p = views-append ps (p ∷ [])
 
 record InText (number : ℕ) (scopes : List ScopeView) : Type 0 where
   top : parent_of scopes 0 ≡ None
@@ -109,27 +113,6 @@ record Stood (number : ℕ) (scopes : List ScopeView) : Type 0 where
   there : number < length scopes
   text : InText number scopes
 
-record StoodOn (before after : List ScopeView) : Type 0 where
-  more : List ScopeView
-  is : after ≡ before ++ more
-
-on-on : (xs ys zs : List ScopeView) → StoodOn xs ys → StoodOn ys zs → StoodOn xs zs
-on-on xs ys zs h g = record { more = h.more ++ g.more; is = g.is ∙ ap (λ (ss : List ScopeView). ss ++ g.more) h.is ∙ append_assoc xs h.more g.more }
-
-mutual
-  instance-on : (i : Instance) (number : ℕ) (round : Placed) (label : List ℕ) (d : Numbered) → StoodOn (views d.instances) (views (with_instance (above_parts number round) label i d).instances)
-  instance-on (instance os turns parts) number round label d =
-      let p : Placed = placed_instance (above_parts number round) label d.nets (instance os turns parts) in
-      on-on (views d.instances) (views (d.instances ++ p ∷ [])) (views (with_parts (length d.instances) p parts (with_placed p d)).instances)
-      (record { more = record { label = p.label; parent = p.parent } ∷ []; is = views-more d.instances p }) (parts-on parts (length d.instances) p (with_placed p d))
-
-  parts-on : (ps : Parts) (number : ℕ) (round : Placed) (d : Numbered) → StoodOn (views d.instances) (views (with_parts number round ps d).instances)
-  parts-on no_parts number round d = record { more = []; is = sym (append-nil (views d.instances)) }
-  parts-on (process q rest) number round d = parts-on rest number round (with_process number round q d)
-  parts-on (inner label i rest) number round d =
-      let e : Numbered = with_instance (above_parts number round) label i d in
-      on-on (views d.instances) (views e.instances) (views (with_parts number round rest e).instances) (instance-on i number round label d) (parts-on rest number round e)
-
 -- back from an instance to the one that it stands in
 back : (number inside : ℕ) (scopes : List ScopeView) → parent_of scopes inside ≡ Some number → InText inside scopes → InText number scopes
 back number inside scopes e h = record {
@@ -153,9 +136,10 @@ mutual
       let parent : parent_of (views (d.instances ++ p ∷ [])) n ≡ Some number = ap (λ (ss : List ScopeView). parent_of ss n) (views-more d.instances p) ∙ parent-last (views d.instances) s n len in
       let inside = parts-stand parts n p (with_placed p d)
       (record { there = subst (λ m. n < m) (sym (length-views (d.instances ++ p ∷ []) ∙ length-append d.instances (p ∷ []))) (omega arith); text = text }) in
-      let grown = parts-on parts n p (with_placed p d) in
+      let grown = parts_grow parts n p (with_placed p d) in
       let after : List ScopeView = views (with_parts n p parts (with_placed p d)).instances in
-      let still : parent_of after n ≡ Some number = ap (λ (ss : List ScopeView). parent_of ss n) grown.is ∙ parent-more (views (d.instances ++ p ∷ [])) grown.more n number parent in
+      let still : parent_of after n ≡ Some number = ap (λ (ps : List Placed). parent_of (views ps) n) grown.is ∙ ap (λ (ss : List ScopeView). parent_of ss n) (views-append (d.instances ++ p ∷ []) grown.more)
+      ∙ parent-more (views (d.instances ++ p ∷ [])) (views grown.more) n number parent in
       let far : n < length after = inside.there in
       record { there = omega (arith, there, len, far); text = back number n after still inside.text }
 

@@ -1,5 +1,5 @@
 -- A net of an enumeration has one driver at most: going through the tree in order of the text.
-use Rattle.std.proofs.Common.{◌≡◌, ℕ, suc, ◌+◌, ◌<◌, ◌≤◌, Bool, true, false, cond, ◌==◌, List, [], ◌∷◌, ◌++◌, length, map, Some, All, refl, sym, ap, ◌∙◌, subst, arith, append_assoc, append-nil, ◌⊎◌, inl, inr}
+use Rattle.std.proofs.Common.{◌≡◌, ℕ, suc, ◌+◌, ◌<◌, ◌≤◌, Bool, true, false, cond, ◌==◌, List, [], ◌∷◌, ◌++◌, length, map, Some, All, refl, sym, ap, ◌∙◌, subst, arith, ◌⊎◌, inl, inr}
 use Rattle.std.specs.Prelude.{slice_get, slice_index}
 use Rattle.std.specs.List.{AllZip}
 use Rattle.std.proofs.lemmas.Bool.{cases_lt}
@@ -17,6 +17,7 @@ use Rattle.vhdl_expand_rules.proofs.laws.Targets.{all_left, all_right}
 use Rattle.vhdl_elab_rules.specs.Numbering.{Placed, Located, Numbered, Above, above_parts, placed_instance, with_process, with_placed, with_instance, with_parts}
 use Rattle.vhdl_elab_rules.specs.Wiring.{flat_process}
 use Rattle.vhdl_elab_rules.proofs.Segments.{get-left}
+use Rattle.vhdl_elab_rules.proofs.laws.Growing.{Grown, parts_grow}
 use Rattle.vhdl_elab_rules.proofs.laws.Typed.{zip_lengths, zip_read}
 use Rattle.vhdl_elab_rules.proofs.laws.Walk.{types_of, PlacedIsSound, LocatedIsSound, SoFar, place-step, last-is, process-step, still-placed, instance-walks}
 use Rattle.vhdl_elab_rules.proofs.laws.Processes.{driver-targets, driven-type}
@@ -83,27 +84,7 @@ all-none types n (x ∷ xs) h l =
     let w = All-head (LocatedIsSound types) x xs h in
     ap (λ m. m + all_hits n xs) (no-hits n x.round.nets x.process.drives (λ k d b. net-there types x.round _ n w.round l (w.process.drives k d b))) ∙ ap (λ m. 0 + m) (all-none types n xs (All-tail (LocatedIsSound types) x xs h) l)
 
--- ---- instances are added behind those that there are
-
-record Grown (before after : List Placed) : Type 0 where
-  more : List Placed
-  is : after ≡ before ++ more
-
-grown-on : (xs ys zs : List Placed) → Grown xs ys → Grown ys zs → Grown xs zs
-grown-on xs ys zs h g = record { more = h.more ++ g.more; is = g.is ∙ ap (λ (ps : List Placed). ps ++ g.more) h.is ∙ append_assoc xs h.more g.more }
-
-mutual
-  instance-grows : (i : Instance) (a : Above) (label : List ℕ) (d : Numbered) → Grown d.instances (with_instance a label i d).instances
-  instance-grows (instance os turns parts) a label d =
-      let p : Placed = placed_instance a label d.nets (instance os turns parts) in
-      grown-on d.instances (d.instances ++ p ∷ []) (with_instance a label (instance os turns parts) d).instances (record { more = p ∷ []; is = refl }) (parts-grow parts (length d.instances) p (with_placed p d))
-
-  parts-grow : (ps : Parts) (number : ℕ) (round : Placed) (d : Numbered) → Grown d.instances (with_parts number round ps d).instances
-  parts-grow no_parts number round d = record { more = []; is = sym (append-nil d.instances) }
-  parts-grow (process q rest) number round d = parts-grow rest number round (with_process number round q d)
-  parts-grow (inner label i rest) number round d =
-      let e : Numbered = with_instance (above_parts number round) label i d in
-      grown-on d.instances e.instances (with_parts number round rest e).instances (instance-grows i (above_parts number round) label d) (parts-grow rest number round e)
+-- ---- instances that there were
 
 earlier-tame : (before after : List Placed) → Grown before after → All Tame after → All Tame before
 earlier-tame before after g h = all_left Tame before g.more (subst (All Tame) g.is h)
@@ -226,7 +207,7 @@ mutual
       let p : Placed = placed_instance a label d.nets (instance os turns parts) in
       let first = place-step os outer a label turns parts d sound.0 fit.0 so_far z in
       let mine : All Tame (d.instances ++ p ∷ []) =
-      earlier-tame (d.instances ++ p ∷ []) (with_parts (length d.instances) p parts (with_placed p d)).instances (parts-grow parts (length d.instances) p (with_placed p d)) tame in
+      earlier-tame (d.instances ++ p ∷ []) (with_parts (length d.instances) p parts (with_placed p d)).instances (parts_grow parts (length d.instances) p (with_placed p d)) tame in
       parts-once parts (length d.instances) p (with_placed p d) fit.1 sound.1 first.so_far (last-is os outer a label turns parts d sound.0 fit.0 so_far z) tame
       (begun-once os outer a label turns parts d sound.0 fit.0 sound.1 so_far z (last-tame d.instances p mine) once)
 
@@ -241,7 +222,7 @@ mutual
   parts-once (inner label i rest) number round d fit sound so_far h tame once =
       let e : Numbered = with_instance (above_parts number round) label i d in
       let first = instance-walks i round.objects (above_parts number round) label d fit.0 sound.0 so_far h.nets in
-      let mine : All Tame e.instances = earlier-tame e.instances (with_parts number round rest e).instances (parts-grow rest number round e) tame in
+      let mine : All Tame e.instances = earlier-tame e.instances (with_parts number round rest e).instances (parts_grow rest number round e) tame in
       let inside = instance-once i round.objects (above_parts number round) label d fit.0 sound.0 so_far h.nets mine
       (record { once = λ n c typed. let few : all_hits n d.processes + level_hits n round rest ≤ 1 = once n c typed in omega (arith, few) }) in
       parts-once rest number round e fit.1 sound.1 first.so_far (still-placed (types_of d.instances) (types_of e.instances) first.more round first.grown h) tame

@@ -11,7 +11,7 @@ use Rattle.rtl_model.specs.bodies.Types.{ElementType, HasType}
 use Rattle.rtl_model.specs.bodies.Fits.{IsWidth}
 use Rattle.rtl_net.specs.Elaborated.{width_of}
 use Rattle.vhdl_expand_rules.specs.Integers.{extent}
-use Rattle.vhdl_expand_rules.specs.Kinds.{ObjectKind, one, vector, size, element_type}
+use Rattle.vhdl_expand_rules.specs.Kinds.{ObjectKind, vector, size, element_type}
 use Rattle.vhdl_expand_rules.specs.Tree.{Object, Variable}
 use Rattle.vhdl_expand_rules.specs.Expansion.{expanded_design}
 use Rattle.vhdl_expand_rules.specs.laws.Trees.{IsKind, object_types, ObjectIsSound, VariableIsSound}
@@ -36,21 +36,20 @@ between-up l r h = omega (arith, h)
 between-down : (l r : ℕ) → r ≤ l → suc (max l r - min l r) ≡ suc (l - r)
 between-down l r h = omega (arith, h)
 
+no-places : (n : ℕ) → n ≡ 0 → 1 ≤ n → ⊥
+no-places n e h = omega (arith, e, h)
+
+up : (l r : ℕ) → (r < l) ⊎ (l ≤ r) → 1 ≤ extent To (pos l) (pos r) → suc (max l r - min l r) ≡ extent To (pos l) (pos r)
+up l r (inl null) h = absurd (no-places (extent To (pos l) (pos r)) (ap (λ (t : Bool). cond t 0 (nat_abs (pos l -ℤ pos r) + 1)) (lt-ltb r l null)) h)
+up l r (inr le) h = between-up l r le ∙ sym (extent-to l r le)
+
+down : (l r : ℕ) → (l < r) ⊎ (r ≤ l) → 1 ≤ extent Downto (pos l) (pos r) → suc (max l r - min l r) ≡ extent Downto (pos l) (pos r)
+down l r (inl null) h = absurd (no-places (extent Downto (pos l) (pos r)) (ap (λ (t : Bool). cond t 0 (nat_abs (pos l -ℤ pos r) + 1)) (lt-ltb l r null)) h)
+down l r (inr le) h = between-down l r le ∙ sym (extent-downto l r le)
+
 some-bounds : (l : ℕ) (d : Direction) (r : ℕ) → 1 ≤ extent d (pos l) (pos r) → suc (max l r - min l r) ≡ extent d (pos l) (pos r)
-some-bounds l To r h = by (cases_lt r l)
-  where
-    by : (r < l) ⊎ (l ≤ r) → suc (max l r - min l r) ≡ extent To (pos l) (pos r)
-    by (inl null) =
-        absurd (let z : extent To (pos l) (pos r) ≡ 0 = ap (λ (t : Bool). cond t 0 (nat_abs (pos l -ℤ pos r) + 1)) (lt-ltb r l null) in
-        let one : 1 ≤ 0 = subst (λ n. 1 ≤ n) z h in omega (arith, one))
-    by (inr le) = between-up l r le ∙ sym (extent-to l r le)
-some-bounds l Downto r h = by (cases_lt l r)
-  where
-    by : (l < r) ⊎ (r ≤ l) → suc (max l r - min l r) ≡ extent Downto (pos l) (pos r)
-    by (inl null) =
-        absurd (let z : extent Downto (pos l) (pos r) ≡ 0 = ap (λ (t : Bool). cond t 0 (nat_abs (pos l -ℤ pos r) + 1)) (lt-ltb l r null) in
-        let one : 1 ≤ 0 = subst (λ n. 1 ≤ n) z h in omega (arith, one))
-    by (inr le) = between-down l r le ∙ sym (extent-downto l r le)
+some-bounds l To r h = up l r (cases_lt r l) h
+some-bounds l Downto r h = down l r (cases_lt l r) h
 
 pub width-of_kind : (q : ObjectKind) → IsKind q → width_of (kind_view q) ≡ size q
 width-of_kind (vector b) h = some-bounds b.left b.direction b.right h.0

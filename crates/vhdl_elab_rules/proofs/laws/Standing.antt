@@ -1,6 +1,6 @@
 -- What elaboration refuses of units is told at one of their bytes, or at 0: the objects of an expanded tree are declared at bytes of the units.
 use Rattle.std.proofs.Common.{◌≡◌, ℕ, ◌+◌, Bool, true, false, cond, not, ◌||◌, List, [], ◌∷◌, ◌++◌, map, Option, Some, None, Ok, All, subst, inl, inr}
-use Rattle.std.specs.Prelude.{⊤, find, flat_map, is_some, length, Contains}
+use Rattle.std.specs.Prelude.{find, flat_map, is_some, length, Contains}
 use Rattle.std.specs.List.{AllZip, range_with_len}
 use Rattle.std.proofs.lemmas.List.Elements.{All-append, All-cons, All-nil, All-head, All-tail, All-weaker, All-contains_itself, Contains-append_right}
 use Rattle.vhdl_names_rules.specs.units.Expressions.{Static, SignalPart}
@@ -12,13 +12,13 @@ use Rattle.vhdl_expand_rules.specs.Elab.{unless, same_length}
 use Rattle.vhdl_expand_rules.specs.Integers.{Integers}
 use Rattle.vhdl_expand_rules.specs.Kinds.{size}
 use Rattle.vhdl_expand_rules.specs.Site.{Site, place_elements}
-use Rattle.vhdl_expand_rules.specs.Tree.{Role, internal, Object, Instance, Parts, no_parts, inner, followed_by}
+use Rattle.vhdl_expand_rules.specs.Tree.{Role, internal, Object, Instance, Parts, no_parts, inner, EachInstance, EachInner}
 use Rattle.vhdl_expand_rules.specs.Tree as t
 use Rattle.vhdl_expand_rules.specs.Declarations.{first_of, rest_of, object, role_of, InstanceObjects, interface, declarations, is_input, association, associations}
 use Rattle.vhdl_expand_rules.specs.Expansion.{Design, expanded_design}
 use Rattle.vhdl_expand_rules.proofs.Steps.{ok, bound}
 use Rattle.vhdl_expand_rules.proofs.Items.{all_of_zip}
-use Rattle.vhdl_expand_rules.proofs.laws.Expanded.{object_made, OfObjects, interface_holds, with_signals, OfSignal, declarations_add, AnyAt, any_parts, Filled, OfUnits, design_filled}
+use Rattle.vhdl_expand_rules.proofs.laws.Expanded.{object_made, OfObjects, interface_holds, with_signals, OfSignal, declarations_add, OfInstances, design_holds}
 use Rattle.vhdl_expand_rules.proofs.Tells.{Tells, tells_none, tells_then, tells_with, tells_unless, all_flat}
 use Rattle.vhdl_expand_rules.proofs.laws.Targets.{all_left}
 use Rattle.vhdl_expand_rules.proofs.laws.told.Declarations.{MayStand, EntityStands, entity_stands}
@@ -96,45 +96,27 @@ module _ (P : ℕ → Type 0) where
 
   -- ---- the tree
 
-  abbrev mutual
-    InstanceStands : Instance → Type 0
-    InstanceStands (t.instance os turns parts) = All Stands os × PartsStand parts
-
-    PartsStand : Parts → Type 0
-    PartsStand no_parts = ⊤
-    PartsStand (t.process p rest) = PartsStand rest
-    PartsStand (inner label i rest) = InstanceStands i × PartsStand rest
-
-  followed-stand : (a b : Parts) → PartsStand a → PartsStand b → PartsStand (followed_by a b)
-  followed-stand no_parts b h k = k
-  followed-stand (t.process p rest) b h k = followed-stand rest b h k
-  followed-stand (inner label i rest) b h k = (h.0, followed-stand rest b h.1 k)
-
-  instance-stands : (unit : Entity) (i : Instance) → Filled PortStands Stands PartsStand unit i → InstanceStands i
-  instance-stands unit i f =
-      subst InstanceStands {x = t.instance (f.ports ++ f.signals) f.turns f.parts} f.is
-      (All-append Stands f.ports f.signals (ports-stand unit f.ports f.of_ports) f.of_signals, f.of_parts)
-
   declarations-there : (unit : Entity) (a : Architecture) → EntityStands P unit → unit.architecture ≡ Some a → All (OfSignal IsThere) a.declarations
   declarations-there unit a k there =
       let ds : List ℕ = flat_map declaration_bytes a.declarations in
       let whole : All P (ds ++ concurrents_bytes a.statements) = subst (λ (o : Option Architecture). MayStand P architecture_bytes o) there k.architecture in
       All-weaker DeclarationStands (OfSignal IsThere) signal-there a.declarations (all_flat P declaration_bytes a.declarations (all_left P ds (concurrents_bytes a.statements) whole))
 
-  each-unit : OfUnits (EntityStands P) IsThere PortStands Stands AnyAt AnyAt PartsStand
-  each-unit = record {
+  instances : OfInstances (EntityStands P) IsThere PortStands Stands (All Stands)
+  instances = record {
     objects = objects;
-    parts = any_parts PartsStand tt followed-stand (λ p. tt);
     of_unit = ports-there;
-    of_architecture = λ unit a site k there. (declarations-there unit a k there, tt);
-    of_instance = λ here x unit i s f. (instance-stands unit i f, tt);
+    of_architecture = declarations-there;
+    of_instance = λ unit ports signals h k. All-append Stands ports signals (ports-stand unit ports h) k;
   }
+
+  abbrev InstanceStands : Instance → Type 0
+  InstanceStands i = EachInstance (All Stands) i
 
   design-stands : (units : Units) (top : List ℕ) (design : Design) → All P (units_bytes units) → expanded_design units top ≡ Ok design → InstanceStands design.top
   design-stands units top design k h =
       let known : All (EntityStands P) units = All-weaker (λ (x : Entity). All P (entity_bytes x)) (EntityStands P) (entity_stands P) units (all_flat P entity_bytes units k) in
-      let m = design_filled (EntityStands P) IsThere PortStands Stands AnyAt AnyAt PartsStand each-unit units known top design h in
-      subst (λ (x : Design). InstanceStands x.top) m.is (instance-stands m.unit m.tree m.filled)
+      design_holds (EntityStands P) IsThere PortStands Stands (All Stands) instances units known top design h
 
   -- ---- instances in order, and their elements
 
@@ -147,7 +129,7 @@ module _ (P : ℕ → Type 0) where
         let p : Placed = placed_instance above label d.nets (t.instance os turns parts) in
         parts-numbered parts (length d.instances) p (with_placed p d) h.1 (All-append PlacedStands d.instances (p ∷ []) k (All-cons PlacedStands p [] h.0 (All-nil PlacedStands)))
 
-    parts-numbered : (ps : Parts) (number : ℕ) (round : Placed) (d : Numbered) → PartsStand ps → All PlacedStands d.instances → All PlacedStands (with_parts number round ps d).instances
+    parts-numbered : (ps : Parts) (number : ℕ) (round : Placed) (d : Numbered) → EachInner (All Stands) ps → All PlacedStands d.instances → All PlacedStands (with_parts number round ps d).instances
     parts-numbered no_parts number round d h k = k
     parts-numbered (t.process p rest) number round d h k = parts-numbered rest number round (with_process number round p d) h k
     parts-numbered (inner label i rest) number round d h k =

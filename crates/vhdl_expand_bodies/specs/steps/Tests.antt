@@ -1,5 +1,5 @@
 -- Parts of conditions, as the code comes to them.
-use Rattle.std.specs.Prelude.{ℕ, Bool, true, false, List, [], ◌∷◌, Option, Some, None, Ok}
+use Rattle.std.specs.Prelude.{ℕ, Bool, true, false, Option, Some, None, Ok}
 use Rattle.vhdl_values.specs.declared.scalar.Nine.{Nine}
 use Rattle.vhdl_values.specs.declared.kinds.Cmp.{Cmp}
 use Rattle.vhdl_names_rules.specs.declared.test.TestLink.{TestLink}
@@ -9,9 +9,9 @@ use Rattle.vhdl_names_rules.specs.units.Expressions as u
 use Rattle.vhdl_names_rules.specs.units.Expressions.{Static, SignalPart, Vector, Value}
 use Rattle.rtl_model.specs.bodies.Body as bodies
 use Rattle.vhdl_expand_rules.specs.Elab.{Elab, ◌>>=◌}
-use Rattle.vhdl_expand_rules.specs.Site.{Site, place_elements}
+use Rattle.vhdl_expand_rules.specs.Site.{Site}
 use Rattle.vhdl_expand_rules.specs.Integers.{natural}
-use Rattle.vhdl_expand_rules.specs.Expressions.{level_test, value, vector, test}
+use Rattle.vhdl_expand_rules.specs.Expressions.{place_level, value, vector, test}
 
 -- a character literal, and whether it stands with no parentheses
 pub record Character : Type 0 where
@@ -38,9 +38,7 @@ character_of _ = None
 
 module _ (here : Site) where
   abbrev pub level : (plain : Bool) → SignalPart → Nine → Elab bodies.Test
-  level plain p x = do
-    es ← place_elements here p
-    Ok (level_test plain es x)
+  level plain p x = place_level here plain p x
 
   -- by an operator that starts at this byte
   abbrev pub equal : (at : ℕ) → Value → Value → Elab bodies.Test
@@ -83,12 +81,6 @@ module _ (here : Site) where
   linked c l = do
     d ← test here (test_view l.operand)
     Ok (bodies.combined l.operator c d)
-
-  abbrev pub all_linked : bodies.Test → List TestLink → Elab bodies.Test
-  all_linked c [] = Ok c
-  all_linked c (l ∷ ls) = do
-    d ← linked c l
-    all_linked d ls
 
   abbrev pub started : TestStart → Elab bodies.Test
   started s = do

@@ -1,5 +1,5 @@
 -- Parts of expressions, as the code comes to them.
-use Rattle.std.specs.Prelude.{ℕ, List, [], ◌∷◌, length, Ok}
+use Rattle.std.specs.Prelude.{ℕ, List, length, Ok}
 use Rattle.vhdl_values.specs.declared.scalar.Nine.{Nine}
 use Rattle.vhdl_values.specs.declared.kinds.Counted.{Counted}
 use Rattle.vhdl_values.specs.Numbers.{digits_of}
@@ -60,12 +60,6 @@ module _ (here : Site) where
   linked d (l.Integer op at s) = do
     n ← natural here.integers at (static_view s)
     operation_on at (numeric op) d (bodies.constant (digits_of (width d) n))
-
-  abbrev pub all_linked : bodies.Expr → List VectorLink → Elab bodies.Expr
-  all_linked d [] = Ok d
-  all_linked d (x ∷ xs) = do
-    e ← linked d x
-    all_linked e xs
 
   abbrev pub started : VectorStart → Elab bodies.Expr
   started s = do

@@ -13,13 +13,13 @@ use Rattle.vhdl_expand_rules.specs.declared.fault.ElabProblem.TheVariants.{NoTop
 use Rattle.vhdl_expand_rules.specs.Elab.{Elab, unless, item_or, each, same_length}
 use Rattle.vhdl_expand_rules.specs.Integers.{Integers, integer_of, decision, turns}
 use Rattle.vhdl_expand_rules.specs.Kinds.{ObjectKind, size, kind_of}
-use Rattle.vhdl_expand_rules.specs.Site.{Site, no_integers, no_site, place_elements, elements_count}
-use Rattle.vhdl_expand_rules.specs.Tree.{Role, internal, Object, Variable, Sensitivity, Instance, Parts, no_parts, inner, followed_by}
+use Rattle.vhdl_expand_rules.specs.Site.{Site, no_integers, no_site, place_elements}
+use Rattle.vhdl_expand_rules.specs.Tree.{Role, internal, Object, Variable, Sensitivity, Instance, Parts, no_parts, inner, followed_by, EachInstance, EachInner}
 use Rattle.vhdl_expand_rules.specs.Tree as t
 use Rattle.vhdl_expand_rules.specs.Declarations.{first_of, rest_of, generics, fixed_values, starts, object, role_of, InstanceObjects, with_port, with_signal, ports, interface, declaration, declarations, variable, is_input, association, associations}
 use Rattle.vhdl_expand_rules.specs.Statements.{statements, statements_turns}
-use Rattle.vhdl_expand_rules.specs.Prefixes.{targets, prefixes_elements, in_order}
-use Rattle.vhdl_expand_rules.specs.Expansion.{Spot, in_turn, in_branch, sensitivity, with_variables, process, joined_parts, instance, concurrent, concurrents, concurrents_turns, instance_of, entity_named, Design, expanded_design}
+use Rattle.vhdl_expand_rules.specs.Prefixes.{targets, prefixes_elements}
+use Rattle.vhdl_expand_rules.specs.Expansion.{Spot, in_turn, in_branch, sensitivity, with_variables, made_process, process, joined_parts, instance, concurrent, concurrents, concurrents_turns, instance_of, entity_named, Design, expanded_design}
 use Rattle.vhdl_expand_rules.proofs.Steps.{ok, bound, kept, each-all}
 use Rattle.vhdl_expand_rules.proofs.Items.{all_any, all_get, all_found}
 use Rattle.vhdl_expand_rules.proofs.laws.Names.{was_found, zip_push}
@@ -153,20 +153,6 @@ pub record OfParts (One : Spot → u.Concurrent → Type 0) (Many : Spot → u.C
   pub in_for : (here : Spot) (at : ℕ) (label : List ℕ) (r : Range) (body : u.Concurrents) (j : ℤ) → One here (u.generate_for at label r body) → Many (in_turn here label j) body
   pub in_if : (here : Spot) (at : ℕ) (label : List ℕ) (r : StaticTest) (body : u.Concurrents) → One here (u.generate_if at label r body) → Many (in_branch here label) body
 
--- nothing needs to be known of a statement
-abbrev pub AnyAt : {A : Type 0} → Spot → A → Type 0
-AnyAt here x = ⊤
-
-pub any_parts : (Holds : Parts → Type 0) → Holds no_parts → ((a b : Parts) → Holds a → Holds b → Holds (followed_by a b)) → ((q : t.Process) → Holds (t.process q no_parts)) → OfParts AnyAt AnyAt Holds
-any_parts Holds none followed processes = record {
-  none = none;
-  followed = followed;
-  split = λ here x rest s. (tt, tt);
-  of_process = λ here p q s h. processes q;
-  in_for = λ here at label r body j s. tt;
-  in_if = λ here at label r body s. tt;
-}
-
 module _ (units : Units) (go : ℕ → Entity → InstanceObjects → Elab Instance) (One : Spot → u.Concurrent → Type 0) (Many : Spot → u.Concurrents → Type 0) (Holds : Parts → Type 0) (of : OfParts One Many Holds)
     (of-instance : (here : Spot) (x : u.Instance) (i : Instance) → One here (u.instance x) → instance units go here x ≡ Ok i → Holds (inner (here.prefix ++ x.label) i no_parts)) where
   joined-hold : (ps : List Parts) → All Holds ps → Holds (joined_parts ps)
@@ -216,16 +202,7 @@ pub record MadeProcess (here : Spot) (p : u.Process) (q : t.Process) : Type 0 wh
   pub body : Stmts
   pub gave : statements (with_variables here.site variables) p.body ≡ Ok body
   pub turns : ℕ
-  pub is : ◌≡◌ {A = t.Process} (record {
-    at = p.at;
-    prefix = here.prefix;
-    label = p.label;
-    drives = in_order (elements_count here.site.ports + elements_count here.site.signals) driven;
-    sensitivity = on;
-    variables = variables;
-    body = body;
-    turns = turns;
-  }) q
+  pub is : made_process here p variables driven on turns body ≡ q
 
 pub process_made : (here : Spot) (p : u.Process) (q : t.Process) → process here p ≡ Ok q → MadeProcess here p q
 unfolding process
@@ -376,3 +353,50 @@ module _ (Known : Entity → Type 0) (S : u.Object → Type 0) (R : Port → Obj
       let there : Known m.unit = all_found Known (λ (x : Entity). bytes_eq x.name (map to_ascii_lowercase top)) units m.unit known m.there in
       let declared = interface_holds S R P of.objects no_integers [] m.unit m.declared (of.of_unit m.unit there) m.declares in
       record { unit = m.unit; known = there; there = m.there; tree = m.tree; filled = instance-fills 32 m.unit.at m.unit m.declared m.tree there declared m.gave; is = m.is }
+
+-- ---- trees where this holds of the objects of each instance
+
+-- nothing needs to be known of a statement
+abbrev AnyAt : {A : Type 0} → Spot → A → Type 0
+AnyAt here x = ⊤
+
+-- where it holds of each instance's ports with its signals
+pub record OfInstances (Known : Entity → Type 0) (S : u.Object → Type 0) (R : Port → Object → Type 0) (P : Object → Type 0) (Holds : List Object → Type 0) : Type 0 where
+  pub objects : OfObjects S R P
+  pub of_unit : (unit : Entity) → Known unit → All (λ (p : Port). S p.object) unit.ports
+  pub of_architecture : (unit : Entity) (a : Architecture) → Known unit → unit.architecture ≡ Some a → All (OfSignal S) a.declarations
+  pub of_instance : (unit : Entity) (ports signals : List Object) → AllZip R unit.ports ports → All P signals → Holds (ports ++ signals)
+
+module _ (Known : Entity → Type 0) (S : u.Object → Type 0) (R : Port → Object → Type 0) (P : Object → Type 0) (Holds : List Object → Type 0) (of : OfInstances Known S R P Holds) where
+  followed-each : (a b : Parts) → EachInner Holds a → EachInner Holds b → EachInner Holds (followed_by a b)
+  followed-each no_parts b h k = k
+  followed-each (t.process p rest) b h k = followed-each rest b h k
+  followed-each (inner label i rest) b h k = (h.0, followed-each rest b h.1 k)
+
+  pub instance_holds : (unit : Entity) (i : Instance) → Filled R P (EachInner Holds) unit i → EachInstance Holds i
+  instance_holds unit i f =
+      subst (EachInstance Holds) {x = t.instance (f.ports ++ f.signals) f.turns f.parts} f.is (of.of_instance unit f.ports f.signals f.of_ports f.of_signals, f.of_parts)
+
+  each-unit : OfUnits Known S R P AnyAt AnyAt (EachInner Holds)
+  each-unit = record {
+    objects = of.objects;
+    parts = record {
+      none = tt;
+      followed = followed-each;
+      split = λ here x rest s. (tt, tt);
+      of_process = λ here p q s h. tt;
+      in_for = λ here at label r body j s. tt;
+      in_if = λ here at label r body s. tt;
+    };
+    of_unit = of.of_unit;
+    of_architecture = λ unit a site k there. (of.of_architecture unit a k there, tt);
+    of_instance = λ here x unit i s f. (instance_holds unit i f, tt);
+  }
+
+  pub each_filled : (units : Units) → All Known units → (top : List ℕ) (design : Design) → expanded_design units top ≡ Ok design → FilledDesign Known R P (EachInner Holds) units top design
+  each_filled units known = design_filled Known S R P AnyAt AnyAt (EachInner Holds) each-unit units known
+
+  pub design_holds : (units : Units) → All Known units → (top : List ℕ) (design : Design) → expanded_design units top ≡ Ok design → EachInstance Holds design.top
+  design_holds units known top design h =
+      let m = each_filled units known top design h in
+      subst (λ (x : Design). EachInstance Holds x.top) m.is (instance_holds m.unit m.tree m.filled)

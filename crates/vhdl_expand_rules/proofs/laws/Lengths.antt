@@ -1,5 +1,5 @@
 -- Objects of an expanded tree are as long as what they start with, and as their actuals.
-use Rattle.std.proofs.Common.{◌≡◌, ℕ, ◌==◌, List, [], ◌∷◌, ◌++◌, length, map, replicate, Option, Some, None, Ok, sym, ap, ◌∙◌, subst}
+use Rattle.std.proofs.Common.{◌≡◌, ℕ, ◌==◌, List, [], ◌∷◌, length, map, replicate, Option, Some, None, Ok, All, sym, ap, ◌∙◌, subst}
 use Rattle.std.specs.Prelude.{slice_get}
 use Rattle.std.proofs.lemmas.List.Elements.{All-append}
 use Rattle.std.proofs.lemmas.Bool.{eqb-true}
@@ -7,20 +7,18 @@ use Rattle.vhdl_values.specs.declared.scalar.Nine.{Nine}
 use Rattle.vhdl_values.specs.Scalar.{code_of}
 use Rattle.vhdl_values.specs.Numbers.{digits_of}
 use Rattle.vhdl_names_rules.specs.units.Units as u
-use Rattle.vhdl_names_rules.specs.units.Units.{Fixed, Port, Entity}
+use Rattle.vhdl_names_rules.specs.units.Units.{Fixed, Port}
 use Rattle.vhdl_expand_rules.specs.declared.fault.ElabProblem.TheVariants.{Length, Index}
 use Rattle.vhdl_expand_rules.specs.Elab.{◌>>=◌, item_or, same_length}
 use Rattle.vhdl_expand_rules.specs.Integers.{natural}
 use Rattle.vhdl_expand_rules.specs.Kinds.{ObjectKind, vector, enumeration, size, size_of}
 use Rattle.vhdl_expand_rules.specs.Site.{Site}
-use Rattle.vhdl_expand_rules.specs.Tree.{Role, internal, Object, Instance, Parts, no_parts, inner, followed_by}
-use Rattle.vhdl_expand_rules.specs.Tree as t
+use Rattle.vhdl_expand_rules.specs.Tree.{Role, internal, Object}
 use Rattle.vhdl_expand_rules.specs.Declarations.{as_long_as, fixed_values, given_starts, starts, object, role_of}
-use Rattle.vhdl_expand_rules.specs.Expansion.{Design}
-use Rattle.vhdl_expand_rules.specs.laws.Lengths.{ObjectFits, InstanceFits, PartsFit, EachDesignFits}
+use Rattle.vhdl_expand_rules.specs.laws.Lengths.{ObjectFits, EachDesignFits}
 use Rattle.vhdl_expand_rules.proofs.Steps.{given, ok, bound, kept}
 use Rattle.vhdl_expand_rules.proofs.Items.{all_any, all_of_zip}
-use Rattle.vhdl_expand_rules.proofs.laws.Expanded.{object_made, OfObjects, Any, any_ports, any_signals, AnyAt, any_parts, Filled, OfUnits, design_filled}
+use Rattle.vhdl_expand_rules.proofs.laws.Expanded.{object_made, OfObjects, Any, any_ports, any_signals, OfInstances, design_holds}
 use Rattle.std.proofs.lemmas.List.{length-map, length-replicate}
 
 -- ---- values
@@ -78,30 +76,15 @@ objects = record {
   of_signal = λ here o x s h. object-fits here internal o x h;
 }
 
--- ---- concurrent statements
-
-followed_by-fits : (a b : Parts) → PartsFit a → PartsFit b → PartsFit (followed_by a b)
-followed_by-fits no_parts b h k = k
-followed_by-fits (t.process p rest) b h k = followed_by-fits rest b h k
-followed_by-fits (inner label i rest) b h k = (h.0, followed_by-fits rest b h.1 k)
-
 -- ---- instances
 
-instance-fits : (unit : Entity) (i : Instance) → Filled PortFits ObjectFits PartsFit unit i → InstanceFits i
-instance-fits unit i f =
-    subst InstanceFits {x = t.instance (f.ports ++ f.signals) f.turns f.parts} f.is
-    (All-append ObjectFits f.ports f.signals (all_of_zip PortFits ObjectFits (λ p o k. k) unit.ports f.ports f.of_ports) f.of_signals, f.of_parts)
-
-each-unit : OfUnits Any Any PortFits ObjectFits AnyAt AnyAt PartsFit
-each-unit = record {
+instances : OfInstances Any Any PortFits ObjectFits (All ObjectFits)
+instances = record {
   objects = objects;
-  parts = any_parts PartsFit tt followed_by-fits (λ p. tt);
   of_unit = λ unit k. any_ports unit.ports;
-  of_architecture = λ unit a site k e. (any_signals a.declarations, tt);
-  of_instance = λ here x unit i s f. (instance-fits unit i f, tt);
+  of_architecture = λ unit a k there. any_signals a.declarations;
+  of_instance = λ unit ports signals h k. All-append ObjectFits ports signals (all_of_zip PortFits ObjectFits (λ p o fits. fits) unit.ports ports h) k;
 }
 
 pub design-fits : EachDesignFits
-design-fits units top design h =
-    let m = design_filled Any Any PortFits ObjectFits AnyAt AnyAt PartsFit each-unit units (all_any Any (λ x. tt) units) top design h in
-    subst (λ (x : Design). InstanceFits x.top) m.is (instance-fits m.unit m.tree m.filled)
+design-fits units top design h = design_holds Any Any PortFits ObjectFits (All ObjectFits) instances units (all_any Any (λ x. tt) units) top design h

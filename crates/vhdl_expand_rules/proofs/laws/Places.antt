@@ -45,21 +45,20 @@ extent-downto m n h =
 
 -- ---- one place
 
+-- a number within these, and how far it is from the left
+place-from : (low high left : ℕ) (i : ℤ) (p : ℕ) (told : Told) → cond (int_le (pos low) i && int_le i (pos high)) (given (nat_abs (i -ℤ pos left))) (Err told) ≡ Ok p
+    → (n : ℕ) × (i ≡ pos n) × (low ≤ n) × (n ≤ high) × (nat_abs (pos n -ℤ pos left) ≡ p)
+place-from low high left (negsuc k) p told h = absurd cc
+place-from low high left (pos n) p told h =
+    let w = when (int_le (pos low) (pos n) && int_le (pos n) (pos high)) (nat_abs (pos n -ℤ pos left)) p told h in
+    let both = and_parts (int_le (pos low) (pos n)) (int_le (pos n) (pos high)) w.0 in
+    (n, refl, leb-true low n both.0, leb-true n high both.1, w.1)
+
 place-to : (at l r : ℕ) (i : ℤ) (p : ℕ) → place_of (bounds l To r) at i ≡ Ok p → (n : ℕ) × (i ≡ pos n) × (l ≤ n) × (n ≤ r) × (p ≡ n - l)
-place-to at l r (negsuc k) p h = absurd cc
-place-to at l r (pos n) p h =
-    let w = when (int_le (pos l) (pos n) && int_le (pos n) (pos r)) (nat_abs (pos n -ℤ pos l)) p (Index, at) h in
-    let both = and_parts (int_le (pos l) (pos n)) (int_le (pos n) (pos r)) w.0 in
-    let low : l ≤ n = leb-true l n both.0 in
-    (n, refl, low, leb-true n r both.1, sym w.1 ∙ apart-down n l low)
+place-to at l r i p h = let w = place-from l r l i p (Index, at) h in (w.0, w.1, w.2, w.3, sym w.4 ∙ apart-down w.0 l w.2)
 
 place-downto : (at l r : ℕ) (i : ℤ) (p : ℕ) → place_of (bounds l Downto r) at i ≡ Ok p → (n : ℕ) × (i ≡ pos n) × (r ≤ n) × (n ≤ l) × (p ≡ l - n)
-place-downto at l r (negsuc k) p h = absurd cc
-place-downto at l r (pos n) p h =
-    let w = when (int_le (pos r) (pos n) && int_le (pos n) (pos l)) (nat_abs (pos n -ℤ pos l)) p (Index, at) h in
-    let both = and_parts (int_le (pos r) (pos n)) (int_le (pos n) (pos l)) w.0 in
-    let high : n ≤ l = leb-true n l both.1 in
-    (n, refl, leb-true r n both.0, high, sym w.1 ∙ apart-up n l high)
+place-downto at l r i p h = let w = place-from r l l i p (Index, at) h in (w.0, w.1, w.2, w.3, sym w.4 ∙ apart-up w.0 l w.3)
 
 below_by : (p size k : ℕ) → size ≡ suc k → p ≤ k → p < size
 below_by p size k e h = omega (arith, e, h)
@@ -95,21 +94,32 @@ run-within size first len m n s e some most =
       most = omega (arith, l, s, e, most);
     }
 
-slice-to : (l r m n first : ℕ) (x y : ℤ) → x ≡ pos m → y ≡ pos n → l ≤ m → n ≤ r → first ≡ m - l → not (is_null To x y) ≡ true
-    → Within (bounds_size (bounds l To r)) (range_with_len first (extent To x y))
-slice-to l r m n first x y p q low high e h =
-    let some : not (is_null To (pos m) (pos n)) ≡ true = sym (ap (λ (z : ℤ). not (is_null To z y)) p ∙ ap (λ (z : ℤ). not (is_null To (pos m) z)) q) ∙ h in
-    let le : m ≤ n = ltb-false n m (not-true (is_null To (pos m) (pos n)) some) in
-    run-within (bounds_size (bounds l To r)) first (extent To x y) (suc (r - l)) (suc (n - m)) (extent-to l r (omega (arith, low, high, le)))
-    (ap (λ (z : ℤ). extent To z y) p ∙ ap (extent To (pos m)) q ∙ extent-to m n le) (omega arith) (omega (arith, low, high, le, e))
+-- ---- slices
 
-slice-downto : (l r m n first : ℕ) (x y : ℤ) → x ≡ pos m → y ≡ pos n → m ≤ l → r ≤ n → first ≡ l - m → not (is_null Downto x y) ≡ true
-    → Within (bounds_size (bounds l Downto r)) (range_with_len first (extent Downto x y))
-slice-downto l r m n first x y p q high low e h =
-    let some : not (is_null Downto (pos m) (pos n)) ≡ true = sym (ap (λ (z : ℤ). not (is_null Downto z y)) p ∙ ap (λ (z : ℤ). not (is_null Downto (pos m) z)) q) ∙ h in
-    let le : n ≤ m = ltb-false m n (not-true (is_null Downto (pos m) (pos n)) some) in
-    run-within (bounds_size (bounds l Downto r)) first (extent Downto x y) (suc (l - r)) (suc (m - n)) (extent-downto l r (omega (arith, low, high, le)))
-    (ap (λ (z : ℤ). extent Downto z y) p ∙ ap (extent Downto (pos m)) q ∙ extent-downto m n le) (omega arith) (omega (arith, low, high, le, e))
+some-numbers : (d : Direction) (x y : ℤ) (m n : ℕ) → x ≡ pos m → y ≡ pos n → not (is_null d x y) ≡ true → is_null d (pos m) (pos n) ≡ false
+some-numbers d x y m n p q h = not-true (is_null d (pos m) (pos n)) (sym (ap (λ (z : ℤ). not (is_null d z y)) p ∙ ap (λ (z : ℤ). not (is_null d (pos m) z)) q) ∙ h)
+
+extent-is : (d : Direction) (x y : ℤ) (m n k count : ℕ) → x ≡ pos m → y ≡ pos n → extent d (pos m) (pos n) ≡ suc k → k ≡ count → extent d x y ≡ suc count
+extent-is d x y m n k count p q e same = ap (λ (z : ℤ). extent d z y) p ∙ ap (extent d (pos m)) q ∙ e ∙ ap suc same
+
+-- from one place to another
+between : (at l r : ℕ) (d : Direction) (x y : ℤ) (p q : ℕ) → not (is_null d x y) ≡ true → place_of (bounds l d r) at x ≡ Ok p → place_of (bounds l d r) at y ≡ Ok q
+    → (p ≤ q) × (extent d x y ≡ suc (q - p))
+between at l r To x y p q some h k =
+    let m = place-to at l r x p h in
+    let n = place-to at l r y q k in
+    let le : m.0 ≤ n.0 = ltb-false n.0 m.0 (some-numbers To x y m.0 n.0 m.1 n.1 some) in
+    (omega (arith, m.4, n.4, m.2, le), extent-is To x y m.0 n.0 (n.0 - m.0) (q - p) m.1 n.1 (extent-to m.0 n.0 le) (omega (arith, m.4, n.4, m.2, le)))
+between at l r Downto x y p q some h k =
+    let m = place-downto at l r x p h in
+    let n = place-downto at l r y q k in
+    let le : n.0 ≤ m.0 = ltb-false m.0 n.0 (some-numbers Downto x y m.0 n.0 m.1 n.1 some) in
+    (omega (arith, m.4, n.4, m.3, le), extent-is Downto x y m.0 n.0 (m.0 - n.0) (q - p) m.1 n.1 (extent-downto m.0 n.0 le) (omega (arith, m.4, n.4, m.3, le)))
+
+same-direction : (c d : Direction) → is_same_direction c d ≡ true → c ≡ d
+same-direction To To h = refl
+same-direction Downto Downto h = refl
+same-direction _ _ h = absurd cc
 
 -- what a slice keeps to
 record Slice (b : Bounds) (at : ℕ) (d : Direction) (x y : ℤ) (ps : List ℕ) : Type 0 where
@@ -137,16 +147,11 @@ slice-of b at d x y ps h =
       is = ok (range_with_len first.x (extent d x y)) ps last.then_gave;
     }
 
-slice-within : (at l : ℕ) (d : Direction) (r : ℕ) (e : Direction) (x y : ℤ) (ps : List ℕ) → Slice (bounds l d r) at e x y ps → Within (bounds_size (bounds l d r)) ps
-slice-within at l To r To x y ps s =
-    let m = place-to at l r x s.first s.begins in
-    let n = place-to at l r y s.last s.ends in
-    subst (Within (bounds_size (bounds l To r))) s.is (slice-to l r m.0 n.0 s.first x y m.1 n.1 m.2 n.3 m.4 s.some)
-slice-within at l Downto r Downto x y ps s =
-    let m = place-downto at l r x s.first s.begins in
-    let n = place-downto at l r y s.last s.ends in
-    subst (Within (bounds_size (bounds l Downto r))) s.is (slice-downto l r m.0 n.0 s.first x y m.1 n.1 m.3 n.2 m.4 s.some)
-slice-within at l _ r _ x y ps s = absurd (let e = s.same in cc)
-
 pub slice_within : (b : Bounds) (at : ℕ) (d : Direction) (x y : ℤ) (ps : List ℕ) → slice_places b at d x y ≡ Ok ps → Within (bounds_size b) ps
-slice_within b at d x y ps h = slice-within at b.left b.direction b.right d x y ps (slice-of b at d x y ps h)
+slice_within b at d x y ps h =
+    let s = slice-of b at d x y ps h in
+    let e = same-direction b.direction d s.same in
+    let w = between at b.left b.right b.direction x y s.first s.last (subst (λ (c : Direction). not (is_null c x y) ≡ true) (sym e) s.some) s.begins s.ends in
+    let last : s.last < bounds_size b = place_below b at y s.last s.ends in
+    subst (Within (bounds_size b)) s.is (run-within (bounds_size b) s.first (extent d x y) (bounds_size b) (suc (s.last - s.first)) refl
+    (ap (λ (c : Direction). extent c x y) (sym e) ∙ w.1) (omega arith) (omega (arith, w.0, last)))

@@ -12,7 +12,8 @@ use Rattle.vhdl_expand_rules.specs.Elab.{Elab, ◌>>=◌, item_or}
 use Rattle.vhdl_expand_rules.specs.Integers.{Integers, checked_integer, integer_operation, integer}
 use Rattle.vhdl_expand_rules.specs.Kinds.{ObjectKind, one, vector, enumeration, size, place_of, slice_places, places}
 use Rattle.vhdl_expand_rules.specs.Site.{Site, elements_count, part_elements, signal_elements, place_elements}
-use Rattle.vhdl_expand_rules.specs.Prefixes.{is_static, is_static_part, prefix}
+use Rattle.vhdl_names_rules.specs.Names.{is_static}
+use Rattle.vhdl_expand_rules.specs.Prefixes.{is_static_part, prefix}
 use Rattle.vhdl_expand_rules.proofs.Steps.{given, ok, bound}
 use Rattle.vhdl_expand_rules.proofs.laws.Places.{place_below, slice_within}
 

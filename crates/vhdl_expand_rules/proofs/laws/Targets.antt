@@ -16,7 +16,8 @@ use Rattle.vhdl_expand_rules.specs.Kinds.{ObjectKind}
 use Rattle.vhdl_expand_rules.specs.Site.{Site, in_loop, place_elements, variable_elements}
 use Rattle.vhdl_expand_rules.specs.Expressions as x
 use Rattle.vhdl_expand_rules.specs.Statements.{value_given, choice, joined_bodies, one, statement, statements, branches, alternatives}
-use Rattle.vhdl_expand_rules.specs.Prefixes.{prefix, statement_targets, targets, branches_targets, alternatives_targets, concatenation_of, is_among, in_order}
+use Rattle.vhdl_expand_rules.specs.declared.prefix.Sought.TheVariants.{Assigned}
+use Rattle.vhdl_expand_rules.specs.Prefixes.{prefix, statement_names, targets, branches_names, alternatives_names, concatenation_of, is_among, in_order}
 use Rattle.vhdl_expand_rules.specs.laws.Trees.{Assigns, BranchesAssign, AlternativesAssign}
 use Rattle.vhdl_expand_rules.proofs.Steps.{ok, bound, each-all}
 use Rattle.vhdl_expand_rules.proofs.laws.Prefixes.{within, name_in_prefix}
@@ -127,7 +128,7 @@ module _ (here : Site) (vs : List ObjectKind) (P : ℕ → Type 0) where
   mutual
     unfolding statement
 
-    statement-assigns : (y : s.Statement) (loops : List ℤ) (body : bodies.Stmts) → All Driven (statement_targets y) → statement (within here loops vs) y ≡ Ok body → Assigns P body
+    statement-assigns : (y : s.Statement) (loops : List ℤ) (body : bodies.Stmts) → All Driven (statement_names Assigned y) → statement (within here loops vs) y ≡ Ok body → Assigns P body
     statement-assigns s.null_of loops body h m = subst (Assigns P) (ok (one bodies.null_of) body m) (tt, tt)
     statement-assigns (s.assign p g) loops body h m =
         let es = bound (place_elements (within here loops vs) p) _ body m in
@@ -157,10 +158,10 @@ module _ (here : Site) (vs : List ObjectKind) (P : ℕ → Type 0) where
         let a = bound (statement (within here loops vs) y) _ body m in
         let c = bound (statements (within here loops vs) ys) _ body a.then_gave in
         subst (Assigns P) (ok (bodies.followed_by a.x c.x) body c.then_gave)
-        (followed-assigns a.x c.x (statement-assigns y loops a.x (all_left Driven (statement_targets y) (targets ys) h) a.gave)
-        (statements-assign ys loops c.x (all_right Driven (statement_targets y) (targets ys) h) c.gave))
+        (followed-assigns a.x c.x (statement-assigns y loops a.x (all_left Driven (statement_names Assigned y) (targets ys) h) a.gave)
+        (statements-assign ys loops c.x (all_right Driven (statement_names Assigned y) (targets ys) h) c.gave))
 
-    branches-assign : (bs : s.Branches) (loops : List ℤ) (cs : bodies.Branches) → All Driven (branches_targets bs) → branches (within here loops vs) bs ≡ Ok cs → BranchesAssign P cs
+    branches-assign : (bs : s.Branches) (loops : List ℤ) (cs : bodies.Branches) → All Driven (branches_names Assigned bs) → branches (within here loops vs) bs ≡ Ok cs → BranchesAssign P cs
     branches-assign s.no_else loops cs h m = subst (BranchesAssign P) (ok bodies.no_else cs m) tt
     branches-assign (s.otherwise ys) loops cs h m =
         let a = bound (statements (within here loops vs) ys) _ cs m in
@@ -170,9 +171,9 @@ module _ (here : Site) (vs : List ObjectKind) (P : ℕ → Type 0) where
         let a = bound (statements (within here loops vs) ys) _ cs c.then_gave in
         let rest = bound (branches (within here loops vs) bs) _ cs a.then_gave in
         subst (BranchesAssign P) (ok (bodies.branch c.x a.x rest.x) cs rest.then_gave)
-        (statements-assign ys loops a.x (all_left Driven (targets ys) (branches_targets bs) h) a.gave, branches-assign bs loops rest.x (all_right Driven (targets ys) (branches_targets bs) h) rest.gave)
+        (statements-assign ys loops a.x (all_left Driven (targets ys) (branches_names Assigned bs) h) a.gave, branches-assign bs loops rest.x (all_right Driven (targets ys) (branches_names Assigned bs) h) rest.gave)
 
-    alternatives-assign : (alts : s.Alternatives) (loops : List ℤ) (at len : ℕ) (cs : bodies.Alternatives) → All Driven (alternatives_targets alts)
+    alternatives-assign : (alts : s.Alternatives) (loops : List ℤ) (at len : ℕ) (cs : bodies.Alternatives) → All Driven (alternatives_names Assigned alts)
         → alternatives (within here loops vs) at len alts ≡ Ok cs → AlternativesAssign P cs
     alternatives-assign (s.others ys) loops at len cs h m =
         let a = bound (statements (within here loops vs) ys) _ cs m in
@@ -182,7 +183,7 @@ module _ (here : Site) (vs : List ObjectKind) (P : ℕ → Type 0) where
         let a = bound (statements (within here loops vs) ys) _ cs c.then_gave in
         let rest = bound (alternatives (within here loops vs) at len alts) _ cs a.then_gave in
         subst (AlternativesAssign P) (ok (bodies.alternative c.x a.x rest.x) cs rest.then_gave)
-        (statements-assign ys loops a.x (all_left Driven (targets ys) (alternatives_targets alts) h) a.gave, alternatives-assign alts loops at len rest.x (all_right Driven (targets ys) (alternatives_targets alts) h) rest.gave)
+        (statements-assign ys loops a.x (all_left Driven (targets ys) (alternatives_names Assigned alts) h) a.gave, alternatives-assign alts loops at len rest.x (all_right Driven (targets ys) (alternatives_names Assigned alts) h) rest.gave)
 
 pub body_assigns : (here : Site) (vs : List ObjectKind) (P : ℕ → Type 0) (ys : s.Statements) (loops : List ℤ) (body : bodies.Stmts)
     → All (λ (p : SignalPart). (ds : List ℕ) × (place_elements here (prefix p) ≡ Ok ds) × All P ds) (targets ys) → statements (within here loops vs) ys ≡ Ok body → Assigns P body
@@ -196,7 +197,7 @@ IsDriven i p = is_driven i p.signal ≡ true
 mutual
   unfolding statement_fits
 
-  statement-targets : (y : s.Statement) (i : Inside) → statement_fits i y ≡ true → All (IsDriven i) (statement_targets y)
+  statement-targets : (y : s.Statement) (i : Inside) → statement_fits i y ≡ true → All (IsDriven i) (statement_names Assigned y)
   statement-targets (s.assign p g) i k = All-cons (IsDriven i) p [] (and_parts (is_driven i p.signal) (given_fits_target i (place_shape i p) g) k).0 (All-nil (IsDriven i))
   statement-targets (s.if_of at bs) i k = branches-targets bs i k
   statement-targets (s.case_of at v alts) i k = alternatives-targets alts i (value_shape i v) (and_parts (selector_fits i v) (alternatives_fit i (value_shape i v) alts) k).1
@@ -207,20 +208,20 @@ mutual
   statements-targets s.done i k = All-nil (IsDriven i)
   statements-targets (s.step y ys) i k =
       let both = and_parts (statement_fits i y) (statements_fit i ys) k in
-      All-append (IsDriven i) (statement_targets y) (targets ys) (statement-targets y i both.0) (statements-targets ys i both.1)
+      All-append (IsDriven i) (statement_names Assigned y) (targets ys) (statement-targets y i both.0) (statements-targets ys i both.1)
 
-  branches-targets : (bs : s.Branches) (i : Inside) → branches_fit i bs ≡ true → All (IsDriven i) (branches_targets bs)
+  branches-targets : (bs : s.Branches) (i : Inside) → branches_fit i bs ≡ true → All (IsDriven i) (branches_names Assigned bs)
   branches-targets s.no_else i k = All-nil (IsDriven i)
   branches-targets (s.otherwise ys) i k = statements-targets ys i k
   branches-targets (s.branch t ys bs) i k =
       let both = and_parts (test_fits i t && statements_fit i ys) (branches_fit i bs) k in
-      All-append (IsDriven i) (targets ys) (branches_targets bs) (statements-targets ys i (and_parts (test_fits i t) (statements_fit i ys) both.0).1) (branches-targets bs i both.1)
+      All-append (IsDriven i) (targets ys) (branches_names Assigned bs) (statements-targets ys i (and_parts (test_fits i t) (statements_fit i ys) both.0).1) (branches-targets bs i both.1)
 
-  alternatives-targets : (alts : s.Alternatives) (i : Inside) (o : Option Shape) → alternatives_fit i o alts ≡ true → All (IsDriven i) (alternatives_targets alts)
+  alternatives-targets : (alts : s.Alternatives) (i : Inside) (o : Option Shape) → alternatives_fit i o alts ≡ true → All (IsDriven i) (alternatives_names Assigned alts)
   alternatives-targets (s.others ys) i o k = statements-targets ys i k
   alternatives-targets (s.alternative cs ys alts) i o k =
       let both = and_parts (list_all (choice_fits o) cs && statements_fit i ys) (alternatives_fit i o alts) k in
-      All-append (IsDriven i) (targets ys) (alternatives_targets alts) (statements-targets ys i (and_parts (list_all (choice_fits o) cs) (statements_fit i ys) both.0).1) (alternatives-targets alts i o both.1)
+      All-append (IsDriven i) (targets ys) (alternatives_names Assigned alts) (statements-targets ys i (and_parts (list_all (choice_fits o) cs) (statements_fit i ys) both.0).1) (alternatives-targets alts i o both.1)
 
 pub targets_are_driven : (ys : s.Statements) (i : Inside) → statements_fit i ys ≡ true → All (λ (p : SignalPart). is_driven i p.signal ≡ true) (targets ys)
 targets_are_driven ys i k = statements-targets ys i k

@@ -2,7 +2,7 @@
 use Rattle.std.specs.Prelude.{Bool, true, ◌&&◌, List, [], ◌∷◌}
 use Rattle.vhdl_names_rules.specs.declared.integer.StaticLink.{StaticLink}
 use Rattle.vhdl_names_rules.specs.views.Integers.{static_view}
-use Rattle.vhdl_expand_rules.specs.Prefixes.{is_static}
+use Rattle.vhdl_names_rules.specs.Names.{is_static}
 
 -- each operand is static
 abbrev pub all_static : List StaticLink → Bool

@@ -30,14 +30,13 @@ pub loop-name-preserved : goal.loop-name-preserved
 loop-name-preserved c =
     let above = site_view c.args.above.now in
     let actuals = places_view c.args.actuals.now in
-    let p = any_port c.args.declaration.now in
     let os = c.loop-name.ports.items in
     let n = c.loop-name.count in
     let below : n < length os = first_of (search rules, omega arith) in
     let actual = actual_seen (λ x. place_view x.now) n c.args.actuals.now c.actual_of-actual.result c.actual_of-actual.ensures in
     record {
-      rest = same_goes (next_associated above c.args.at actuals) p _ (associated_to n os) _ c.as_slice-names.result.now c.loop-name._name-index c.loop-name-test.true c.loop-name.invariant.rest
-          (next_given above c.args.at actuals os _ n c.index_mut.result.now c.associate.new.port p _ below c.index_mut.ensures.value actual c.in_ok-associate.ensures refl);
+      rest = same_goes (next_associated above c.args.at actuals) (any_port c.args.declaration.now) _ (associated_to n os) _ c.as_slice-names.result.now c.loop-name._name-index c.loop-name-test.true c.loop-name.invariant.rest
+          (next_given above c.args.at actuals os _ n c.index_mut.result.now c.associate.new.port (any_port c.args.declaration.now) _ below c.index_mut.ensures.value actual c.in_ok-associate.ensures refl);
       within = omega (arith, below, length-set os n c.associate.new.port);
     }
 
@@ -51,13 +50,11 @@ pub returns-in_err-associate-clause-given : goal.returns-in_err-associate-clause
 returns-in_err-associate-clause-given c =
     let above = site_view c.args.above.now in
     let actuals = places_view c.args.actuals.now in
-    let p = any_port c.args.declaration.now in
     let os = c.loop-name.ports.items in
     let n = c.loop-name.count in
-    let below : n < length os = first_of (search rules, omega arith) in
     let actual = actual_seen (λ x. place_view x.now) n c.args.actuals.now c.actual_of-actual.result c.actual_of-actual.ensures in
     let stopped : c.in_err-associate.field-0.0 ≢ NoMemory
     → (stepwise (next_associated above c.args.at actuals) (associated_to c.args.before c.args.ports.now.items) (ports_view c.args.declaration.now)) ≡ Err (fault_told c.in_err-associate.field-0.0) =
-    λ m. same_stops (next_associated above c.args.at actuals) p _ (associated_to n os) c.as_slice-names.result.now c.loop-name._name-index c.loop-name-test.true c.loop-name.invariant.rest
-    (next_refused above c.args.at actuals os n c.index_mut.result.now p _ below c.index_mut.ensures.value actual (c.in_err-associate.ensures m)) in
+    λ m. same_stops (next_associated above c.args.at actuals) (any_port c.args.declaration.now) _ (associated_to n os) c.as_slice-names.result.now c.loop-name._name-index c.loop-name-test.true c.loop-name.invariant.rest
+    (next_refused above c.args.at actuals os n c.index_mut.result.now (any_port c.args.declaration.now) _ (first_of (search rules, omega arith)) c.index_mut.ensures.value actual (c.in_err-associate.ensures m)) in
     passed_on _ _ c.in_err-associate.field-0.0 _ c.from_residual.result c.from_residual.ensures.1 (λ e p. p) stopped

@@ -1,7 +1,4 @@
-use mir.Syntax.{w32}
-use mir.Val.{SFits, to_z, of_z}
-use Rattle.std.proofs.lemmas.Int.{ints}
-use Rattle.std.proofs.Common.{◌≡◌, ◌<◌, ◌∷◌, ◌++◌, length, map, Ok, refl, ap, ◌∙◌, arith, rules}
+use Rattle.std.proofs.Common.{◌<◌, ◌∷◌, ◌++◌, length, map, Ok, refl, ap, ◌∙◌, arith, rules}
 use Rattle.std.specs.Prelude.{◌≢◌, flat_map}
 use Rattle.vhdl_names_rules.specs.units.Bytes.{range_bytes, value_bytes, statement_bytes, statements_bytes, branches_bytes, alternatives_bytes}
 use Rattle.vhdl_names_rules.specs.units.Statements as units
@@ -13,14 +10,16 @@ use Rattle.vhdl_names_units.specs.declared.sequential.Statement.TheVariants as v
 use Rattle.vhdl_names_units.specs.views.Sequential as analysed
 use Rattle.vhdl_expand_rules.specs.declared.fault.ElabFault.TheVariants.{NoMemory}
 use Rattle.vhdl_expand_rules.specs.views.Integers.{integers_view}
+use Rattle.vhdl_expand_rules.proofs.Modulus.{same_word}
 use Rattle.vhdl_expand_rules.proofs.Steps.{given}
+use Rattle.vhdl_expand_rules.proofs.Items.{none_left}
 use Rattle.vhdl_expand_tree.specs.Costs as costs
 use Rattle.vhdl_expand_tree.specs.Costs.{a_statement}
 use Rattle.vhdl_expand_tree.specs.Views.{budget_view}
 use Rattle.vhdl_expand_tree.proofs.Alike.{alike_same, alike_trans, tells_same, tells_among}
 use Rattle.vhdl_expand.specs.Unrolled.{paid, both, together, in_turn, statement_costs, statements_costs, alternatives_costs, guarded_costs, chosen_costs, guarded_bytes, chosen_bytes}
 use Rattle.vhdl_expand.proofs.Among.{body_bytes, among_right, first_among, under, then_among, same_among, each_among, statement_among, branches_among, some_among, alternatives_among, others_among, charges_among, shown}
-use Rattle.vhdl_expand.proofs.Paying.{charges_alike, list_end, none_left, list_go, list_stop, turns_go, turns_stop, turns_end}
+use Rattle.vhdl_expand.proofs.Paying.{charges_alike, list_end, list_go, list_stop, turns_go, turns_stop, turns_end}
 use Rattle.vhdl_expand.proofs.Sums.{if_view, case_view, loop_view, statements_together, if_costs, case_costs, loop_view_costs, same_list, same_branches, same_alternatives, same_turn}
 use Rattle.vhdl_expand.proofs.Sums.{choose_stops, branches_stop, no_else, some_else, select_stops, alternatives_stop, alternatives_go, range_stops, count_stops, turns_begin}
 use Rattle.vhdl_expand.proofs.Spending.{spent_here, spent_stops, told_where, charged_alone}
@@ -228,23 +227,19 @@ pub of_loop-loop-turn-preserved : goal.of_loop-loop-turn-preserved
 of_loop-loop-turn-preserved t c =
     let here = integers_view c.args.integers.now in
     let body = analysed.statements_of (analysed.statements_view c.args.repeated.now.statements) in
-    let same = c.parameter-value.ensures in
-    let f : SFits w32 c.parameter-value.result = search rules in
-    let fixed : to_z w32 (of_z w32 c.parameter-value.result) ≡ c.parameter-value.result = omega (arith, ints) in
+    let fixed = same_word c.parameter-value.result (search rules) in
     turns_go (λ i. statements_costs (in_turn here i) body) c.in_ok-turns.turns.direction c.in_ok-turns.turns.first c.in_ok-turns.turns.count _ _ _ c.loop-turn.turn c.parameter-value.result
-    c.loop-turn-test.true same c.loop-turn.invariant (same_turn here _ body _ _ fixed ∙ c.in_ok-of_turn.ensures)
+    c.loop-turn-test.true c.parameter-value.ensures c.loop-turn.invariant (same_turn here _ body _ _ fixed ∙ c.in_ok-of_turn.ensures)
 
 pub of_loop-returns-in_err-of_turn-clause-given : goal.of_loop-returns-in_err-of_turn-clause-given
 of_loop-returns-in_err-of_turn-clause-given t c =
     let here = integers_view c.args.integers.now in
     let body = analysed.statements_of (analysed.statements_view c.args.repeated.now.statements) in
-    let same = c.parameter-value.ensures in
-    let f : SFits w32 c.parameter-value.result = search rules in
-    let fixed : to_z w32 (of_z w32 c.parameter-value.result) ≡ c.parameter-value.result = omega (arith, ints) in
+    let fixed = same_word c.parameter-value.result (search rules) in
     let stopped : c.in_err-of_turn.field-0.0 ≢ NoMemory
     → MayTell (c.args.repeated.now.at ∷ statements_bytes body) (paid (budget_view c.args.budget.now) (statement_costs here (units.for_of c.args.repeated.now.at (range_view c.args.repeated.now.range) body))) (fault_told c.in_err-of_turn.field-0.0) =
     λ n. turns_stop (λ i. statements_costs (in_turn here i) body) c.in_ok-turns.turns.direction c.in_ok-turns.turns.first c.in_ok-turns.turns.count _ _ c.loop-turn.turn c.parameter-value.result
-    c.loop-turn-test.true same c.loop-turn.invariant (tells_same (same_turn here _ body _ _ fixed) (c.in_err-of_turn.ensures n)) in
+    c.loop-turn-test.true c.parameter-value.ensures c.loop-turn.invariant (tells_same (same_turn here _ body _ _ fixed) (c.in_err-of_turn.ensures n)) in
     passed_told _ _ c.in_err-of_turn.field-0.0 _ c.from_residual-in_err-of_turn.result c.from_residual-in_err-of_turn.ensures.1 (λ e p. p) stopped
 
 pub of_loop-returns-clause-given : goal.of_loop-returns-clause-given

@@ -1,4 +1,4 @@
-use Rattle.std.proofs.Common.{◌≡◌, Err, ◌<◌, length, rules, arith, sym, ap, ◌∙◌, subst}
+use Rattle.std.proofs.Common.{◌≡◌, Err, rules, arith, sym, ap, ◌∙◌, subst}
 use Rattle.std.specs.Prelude.{◌≢◌, flat_map}
 use Rattle.vhdl_names_units.specs.views.Declarations as units
 use Rattle.vhdl_expand_rules.specs.Declarations as definition
@@ -16,10 +16,8 @@ pub loop-declaration-preserved : goal.loop-declaration-preserved
 loop-declaration-preserved c =
     let d = declared_view c.loop-declaration.declared in
     let item = c.declaration-item.result in
-    let below : c.loop-declaration.declaration-index < length c.args.declarations.now = first_of (search rules, omega arith) in
-    let same = port_objects item.mode d (units.object_view item.objects) ∙ ap (λ r. stepwise (next_object r) d (units.object_view item.objects)) (sym c.role_of.ensures) in
-    all_go next_port units.ports_view _ d _ c.args.declarations.now c.loop-declaration.declaration-index item below c.declaration-item.is c.loop-declaration.invariant
-    (same ∙ c.in_ok-add_objects.ensures)
+    all_go next_port units.ports_view _ d _ c.args.declarations.now c.loop-declaration.declaration-index item (first_of (search rules, omega arith)) c.declaration-item.is c.loop-declaration.invariant
+    (port_objects item.mode d (units.object_view item.objects) ∙ ap (λ r. stepwise (next_object r) d (units.object_view item.objects)) (sym c.role_of.ensures) ∙ c.in_ok-add_objects.ensures)
 
 pub returns : goal.returns
 returns c =
@@ -30,10 +28,9 @@ pub returns-in_err-add_objects : goal.returns-in_err-add_objects
 returns-in_err-add_objects c =
     let d = declared_view c.loop-declaration.declared in
     let item = c.declaration-item.result in
-    let below : c.loop-declaration.declaration-index < length c.args.declarations.now = first_of (search rules, omega arith) in
     let same = port_objects item.mode d (units.object_view item.objects) ∙ ap (λ r. stepwise (next_object r) d (units.object_view item.objects)) (sym c.role_of.ensures) in
     let stopped : c.in_err-add_objects.field-0.0 ≢ NoMemory → (definition.ports (declared_view c.args.declared.now) (flat_map units.ports_view c.args.declarations.now)) ≡ Err (fault_told c.in_err-add_objects.field-0.0) =
     λ n. subst (λ r. r ≡ Err (fault_told c.in_err-add_objects.field-0.0)) (sym (ports_walk (declared_view c.args.declared.now) (flat_map units.ports_view c.args.declarations.now)))
-    (all_stop next_port units.ports_view _ d c.args.declarations.now c.loop-declaration.declaration-index item below c.declaration-item.is c.loop-declaration.invariant
+    (all_stop next_port units.ports_view _ d c.args.declarations.now c.loop-declaration.declaration-index item (first_of (search rules, omega arith)) c.declaration-item.is c.loop-declaration.invariant
     (subst (λ r. r ≡ Err (fault_told c.in_err-add_objects.field-0.0)) (sym same) (c.in_err-add_objects.ensures n))) in
     passed_on _ _ c.in_err-add_objects.field-0.0 _ c.from_residual.result c.from_residual.ensures.1 (λ e p. p) stopped

@@ -5,12 +5,12 @@ use Rattle.vhdl_tree.specs.View.{ident_view}
 use Rattle.vhdl_expand_rules.specs.declared.fault.ElabFault.TheVariants.{NoMemory}
 use Rattle.vhdl_expand_rules.specs.Declarations.{variable}
 use Rattle.vhdl_expand_rules.specs.Elab.{each, fault_told}
+use Rattle.vhdl_expand_rules.proofs.Items.{none_left}
 use Rattle.vhdl_expand_bodies.specs.Sites.{site_view}
 use Rattle.vhdl_expand_bodies.proofs.Sequences.{behind, each_goes, each_stops, each_ends}
 use Rattle.vhdl_expand_tree.specs.Views.{variable_view}
 use Rattle.vhdl_expand.specs.Processes.{named_object}
 use Rattle.vhdl_expand.proofs.Declaring.{seen_push}
-use Rattle.vhdl_expand.proofs.Paying.{none_left}
 use Rattle.vhdl_expand_bodies.proofs.Passing.{passed_on}
 use Rattle.vhdl_expand.proofs.variables.add_named.Goals as goal
 

@@ -1,12 +1,13 @@
 use Rattle.std.proofs.Common.{◌≡◌, ◌<◌, [], ◌∷◌, length, map, ap, sym, ◌∙◌, arith, rules}
 use Rattle.std.proofs.lemmas.Grind.{common_steps}
+use Rattle.vhdl_expand_rules.proofs.Items.{none_left}
 use Rattle.vhdl_expand_tree.specs.Costs.{spent, variable_elements, variables_costs}
 use Rattle.vhdl_expand_tree.specs.Views.{budget_view, variable_view}
 use Rattle.vhdl_expand_tree.proofs.Alike.{alike_same, alike_trans}
 use Rattle.vhdl_expand.specs.Unrolled.{paid}
 use Rattle.vhdl_expand.proofs.Among.{first_among}
 use Rattle.vhdl_expand.proofs.Declaring.{elements_costs, variables_together}
-use Rattle.vhdl_expand.proofs.Paying.{list_go, list_stop, list_end, none_left}
+use Rattle.vhdl_expand.proofs.Paying.{list_go, list_stop, list_end}
 use Rattle.vhdl_expand.proofs.Passing.{passed_told}
 use Rattle.vhdl_expand.proofs.Spending.{spent_from, spent_here, spent_stops, told_where}
 use Rattle.vhdl_expand.proofs.variables.charge_variables.Goals as goal

@@ -1,8 +1,8 @@
 use Rattle.std.proofs.Common.{◌^◌, ◌<◌, length, arith, rules}
+use Rattle.vhdl_expand_rules.proofs.Items.{none_left}
 use Rattle.vhdl_expand.specs.Variables.{variable_kind}
 use Rattle.vhdl_expand.proofs.Declaring.{kinds_go, kinds_end}
 use Rattle.vhdl_expand.proofs.Room.{next_fits}
-use Rattle.vhdl_expand.proofs.Paying.{none_left}
 use Rattle.vhdl_expand.proofs.variables.layout_of.Goals as goal
 
 pub add-requires-clause-few : goal.add-requires-clause-few

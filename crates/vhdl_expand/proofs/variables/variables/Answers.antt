@@ -4,9 +4,9 @@ use Rattle.vhdl_names_units.specs.views.Declarations.{object_view}
 use Rattle.vhdl_expand_rules.specs.declared.fault.ElabFault.TheVariants.{NoMemory}
 use Rattle.vhdl_expand_rules.specs.Declarations.{variable}
 use Rattle.vhdl_expand_rules.specs.Elab.{each, fault_told}
+use Rattle.vhdl_expand_rules.proofs.Items.{none_left}
 use Rattle.vhdl_expand_bodies.specs.Sites.{site_view}
 use Rattle.vhdl_expand.proofs.Declaring.{groups_go, groups_stop, groups_end, same_names}
-use Rattle.vhdl_expand.proofs.Paying.{none_left}
 use Rattle.vhdl_expand_bodies.proofs.Passing.{passed_on}
 use Rattle.vhdl_expand.proofs.variables.variables.Goals as goal
 

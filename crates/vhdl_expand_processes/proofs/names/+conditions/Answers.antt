@@ -1,10 +1,12 @@
-use Rattle.std.proofs.Common.{refl, ap}
+use Rattle.std.proofs.Common.{◌++◌, refl, ap, ◌∙◌}
+use Rattle.std.specs.Prelude.{flat_map}
 use Rattle.vhdl_names_rules.specs.declared.test.Test.{Test}
+use Rattle.vhdl_names_rules.specs.declared.test.TestStart.{TestStart}
 use Rattle.vhdl_names_rules.specs.views.Tests.{test_view}
 use Rattle.vhdl_expand_rules.specs.Prefixes.{test_names}
 use Rattle.vhdl_expand_processes.specs.Names.{test_link_names}
 use Rattle.vhdl_expand_processes.proofs.Gathering.{nothing_more, adds_along, adds_both, left_next, left_none}
-use Rattle.vhdl_expand_processes.proofs.Reading.{test_chain_adds}
+use Rattle.vhdl_expand_processes.proofs.Reading.{test_chain_names, chain_adds}
 use Rattle.vhdl_expand_processes.proofs.names.+conditions.Goals as goal
 
 pub of_test-returns-in-Holds : goal.of_test-returns-in-Holds
@@ -49,7 +51,8 @@ of_test-returns-in-Not t c =
 
 pub of_test-returns-in-Chain : goal.of_test-returns-in-Chain
 of_test-returns-in-Chain t c =
-    test_chain_adds _ c.in-Chain.start c.in-Chain.links _ _ c.args.found.now c.of_test_links.new.found c.in-Chain.is c.deref-in-Chain.ensures c.deref-in-Chain-2.ensures.value
+    chain_adds (λ (s : TestStart) ls. (test_names (test_view s.first) ++ test_link_names s.link) ++ flat_map test_link_names ls) _ c.in-Chain.start.value _ c.in-Chain.links.items _ c.args.found.now c.of_test_links.new.found
+    (ap (λ (x : Test). test_names (test_view x)) c.in-Chain.is ∙ test_chain_names c.in-Chain.start c.in-Chain.links) c.deref-in-Chain.ensures c.deref-in-Chain-2.ensures.value
     (adds_both c.args.found.now c.of_test_start.new.found c.of_test_links.new.found _ _ _ refl c.of_test_start.ensures c.of_test_links.ensures)
 
 pub of_test_start-returns : goal.of_test_start-returns

@@ -1,10 +1,12 @@
-use Rattle.std.proofs.Common.{refl, sym, ap, ◌∙◌}
+use Rattle.std.proofs.Common.{◌++◌, refl, sym, ap, ◌∙◌}
+use Rattle.std.specs.Prelude.{flat_map}
 use Rattle.vhdl_names_rules.specs.declared.vector.Vector.{Vector}
+use Rattle.vhdl_names_rules.specs.declared.vector.VectorStart.{VectorStart}
 use Rattle.vhdl_names_rules.specs.views.Vectors.{vector_view}
 use Rattle.vhdl_expand_rules.specs.Prefixes.{vector_names}
 use Rattle.vhdl_expand_processes.specs.Names.{link_names}
 use Rattle.vhdl_expand_processes.proofs.Gathering.{nothing_more, adds_along, adds_both, left_next, left_none}
-use Rattle.vhdl_expand_processes.proofs.Reading.{chain_adds}
+use Rattle.vhdl_expand_processes.proofs.Reading.{chain_names, chain_adds}
 use Rattle.vhdl_expand_processes.proofs.names.+vectors.Goals as goal
 
 pub of_vector-returns-in-Signal : goal.of_vector-returns-in-Signal
@@ -33,7 +35,8 @@ of_link-returns-in-Integer t c =
 
 pub of_vector-returns-in-Chain : goal.of_vector-returns-in-Chain
 of_vector-returns-in-Chain t c =
-    chain_adds _ c.in-Chain.start c.in-Chain.links _ _ c.args.found.now c.of_links.new.found c.in-Chain.is c.deref-in-Chain.ensures c.deref-in-Chain-2.ensures.value
+    chain_adds (λ (s : VectorStart) ls. (vector_names (vector_view s.first) ++ link_names s.link) ++ flat_map link_names ls) _ c.in-Chain.start.value _ c.in-Chain.links.items _ c.args.found.now c.of_links.new.found
+    (ap (λ (x : Vector). vector_names (vector_view x)) c.in-Chain.is ∙ chain_names c.in-Chain.start c.in-Chain.links) c.deref-in-Chain.ensures c.deref-in-Chain-2.ensures.value
     (adds_both c.args.found.now c.of_start.new.found c.of_links.new.found _ _ _ refl c.of_start.ensures c.of_links.ensures)
 
 pub of_start-returns : goal.of_start-returns

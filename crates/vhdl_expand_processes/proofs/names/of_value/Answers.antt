@@ -2,21 +2,13 @@ use Rattle.std.proofs.Common.{ap}
 use Rattle.vhdl_names_rules.specs.declared.vector.Value.{Value}
 use Rattle.vhdl_names_rules.specs.views.Vectors.{value_view}
 use Rattle.vhdl_expand_rules.specs.Prefixes.{value_names}
-use Rattle.vhdl_expand_processes.proofs.Gathering.{nothing_more, adds_along}
+use Rattle.vhdl_expand_processes.proofs.Gathering.{adds_along}
 use Rattle.vhdl_expand_processes.proofs.names.of_value.Goals as goal
 
 pub returns-in-Elements : goal.returns-in-Elements
 returns-in-Elements c =
     adds_along c.args.found.now c.of_vector.new.found _ _ (ap (λ (x : Value). value_names (value_view x)) c.in-Elements.is) c.of_vector.ensures
 
-pub returns-in-Position : goal.returns-in-Position
-returns-in-Position c =
-    nothing_more c.args.found.now _ (ap (λ (x : Value). value_names (value_view x)) c.in-Position.is)
-
 pub returns-in-StateOf : goal.returns-in-StateOf
 returns-in-StateOf c =
     adds_along c.args.found.now c.add_whole.new.self _ _ (ap (λ (x : Value). value_names (value_view x)) c.in-StateOf.is) c.add_whole.ensures
-
-pub returns-in-StateOfVariable : goal.returns-in-StateOfVariable
-returns-in-StateOfVariable c =
-    nothing_more c.args.found.now _ (ap (λ (x : Value). value_names (value_view x)) c.in-StateOfVariable.is)

@@ -13,6 +13,7 @@ use Rattle.vhdl_expand_rules.specs.Integers.{decision, turns}
 use Rattle.vhdl_expand_rules.specs.Site.{Site, no_integers}
 use Rattle.vhdl_expand_rules.specs.Tree.{Instance, no_parts}
 use Rattle.vhdl_expand_rules.specs.Statements.{statements, statements_turns}
+use Rattle.vhdl_expand_rules.specs.declared.prefix.Sought.TheVariants.{Read, Assigned}
 use Rattle.vhdl_expand_rules.specs.Prefixes.{targets, names, names_elements, prefixes_elements}
 use Rattle.vhdl_expand_rules.specs.Declarations.{InstanceObjects, interface, declarations, variable, associations}
 use Rattle.vhdl_expand_rules.specs.Expansion.{Spot, in_turn, in_branch, sensitivity, with_variables, process, instance, concurrent, concurrents, concurrent_turns, concurrents_turns, instance_of, entity_named, expanded_design}
@@ -23,7 +24,7 @@ use Rattle.vhdl_expand_rules.proofs.Items.{all_get, all_found}
 use Rattle.vhdl_expand_rules.proofs.laws.Targets.{all_left, all_right}
 use Rattle.vhdl_expand_rules.proofs.laws.told.Static.{turns_tells, decision_tells}
 use Rattle.vhdl_expand_rules.proofs.laws.told.Statements.{statements_tells, turns_of_statements_tells}
-use Rattle.vhdl_expand_rules.proofs.laws.told.Names.{targets_stand, names_stand, names_tell, prefixes_tell}
+use Rattle.vhdl_expand_rules.proofs.laws.told.Names.{names_stand, names_tell, prefixes_tell}
 use Rattle.vhdl_expand_rules.proofs.laws.told.Declarations.{MayStand, EntityStands, entity_stands, interface_tells, declarations_tell, variable_tells, associations_tell}
 
 module _ (P : ℕ → Type 0) where
@@ -36,7 +37,7 @@ module _ (P : ℕ → Type 0) where
   sensitivity-tells : P 0 → (here : Site) (on : u.Sensitivity) (body : Statements) → All P (sensitivity_bytes on) → All P (statements_bytes body) → Tells P (sensitivity here on body)
   unfolding sensitivity
   sensitivity-tells nought here (u.listed ps) body h k = tells_then P (names_elements here ps) _ (names_tell P here ps (all_flat P place_bytes ps h)) (λ es. tells_none P _)
-  sensitivity-tells nought here u.every body h k = tells_then P (prefixes_elements here (names body)) _ (prefixes_tell P here (names body) (names_stand P nought body k)) (λ es. tells_none P _)
+  sensitivity-tells nought here u.every body h k = tells_then P (prefixes_elements here (names body)) _ (prefixes_tell P here (names body) (names_stand P nought Read body k)) (λ es. tells_none P _)
   sensitivity-tells nought here u.as_read body h k = tells_none P _
 
   process-tells : P 0 → (here : Spot) (p : u.Process) → All P (process_bytes p) → Tells P (process here p)
@@ -49,7 +50,7 @@ module _ (P : ℕ → Type 0) where
       let body : All P (statements_bytes p.body) = all_right P on (statements_bytes p.body) more in
       tells_then P (each (variable here.site) p.variables) _
       (tells_each P (λ o. All P (object_bytes o)) (variable here.site) p.variables (λ o h. variable_tells P here.site o h) (all_flat P object_bytes p.variables (all_left P vs (on ++ statements_bytes p.body) rest))) (λ variables.
-      tells_then P (prefixes_elements here.site (targets p.body)) _ (prefixes_tell P here.site (targets p.body) (targets_stand P p.body body)) (λ ds.
+      tells_then P (prefixes_elements here.site (targets p.body)) _ (prefixes_tell P here.site (targets p.body) (names_stand P nought Assigned p.body body)) (λ ds.
       tells_then P (sensitivity here.site p.sensitivity p.body) _ (sensitivity-tells nought here.site p.sensitivity p.body (all_left P on (statements_bytes p.body) more) body) (λ es.
       tells_then P (statements_turns here.site p.body) _ (turns_of_statements_tells P p.body here.site body) (λ n.
       tells_then P (statements (with_variables here.site variables) p.body) _ (statements_tells P p.body (with_variables here.site variables) body) (λ b. tells_none P _)))))

@@ -7,7 +7,9 @@ use Rattle.vhdl_names_rules.specs.units.Statements as s
 use Rattle.vhdl_names_rules.specs.units.Bytes.{static_bytes, range_bytes, part_bytes, place_bytes, vector_bytes, value_bytes, test_bytes, given_bytes, statement_bytes, statements_bytes, branches_bytes, alternatives_bytes}
 use Rattle.vhdl_expand_rules.specs.Elab.{each}
 use Rattle.vhdl_expand_rules.specs.Site.{Site, place_elements}
-use Rattle.vhdl_expand_rules.specs.Prefixes.{is_static_part, prefix, statement_targets, targets, branches_targets, alternatives_targets, vector_names, whole_of, value_names, test_names, given_names, statement_names, names, branches_names, alternatives_names, names_elements, prefixes_elements}
+use Rattle.vhdl_expand_rules.specs.declared.prefix.Sought.{Sought}
+use Rattle.vhdl_expand_rules.specs.declared.prefix.Sought.TheVariants.{Read, Assigned}
+use Rattle.vhdl_expand_rules.specs.Prefixes.{is_static_part, prefix, vector_names, whole_of, value_names, test_names, given_names, read_ones, assignment_names, statement_names, body_names, branches_names, alternatives_names, names_elements, prefixes_elements}
 use Rattle.vhdl_expand_rules.proofs.Tells.{Tells, tells_none, tells_then, tells_each}
 use Rattle.vhdl_expand_rules.proofs.laws.Targets.{all_left, all_right}
 use Rattle.vhdl_expand_rules.proofs.laws.told.Static.{place_tells}
@@ -20,37 +22,7 @@ module _ (P : ℕ → Type 0) where
   one-name : (p : SignalPart) → Stands p → All Stands (p ∷ [])
   one-name p h = All-cons Stands p [] h (All-nil Stands)
 
-  -- ---- what is assigned
-
-  mutual
-    statement-targets : (y : s.Statement) → All P (statement_bytes y) → All Stands (statement_targets y)
-    statement-targets (s.assign p g) k = one-name p (all_left P (place_bytes p) (given_bytes g) k)
-    statement-targets (s.if_of at bs) k = branches-targets bs (All-tail P at (branches_bytes bs) k)
-    statement-targets (s.case_of at v alts) k = alternatives-targets alts (all_right P (value_bytes v) (alternatives_bytes alts) (All-tail P at (value_bytes v ++ alternatives_bytes alts) k))
-    statement-targets (s.for_of at r body) k = targets_stand body (all_right P (range_bytes r) (statements_bytes body) (All-tail P at (range_bytes r ++ statements_bytes body) k))
-    statement-targets _ k = All-nil Stands
-
-    pub targets_stand : (ys : s.Statements) → All P (statements_bytes ys) → All Stands (targets ys)
-    targets_stand s.done k = All-nil Stands
-    targets_stand (s.step y ys) k =
-        All-append Stands (statement_targets y) (targets ys) (statement-targets y (all_left P (statement_bytes y) (statements_bytes ys) k))
-        (targets_stand ys (all_right P (statement_bytes y) (statements_bytes ys) k))
-
-    branches-targets : (bs : s.Branches) → All P (branches_bytes bs) → All Stands (branches_targets bs)
-    branches-targets s.no_else k = All-nil Stands
-    branches-targets (s.otherwise ys) k = targets_stand ys k
-    branches-targets (s.branch t ys bs) k =
-        let rest : All P (statements_bytes ys ++ branches_bytes bs) = all_right P (test_bytes t) (statements_bytes ys ++ branches_bytes bs) k in
-        All-append Stands (targets ys) (branches_targets bs) (targets_stand ys (all_left P (statements_bytes ys) (branches_bytes bs) rest))
-        (branches-targets bs (all_right P (statements_bytes ys) (branches_bytes bs) rest))
-
-    alternatives-targets : (alts : s.Alternatives) → All P (alternatives_bytes alts) → All Stands (alternatives_targets alts)
-    alternatives-targets (s.others ys) k = targets_stand ys k
-    alternatives-targets (s.alternative cs ys alts) k =
-        All-append Stands (targets ys) (alternatives_targets alts) (targets_stand ys (all_left P (statements_bytes ys) (alternatives_bytes alts) k))
-        (alternatives-targets alts (all_right P (statements_bytes ys) (alternatives_bytes alts) k))
-
-  -- ---- what is read: a signal of an enumeration has no byte, and is looked up at 0
+  -- ---- a signal of an enumeration has no byte, and is looked up at 0
 
   vector-names : (v : Vector) → All P (vector_bytes v) → All Stands (vector_names v)
   vector-names (e.of_signal p) k = one-name p k
@@ -93,37 +65,50 @@ module _ (P : ℕ → Type 0) where
     given-names (s.single v) k = value-names v k
     given-names (s.filled v) k = vector-names v k
 
-    mutual
-      statement-names : (y : s.Statement) → All P (statement_bytes y) → All Stands (statement_names y)
-      statement-names s.null_of k = All-nil Stands
-      statement-names (s.assign p g) k = given-names g (all_right P (place_bytes p) (given_bytes g) k)
-      statement-names (s.set at n part g) k = given-names g (all_right P (part_bytes part) (given_bytes g) (All-tail P at (part_bytes part ++ given_bytes g) k))
-      statement-names (s.if_of at bs) k = branches-names bs (All-tail P at (branches_bytes bs) k)
-      statement-names (s.case_of at v alts) k =
-          let rest : All P (value_bytes v ++ alternatives_bytes alts) = All-tail P at (value_bytes v ++ alternatives_bytes alts) k in
-          All-append Stands (value_names v) (alternatives_names alts) (value-names v (all_left P (value_bytes v) (alternatives_bytes alts) rest))
-          (alternatives-names alts (all_right P (value_bytes v) (alternatives_bytes alts) rest))
-      statement-names (s.for_of at r body) k = names_stand body (all_right P (range_bytes r) (statements_bytes body) (All-tail P at (range_bytes r ++ statements_bytes body) k))
+    read-ones : (sought : Sought) (ps : List SignalPart) → All Stands ps → All Stands (read_ones sought ps)
+    read-ones Read ps h = h
+    read-ones Assigned ps h = All-nil Stands
 
-      pub names_stand : (ys : s.Statements) → All P (statements_bytes ys) → All Stands (names ys)
-      names_stand s.done k = All-nil Stands
-      names_stand (s.step y ys) k =
-          All-append Stands (statement_names y) (names ys) (statement-names y (all_left P (statement_bytes y) (statements_bytes ys) k)) (names_stand ys (all_right P (statement_bytes y) (statements_bytes ys) k))
+    assignment-names : (sought : Sought) (p : SignalPart) (g : s.Given) → All P (place_bytes p ++ given_bytes g) → All Stands (assignment_names sought p g)
+    assignment-names Read p g k = given-names g (all_right P (place_bytes p) (given_bytes g) k)
+    assignment-names Assigned p g k = one-name p (all_left P (place_bytes p) (given_bytes g) k)
 
-      branches-names : (bs : s.Branches) → All P (branches_bytes bs) → All Stands (branches_names bs)
-      branches-names s.no_else k = All-nil Stands
-      branches-names (s.otherwise ys) k = names_stand ys k
-      branches-names (s.branch t ys bs) k =
-          let rest : All P (statements_bytes ys ++ branches_bytes bs) = all_right P (test_bytes t) (statements_bytes ys ++ branches_bytes bs) k in
-          All-append Stands (test_names t) (names ys ++ branches_names bs) (test-names t (all_left P (test_bytes t) (statements_bytes ys ++ branches_bytes bs) k))
-          (All-append Stands (names ys) (branches_names bs) (names_stand ys (all_left P (statements_bytes ys) (branches_bytes bs) rest))
-          (branches-names bs (all_right P (statements_bytes ys) (branches_bytes bs) rest)))
+    module _ (sought : Sought) where
+      mutual
+        statement-names : (y : s.Statement) → All P (statement_bytes y) → All Stands (statement_names sought y)
+        statement-names s.null_of k = All-nil Stands
+        statement-names (s.assign p g) k = assignment-names sought p g k
+        statement-names (s.set at n part g) k =
+            read-ones sought (given_names g) (given-names g (all_right P (part_bytes part) (given_bytes g) (All-tail P at (part_bytes part ++ given_bytes g) k)))
+        statement-names (s.if_of at bs) k = branches-names bs (All-tail P at (branches_bytes bs) k)
+        statement-names (s.case_of at v alts) k =
+            let rest : All P (value_bytes v ++ alternatives_bytes alts) = All-tail P at (value_bytes v ++ alternatives_bytes alts) k in
+            All-append Stands (read_ones sought (value_names v)) (alternatives_names sought alts)
+            (read-ones sought (value_names v) (value-names v (all_left P (value_bytes v) (alternatives_bytes alts) rest)))
+            (alternatives-names alts (all_right P (value_bytes v) (alternatives_bytes alts) rest))
+        statement-names (s.for_of at r body) k = names_stand body (all_right P (range_bytes r) (statements_bytes body) (All-tail P at (range_bytes r ++ statements_bytes body) k))
 
-      alternatives-names : (alts : s.Alternatives) → All P (alternatives_bytes alts) → All Stands (alternatives_names alts)
-      alternatives-names (s.others ys) k = names_stand ys k
-      alternatives-names (s.alternative cs ys alts) k =
-          All-append Stands (names ys) (alternatives_names alts) (names_stand ys (all_left P (statements_bytes ys) (alternatives_bytes alts) k))
-          (alternatives-names alts (all_right P (statements_bytes ys) (alternatives_bytes alts) k))
+        pub names_stand : (ys : s.Statements) → All P (statements_bytes ys) → All Stands (body_names sought ys)
+        names_stand s.done k = All-nil Stands
+        names_stand (s.step y ys) k =
+            All-append Stands (statement_names sought y) (body_names sought ys)
+            (statement-names y (all_left P (statement_bytes y) (statements_bytes ys) k)) (names_stand ys (all_right P (statement_bytes y) (statements_bytes ys) k))
+
+        branches-names : (bs : s.Branches) → All P (branches_bytes bs) → All Stands (branches_names sought bs)
+        branches-names s.no_else k = All-nil Stands
+        branches-names (s.otherwise ys) k = names_stand ys k
+        branches-names (s.branch t ys bs) k =
+            let rest : All P (statements_bytes ys ++ branches_bytes bs) = all_right P (test_bytes t) (statements_bytes ys ++ branches_bytes bs) k in
+            All-append Stands (read_ones sought (test_names t)) (body_names sought ys ++ branches_names sought bs)
+            (read-ones sought (test_names t) (test-names t (all_left P (test_bytes t) (statements_bytes ys ++ branches_bytes bs) k)))
+            (All-append Stands (body_names sought ys) (branches_names sought bs) (names_stand ys (all_left P (statements_bytes ys) (branches_bytes bs) rest))
+            (branches-names bs (all_right P (statements_bytes ys) (branches_bytes bs) rest)))
+
+        alternatives-names : (alts : s.Alternatives) → All P (alternatives_bytes alts) → All Stands (alternatives_names sought alts)
+        alternatives-names (s.others ys) k = names_stand ys k
+        alternatives-names (s.alternative cs ys alts) k =
+            All-append Stands (body_names sought ys) (alternatives_names sought alts) (names_stand ys (all_left P (statements_bytes ys) (alternatives_bytes alts) k))
+            (alternatives-names alts (all_right P (statements_bytes ys) (alternatives_bytes alts) k))
 
   -- ---- their elements
 

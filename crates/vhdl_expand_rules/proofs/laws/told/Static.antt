@@ -1,13 +1,12 @@
 -- What is refused of static integers, kinds and the elements of names is told at the byte that is given, or at one of theirs.
-use Rattle.std.proofs.Common.{ℕ, Bool, true, false, cond, not, ◌==◌, List, [], ◌∷◌, ◌++◌, All}
-use Rattle.std.specs.Prelude.{ℤ, pos, negsuc, ◌+ℤ◌, ◌-ℤ◌, ◌*ℤ◌, nat_le, nat_abs, neg_ℤ, int_rem, int_div, slice_get}
+use Rattle.std.proofs.Common.{ℕ, Bool, true, false, cond, not, List, [], ◌∷◌, ◌++◌, All}
+use Rattle.std.specs.Prelude.{ℤ, pos, negsuc, nat_le, nat_abs, neg_ℤ, slice_get}
 use Rattle.std.proofs.lemmas.List.Elements.{All-head, All-tail}
 use Rattle.vhdl_values.specs.declared.kinds.Counted.{Counted}
 use Rattle.vhdl_values.specs.declared.kinds.Counted.TheVariants.{Resize}
 use Rattle.vhdl_tree.specs.declared.operator.Direction.{Direction}
 use Rattle.vhdl_lexer.specs.Literals.{greatest_integer}
 use Rattle.vhdl_names_rules.specs.declared.operator.Arithmetic.{Arithmetic}
-use Rattle.vhdl_names_rules.specs.declared.operator.Arithmetic.TheVariants.{Add, Subtract, Multiply, Divide, Modulo, Remainder}
 use Rattle.vhdl_names_rules.specs.declared.operator.IntegerType.{IntegerType}
 use Rattle.vhdl_names_rules.specs.units.Expressions as u
 use Rattle.vhdl_names_rules.specs.units.Expressions.{Static, Range, StaticTest, Signal, Part, SignalPart}
@@ -16,9 +15,10 @@ use Rattle.vhdl_names_rules.specs.units.Units.{Form}
 use Rattle.vhdl_names_rules.specs.units.Bytes.{static_bytes, range_bytes, static_test_bytes, part_bytes, place_bytes, form_bytes}
 use Rattle.vhdl_expand_rules.specs.declared.fault.ElabProblem.TheVariants.{StaticError, GenericRange, TooMany, Index, TooWide}
 use Rattle.vhdl_expand_rules.specs.Elab.{Elab, unless, item_or}
-use Rattle.vhdl_expand_rules.specs.Integers.{Integers, checked_integer, division_with, modulus, integer_operation, integer, as_natural, natural, is_of, integer_of, decision, is_null, extent, most_turns, turns}
+use Rattle.vhdl_expand_rules.specs.Integers.{Integers, checked_integer, integer_operation, integer, as_natural, natural, is_of, integer_of, decision, is_null, extent, most_turns, turns}
 use Rattle.vhdl_expand_rules.specs.Kinds.{Bounds, ObjectKind, one, vector, enumeration, declared_bounds, kind_of, as_size, size_of, count_of, is_within, place_of, is_same_direction, slice_places, places}
 use Rattle.vhdl_expand_rules.specs.Site.{Site, elements_count, part_elements, signal_elements, place_elements, variable_elements, constant_values, the_element}
+use Rattle.vhdl_expand_rules.proofs.Chains.{each_operation}
 use Rattle.vhdl_expand_rules.proofs.Tells.{Tells, tells_none, tells_one, tells_then, tells_unless, tells_item}
 use Rattle.vhdl_expand_rules.proofs.laws.Targets.{all_left, all_right}
 
@@ -32,16 +32,8 @@ module _ (P : ℕ → Type 0) where
   checked-tells : (at : ℕ) (x : ℤ) → P at → Tells P (checked_integer at x)
   checked-tells at x h = tells-chosen (nat_le (nat_abs x) greatest_integer) _ _ (tells_none P x) (tells_one P (StaticError, at) h)
 
-  division-tells : (at : ℕ) (by : ℤ → ℤ → ℤ) (x y : ℤ) → P at → Tells P (division_with at by x y)
-  division-tells at by x y h = tells-chosen (nat_abs y == 0) _ _ (tells_one P (StaticError, at) h) (checked-tells at (by x y) h)
-
   operation-tells : (at : ℕ) (op : Arithmetic) (x y : ℤ) → P at → Tells P (integer_operation at op x y)
-  operation-tells at Add x y h = checked-tells at (x +ℤ y) h
-  operation-tells at Subtract x y h = checked-tells at (x -ℤ y) h
-  operation-tells at Multiply x y h = checked-tells at (x *ℤ y) h
-  operation-tells at Divide x y h = division-tells at int_div x y h
-  operation-tells at Modulo x y h = division-tells at modulus x y h
-  operation-tells at Remainder x y h = division-tells at int_rem x y h
+  operation-tells at op x y h = each_operation (λ r. Tells P r) at (λ z. checked-tells at z h) (tells_one P (StaticError, at) h) op x y
 
   pub integer_tells : (here : Integers) (at : ℕ) (s : Static) → P at → All P (static_bytes s) → Tells P (integer here at s)
   unfolding integer

@@ -1,6 +1,3 @@
-use mir.Syntax.{w32}
-use mir.Val.{SFits, to_z, of_z}
-use Rattle.std.proofs.lemmas.Int.{ints}
 use Rattle.std.proofs.Common.{◌≡◌, suc, ◌-◌, ◌<◌, true, false, [], ◌∷◌, ◌++◌, length, map, drop, ap, ◌∙◌, sym, subst, arith, rules, Ok, None}
 use Rattle.std.proofs.lemmas.Grind.{common_steps}
 use Rattle.std.specs.Prelude.{◌≢◌, option_map, flat_map, codes}
@@ -13,6 +10,8 @@ use Rattle.vhdl_expand_rules.specs.Declarations.{declarations}
 use Rattle.vhdl_expand_rules.specs.Elab.{◌>>=◌, fault_told, MayTell}
 use Rattle.vhdl_expand_rules.specs.Expansion.{instance_of, with_dot}
 use Rattle.vhdl_elab_rules.specs.Numbering.{own_sizes}
+use Rattle.vhdl_expand_rules.proofs.Modulus.{same_word}
+use Rattle.vhdl_expand_rules.proofs.Items.{none_left}
 use Rattle.vhdl_expand_tree.specs.Costs.{charged, spent, nets, instance_costs}
 use Rattle.vhdl_expand_tree.specs.Views.{budget_view, object_view, parts_of}
 use Rattle.vhdl_expand.specs.Views.{declared_view}
@@ -32,7 +31,7 @@ use Rattle.vhdl_expand.specs.Spots.{spot_view}
 use Rattle.vhdl_expand.specs.Walks.{units_of}
 use Rattle.vhdl_expand.proofs.Weights.{weight, weights}
 use Rattle.vhdl_expand.proofs.Making.{turns_fit, charges_along}
-use Rattle.vhdl_expand.proofs.Statements.{list_goes, list_stops, list_ends, none_left, process_is, instance_is}
+use Rattle.vhdl_expand.proofs.Statements.{list_goes, list_stops, list_ends, process_is, instance_is}
 use Rattle.vhdl_expand.proofs.Generates.{turned, turns_begin, turns_refused, no_turns, turns_go, turns_stop, turns_end, turn_spot, branch_spot, branch_taken, branch_left, no_branch}
 use Rattle.vhdl_expand.proofs.Among.{among_left, among_right, first_among, beside, same_among, then_among, charges_among}
 use Rattle.vhdl_expand.proofs.Standing.{concurrent_among, generate_among}
@@ -162,13 +161,10 @@ turns-loop-turn-preserved t c =
     let body = units.concurrents_of (units.concurrents_view w.statements) in
     let at = spot_view c.args.spot.now in
     let now = progress_view c.loop-turn.so_far in
-    let same = c.parameter-value.ensures in
-    let f : SFits w32 c.parameter-value.result = search rules in
-    let fixed : to_z w32 (of_z w32 c.parameter-value.result) ≡ c.parameter-value.result = omega (arith, ints) in
-    let made = ap (λ j. adding now (turned (units_of c.args.self.now) c.args.self.now.levels at w.at w.label.text.items body j)) (sym fixed) ∙ c.in_ok-turn.ensures in
+    let made = ap (λ j. adding now (turned (units_of c.args.self.now) c.args.self.now.levels at w.at w.label.text.items body j)) (sym (same_word c.parameter-value.result (search rules))) ∙ c.in_ok-turn.ensures in
     let fits = turns_fit now (progress_view c.turn.new.so_far) (turned (units_of c.args.self.now) c.args.self.now.levels at w.at w.label.text.items body c.parameter-value.result) made in
     record {
-      leads = turns_go (units_of c.args.self.now) c.args.self.now.levels at w.at w.label.text.items body _ now (progress_view c.turn.new.so_far) r.direction r.first c.parameter-value.result r.count c.loop-turn.turn c.loop-turn-test.true same c.loop-turn.invariant.leads made;
+      leads = turns_go (units_of c.args.self.now) c.args.self.now.levels at w.at w.label.text.items body _ now (progress_view c.turn.new.so_far) r.direction r.first c.parameter-value.result r.count c.loop-turn.turn c.loop-turn-test.true c.parameter-value.ensures c.loop-turn.invariant.leads made;
       fits = omega (arith, fits, c.loop-turn.invariant.fits);
     }
 
@@ -179,12 +175,9 @@ turns-returns-in_err-turn-clause-given t c =
     let body = units.concurrents_of (units.concurrents_view w.statements) in
     let at = spot_view c.args.spot.now in
     let now = progress_view c.loop-turn.so_far in
-    let same = c.parameter-value.ensures in
-    let f : SFits w32 c.parameter-value.result = search rules in
-    let fixed : to_z w32 (of_z w32 c.parameter-value.result) ≡ c.parameter-value.result = omega (arith, ints) in
-    let told = λ (n : c.in_err-turn.field-0.0 ≢ NoMemory). subst (λ j. MayTell (concurrents_bytes body ++ units_bytes (units_of c.args.self.now)) (adding now (turned (units_of c.args.self.now) c.args.self.now.levels at w.at w.label.text.items body j)) (fault_told c.in_err-turn.field-0.0)) fixed (c.in_err-turn.ensures n) in
+    let told = λ (n : c.in_err-turn.field-0.0 ≢ NoMemory). subst (λ j. MayTell (concurrents_bytes body ++ units_bytes (units_of c.args.self.now)) (adding now (turned (units_of c.args.self.now) c.args.self.now.levels at w.at w.label.text.items body j)) (fault_told c.in_err-turn.field-0.0)) (same_word c.parameter-value.result (search rules)) (c.in_err-turn.ensures n) in
     passed_told _ _ c.in_err-turn.field-0.0 _ c.from_residual-in_err-turn.result c.from_residual-in_err-turn.ensures.1 (λ e p. p)
-    (λ n. turns_stop (units_of c.args.self.now) c.args.self.now.levels at w.at w.label.text.items body _ now r.direction r.first c.parameter-value.result r.count c.loop-turn.turn c.loop-turn-test.true same c.loop-turn.invariant.leads
+    (λ n. turns_stop (units_of c.args.self.now) c.args.self.now.levels at w.at w.label.text.items body _ now r.direction r.first c.parameter-value.result r.count c.loop-turn.turn c.loop-turn-test.true c.parameter-value.ensures c.loop-turn.invariant.leads
     (tells_among (among_right (w.at ∷ []) (concurrents_bytes body ++ units_bytes (units_of c.args.self.now))) (told n)))
 
 pub turns-returns-clause-given : goal.turns-returns-clause-given
@@ -349,11 +342,9 @@ add_instance-returns-in_err-declared t c =
 pub add_instance-returns-in_err-associations : goal.add_instance-returns-in_err-associations
 add_instance-returns-in_err-associations t c =
     let x = units.instance_view c.args.written.now in
-    let at = spot_view c.args.spot.now in
     let e = entity_view c.in-Some.unit.now in
-    let d = declared_view c.in_ok-declared.declared in
     passed_told _ _ c.in_err-associations.field-0.0 _ c.from_residual-in_err-associations.result c.from_residual-in_err-associations.ensures.1 (λ e p. p)
-    (λ n. associated_told (units_of c.args.self.now) c.args.self.now.levels at x (progress_view c.args.so_far.now) e (unit_found c.args.self.now.units.now c.args.written.now.unit c.in-Some.unit.now c.in-Some.ensures.lookup.3.0 (c.in-Some.ensures.lookup.3.1 c.in-Some.unit.now)) d c.in_ok-declared.ensures (c.in_err-associations.ensures n))
+    (λ n. associated_told (units_of c.args.self.now) c.args.self.now.levels (spot_view c.args.spot.now) x (progress_view c.args.so_far.now) e (unit_found c.args.self.now.units.now c.args.written.now.unit c.in-Some.unit.now c.in-Some.ensures.lookup.3.0 (c.in-Some.ensures.lookup.3.1 c.in-Some.unit.now)) (declared_view c.in_ok-declared.declared) c.in_ok-declared.ensures (c.in_err-associations.ensures n))
 
 pub add_instance-instance-requires : goal.add_instance-instance-requires
 add_instance-instance-requires t c = (
@@ -364,11 +355,9 @@ add_instance-instance-requires t c = (
 pub add_instance-returns-in_err-instance : goal.add_instance-returns-in_err-instance
 add_instance-returns-in_err-instance t c =
     let x = units.instance_view c.args.written.now in
-    let at = spot_view c.args.spot.now in
     let e = entity_view c.in-Some.unit.now in
-    let d = declared_view c.in_ok-declared.declared in
     passed_told _ _ c.in_err-instance.field-0.0 _ c.from_residual-in_err-instance.result c.from_residual-in_err-instance.ensures.1 (λ e p. p)
-    (λ n. inner_told (units_of c.args.self.now) c.args.self.now.levels at x (progress_view c.args.so_far.now) e (unit_found c.args.self.now.units.now c.args.written.now.unit c.in-Some.unit.now c.in-Some.ensures.lookup.3.0 (c.in-Some.ensures.lookup.3.1 c.in-Some.unit.now)) d c.in_ok-declared.ensures (declared_view c.associations.new.declared) c.in_ok-associations.ensures (c.in_err-instance.ensures n))
+    (λ n. inner_told (units_of c.args.self.now) c.args.self.now.levels (spot_view c.args.spot.now) x (progress_view c.args.so_far.now) e (unit_found c.args.self.now.units.now c.args.written.now.unit c.in-Some.unit.now c.in-Some.ensures.lookup.3.0 (c.in-Some.ensures.lookup.3.1 c.in-Some.unit.now)) (declared_view c.in_ok-declared.declared) c.in_ok-declared.ensures (declared_view c.associations.new.declared) c.in_ok-associations.ensures (c.in_err-instance.ensures n))
 
 pub add_instance-returns : goal.add_instance-returns
 add_instance-returns t c =

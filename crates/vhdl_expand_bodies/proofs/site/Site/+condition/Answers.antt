@@ -1,5 +1,4 @@
-use Rattle.std.proofs.Common.{◌≡◌, ℕ, Err, ◌<◌, length, refl, sym, ap, ◌∙◌, arith}
-use Rattle.std.specs.Prelude.{◌≢◌}
+use Rattle.std.proofs.Common.{◌≡◌, ℕ, refl, sym, ap, ◌∙◌, arith}
 use Rattle.rtl_net.specs.Bodies as net
 use Rattle.rtl_model.specs.bodies.Body as bodies
 use Rattle.vhdl_values.specs.declared.scalar.Nine.{Nine}
@@ -7,7 +6,6 @@ use Rattle.vhdl_names_rules.specs.units.Expressions as u
 use Rattle.vhdl_names_rules.specs.units.Expressions.{SignalPart, Vector, Value}
 use Rattle.vhdl_names_rules.specs.views.Tests.{test_view}
 use Rattle.vhdl_names_rules.specs.views.Vectors.{vector_view, value_view}
-use Rattle.vhdl_expand_rules.specs.declared.fault.ElabFault.TheVariants.{NoMemory}
 use Rattle.vhdl_expand_bodies.specs.Characters.{chain_view}
 use Rattle.vhdl_expand_rules.specs.Site.{Site}
 use Rattle.vhdl_expand_rules.specs.Expressions as definition
@@ -16,44 +14,35 @@ use Rattle.vhdl_expand_bodies.specs.Sites.{site_view}
 use Rattle.vhdl_expand_bodies.specs.steps.Tests as steps
 use Rattle.vhdl_expand_bodies.proofs.Links.{expands_along}
 use Rattle.vhdl_expand_bodies.proofs.Passing.{passed_on, on}
-use Rattle.vhdl_expand_bodies.proofs.TestChains.{chain_goes, chain_stops, more_stops, next_goes, next_stops, link_given}
-use Rattle.vhdl_expand_rules.specs.Elab.{◌>>=◌, fault_told}
+use Rattle.vhdl_expand_bodies.proofs.TestChains.{chain_is, link_given}
+use Rattle.vhdl_expand_bodies.proofs.Chained.{chain_goes, chain_stops, more_stops, next_goes, next_stops}
+use Rattle.vhdl_expand_rules.specs.Elab.{◌>>=◌}
 use Rattle.vhdl_expand_bodies.proofs.site.Site.+condition.Goals as goal
 
 pub expanded_test-returns-in_err-chain-in-Chain : goal.expanded_test-returns-in_err-chain-in-Chain
 expanded_test-returns-in_err-chain-in-Chain t c =
-    let stopped : c.in_err-chain-in-Chain.field-0.0 ≢ NoMemory → (definition.test (site_view c.args.self.now) (test_view c.args.test.now)) ≡ Err (fault_told c.in_err-chain-in-Chain.field-0.0) =
-    λ n. chain_stops (site_view c.args.self.now) c.args.test.now c.in-Chain.start c.in-Chain.links _ c.in-Chain.is c.deref-in-Chain.ensures (c.in_err-chain-in-Chain.ensures n) in
-    passed_on _ _ c.in_err-chain-in-Chain.field-0.0 _ c.from_residual-in_err-chain-in-Chain.result c.from_residual-in_err-chain-in-Chain.ensures.1 (λ e p. p) stopped
+    passed_on _ _ c.in_err-chain-in-Chain.field-0.0 _ c.from_residual-in_err-chain-in-Chain.result c.from_residual-in_err-chain-in-Chain.ensures.1 (λ e p. p)
+    (λ n. chain_stops (steps.linked (site_view c.args.self.now)) _ _ c.in-Chain.links.items (chain_is (site_view c.args.self.now) c.args.test.now c.in-Chain.start c.in-Chain.links _ _ c.in-Chain.is c.deref-in-Chain.ensures refl) (c.in_err-chain-in-Chain.ensures n))
 
 pub expanded_test-returns-in_err-add_tests-in-Chain : goal.expanded_test-returns-in_err-add_tests-in-Chain
 expanded_test-returns-in_err-add_tests-in-Chain t c =
-    let stopped : c.in_err-add_tests-in-Chain.field-0.0 ≢ NoMemory → (definition.test (site_view c.args.self.now) (test_view c.args.test.now)) ≡ Err (fault_told c.in_err-add_tests-in-Chain.field-0.0) =
-    λ n. more_stops (site_view c.args.self.now) c.args.test.now c.in-Chain.start c.in-Chain.links _ _ _ c.in-Chain.is c.deref-in-Chain.ensures c.deref-in-Chain-2.ensures.value
-    c.in_ok-chain-in-Chain.ensures (c.in_err-add_tests-in-Chain.ensures n) in
-    passed_on _ _ c.in_err-add_tests-in-Chain.field-0.0 _ c.from_residual-in_err-add_tests-in-Chain.result c.from_residual-in_err-add_tests-in-Chain.ensures.1 (λ e p. p) stopped
+    passed_on _ _ c.in_err-add_tests-in-Chain.field-0.0 _ c.from_residual-in_err-add_tests-in-Chain.result c.from_residual-in_err-add_tests-in-Chain.ensures.1 (λ e p. p)
+    (λ n. more_stops (steps.linked (site_view c.args.self.now)) _ _ c.deref-in-Chain-2.result.now _ (chain_is (site_view c.args.self.now) c.args.test.now c.in-Chain.start c.in-Chain.links _ _ c.in-Chain.is c.deref-in-Chain.ensures c.deref-in-Chain-2.ensures.value)
+    c.in_ok-chain-in-Chain.ensures (c.in_err-add_tests-in-Chain.ensures n))
 
 pub expanded_test-returns-in_ok-add_tests-in-Chain : goal.expanded_test-returns-in_ok-add_tests-in-Chain
 expanded_test-returns-in_ok-add_tests-in-Chain t c =
-    chain_goes (site_view c.args.self.now) c.args.test.now c.in-Chain.start c.in-Chain.links _ _ _ c.in-Chain.is c.deref-in-Chain.ensures c.deref-in-Chain-2.ensures.value
-    c.in_ok-chain-in-Chain.ensures
+    chain_goes (steps.linked (site_view c.args.self.now)) _ _ c.deref-in-Chain-2.result.now _ (chain_is (site_view c.args.self.now) c.args.test.now c.in-Chain.start c.in-Chain.links _ _ c.in-Chain.is c.deref-in-Chain.ensures c.deref-in-Chain-2.ensures.value) c.in_ok-chain-in-Chain.ensures
     ∙ c.in_ok-add_tests-in-Chain.ensures ∙ ap given (sym c.whole.ensures)
 
 pub add_tests-loop-link-preserved : goal.add_tests-loop-link-preserved
 add_tests-loop-link-preserved t c =
-    let i = c.loop-link.link-index in
-    let below : i < length c.args.links.now = omega arith in
-    next_goes (site_view c.args.self.now) (chain_view c.args.chain.now) _ _ c.args.links.now i c.link-item.result below c.link-item.is
-    c.loop-link.invariant c.in_ok-add_test.ensures
+    next_goes (steps.linked (site_view c.args.self.now)) (chain_view c.args.chain.now) _ _ c.args.links.now c.loop-link.link-index c.link-item.result (omega arith) c.link-item.is c.loop-link.invariant c.in_ok-add_test.ensures
 
 pub add_tests-returns-in_err-add_test : goal.add_tests-returns-in_err-add_test
 add_tests-returns-in_err-add_test t c =
-    let i = c.loop-link.link-index in
-    let below : i < length c.args.links.now = omega arith in
-    let stopped : c.in_err-add_test.field-0.0 ≢ NoMemory → (steps.all_linked (site_view c.args.self.now) (chain_view c.args.chain.now) c.args.links.now) ≡ Err (fault_told c.in_err-add_test.field-0.0) =
-    λ n. next_stops (site_view c.args.self.now) (chain_view c.args.chain.now) _ c.args.links.now i c.link-item.result below c.link-item.is
-    c.loop-link.invariant (c.in_err-add_test.ensures n) in
-    passed_on _ _ c.in_err-add_test.field-0.0 _ c.from_residual.result c.from_residual.ensures.1 (λ e p. p) stopped
+    passed_on _ _ c.in_err-add_test.field-0.0 _ c.from_residual.result c.from_residual.ensures.1 (λ e p. p)
+    (λ n. next_stops (steps.linked (site_view c.args.self.now)) (chain_view c.args.chain.now) _ c.args.links.now c.loop-link.link-index c.link-item.result (omega arith) c.link-item.is c.loop-link.invariant (c.in_err-add_test.ensures n))
 
 pub add_test-returns : goal.add_test-returns
 add_test-returns t c =

@@ -1,6 +1,3 @@
-use mir.Syntax.{w32}
-use mir.Val.{SFits, to_z, of_z}
-use Rattle.std.proofs.lemmas.Int.{ints}
 use Rattle.std.proofs.Common.{List, Vec, Global, Err, ◌≡◌, ◌<◌, length, map, ap, ◌∙◌, sym, subst, refl, arith, rules}
 use Rattle.std.specs.Prelude.{◌≢◌, Ok}
 use Rattle.std.proofs.lemmas.Grind.{common_steps}
@@ -19,12 +16,14 @@ use Rattle.vhdl_names_units.specs.views.Answers as answers
 use Rattle.vhdl_names_units.specs.views.Sequential as analysed
 use Rattle.vhdl_expand_rules.specs.declared.fault.ElabFault.TheVariants.{NoMemory}
 use Rattle.vhdl_expand_rules.specs.Statements as definition
+use Rattle.vhdl_expand_rules.proofs.Modulus.{same_word}
+use Rattle.vhdl_expand_rules.proofs.Items.{none_left}
 use Rattle.vhdl_expand_bodies.specs.Sites.{site_view}
 use Rattle.vhdl_expand_bodies.specs.Statements.{branch_view, branches_view, alternative_view, alternatives_view, otherwise_view}
 use Rattle.vhdl_expand_bodies.specs.steps.Statements as steps
 use Rattle.vhdl_expand_bodies.specs.steps.Statements.{after}
 use Rattle.vhdl_expand_bodies.proofs.Links.{expands_along}
-use Rattle.vhdl_expand_bodies.proofs.Parts.{branch_of, alternative_of, added_gives, none_left, null_one, assign_by, set_by, if_made, if_by, case_made, case_by, loop_is, same_turn, turned_goes}
+use Rattle.vhdl_expand_bodies.proofs.Parts.{branch_of, alternative_of, added_gives, null_one, assign_by, set_by, if_made, if_by, case_made, case_by, loop_is, same_turn, turned_goes}
 use Rattle.vhdl_expand_bodies.proofs.Passing.{passed_on, none_behind, made_by, refused_by, on}
 use Rattle.vhdl_expand_bodies.proofs.Sequences.{list_goes, list_stops, list_ends, turns_go, turns_stop, turns_end, each_adds, each_refuses, each_ends}
 use Rattle.vhdl_expand_rules.specs.Elab.{Elab, ◌>>=◌, each, fault_told}
@@ -111,13 +110,11 @@ pub add_turns-returns-in_err-add_turn : goal.add_turns-returns-in_err-add_turn
 add_turns-returns-in_err-add_turn t c =
     let here = site_view c.args.self.now in
     let body = analysed.statements_of (analysed.statements_view c.args.repeated.now.statements) in
-    let same = c.parameter-value.ensures in
-    let f : SFits w32 c.parameter-value.result = search rules in
-    let fixed : to_z w32 (of_z w32 c.parameter-value.result) ≡ c.parameter-value.result = omega (arith, ints) in
+    let fixed = same_word c.parameter-value.result (search rules) in
     let stopped : c.in_err-add_turn.field-0.0 ≢ NoMemory
     → (after (statements_of c.args.body.now.items) (steps.turned here c.args.repeated.now.at (range_view c.args.repeated.now.range) body)) ≡ Err (fault_told c.in_err-add_turn.field-0.0) =
     λ n. subst (λ (r : Elab bodies.Stmts). r ≡ Err (fault_told c.in_err-add_turn.field-0.0)) (sym (turned_goes here c.args.repeated.now.at (range_view c.args.repeated.now.range) body _ (statements_of c.args.body.now.items) c.in_ok-turns.ensures))
-    (turns_stop here body _ (statements_of c.loop-turn.body.items) c.in_ok-turns.turns.direction c.in_ok-turns.turns.first c.parameter-value.result c.in_ok-turns.turns.count c.loop-turn.turn c.loop-turn-test.true c.loop-turn.invariant same
+    (turns_stop here body _ (statements_of c.loop-turn.body.items) c.in_ok-turns.turns.direction c.in_ok-turns.turns.first c.parameter-value.result c.in_ok-turns.turns.count c.loop-turn.turn c.loop-turn-test.true c.loop-turn.invariant c.parameter-value.ensures
     (subst (λ (r : Elab bodies.Stmts). r ≡ Err (fault_told c.in_err-add_turn.field-0.0)) (sym (same_turn here (statements_of c.loop-turn.body.items) _ _ _ _ fixed c.deref.ensures.value)) (c.in_err-add_turn.ensures n))) in
     passed_on _ _ c.in_err-add_turn.field-0.0 _ c.from_residual-in_err-add_turn.result c.from_residual-in_err-add_turn.ensures.1 (λ e p. p) stopped
 
@@ -125,10 +122,8 @@ pub add_turns-loop-turn-preserved : goal.add_turns-loop-turn-preserved
 add_turns-loop-turn-preserved t c =
     let here = site_view c.args.self.now in
     let body = analysed.statements_of (analysed.statements_view c.args.repeated.now.statements) in
-    let same = c.parameter-value.ensures in
-    let f : SFits w32 c.parameter-value.result = search rules in
-    let fixed : to_z w32 (of_z w32 c.parameter-value.result) ≡ c.parameter-value.result = omega (arith, ints) in
-    turns_go here body _ (statements_of c.loop-turn.body.items) _ c.in_ok-turns.turns.direction c.in_ok-turns.turns.first c.parameter-value.result c.in_ok-turns.turns.count c.loop-turn.turn c.loop-turn-test.true c.loop-turn.invariant same
+    let fixed = same_word c.parameter-value.result (search rules) in
+    turns_go here body _ (statements_of c.loop-turn.body.items) _ c.in_ok-turns.turns.direction c.in_ok-turns.turns.first c.parameter-value.result c.in_ok-turns.turns.count c.loop-turn.turn c.loop-turn-test.true c.loop-turn.invariant c.parameter-value.ensures
     (same_turn here (statements_of c.loop-turn.body.items) _ _ _ _ fixed c.deref.ensures.value ∙ c.in_ok-add_turn.ensures)
 
 pub add_turns-returns : goal.add_turns-returns

@@ -1,52 +1,40 @@
-use Rattle.std.proofs.Common.{◌≡◌, Err, ◌<◌, length, sym, ap, ◌∙◌, arith}
-use Rattle.std.specs.Prelude.{◌≢◌}
+use Rattle.std.proofs.Common.{refl, sym, ap, ◌∙◌, arith}
 use Rattle.rtl_model.specs.bodies.Body as bodies
 use Rattle.vhdl_names_rules.specs.views.Vectors.{vector_view}
-use Rattle.vhdl_expand_rules.specs.declared.fault.ElabFault.TheVariants.{NoMemory}
 use Rattle.vhdl_expand_bodies.specs.Operands.{operand_view, chain_view}
 use Rattle.vhdl_expand_rules.specs.Expressions as definition
 use Rattle.vhdl_expand_rules.proofs.Steps.{given}
 use Rattle.vhdl_expand_bodies.specs.Sites.{site_view}
 use Rattle.vhdl_expand_bodies.specs.steps.Vectors as steps
-use Rattle.vhdl_expand_bodies.proofs.Links.{expands_along, chain_goes, chain_stops, more_stops, next_goes, next_stops}
+use Rattle.vhdl_expand_bodies.proofs.Links.{expands_along, chain_is}
+use Rattle.vhdl_expand_bodies.proofs.Chained.{chain_goes, chain_stops, more_stops, next_goes, next_stops}
 use Rattle.vhdl_expand_bodies.proofs.Passing.{passed_on, on}
-use Rattle.vhdl_expand_rules.specs.Elab.{fault_told}
 use Rattle.vhdl_expand_bodies.proofs.site.Site.+vector.Goals as goal
 
 pub expanded-returns-in_err-chain-in-Chain : goal.expanded-returns-in_err-chain-in-Chain
 expanded-returns-in_err-chain-in-Chain t c =
-    let stopped : c.in_err-chain-in-Chain.field-0.0 ≢ NoMemory → (definition.vector (site_view c.args.self.now) (vector_view c.args.vector.now)) ≡ Err (fault_told c.in_err-chain-in-Chain.field-0.0) =
-    λ n. chain_stops (site_view c.args.self.now) c.args.vector.now c.in-Chain.start c.in-Chain.links _ c.in-Chain.is c.deref-in-Chain.ensures (c.in_err-chain-in-Chain.ensures n) in
-    passed_on _ _ c.in_err-chain-in-Chain.field-0.0 _ c.from_residual-in_err-chain-in-Chain.result c.from_residual-in_err-chain-in-Chain.ensures.1 (λ e p. p) stopped
+    passed_on _ _ c.in_err-chain-in-Chain.field-0.0 _ c.from_residual-in_err-chain-in-Chain.result c.from_residual-in_err-chain-in-Chain.ensures.1 (λ e p. p)
+    (λ n. chain_stops (steps.linked (site_view c.args.self.now)) _ _ c.in-Chain.links.items (chain_is (site_view c.args.self.now) c.args.vector.now c.in-Chain.start c.in-Chain.links _ _ c.in-Chain.is c.deref-in-Chain.ensures refl) (c.in_err-chain-in-Chain.ensures n))
 
 pub expanded-returns-in_err-add_links-in-Chain : goal.expanded-returns-in_err-add_links-in-Chain
 expanded-returns-in_err-add_links-in-Chain t c =
-    let stopped : c.in_err-add_links-in-Chain.field-0.0 ≢ NoMemory → (definition.vector (site_view c.args.self.now) (vector_view c.args.vector.now)) ≡ Err (fault_told c.in_err-add_links-in-Chain.field-0.0) =
-    λ n. more_stops (site_view c.args.self.now) c.args.vector.now c.in-Chain.start c.in-Chain.links _ _ _ c.in-Chain.is c.deref-in-Chain.ensures c.deref-in-Chain-2.ensures.value
-    c.in_ok-chain-in-Chain.ensures (c.in_err-add_links-in-Chain.ensures n) in
-    passed_on _ _ c.in_err-add_links-in-Chain.field-0.0 _ c.from_residual-in_err-add_links-in-Chain.result c.from_residual-in_err-add_links-in-Chain.ensures.1 (λ e p. p) stopped
+    passed_on _ _ c.in_err-add_links-in-Chain.field-0.0 _ c.from_residual-in_err-add_links-in-Chain.result c.from_residual-in_err-add_links-in-Chain.ensures.1 (λ e p. p)
+    (λ n. more_stops (steps.linked (site_view c.args.self.now)) _ _ c.deref-in-Chain-2.result.now _ (chain_is (site_view c.args.self.now) c.args.vector.now c.in-Chain.start c.in-Chain.links _ _ c.in-Chain.is c.deref-in-Chain.ensures c.deref-in-Chain-2.ensures.value)
+    c.in_ok-chain-in-Chain.ensures (c.in_err-add_links-in-Chain.ensures n))
 
 pub expanded-returns-in_ok-add_links-in-Chain : goal.expanded-returns-in_ok-add_links-in-Chain
 expanded-returns-in_ok-add_links-in-Chain t c =
-    chain_goes (site_view c.args.self.now) c.args.vector.now c.in-Chain.start c.in-Chain.links _ _ _ c.in-Chain.is c.deref-in-Chain.ensures c.deref-in-Chain-2.ensures.value
-    c.in_ok-chain-in-Chain.ensures
+    chain_goes (steps.linked (site_view c.args.self.now)) _ _ c.deref-in-Chain-2.result.now _ (chain_is (site_view c.args.self.now) c.args.vector.now c.in-Chain.start c.in-Chain.links _ _ c.in-Chain.is c.deref-in-Chain.ensures c.deref-in-Chain-2.ensures.value) c.in_ok-chain-in-Chain.ensures
     ∙ c.in_ok-add_links-in-Chain.ensures ∙ ap given (sym c.whole.ensures)
 
 pub add_links-loop-link-preserved : goal.add_links-loop-link-preserved
 add_links-loop-link-preserved t c =
-    let i = c.loop-link.link-index in
-    let below : i < length c.args.links.now = omega arith in
-    next_goes (site_view c.args.self.now) (chain_view c.args.chain.now) _ _ c.args.links.now i c.link-item.result below c.link-item.is
-    c.loop-link.invariant c.in_ok-add_link.ensures
+    next_goes (steps.linked (site_view c.args.self.now)) (chain_view c.args.chain.now) _ _ c.args.links.now c.loop-link.link-index c.link-item.result (omega arith) c.link-item.is c.loop-link.invariant c.in_ok-add_link.ensures
 
 pub add_links-returns-in_err-add_link : goal.add_links-returns-in_err-add_link
 add_links-returns-in_err-add_link t c =
-    let i = c.loop-link.link-index in
-    let below : i < length c.args.links.now = omega arith in
-    let stopped : c.in_err-add_link.field-0.0 ≢ NoMemory → (steps.all_linked (site_view c.args.self.now) (chain_view c.args.chain.now) c.args.links.now) ≡ Err (fault_told c.in_err-add_link.field-0.0) =
-    λ n. next_stops (site_view c.args.self.now) (chain_view c.args.chain.now) _ c.args.links.now i c.link-item.result below c.link-item.is
-    c.loop-link.invariant (c.in_err-add_link.ensures n) in
-    passed_on _ _ c.in_err-add_link.field-0.0 _ c.from_residual.result c.from_residual.ensures.1 (λ e p. p) stopped
+    passed_on _ _ c.in_err-add_link.field-0.0 _ c.from_residual.result c.from_residual.ensures.1 (λ e p. p)
+    (λ n. next_stops (steps.linked (site_view c.args.self.now)) (chain_view c.args.chain.now) _ c.args.links.now c.loop-link.link-index c.link-item.result (omega arith) c.link-item.is c.loop-link.invariant (c.in_err-add_link.ensures n))
 
 -- ---- the forms of a vector but chains
 

@@ -1,10 +1,11 @@
 use Rattle.std.proofs.Common.{◌≡◌, drop}
 use Rattle.vhdl_expand_bodies.specs.Operands.{chain_view}
 use Rattle.vhdl_expand_bodies.specs.Sites.{site_view}
+use Rattle.vhdl_expand_bodies.specs.steps.Chains.{chained}
 use Rattle.vhdl_expand_bodies.specs.steps.Vectors as steps
 use Rattle.vhdl_expand_bodies.proofs.site.Site.+vector.Given as goal
 
 -- the operators that are left, on the expression so far, give the whole
 abbrev pub invariant-add_links-loop-link : goal.invariant-add_links-loop-link
 invariant-add_links-loop-link l =
-    steps.all_linked (site_view l.self) (chain_view l.fn.chain) l.links ≡ steps.all_linked (site_view l.self) (chain_view l.chain) (drop l.link-index l.links)
+    chained (steps.linked (site_view l.self)) (chain_view l.fn.chain) l.links ≡ chained (steps.linked (site_view l.self)) (chain_view l.chain) (drop l.link-index l.links)

@@ -1,8 +1,7 @@
 use mir.Syntax.{w32}
-use mir.Val.{SFits, to_z, of_z}
-use Rattle.std.proofs.Common.{◌≡◌, ℤ, ℕ, ◌<◌, ◌+◌, List, ◌∷◌, length, get_or, drop, Ok, Err, ap, sym, ◌∙◌, rules, arith}
+use mir.Val.{to_z, of_z}
+use Rattle.std.proofs.Common.{◌≡◌, ℤ, ℕ, ◌<◌, ◌+◌, List, ◌∷◌, length, get_or, drop, Ok, Err, ap, sym, ◌∙◌, arith, rules}
 use Rattle.std.specs.Prelude.{neg_ℤ}
-use Rattle.std.proofs.lemmas.Int.{ints}
 use Rattle.std.proofs.lemmas.List.{at_drop_more, at_drop_all}
 use Rattle.std.proofs.lemmas.Grind.{common_steps}
 use Rattle.vhdl_names_rules.specs.views.Integers.{static_view}
@@ -11,6 +10,7 @@ use Rattle.vhdl_expand_rules.specs.Elab.{◌>>=◌, Told, fault_told}
 use Rattle.vhdl_expand_rules.specs.Integers as definition
 use Rattle.vhdl_expand_rules.specs.views.Integers.{integers_view, all_operated}
 use Rattle.vhdl_expand_rules.proofs.Chains.{computes_along, computes_err, chain-value, chain-err}
+use Rattle.vhdl_expand_rules.proofs.Modulus.{same_word}
 use Rattle.vhdl_expand_rules.proofs.integer.Integers.+integer.Goals as goal
 
 pub integer-returns-in_err-first-in-Chain : goal.integer-returns-in_err-first-in-Chain
@@ -72,10 +72,8 @@ started-returns t c =
     let l = c.args.start.now.link in
     let x = c.in_ok-left.left in
     let y = c.in_ok-right.right in
-    let fx : SFits w32 x = search rules in
-    let fy : SFits w32 y = search rules in
-    let ex : to_z w32 (of_z w32 x) ≡ x = omega (arith, ints) in
-    let ey : to_z w32 (of_z w32 y) ≡ y = omega (arith, ints) in
+    let ex = same_word x (search rules) in
+    let ey = same_word y (search rules) in
     computes_along _ (definition.integer_operation l.at l.operator (to_z w32 (of_z w32 x)) (to_z w32 (of_z w32 y))) _
     (ap (λ r. r >>= λ a. definition.integer (integers_view c.args.self.now) l.at (static_view l.operand) >>= λ b. definition.integer_operation l.at l.operator a b) c.in_ok-left.ensures
     ∙ (ap (λ r. r >>= λ b. definition.integer_operation l.at l.operator x b) c.in_ok-right.ensures
@@ -112,18 +110,15 @@ pub continued-loop-link-preserved : goal.continued-loop-link-preserved
 continued-loop-link-preserved t c =
     let o = c.in_ok-operand.operand in
     let v = c.in_ok-value.value in
-    let fo : SFits w32 o = search rules in
-    let fv : SFits w32 v = search rules in
-    let eo : to_z w32 (of_z w32 o) ≡ o = omega (arith, ints) in
-    let ev : to_z w32 (of_z w32 v) ≡ v = omega (arith, ints) in
+    let eo = same_word o (search rules) in
+    let ev = same_word v (search rules) in
     operator_goes (integers_view c.args.self.now) _ (to_z w32 c.loop-link.value-bits) c.args.links.now c.loop-link.link-index c.link-item.result c.loop-link-test.true c.link-item.is c.loop-link.invariant
     o (to_z w32 (of_z w32 o)) v (to_z w32 (of_z w32 v)) eo ev c.in_ok-operand.ensures c.in_ok-value.ensures
 
 pub continued-returns-in_err-operand : goal.continued-returns-in_err-operand
 continued-returns-in_err-operand t c =
     let a = c.args.first in
-    let fa : SFits w32 a = search rules in
-    let ea : to_z w32 (of_z w32 a) ≡ a = omega (arith, ints) in
+    let ea = same_word a (search rules) in
     computes_err _ c.in_err-operand.field-0.0 _ c.from_residual.result c.from_residual.ensures.1 (λ e p. p)
     (operand_stops (integers_view c.args.self.now) a (to_z w32 c.loop-link.value-bits) c.args.links.now c.loop-link.link-index c.link-item.result c.loop-link-test.true c.link-item.is
     (ap (λ z. all_operated (integers_view c.args.self.now) z c.args.links.now) (sym ea) ∙ c.loop-link.invariant) _ c.in_err-operand.ensures)
@@ -132,10 +127,8 @@ pub continued-returns-in_err-value : goal.continued-returns-in_err-value
 continued-returns-in_err-value t c =
     let a = c.args.first in
     let o = c.in_ok-operand.operand in
-    let fa : SFits w32 a = search rules in
-    let fo : SFits w32 o = search rules in
-    let ea : to_z w32 (of_z w32 a) ≡ a = omega (arith, ints) in
-    let eo : to_z w32 (of_z w32 o) ≡ o = omega (arith, ints) in
+    let ea = same_word a (search rules) in
+    let eo = same_word o (search rules) in
     computes_err _ c.in_err-value.field-0.0 _ c.from_residual-in_err-value.result c.from_residual-in_err-value.ensures.1 (λ e p. p)
     (operator_stops (integers_view c.args.self.now) a (to_z w32 c.loop-link.value-bits) c.args.links.now c.loop-link.link-index c.link-item.result c.loop-link-test.true c.link-item.is
     (ap (λ z. all_operated (integers_view c.args.self.now) z c.args.links.now) (sym ea) ∙ c.loop-link.invariant) o (to_z w32 (of_z w32 o)) _ eo c.in_ok-operand.ensures c.in_err-value.ensures)
@@ -143,7 +136,6 @@ continued-returns-in_err-value t c =
 pub continued-returns : goal.continued-returns
 continued-returns t c =
     let a = c.args.first in
-    let fa : SFits w32 a = search rules in
-    let ea : to_z w32 (of_z w32 a) ≡ a = omega (arith, ints) in
+    let ea = same_word a (search rules) in
     ap (λ z. all_operated (integers_view c.args.self.now) z c.args.links.now) (sym ea)
     ∙ (c.loop-link.invariant ∙ at_drop_all (all_operated (integers_view c.args.self.now) (to_z w32 c.loop-link.value-bits)) c.args.links.now c.loop-link.link-index c.loop-link-test.false)
