@@ -56,10 +56,6 @@ one_more scopes k s ss name = by (is_named scopes name s)
     by true = refl
     by false = refl
 
-pub none_yet : (scopes : List ScopeView) (k : ℕ) (signals : List SignalView) (name : Word) → None ≡ number_from scopes k (drop (length signals) signals) name
-none_yet scopes k [] name = refl
-none_yet scopes k (s ∷ ss) name = none_yet scopes k ss name
-
 -- the signal before this number
 pub one_before : (scopes : List ScopeView) (signals : List Signal) (number : ℕ) (s : Signal) (name : Word) (now before : Option ℕ) → 0 < number → number ≤ length signals
     → s ≡ get_or signals (number - 1) s → before ≡ number_from scopes number (drop number (map signal_view signals)) name

@@ -97,20 +97,6 @@ pub record Passes (old : Expectations) (values : List ℕ) (until : ℕ) (new : 
   pub before : Each (λ e. e.time < until) passed
   pub first : option_map difference_view new.difference ≡ or_later (option_map difference_view old.difference) (first_in values passed)
 
-pub passes_none : (w : Expectations) (values : List ℕ) (until : ℕ) → Passes w values until w
-passes_none w values until = record {
-  same = refl;
-  passed = [];
-  cut = refl;
-  count = omega arith;
-  before = tt;
-  first = sym (none_later (option_map difference_view w.difference));
-}
-  where
-    none_later : (a : Option Difference) → or_later a None ≡ a
-    none_later None = refl
-    none_later (Some d) = refl
-
 -- the next one
 drop_next : (es : List Expectation) (n : ℕ) (e : Expectation) → slice_get es n ≡ Some e → drop n es ≡ e ∷ drop (n + 1) es
 drop_next [] n e is = cc

@@ -7,4 +7,3 @@ pub mod Differences
 pub mod Telling
 pub mod Watching
 pub mod Reading
-pub mod BrokenRules

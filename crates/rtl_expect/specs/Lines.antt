@@ -4,8 +4,8 @@ use Rattle.rtl_net.specs.Nets.{NetlistView, ScopeView, SignalView}
 use Rattle.rtl_stim_lines.specs.Lines.{Word, lines_of, words_of, says_nothing}
 use Rattle.rtl_stim_lines.specs.Forms.{Form, At, Clock, Stop, form_of}
 use Rattle.rtl_stim_lines.specs.Reading.{is_too_large}
-use Rattle.rtl_expect.specs.declared.faults.ExpectProblem.{ExpectProblem}
-use Rattle.rtl_expect.specs.declared.faults.ExpectProblem.TheVariants.{BadLine, NotASignal, BadValue, TimeTooLarge}
+use Rattle.fault_rules.specs.declared.expecting.ExpectRule.{ExpectRule}
+use Rattle.fault_rules.specs.declared.expecting.ExpectRule.TheVariants.{BadLine, NotASignal, BadValue, TimeTooLarge}
 use Rattle.rtl_expect.specs.declared.faults.ExpectFault.{ExpectFault}
 use Rattle.rtl_expect.specs.declared.faults.ExpectFault.TheVariants.{InLine}
 use Rattle.rtl_expect.specs.declared.expected.Wanted.{Wanted}
@@ -35,32 +35,32 @@ placed e (x ∷ xs) = if nat_lt e.time x.time then e ∷ x ∷ xs else x ∷ pla
 
 -- ---- lines
 
-abbrev pub with_wanted : (line time signal : ℕ) → Option (List Wanted) → Result Expectation ExpectProblem
+abbrev pub with_wanted : (line time signal : ℕ) → Option (List Wanted) → Result Expectation ExpectRule
 with_wanted line time signal None = Err BadValue
 with_wanted line time signal (Some wanted) = Ok (record { line = line; time = time; signal = signal; wanted = wanted })
 
-abbrev pub of_signal : (line time : ℕ) → Option (ℕ × SignalView) → (text : Word) → Result Expectation ExpectProblem
+abbrev pub of_signal : (line time : ℕ) → Option (ℕ × SignalView) → (text : Word) → Result Expectation ExpectRule
 of_signal line time None text = Err NotASignal
 of_signal line time (Some found) text = with_wanted line time found.0 (value_wanted found.1.kind found.1.nets text)
 
 -- what the line of this number expects by its form, or what is wrong with it
-abbrev pub expected_in : NetlistView → (line : ℕ) → Option Form → Result Expectation ExpectProblem
+abbrev pub expected_in : NetlistView → (line : ℕ) → Option Form → Result Expectation ExpectRule
 expected_in net line (Some (At time name text)) = if is_too_large time then Err TimeTooLarge else of_signal line time (signal_named net name) text
 expected_in net line (Some (Clock name first half)) = Err BadLine
 expected_in net line (Some (Stop time)) = Err BadLine
 expected_in net line None = Err BadLine
 
-abbrev pub with_expected : List Expectation → Result Expectation ExpectProblem → Result (List Expectation) ExpectProblem
+abbrev pub with_expected : List Expectation → Result Expectation ExpectRule → Result (List Expectation) ExpectRule
 with_expected so_far (Err problem) = Err problem
 with_expected so_far (Ok e) = Ok (placed e so_far)
 
 -- what is expected once this line is read too, or what is wrong with it
-abbrev pub after_line : NetlistView → List Expectation → (number : ℕ) → (line : List ℕ) → Result (List Expectation) ExpectProblem
+abbrev pub after_line : NetlistView → List Expectation → (number : ℕ) → (line : List ℕ) → Result (List Expectation) ExpectRule
 after_line net so_far number line =
     if says_nothing (words_of line) then Ok so_far else with_expected so_far (expected_in net number (form_of (words_of line)))
 
 -- the fault of a problem in the line of this number
-abbrev pub in_line : {A : Type 0} → ℕ → Result A ExpectProblem → Result A ExpectFault
+abbrev pub in_line : {A : Type 0} → ℕ → Result A ExpectRule → Result A ExpectFault
 in_line number (Ok a) = Ok a
 in_line number (Err problem) = Err (InLine problem number)
 

@@ -15,6 +15,6 @@ mod telling;
 mod watching;
 
 pub use difference::Difference;
-pub use faults::{ExpectFault, ExpectProblem};
+pub use faults::ExpectFault;
 pub use telling::push_difference;
 pub use watching::Expectations;

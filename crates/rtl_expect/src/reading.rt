@@ -13,8 +13,9 @@ ghost use Rattle.rtl_expect.specs.Reading.{AreListed, IsExpected, Leads, all_pla
 
 use crate::expectation::Expectation;
 use crate::expected::Wanted;
-use crate::faults::{ExpectFault, ExpectProblem};
+use crate::faults::ExpectFault;
 use crate::naming::{SignalTable, signal_named, table_of};
+use fault_rules::ExpectRule;
 use rtl_net::{Net, Signal, SignalKind};
 use rtl_stim_lines::{Form, Time, form_of, says_nothing, time_of, without_return, words_of};
 use std::alloc::{AllocError, Global};
@@ -97,16 +98,16 @@ fn expectation_of(
 {
     net.is_elaborated();
     let Some(Form::At { time, name, value }) = form_of(words) else {
-        return Err(ExpectProblem::BadLine.in_line(line));
+        return Err(ExpectFault::in_line(ExpectRule::BadLine, line));
     };
     let Time::At(time) = time else {
-        return Err(ExpectProblem::TimeTooLarge.in_line(line));
+        return Err(ExpectFault::in_line(ExpectRule::TimeTooLarge, line));
     };
     let Some((number, signal)) = signal_named(alloc, net, table, name)? else {
-        return Err(ExpectProblem::NotASignal.in_line(line));
+        return Err(ExpectFault::in_line(ExpectRule::NotASignal, line));
     };
     let Some(wanted) = value_wanted(alloc, signal, value)? else {
-        return Err(ExpectProblem::BadValue.in_line(line));
+        return Err(ExpectFault::in_line(ExpectRule::BadValue, line));
     };
     Ok(Expectation {
         line,
@@ -116,12 +117,11 @@ fn expectation_of(
     })
 }
 
+/// What a text wants of a signal's elements, if it is one of their values.
+type Found = Result<Option<Vec<Wanted>>, AllocError>;
+
 /// What a text wants of a signal's elements.
-fn value_wanted(
-    alloc: Global,
-    signal: &Signal,
-    text: &[u8],
-) -> Result<Option<Vec<Wanted>>, AllocError>
+fn value_wanted(alloc: Global, signal: &Signal, text: &[u8]) -> Found
     requires some { 1 ≤ length signal.now.nets.items }
     ensures { IfOk result (λ found. option_map (λ v. v.items) found
         ≡ wanted.value_wanted signal.now.kind signal.now.nets.items text.now) }
@@ -133,11 +133,7 @@ fn value_wanted(
 }
 
 /// What letters of the nine values want of these nets, one letter for each.
-fn letters_wanted(
-    alloc: Global,
-    nets: &[usize],
-    text: &[u8],
-) -> Result<Option<Vec<Wanted>>, AllocError>
+fn letters_wanted(alloc: Global, nets: &[usize], text: &[u8]) -> Found
     ensures { IfOk result (λ found. option_map (λ v. v.items) found ≡ wanted.letters_wanted nets.now text.now) }
 {
     if nets.len() != text.len() {
@@ -167,12 +163,7 @@ fn code_wanted(value: Nine) -> Option<u64>
 }
 
 /// What the position of a literal, one of so many, wants of a net; `-` stands for any.
-fn position_wanted(
-    alloc: Global,
-    net: usize,
-    count: u32,
-    text: &[u8],
-) -> Result<Option<Vec<Wanted>>, AllocError>
+fn position_wanted(alloc: Global, net: usize, count: u32, text: &[u8]) -> Found
     ensures { IfOk result (λ found. option_map (λ v. v.items) found ≡ wanted.position_wanted net count text.now) }
 {
     if text == b"-".as_slice() {

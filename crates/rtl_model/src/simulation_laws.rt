@@ -1,8 +1,10 @@
 //! The laws of simulation (`specs/simulation/Laws.antt`), each the contract of a function that does
 //! nothing.
 
-ghost use Rattle.rtl_model.specs.simulation.Laws.{EachChangeIsMade, EachClockShowsRaces, EachDependsOnPast, EachEndsAtLast, EachFaultIsListed, EachInputHolds, EachMomentComes};
-ghost use Rattle.rtl_model.specs.simulation.Laws.{EachRunShows, EachStaysConsistent, EachTakesInputsAlone, EveryOrderIsOne, IsTheMachine, LevelsAreShown, LevelsExist};
+ghost use Rattle.rtl_model.specs.simulation.Laws.{EachChangeIsMade, EachClockShowsRaces, EachDependsOnPast};
+ghost use Rattle.rtl_model.specs.simulation.Laws.{EachEndsAtLast, EachFaultIsListed, EachInputHolds, EachMomentComes};
+ghost use Rattle.rtl_model.specs.simulation.Laws.{EachRunShows, EachStaysConsistent, EachTakesInputsAlone, EveryOrderIsOne};
+ghost use Rattle.rtl_model.specs.simulation.Laws.{IsTheMachine, LevelsAreShown, LevelsExist};
 ghost use Rattle.rtl_model.specs.simulation.Laws.{OneGreatestCount, OneMachineRun, OneReport, OneSolution, OrderIsFree, ReportsAreShown, ReportsLeadDown};
 ghost use Rattle.rtl_model.specs.simulation.Laws.{RunsInRange, SettlesInBound, SettlesOrNot, SolutionsInRange, StatesInRange};
 

@@ -1,6 +1,6 @@
 -- A text is refused for a bad line or for want of a stop, and never for a race.
 use Rattle.std.proofs.Common.{◌≡◌, ℕ, suc, List, [], ◌∷◌, Option, Some, None, Result, Ok, Err}
-use Rattle.rtl_stim_lines.specs.declared.faults.StimProblem.{StimProblem}
+use Rattle.fault_rules.specs.declared.stimuli.StimRule.{StimRule}
 use Rattle.rtl_stim_lines.specs.declared.faults.StimFault.{StimFault}
 use Rattle.rtl_stim_lines.specs.declared.faults.StimFault.TheVariants.{InLine, NoStop, Race, NoMemory}
 use Rattle.rtl_stim_lines.specs.Lines.{lines_of}
@@ -12,7 +12,7 @@ IsNoRace (Ok x) = Unit {0}
 IsNoRace (Err (Race time input clock)) = ⊥
 IsNoRace (Err fault) = Unit {0}
 
-in_number : (number : ℕ) (r : Result Said StimProblem) → IsNoRace (in_line number r)
+in_number : (number : ℕ) (r : Result Said StimRule) → IsNoRace (in_line number r)
 in_number number (Ok said) = tt
 in_number number (Err problem) = tt
 

@@ -6,15 +6,13 @@ use Rattle.std.proofs.lemmas.Bool.{leb-true}
 use Rattle.std.proofs.lemmas.Bool.Decides.{nat_tests}
 use Rattle.std.proofs.lemmas.List.Elements.{All-take, All-drop, All-append, All-weaker}
 use Rattle.std.proofs.lemmas.List.Splits.{slice_split_at, slice_split_none, length-slice_split}
-use Rattle.vhdl_values.specs.declared.scalar.Nine.{Nine}
-use Rattle.rtl_stim_lines.specs.declared.faults.StimProblem.{StimProblem}
 use Rattle.rtl_stim_lines.specs.declared.faults.StimFault.{StimFault}
 use Rattle.rtl_stim_lines.specs.Lines.{Word, ends_line, without_return, as_lines, lines_of, is_blank, is_word, words_of, says_nothing}
 use Rattle.rtl_stim_lines.specs.Forms.{form_of}
 use Rattle.rtl_stim_lines.proofs.Parts.{as_lines_more}
-use Rattle.rtl_stim_lines.specs.Inputs.{Input, input_at, input_named, values_for}
-use Rattle.rtl_stim_lines.specs.Courses.{Course}
-use Rattle.rtl_stim_lines.specs.Reading.{Said, nothing_said, after_set, course_at, with_course, set_values, set_input, after_form, after_line, in_line, one_more, after_lines, ended}
+use Rattle.rtl_stim.proofs.Stops.{number_keeps, set_keeps}
+use Rattle.rtl_stim_lines.specs.Inputs.{Input, input_named}
+use Rattle.rtl_stim_lines.specs.Reading.{Said, nothing_said, set_input, after_form, after_line, in_line, one_more, after_lines, ended}
 use Rattle.rtl_run.specs.Words as words
 use Rattle.rtl_stim_lines.specs.Pairs.{Pair, after_pair, one_more_pair, after_pairs, stopped_at_zero}
 use Rattle.rtl_run.specs.Words.{halves, filled, sides, set_line, word_line, EachWordSets}
@@ -159,29 +157,16 @@ first_line body rest some plain =
 
 -- ---- no stop is said by words
 
+abbrev is_unsaid : Option ℕ → Type 0
+is_unsaid stop = stop ≡ None
+
 abbrev HasNoStop : Said → Type 0
-HasNoStop said = said.stop ≡ None
-
-course : (said : Said) (input : ℕ) (r : Result Course StimProblem) → HasNoStop said → IfOk (with_course said input r) HasNoStop
-course said input (Err problem) h = tt
-course said input (Ok x) h = h
-
-values : (said : Said) (input time : ℕ) (found : Option (List Nine)) → HasNoStop said → IfOk (set_values said input time found) HasNoStop
-values said input time None h = tt
-values said input time (Some vs) h = course said input (after_set time vs (course_at said input)) h
-
-set : (inputs : List Input) (said : Said) (found : Option ℕ) (time : ℕ) (text : Word) → HasNoStop said → IfOk (set_input inputs said found time text) HasNoStop
-set inputs said None time text h = tt
-set inputs said (Some input) time text h = values said input time (values_for (input_at inputs input).elements text) h
-
-in_number : (number : ℕ) (r : Result Said StimProblem) → IfOk r HasNoStop → IfOk (in_line number r) HasNoStop
-in_number number (Ok said) h = h
-in_number number (Err problem) h = tt
+HasNoStop said = is_unsaid said.stop
 
 word_keeps : (inputs : List Input) (number : ℕ) (o : Option (List ℕ × List ℕ)) (said : Said) → HasNoStop said → IfOk (in_line number (after_pair inputs said o)) HasNoStop
 word_keeps inputs number None said h = tt
 word_keeps inputs number (Some sides) said h =
-    in_number number (set_input inputs said (input_named inputs sides.0) 0 sides.1) (set inputs said (input_named inputs sides.0) 0 sides.1 h)
+    number_keeps is_unsaid number (set_input inputs said (input_named inputs sides.0) 0 sides.1) (set_keeps is_unsaid inputs said (input_named inputs sides.0) 0 sides.1 h)
 
 next_keeps : (inputs : List Input) (number : ℕ) (pair : Pair) (r : Result Said StimFault) → IfOk r HasNoStop → IfOk (one_more_pair inputs number pair r) HasNoStop
 next_keeps inputs number pair (Err fault) h = tt

@@ -1,5 +1,5 @@
 -- Where the nets of inputs rise, the first net of each tells which input has a net.
-use Rattle.std.proofs.Common.{◌≡◌, ℕ, suc, zero, ◌<◌, ◌≤◌, List, [], ◌∷◌, ◌++◌, length, map, get_or, Ok, Err, ⊎_elim, sym, ap, ◌∙◌, arith}
+use Rattle.std.proofs.Common.{◌≡◌, ℕ, suc, zero, ◌<◌, ◌≤◌, List, [], ◌∷◌, ◌++◌, length, map, get_or, Ok, Err, ⊎_elim, sym, ap, subst, ◌∙◌, arith}
 use Rattle.std.specs.Prelude.{All, AllPairs, Contains}
 use Rattle.std.specs.List.Sorted.{IsBinarySearchResult}
 use Rattle.std.specs.Ordering.{nat_cmp}
@@ -10,6 +10,9 @@ use Rattle.std.proofs.lemmas.List.Elements.{All-get_or, Contains-get_or, Contain
 use Rattle.std.proofs.lemmas.List.Sorted.{searched}
 use Rattle.rtl_stim_lines.specs.Inputs.{Input, Element, input_at, no_input}
 use Rattle.rtl_stim_lines.specs.Times.{nets_of, all_nets}
+use Rattle.rtl_stim.specs.declared.stimulus.Stimulus.TheInside.{Inside}
+use Rattle.rtl_stim.specs.Stimuli.{StimulusView}
+use Rattle.rtl_stim.specs.Kept.{stimulus_view, IsKept}
 use Rattle.rtl_stim.specs.Pushes.{first_net}
 use Rattle.rtl_stim.proofs.Values.{first_or_later}
 use Rattle.rtl_stim.proofs.Places.{among_all}
@@ -60,28 +63,37 @@ below_at (x ∷ inputs) zero (suc j) n m h before within left right =
 below_at (x ∷ inputs) (suc i) (suc j) n m h before within left right =
     below_at inputs i j n m (rise_right (nets_of x) (all_nets inputs) h) (omega (arith, before)) (omega (arith, within)) left right
 
-module _ (inputs : List Input) (firsts : List ℕ) (are : firsts ≡ map first_net inputs) (rising : AllPairs (λ n m. n < m) (all_nets inputs))
-    (have : All (λ input. 1 ≤ length input.elements) inputs) where
-  pub as_many : length firsts ≡ length inputs
-  as_many = ap length are ∙ length-map inputs first_net
+-- the first nets of inputs whose nets rise
+pub record AreFirsts (inputs : List Input) (firsts : List ℕ) : Type 0 where
+  pub are : firsts ≡ map first_net inputs
+  pub rising : AllPairs (λ n m. n < m) (all_nets inputs)
+  pub have : All (λ input. 1 ≤ length input.elements) inputs
 
-  pub first_at : (i : ℕ) → i < length inputs → get_or firsts i 0 ≡ first_net (input_at inputs i)
-  first_at i within = ap (λ ns. get_or ns i 0) are ∙ get_or-map first_net inputs i no_input 0 within
+pub firsts_kept : (s : Inside) (v : StimulusView) → stimulus_view s ≡ v → IsKept s → AreFirsts v.inputs s.firsts.items
+firsts_kept s v view kept =
+    subst (λ (v : StimulusView). AreFirsts v.inputs s.firsts.items) view (record { are = kept.firsts; rising = kept.rising; have = kept.stimulus.have_elements })
+
+module _ (inputs : List Input) (firsts : List ℕ) (F : AreFirsts inputs firsts) where
+  as_many : length firsts ≡ length inputs
+  as_many = ap length F.are ∙ length-map inputs first_net
+
+  first_at : (i : ℕ) → i < length inputs → get_or firsts i 0 ≡ first_net (input_at inputs i)
+  first_at i within = ap (λ ns. get_or ns i 0) F.are ∙ get_or-map first_net inputs i no_input 0 within
 
   -- an input has its first net
   pub first_there : (i : ℕ) → i < length inputs → Contains (nets_of (input_at inputs i)) (first_net (input_at inputs i))
   first_there i within =
-      let some : 1 ≤ length (input_at inputs i).elements = All-get_or (λ (input : Input). 1 ≤ length input.elements) inputs i no_input within have in
+      let some : 1 ≤ length (input_at inputs i).elements = All-get_or (λ (input : Input). 1 ≤ length input.elements) inputs i no_input within F.have in
       Contains-get_or (nets_of (input_at inputs i)) 0 0 (omega (arith, some, length-map (input_at inputs i).elements (λ (e : Element). e.net)))
 
   first_below : (i n : ℕ) → i < length inputs → Contains (nets_of (input_at inputs i)) n → get_or firsts i 0 ≤ n
   first_below i n within there =
-      let least = first_least (nets_of (input_at inputs i)) n (rise_at inputs i (rise_of (all_nets inputs) rising) within) there in
+      let least = first_least (nets_of (input_at inputs i)) n (rise_at inputs i (rise_of (all_nets inputs) F.rising) within) there in
       omega (arith, first_at i within, least)
 
   before_first : (i j n : ℕ) → i < j → j < length inputs → Contains (nets_of (input_at inputs i)) n → n < get_or firsts j 0
   before_first i j n before within there =
-      let less = below_at inputs i j n (first_net (input_at inputs j)) (rise_of (all_nets inputs) rising) before within there (first_there j within) in
+      let less = below_at inputs i j n (first_net (input_at inputs j)) (rise_of (all_nets inputs) F.rising) before within there (first_there j within) in
       omega (arith, first_at j within, less)
 
   up : (i j : ℕ) → i ≤ j → j < length firsts → get_or firsts i 0 ≤ get_or firsts j 0
@@ -94,13 +106,16 @@ module _ (inputs : List Input) (firsts : List ℕ) (are : firsts ≡ map first_n
       (eq-or-lt_of_le le)
 
   -- what a search for a net answers
-  pub found_at : (net i : ℕ) → IsBinarySearchResult (λ y. nat_cmp y net) firsts (Ok i) → (i < length inputs) × (get_or firsts i 0 ≡ net)
+  found_at : (net i : ℕ) → IsBinarySearchResult (λ y. nat_cmp y net) firsts (Ok i) → (i < length inputs) × (get_or firsts i 0 ≡ net)
   found_at net i result = let at = searched firsts net (Ok i) result up in (omega (arith, at.0, as_many), at.1)
+
+  pub found : (net i : ℕ) → IsBinarySearchResult (λ y. nat_cmp y net) firsts (Ok i) → (i < length inputs) × (net ≡ first_net (input_at inputs i))
+  found net i result = let at = found_at net i result in (at.0, sym at.1 ∙ first_at i at.0)
 
   pub is_at : (net i q : ℕ) → IsBinarySearchResult (λ y. nat_cmp y net) firsts (Ok i) → q < length inputs → Contains (nets_of (input_at inputs q)) net → i ≡ q
   is_at net i q result within there =
       let at = found_at net i result in
-      ⊎_elim (λ before. let less = below_at inputs i q (first_net (input_at inputs i)) net (rise_of (all_nets inputs) rising) before within (first_there i at.0) there in
+      ⊎_elim (λ before. let less = below_at inputs i q (first_net (input_at inputs i)) net (rise_of (all_nets inputs) F.rising) before within (first_there i at.0) there in
       absurd (omega (arith, less, at.1, first_at i at.0)))
       (λ le. ⊎_elim (λ e. sym e) (λ behind. let less = before_first q i net behind at.0 there in absurd (omega (arith, less, at.1))) (eq-or-lt_of_le le))
       (cases_lt i q)

@@ -1,18 +1,18 @@
 -- The elements of the input at a place.
 use Rattle.std.proofs.Common.{◌≡◌, ◌≢◌, ℕ, suc, zero, ◌<◌, List, [], ◌∷◌, length, map, refl, sym, ap, subst, ◌∙◌, arith}
 use Rattle.std.specs.Prelude.{Contains, AllPairs, slice_get, slice_index_or, option_map, Some}
-use Rattle.std.proofs.lemmas.List.{length-map}
+use Rattle.std.proofs.lemmas.List.{length-map, get_or-map}
 use Rattle.std.proofs.lemmas.List.Elements.{Contains-get_or, Contains-append_left, Contains-append_right}
 use Rattle.std.proofs.lemmas.Option.{slice_get-get_or}
 use Rattle.rtl_agenda.specs.Agenda.{Change}
 use Rattle.rtl_stim_lines.specs.declared.inputs.Element.{Element as KeptElement}
+use Rattle.rtl_stim_lines.specs.Courses.{Sets}
 use Rattle.rtl_stim_lines.specs.Inputs.{Input, Element, input_at, no_input}
 use Rattle.rtl_stim_lines.specs.Reading.{Schedule}
 use Rattle.rtl_stim_lines.specs.Times.{nets_of, all_nets}
 use Rattle.rtl_stim_lines.specs.Filling.{HaveOwnNets}
-use Rattle.rtl_stim_lines.specs.View.{element_view, course_in, course_view}
+use Rattle.rtl_stim_lines.specs.View.{element_view, course_in, course_view, input_view}
 use Rattle.rtl_stim_lines.specs.declared.courses.Course.{Course as KeptCourse}
-use Rattle.rtl_stim_lines.proofs.Saying.{course_there}
 use Rattle.rtl_stim.specs.declared.stimulus.Stimulus.TheInside.{Inside}
 use Rattle.rtl_stim.specs.Kept.{stimulus_view, IsKept}
 use Rattle.rtl_stim.specs.Moments.{IsStimulus}
@@ -36,6 +36,21 @@ module _ (inputs : List Input) (place : ℕ) (within : place < length inputs) wh
         same [] = refl
         same (x ∷ xs) = ap (λ ns. x.net ∷ ns) (same xs)
 
+-- a stimulus, by what is kept of it
+module _ (s : Inside) (v : StimulusView) (view : stimulus_view s ≡ v) (k : IsKept s) where
+  pub kept_stimulus : IsStimulus v
+  kept_stimulus = subst IsStimulus view k.stimulus
+
+  pub each_kept_course : length s.schedule.courses.items ≡ length v.inputs
+  each_kept_course = sym (length-map s.schedule.courses.items course_view) ∙ k.stimulus.each_course ∙ ap (λ (w : StimulusView). length w.inputs) view
+
+pub each_kept_input : (s : Inside) (v : StimulusView) → stimulus_view s ≡ v → length s.inputs.entries ≡ length v.inputs
+each_kept_input s v view = sym (length-map s.inputs.entries input_view) ∙ ap (λ (w : StimulusView). length w.inputs) view
+
+pub kept_course : (courses : List KeptCourse) (place : ℕ) (d : KeptCourse) → place < length courses → slice_index_or (map course_view courses) place (Sets [])
+    ≡ course_view (slice_index_or courses place d)
+kept_course courses place d within = get_or-map course_view courses place d (Sets []) within
+
 -- an input of a stimulus, by what is kept of it
 pub record IsKeptInput (v : StimulusView) (s : Inside) (place : ℕ) : Type 0 where
   pub stimulus : IsStimulus v
@@ -51,7 +66,7 @@ kept_input v s place view k within =
     record {
       stimulus = subst IsStimulus (sym view) k.stimulus;
       there = there;
-      course = λ x is. ap (λ (w : StimulusView). course_in w.schedule place) view ∙ course_there s.schedule.courses.items place x there ∙ ap course_view (sym is);
+      course = λ x is. ap (λ (w : StimulusView). course_in w.schedule place) view ∙ kept_course s.schedule.courses.items place x there ∙ ap course_view (sym is);
       nets = λ es are. ap (λ (w : StimulusView). nets_of (input_at w.inputs place)) view ∙ nets_seen (stimulus_view s).inputs place inside es are;
     }
 

@@ -11,9 +11,11 @@ use Rattle.rtl_net.specs.Elaborated.{IsNet, SignalInRange}
 use Rattle.rtl_model.specs.bodies.Types.{HasType}
 use Rattle.rtl_stim_lines.specs.Inputs.{Input}
 use Rattle.rtl_stim_lines.specs.Filling.{HaveOwnNets}
+use Rattle.rtl_stim_lines.specs.Reading.{Schedule}
 use Rattle.rtl_stim_lines.specs.Times.{all_nets}
 use Rattle.rtl_stim_lines.specs.View.{IsVector, AreVectors}
 use Rattle.rtl_stim.specs.Ports.{HasOwnPorts, is_in_port, element_on, input_of, inputs_of}
+use Rattle.rtl_stim.specs.Moments.{IsStimulus}
 use Rattle.rtl_stim.proofs.Inputs.{all_before, split_filter}
 
 -- ---- a signal at its place
@@ -90,3 +92,13 @@ nets_rise net elaborated own = subst (AllPairs (λ n m. n < m)) (sym own.element
 
 pub have_own_nets : (net : NetlistView) → IsNet net → HasOwnPorts net → HaveOwnNets (inputs_of net)
 have_own_nets net elaborated own = λ i j d before there same. let h = nets_rise net elaborated own i j d before there in omega (arith, h, same)
+
+-- with a course each, the inputs of a netlist with ports of its own are a stimulus's
+pub of_ports : (net : NetlistView) (inputs : List Input) (schedule : Schedule) → IsNet net → HasOwnPorts net → inputs ≡ inputs_of net → length schedule.courses ≡ length inputs
+    → IsStimulus (record { inputs = inputs; schedule = schedule })
+of_ports net inputs schedule elaborated own are each = record {
+  own_nets = subst HaveOwnNets (sym are) (have_own_nets net elaborated own);
+  each_course = each;
+  have_elements = subst (λ (inputs : List Input). All (λ input. 1 ≤ length input.elements) inputs) (sym are)
+      (All-weaker (λ input. IsVector input.elements) (λ input. 1 ≤ length input.elements) (λ input wide. wide.0) (inputs_of net) (are_vectors net elaborated));
+}

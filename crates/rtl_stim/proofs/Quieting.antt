@@ -1,5 +1,5 @@
 -- The times at which inputs change, one input more at a time.
-use Rattle.std.proofs.Common.{◌≡◌, ℕ, ◌+◌, ◌-◌, ◌<◌, ◌≤◌, Bool, true, false, cond, List, [], ◌∷◌, ◌++◌, length, take, drop, ⊎_elim, inl, inr, refl, sym, ap, subst, ◌∙◌, arith, append-nil}
+use Rattle.std.proofs.Common.{◌≡◌, ℕ, ◌+◌, ◌-◌, ◌<◌, ◌≤◌, Bool, true, false, cond, List, [], ◌∷◌, ◌++◌, length, take, ⊎_elim, inl, inr, refl, sym, ap, subst, ◌∙◌, arith, append-nil}
 use Rattle.std.specs.Prelude.{◌⊎◌, Contains, All, slice_index}
 use Rattle.std.specs.BTreeMap.{is_at}
 use Rattle.std.specs.BTreeSet.{BTreeSet, contains, Updates}
@@ -20,7 +20,6 @@ use Rattle.rtl_stim.specs.Moments.{IsStimulus}
 use Rattle.rtl_stim.specs.Quiet.{IsNoClock, IsQuietAt, IsChangedAt, HasNoneHere, Changes, IsAmong, HasAdded, AreChanges, AreFree, HasSearched}
 use Rattle.rtl_stim.proofs.Values.{value_there}
 use Rattle.rtl_stim.proofs.Courses.{all_nets-append}
-use Rattle.rtl_stim.proofs.Inputs.{split_at}
 use Rattle.rtl_stim.proofs.Places.{input_there}
 use Rattle.rtl_stim.proofs.Awaiting.{course_there, element_of_net}
 use Rattle.rtl_stim.proofs.Unchanged.{same_value}
@@ -28,9 +27,6 @@ use Rattle.rtl_stim.proofs.Unchanged.{same_value}
 -- ---- the nets of an input among those of all
 
 module _ (inputs : List Input) (i : ℕ) (within : i < length inputs) where
-  cut : all_nets inputs ≡ all_nets (take i inputs) ++ (nets_of (input_at inputs i) ++ all_nets (drop (i + 1) inputs))
-  cut = ap all_nets (split_at inputs i no_input within) ∙ all_nets-append (take i inputs) (input_at inputs i ∷ drop (i + 1) inputs)
-
   pub nets_more : all_nets (take (i + 1) inputs) ≡ all_nets (take i inputs) ++ nets_of (input_at inputs i)
   nets_more =
       ap all_nets (take_more inputs i no_input within) ∙ all_nets-append (take i inputs) (input_at inputs i ∷ [])

@@ -4,8 +4,8 @@ use Rattle.std.proofs.lemmas.Bool.{leb-true}
 use Rattle.std.proofs.lemmas.Result.{IfOk-at_ok}
 use Rattle.std.specs.Prelude.{IfOk, IfSome}
 use Rattle.vhdl_values.specs.declared.scalar.Nine.{Nine}
-use Rattle.rtl_stim_lines.specs.declared.faults.StimProblem.{StimProblem}
-use Rattle.rtl_stim_lines.specs.declared.faults.StimProblem.TheVariants.{BadLine, BadValue, TimeTooLarge}
+use Rattle.fault_rules.specs.declared.stimuli.StimRule.{StimRule}
+use Rattle.fault_rules.specs.declared.stimuli.StimRule.TheVariants.{BadLine, BadValue, TimeTooLarge}
 use Rattle.rtl_stim_lines.specs.declared.faults.StimFault.{StimFault}
 use Rattle.rtl_stim_lines.specs.Lines.{Word, lines_of, words_of, says_nothing}
 use Rattle.rtl_stim_lines.specs.Forms.{Form, At, Clock, Stop, form_of}
@@ -14,30 +14,45 @@ use Rattle.rtl_stim_lines.specs.Courses.{Course}
 use Rattle.rtl_stim_lines.specs.Pairs.{stopped_at_zero}
 use Rattle.rtl_stim_lines.specs.Reading.{Said, Schedule, latest_time, is_too_large, nothing_said, after_set, after_clock, course_at, with_course, set_values, set_input, set_clock, with_stop, after_form, after_line, in_line, one_more, after_lines, with_end, ended, schedule_of}
 
--- the stop, where it is said, is no later
+-- ---- what is said of the stop alone stays where inputs are set
+
+module _ (P : Option ℕ → Type 0) where
+  abbrev pub Holds : Said → Type 0
+  Holds said = P said.stop
+
+  course_keeps : (said : Said) (input : ℕ) (r : Result Course StimRule) → Holds said → IfOk (with_course said input r) Holds
+  course_keeps said input (Err problem) h = tt
+  course_keeps said input (Ok x) h = h
+
+  values : (said : Said) (input time : ℕ) (found : Option (List Nine)) → Holds said → IfOk (set_values said input time found) Holds
+  values said input time None h = tt
+  values said input time (Some vs) h = course_keeps said input (after_set time vs (course_at said input)) h
+
+  pub set_keeps : (inputs : List Input) (said : Said) (found : Option ℕ) (time : ℕ) (text : Word) → Holds said → IfOk (set_input inputs said found time text) Holds
+  set_keeps inputs said None time text h = tt
+  set_keeps inputs said (Some input) time text h = values said input time (values_for (input_at inputs input).elements text) h
+
+  pub number_keeps : (number : ℕ) (r : Result Said StimRule) → IfOk r Holds → IfOk (in_line number r) Holds
+  number_keeps number (Ok said) h = h
+  number_keeps number (Err problem) h = tt
+
+-- ---- it is no later
+
+abbrev is_early : Option ℕ → Type 0
+is_early stop = IfSome stop (λ t. t ≤ latest_time)
+
 abbrev IsEarly : Said → Type 0
-IsEarly said = IfSome said.stop (λ t. t ≤ latest_time)
+IsEarly said = is_early said.stop
 
 chosen : {E : Type 0} (b : Bool) (r s : Result Said E) → IfOk r IsEarly → IfOk s IsEarly → IfOk (cond b r s) IsEarly
 chosen true r s h g = h
 chosen false r s h g = g
 
-course : (said : Said) (input : ℕ) (r : Result Course StimProblem) → IsEarly said → IfOk (with_course said input r) IsEarly
-course said input (Err problem) h = tt
-course said input (Ok x) h = h
-
-values : (said : Said) (input time : ℕ) (found : Option (List Nine)) → IsEarly said → IfOk (set_values said input time found) IsEarly
-values said input time None h = tt
-values said input time (Some vs) h = course said input (after_set time vs (course_at said input)) h
-
-set : (inputs : List Input) (said : Said) (found : Option ℕ) (time : ℕ) (text : Word) → IsEarly said → IfOk (set_input inputs said found time text) IsEarly
-set inputs said None time text h = tt
-set inputs said (Some input) time text h = values said input time (values_for (input_at inputs input).elements text) h
-
 clock : (inputs : List Input) (said : Said) (found : Option ℕ) (first half : ℕ) → IsEarly said → IfOk (set_clock inputs said found first half) IsEarly
 clock inputs said None first half h = tt
 clock inputs said (Some input) first half h =
-    chosen (input_at inputs input).is_scalar (with_course said input (after_clock first half (course_at said input))) (Err BadValue) (course said input (after_clock first half (course_at said input)) h) tt
+    let course = after_clock first half (course_at said input) in
+    chosen (input_at inputs input).is_scalar (with_course said input course) (Err BadValue) (course_keeps is_early said input course h) tt
 
 stop : (said : Said) (time : ℕ) → IfOk (with_stop said time) IsEarly
 stop said time = chosen (is_some said.stop) (Err BadLine) (cond (is_too_large time) (Err TimeTooLarge) (Ok (record said { stop = Some time }))) tt (within (nat_le time latest_time) refl)
@@ -49,19 +64,15 @@ stop said time = chosen (is_some said.stop) (Err BadLine) (cond (is_too_large ti
 form : (inputs : List Input) (said : Said) (f : Option Form) → IsEarly said → IfOk (after_form inputs said f) IsEarly
 form inputs said None h = tt
 form inputs said (Some (At time name text)) h =
-    chosen (is_too_large time) (Err TimeTooLarge) (set_input inputs said (input_named inputs name) time text) tt (set inputs said (input_named inputs name) time text h)
+    chosen (is_too_large time) (Err TimeTooLarge) (set_input inputs said (input_named inputs name) time text) tt (set_keeps is_early inputs said (input_named inputs name) time text h)
 form inputs said (Some (Clock name first half)) h =
     chosen (is_too_large first || is_too_large half) (Err TimeTooLarge) (set_clock inputs said (input_named inputs name) first half) tt (clock inputs said (input_named inputs name) first half h)
 form inputs said (Some (Stop time)) h = stop said time
 
-in_number : (number : ℕ) (r : Result Said StimProblem) → IfOk r IsEarly → IfOk (in_line number r) IsEarly
-in_number number (Ok said) h = h
-in_number number (Err problem) h = tt
-
 more : (inputs : List Input) (number : ℕ) (line : List ℕ) (r : Result Said StimFault) → IfOk r IsEarly → IfOk (one_more inputs number line r) IsEarly
 more inputs number line (Err fault) h = tt
 more inputs number line (Ok said) h =
-    in_number number (after_line inputs said line)
+    number_keeps is_early number (after_line inputs said line)
     (chosen (says_nothing (words_of line)) (Ok said) (after_form inputs said (form_of (words_of line))) h (form inputs said (form_of (words_of line)) h))
 
 all : (inputs : List Input) (number : ℕ) (lines : List (List ℕ)) (r : Result Said StimFault) → IfOk r IsEarly → IfOk (after_lines inputs number lines r) IsEarly

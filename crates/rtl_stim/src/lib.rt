@@ -15,5 +15,5 @@ mod stimulus;
 pub use laws::{agenda_gives_moments, times_show_races};
 pub use races::{Race, first_race};
 pub use rtl_agenda::{Agenda, Change, MapAgenda, NoMemory, Wheel};
-pub use rtl_stim_lines::{StimFault, StimProblem};
+pub use rtl_stim_lines::StimFault;
 pub use stimulus::Stimulus;

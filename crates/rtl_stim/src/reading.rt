@@ -1,13 +1,12 @@
 //! From a text to the stimulus of a netlist.
 
-ghost use Rattle.std.specs.Prelude.{◌≡◌, ◌<◌, ◌≤◌, ◌++◌, All, AllPairs, length, map, vec_len, IfOk, OnOk};
+ghost use Rattle.std.specs.Prelude.{◌≡◌, ◌<◌, ◌≤◌, ◌++◌, All, length, map, vec_len, IfOk, OnOk};
 ghost use Rattle.rtl_stim_lines.specs.Filling.{HaveOwnNets};
 ghost use Rattle.rtl_stim_lines.specs.View.{inputs_view, schedule_view, course_in, element_view};
 ghost use Rattle.rtl_stim_lines.specs.Times.{all_nets, value_at};
 ghost use Rattle.rtl_stim_lines.specs.Pairs.{pair_view};
 ghost use Rattle.rtl_stim_lines.specs.Reading.{latest_time};
-ghost use Rattle.rtl_stim.specs.Ports.{HasOwnPorts};
-ghost use Rattle.rtl_stim.specs.Moments.{IsStimulus};
+ghost use Rattle.rtl_stim.specs.Ports as ports;
 ghost use Rattle.rtl_stim.specs.Stimuli.{IsPaired, IsRead};
 ghost use Rattle.rtl_stim.specs.Kept.{element_values};
 ghost use Rattle.rtl_stim.specs.Pushes.{first_net};
@@ -28,13 +27,13 @@ impl Stimulus {
     /// The first bad line's fault, by the line's number from 1; `NoStop` where all lines are good
     /// and none says when to stop; `NoMemory` where a growth was refused. Never `Race`.
     pub fn read(alloc: Global, net: &Net, text: &[u8]) -> Result<Stimulus, StimFault>
-        requires { HasOwnPorts net.now }
+        requires { ports.HasOwnPorts net.now }
         ensures { IsRead net.now text.now result }
     {
         net.is_elaborated();
         let inputs = inputs_of(alloc, net)?;
         let schedule = read_schedule(alloc, text, &inputs)?;
-        Ok(with_initial(alloc, inputs, schedule)?)
+        Ok(with_initial(alloc, net, inputs, schedule)?)
     }
 
     /// The stimulus that sets each input that is named to its value at 0, and stops there. It takes
@@ -49,27 +48,30 @@ impl Stimulus {
         net: &Net,
         pairs: &[Option<(&[u8], &[u8])>],
     ) -> Result<Stimulus, StimFault>
-        requires { HasOwnPorts net.now }
+        requires { ports.HasOwnPorts net.now }
         ensures { IsPaired net.now (map pair_view pairs.now) result }
     {
         net.is_elaborated();
         let inputs = inputs_of(alloc, net)?;
         let schedule = read_pairs(alloc, pairs, &inputs)?;
-        Ok(with_initial(alloc, inputs, schedule)?)
+        Ok(with_initial(alloc, net, inputs, schedule)?)
     }
 }
 
-/// The stimulus of these inputs with their courses.
+/// The stimulus of a netlist's inputs with their courses.
 fn with_initial(
     alloc: Global,
+    net: &Net,
     inputs: InputTable,
     schedule: Schedule,
 ) -> Result<Stimulus, AllocError>
-    requires stimulus { IsStimulus (record { inputs = inputs_view inputs; schedule = schedule_view schedule }) }
-    requires rising { AllPairs (λ n m. n < m) (all_nets (inputs_view inputs)) }
+    requires own { ports.HasOwnPorts net.now }
+    requires inputs { inputs_view inputs ≡ ports.inputs_of net.now }
+    requires each { vec_len schedule.courses ≡ length (inputs_view inputs) }
     requires in_time { schedule.stop ≤ latest_time }
     ensures { IfOk result (λ s. s ≡ record { inputs = inputs_view inputs; schedule = schedule_view schedule }) }
 {
+    net.is_elaborated();
     let initial = initial_values(alloc, &inputs, &schedule)?;
     let firsts = first_nets(alloc, &inputs)?;
     Ok(Stimulus {

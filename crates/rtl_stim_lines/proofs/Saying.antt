@@ -6,8 +6,8 @@ use Rattle.vhdl_values.specs.declared.scalar.Nine.{Nine}
 use Rattle.rtl_stim_lines.specs.declared.courses.Course.{Course as KeptCourse}
 use Rattle.rtl_stim_lines.specs.declared.faults.StimFault.{StimFault}
 use Rattle.rtl_stim_lines.specs.declared.faults.StimFault.TheVariants.{NoMemory}
-use Rattle.rtl_stim_lines.specs.declared.faults.StimProblem.{StimProblem}
-use Rattle.rtl_stim_lines.specs.declared.faults.StimProblem.TheVariants.{BadLine, TimeTooLarge}
+use Rattle.fault_rules.specs.declared.stimuli.StimRule.{StimRule}
+use Rattle.fault_rules.specs.declared.stimuli.StimRule.TheVariants.{BadLine, TimeTooLarge}
 use Rattle.rtl_stim_lines.specs.declared.forms.Form.{Form as KeptForm}
 use Rattle.rtl_stim_lines.specs.declared.forms.Form.TheVariants as kept
 use Rattle.rtl_stim_lines.specs.declared.numbers.Time.{Time}
@@ -22,39 +22,42 @@ use Rattle.rtl_stim_lines.specs.View.{Leads, course_view}
 
 -- ---- one course is replaced
 
-leads_course : (s : Said) (place line : ℕ) (expected : Result Course StimProblem) (new : Course) (r : Result (Unit {0}) StimFault) → Leads (in_line line expected) new r
+leads_course : (s : Said) (place line : ℕ) (expected : Result Course StimRule) (new : Course) (r : Result (Unit {0}) StimFault) → Leads (in_line line expected) new r
     → Leads (in_line line (with_course s place expected)) (record s { courses = set s.courses place new }) r
 leads_course s place line (Ok course) new (Ok u) h = let same : course ≡ new = cc in ap (λ c. Ok (record s { courses = set s.courses place c })) same
 leads_course s place line (Ok course) new (Err fault) h = λ other. let bad = h other in cc
 leads_course s place line (Err problem) new (Ok u) h = cc
 leads_course s place line (Err problem) new (Err fault) h = λ other. let same = h other in cc
 
-pub clock_leads : (inputs : List Input) (s : Said) (found : Option ℕ) (place first half line : ℕ) (new : Course) (r : Result (Unit {0}) StimFault) → Some place ≡ found
-    → (input_at inputs place).is_scalar ≡ true → Leads (in_line line (after_clock first half (course_at s place))) new r
-    → Leads (in_line line (set_clock inputs s found first half)) (record s { courses = set s.courses place new }) r
-clock_leads inputs s found place first half line new r here scalar h =
-    subst (λ found. Leads (in_line line (set_clock inputs s found first half)) (record s { courses = set s.courses place new }) r) here
-    (rw scalar (leads_course s place line (after_clock first half (course_at s place)) new r h))
+-- the one at a place, of courses as they are kept
+pub course_leads : (s : Said) (items : List KeptCourse) (place line : ℕ) (after : Course → Result Course StimRule) (old new : KeptCourse) (r : Result (Unit {0}) StimFault)
+    → s.courses ≡ map course_view items → place < length items → old ≡ slice_index_or items place old → Leads (in_line line (after (course_view old))) (course_view new) r
+    → Leads (in_line line (with_course s place (after (course_at s place)))) (record s { courses = map course_view (set items place new) }) r
+course_leads s items place line after old new r are within is h =
+    let at : course_view old ≡ course_at s place =
+    ap course_view is ∙ sym (get_or-map course_view items place old (Sets []) within) ∙ ap (λ (cs : List Course). slice_index_or cs place (Sets [])) (sym are) in
+    subst (λ (cs : List Course). Leads (in_line line (with_course s place (after (course_at s place)))) (record s { courses = cs }) r)
+    (ap (λ (cs : List Course). set cs place (course_view new)) are ∙ sym (map-set course_view items place new))
+    (leads_course s place line (after (course_at s place)) (course_view new) r (subst (λ (c : Course). Leads (in_line line (after c)) (course_view new) r) at h))
 
-pub set_leads : (inputs : List Input) (s : Said) (found : Option ℕ) (place time line : ℕ) (text : Word) (values : List Nine) (new : Course) (r : Result (Unit {0}) StimFault)
-    → Some place ≡ found → Some values ≡ values_for (input_at inputs place).elements text → Leads (in_line line (after_set time values (course_at s place))) new r
-    → Leads (in_line line (set_input inputs s found time text)) (record s { courses = set s.courses place new }) r
-set_leads inputs s found place time line text values new r here are h =
-    subst (λ found. Leads (in_line line (set_input inputs s found time text)) (record s { courses = set s.courses place new }) r) here
-    (subst (λ given. Leads (in_line line (set_values s place time given)) (record s { courses = set s.courses place new }) r) are
-    (leads_course s place line (after_set time values (course_at s place)) new r h))
+module _ (inputs : List Input) (s : Said) (found : Option ℕ) (place : ℕ) where
+  pub clock_leads : (first half line : ℕ) (left : Said) (r : Result (Unit {0}) StimFault) → Some place ≡ found → (input_at inputs place).is_scalar ≡ true
+      → Leads (in_line line (with_course s place (after_clock first half (course_at s place)))) left r → Leads (in_line line (set_clock inputs s found first half)) left r
+  clock_leads first half line left r here scalar h = subst (λ found. Leads (in_line line (set_clock inputs s found first half)) left r) here (rw scalar h)
 
-pub course_there : (courses : List KeptCourse) (place : ℕ) (d : KeptCourse) → place < length courses → slice_index_or (map course_view courses) place (Sets [])
-    ≡ course_view (slice_index_or courses place d)
-course_there courses place d h = get_or-map course_view courses place d (Sets []) h
+  pub set_leads : (time line : ℕ) (text : Word) (values : List Nine) (left : Said) (r : Result (Unit {0}) StimFault) → Some place ≡ found
+      → Some values ≡ values_for (input_at inputs place).elements text → Leads (in_line line (with_course s place (after_set time values (course_at s place)))) left r
+      → Leads (in_line line (set_input inputs s found time text)) left r
+  set_leads time line text values left r here are h =
+      subst (λ found. Leads (in_line line (set_input inputs s found time text)) left r) here (subst (λ given. Leads (in_line line (set_values s place time given)) left r) are h)
 
 -- ---- lines as they are kept
 
-one_time : (b : Bool) (t : ℕ) (next : ℕ → Result Said StimProblem) → (if not b then Err TimeTooLarge else next t) ≡ after_time (if b then time.At t else time.TooLarge) next
+one_time : (b : Bool) (t : ℕ) (next : ℕ → Result Said StimRule) → (if not b then Err TimeTooLarge else next t) ≡ after_time (if b then time.At t else time.TooLarge) next
 one_time true t next = refl
 one_time false t next = refl
 
-two_times : (a b : Bool) (t u : ℕ) (next : ℕ → ℕ → Result Said StimProblem) → (if not a || not b then Err TimeTooLarge else next t u)
+two_times : (a b : Bool) (t u : ℕ) (next : ℕ → ℕ → Result Said StimRule) → (if not a || not b then Err TimeTooLarge else next t u)
     ≡ after_time (if a then time.At t else time.TooLarge) (λ f. after_time (if b then time.At u else time.TooLarge) (λ h. next f h))
 two_times true true t u next = refl
 two_times true false t u next = refl
@@ -80,6 +83,6 @@ line_leads inputs s line words number new r k are some says h =
     subst (λ ws. Leads (in_line number (if says_nothing ws then Ok s else after_form inputs s (form_of ws))) new r) are
     (rw some (subst (λ said. Leads (in_line number said) new r) (sym (form_says inputs s (form_of words) k says)) h))
 
-pub time_goes : (line t : ℕ) (time : Time) → Ok t ≡ time_in_line line time → (next : ℕ → Result Said StimProblem) → after_time time next ≡ next t
+pub time_goes : (line t : ℕ) (time : Time) → Ok t ≡ time_in_line line time → (next : ℕ → Result Said StimRule) → after_time time next ≡ next t
 time_goes line t (time.At u) h next = let same : u ≡ t = cc in ap next same
 time_goes line t time.TooLarge h next = cc

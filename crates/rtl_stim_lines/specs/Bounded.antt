@@ -7,8 +7,8 @@ use Rattle.rtl_stim_lines.specs.declared.forms.Form.TheVariants as kept
 use Rattle.rtl_stim_lines.specs.Forms.{Form, At, Clock, Stop}
 use Rattle.rtl_stim_lines.specs.Reading.{Said, latest_time, set_input, set_clock}
 use Rattle.rtl_stim_lines.specs.Inputs.{Input, input_named}
-use Rattle.rtl_stim_lines.specs.declared.faults.StimProblem.{StimProblem}
-use Rattle.rtl_stim_lines.specs.declared.faults.StimProblem.TheVariants.{BadLine, TimeTooLarge}
+use Rattle.fault_rules.specs.declared.stimuli.StimRule.{StimRule}
+use Rattle.fault_rules.specs.declared.stimuli.StimRule.TheVariants.{BadLine, TimeTooLarge}
 use Rattle.rtl_stim_lines.specs.declared.faults.StimFault.{StimFault}
 use Rattle.rtl_stim_lines.specs.declared.faults.StimFault.TheVariants.{InLine}
 
@@ -34,14 +34,14 @@ time_in_line line time.TooLarge = Err (InLine TimeTooLarge line)
 
 -- ---- what a kept line says
 
-abbrev pub after_time : Time → (ℕ → Result Said StimProblem) → Result Said StimProblem
+abbrev pub after_time : Time → (ℕ → Result Said StimRule) → Result Said StimRule
 after_time (time.At t) next = next t
 after_time time.TooLarge next = Err TimeTooLarge
 
-abbrev pub stop_kept : Said → Time → Result Said StimProblem
+abbrev pub stop_kept : Said → Time → Result Said StimRule
 stop_kept said time = if is_some said.stop then Err BadLine else after_time time (λ t. Ok (record said { stop = Some t }))
 
-abbrev pub after_kept : List Input → Said → KeptForm → Result Said StimProblem
+abbrev pub after_kept : List Input → Said → KeptForm → Result Said StimRule
 after_kept inputs said (kept.At time name text) = after_time time (λ t. set_input inputs said (input_named inputs name.now) t text.now)
 after_kept inputs said (kept.Clock name first half) =
     after_time first (λ f. after_time half (λ h. set_clock inputs said (input_named inputs name.now) f h))

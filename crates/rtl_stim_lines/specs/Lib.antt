@@ -8,4 +8,3 @@ pub mod Times
 pub mod Filling
 pub mod Bounded
 pub mod View
-pub mod BrokenRules

@@ -1,8 +1,8 @@
 -- What names with values say: each sets its input at 0, where the simulation stops. What has no name and value is a bad line.
 use Rattle.std.specs.Prelude.{ℕ, suc, List, [], ◌∷◌, Option, Some, None, Result, Ok, Err}
 use Rattle.std.specs.Borrow.{Bor}
-use Rattle.rtl_stim_lines.specs.declared.faults.StimProblem.{StimProblem}
-use Rattle.rtl_stim_lines.specs.declared.faults.StimProblem.TheVariants.{BadLine}
+use Rattle.fault_rules.specs.declared.stimuli.StimRule.{StimRule}
+use Rattle.fault_rules.specs.declared.stimuli.StimRule.TheVariants.{BadLine}
 use Rattle.rtl_stim_lines.specs.declared.faults.StimFault.{StimFault}
 use Rattle.rtl_stim_lines.specs.Inputs.{Input, input_named}
 use Rattle.rtl_stim_lines.specs.Reading.{Said, Schedule, nothing_said, set_input, in_line}
@@ -12,7 +12,7 @@ abbrev pub Pair : Type 0
 Pair = Option (List ℕ × List ℕ)
 
 -- what is said once a pair is said too, or what is wrong with it
-abbrev pub after_pair : List Input → Said → Pair → Result Said StimProblem
+abbrev pub after_pair : List Input → Said → Pair → Result Said StimRule
 after_pair inputs said None = Err BadLine
 after_pair inputs said (Some sides) = set_input inputs said (input_named inputs sides.0) 0 sides.1
 

@@ -3,8 +3,8 @@ use Rattle.std.specs.Prelude.{ℕ, suc, nat_le, not, ◌||◌, Bool, List, [], �
 use Rattle.std.specs.Ordering.{nat_cmp}
 use Rattle.std.specs.BTreeMap.{insert_entry}
 use Rattle.vhdl_values.specs.declared.scalar.Nine.{Nine}
-use Rattle.rtl_stim_lines.specs.declared.faults.StimProblem.{StimProblem}
-use Rattle.rtl_stim_lines.specs.declared.faults.StimProblem.TheVariants.{BadLine, NotAnInput, BadValue, SetTwice, ClockAndSet, TimeTooLarge}
+use Rattle.fault_rules.specs.declared.stimuli.StimRule.{StimRule}
+use Rattle.fault_rules.specs.declared.stimuli.StimRule.TheVariants.{BadLine, NotAnInput, BadValue, SetTwice, ClockAndSet, TimeTooLarge}
 use Rattle.rtl_stim_lines.specs.declared.faults.StimFault.{StimFault}
 use Rattle.rtl_stim_lines.specs.declared.faults.StimFault.TheVariants.{InLine, NoStop}
 use Rattle.rtl_stim_lines.specs.Lines.{Word, lines_of, words_of, says_nothing}
@@ -29,12 +29,12 @@ is_too_large time = not (nat_le time latest_time)
 -- ---- courses
 
 -- An input is set once at a time, and no clock is set.
-abbrev pub after_set : (time : ℕ) → (values : List Nine) → Course → Result Course StimProblem
+abbrev pub after_set : (time : ℕ) → (values : List Nine) → Course → Result Course StimRule
 after_set time values (Ticks first half) = Err ClockAndSet
 after_set time values (Sets sets) = if is_set_at sets time then Err SetTwice else Ok (Sets (insert_entry nat_cmp sets time values))
 
 -- A clock has one line, and is never set.
-abbrev pub after_clock : (first half : ℕ) → Course → Result Course StimProblem
+abbrev pub after_clock : (first half : ℕ) → Course → Result Course StimRule
 after_clock first half (Ticks first_before half_before) = Err SetTwice
 after_clock first half (Sets (s ∷ sets)) = Err ClockAndSet
 after_clock first half (Sets []) = Ok (Ticks first half)
@@ -42,24 +42,24 @@ after_clock first half (Sets []) = Ok (Ticks first half)
 abbrev pub course_at : Said → (input : ℕ) → Course
 course_at said input = slice_index_or said.courses input (Sets [])
 
-abbrev pub with_course : Said → (input : ℕ) → Result Course StimProblem → Result Said StimProblem
+abbrev pub with_course : Said → (input : ℕ) → Result Course StimRule → Result Said StimRule
 with_course said input (Err problem) = Err problem
 with_course said input (Ok course) = Ok (record said { courses = set said.courses input course })
 
 -- ---- `at`
 
-abbrev pub set_values : Said → (input : ℕ) → (time : ℕ) → Option (List Nine) → Result Said StimProblem
+abbrev pub set_values : Said → (input : ℕ) → (time : ℕ) → Option (List Nine) → Result Said StimRule
 set_values said input time None = Err BadValue
 set_values said input time (Some values) = with_course said input (after_set time values (course_at said input))
 
-abbrev pub set_input : List Input → Said → Option ℕ → (time : ℕ) → (text : Word) → Result Said StimProblem
+abbrev pub set_input : List Input → Said → Option ℕ → (time : ℕ) → (text : Word) → Result Said StimRule
 set_input inputs said None time text = Err NotAnInput
 set_input inputs said (Some input) time text = set_values said input time (values_for (input_at inputs input).elements text)
 
 -- ---- `clock`
 
 -- a clock is a scalar
-abbrev pub set_clock : List Input → Said → Option ℕ → (first half : ℕ) → Result Said StimProblem
+abbrev pub set_clock : List Input → Said → Option ℕ → (first half : ℕ) → Result Said StimRule
 set_clock inputs said None first half = Err NotAnInput
 set_clock inputs said (Some input) first half =
     if (input_at inputs input).is_scalar then with_course said input (after_clock first half (course_at said input)) else Err BadValue
@@ -67,7 +67,7 @@ set_clock inputs said (Some input) first half =
 -- ---- `stop`
 
 -- One line says when to stop.
-abbrev pub with_stop : Said → (time : ℕ) → Result Said StimProblem
+abbrev pub with_stop : Said → (time : ℕ) → Result Said StimRule
 with_stop said time =
     if is_some said.stop then Err BadLine
     else (if is_too_large time then Err TimeTooLarge else Ok (record said { stop = Some time }))
@@ -75,18 +75,18 @@ with_stop said time =
 -- ---- lines
 
 -- What is said once a line of this form is said too, or what is wrong with it.
-abbrev pub after_form : List Input → Said → Option Form → Result Said StimProblem
+abbrev pub after_form : List Input → Said → Option Form → Result Said StimRule
 after_form inputs said None = Err BadLine
 after_form inputs said (Some (At time name text)) = if is_too_large time then Err TimeTooLarge else set_input inputs said (input_named inputs name) time text
 after_form inputs said (Some (Clock name first half)) =
     if is_too_large first || is_too_large half then Err TimeTooLarge else set_clock inputs said (input_named inputs name) first half
 after_form inputs said (Some (Stop time)) = with_stop said time
 
-abbrev pub after_line : List Input → Said → (line : List ℕ) → Result Said StimProblem
+abbrev pub after_line : List Input → Said → (line : List ℕ) → Result Said StimRule
 after_line inputs said line = if says_nothing (words_of line) then Ok said else after_form inputs said (form_of (words_of line))
 
 -- the fault of a problem in the line of this number
-abbrev pub in_line : {A : Type 0} → ℕ → Result A StimProblem → Result A StimFault
+abbrev pub in_line : {A : Type 0} → ℕ → Result A StimRule → Result A StimFault
 in_line number (Ok a) = Ok a
 in_line number (Err problem) = Err (InLine problem number)
 

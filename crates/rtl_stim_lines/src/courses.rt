@@ -6,7 +6,8 @@ ghost use Rattle.rtl_stim_lines.specs.Courses.{course_value, is_busy, IsNextTogg
 ghost use Rattle.rtl_stim_lines.specs.Reading.{after_set, after_clock, in_line};
 ghost use Rattle.rtl_stim_lines.specs.View.{course_view, value_in, Leads};
 
-use crate::faults::{StimFault, StimProblem};
+use crate::faults::StimFault;
+use fault_rules::StimRule;
 use std::collections::BTreeMap;
 use vhdl_values::{Nine, Vec9};
 
@@ -25,10 +26,11 @@ impl Course {
         ensures { Leads (in_line line (after_set time values (course_view self.old))) (course_view self.new) result }
     {
         match self {
-            Course::Ticks { .. } => Err(StimProblem::ClockAndSet.in_line(line)),
-            Course::Sets(sets) => match sets.insert(time, values)? {
-                Some(_) => Err(StimProblem::SetTwice.in_line(line)),
-                None => Ok(()),
+            Course::Ticks { .. } => Err(StimFault::in_line(StimRule::ClockAndSet, line)),
+            Course::Sets(sets) => match sets.insert(time, values) {
+                Ok(None) => Ok(()),
+                Ok(Some(_)) => Err(StimFault::in_line(StimRule::SetTwice, line)),
+                Err(_) => Err(StimFault::NoMemory),
             },
         }
     }
@@ -38,10 +40,10 @@ impl Course {
         ensures { Leads (in_line line (after_clock first half (course_view self.old))) (course_view self.new) result }
     {
         match self {
-            Course::Ticks { .. } => return Err(StimProblem::SetTwice.in_line(line)),
+            Course::Ticks { .. } => return Err(StimFault::in_line(StimRule::SetTwice, line)),
             Course::Sets(sets) => {
                 if !sets.is_empty() {
-                    return Err(StimProblem::ClockAndSet.in_line(line));
+                    return Err(StimFault::in_line(StimRule::ClockAndSet, line));
                 }
             }
         }

@@ -17,7 +17,7 @@ mod values;
 mod words;
 
 pub use courses::Course;
-pub use faults::{StimFault, StimProblem};
+pub use faults::StimFault;
 pub use forms::{Form, form_of};
 pub use inputs::{Element, Input, InputTable, add_input};
 pub use numbers::{LATEST, Time, time_of};

@@ -4,7 +4,8 @@ ghost use Rattle.std.specs.Prelude.{◌≡◌, ◌≤◌, option_map};
 ghost use Rattle.rtl_stim_lines.specs.Forms as forms;
 ghost use Rattle.rtl_stim_lines.specs.Bounded.{bounded, time_in_line};
 
-use crate::faults::{StimFault, StimProblem};
+use crate::faults::StimFault;
+use fault_rules::StimRule;
 
 /// The latest time of a stimulus, in ns.
 pub const LATEST: u64 = 1_000_000_000_000_000;
@@ -46,7 +47,7 @@ impl Time {
     {
         match self {
             Time::At(time) => Ok(time),
-            Time::TooLarge => Err(StimProblem::TimeTooLarge.in_line(line)),
+            Time::TooLarge => Err(StimFault::in_line(StimRule::TimeTooLarge, line)),
         }
     }
 }

@@ -5,10 +5,11 @@ ghost use Rattle.rtl_stim_lines.specs.Pairs.{after_pair, after_pairs, pair_view,
 ghost use Rattle.rtl_stim_lines.specs.Reading.{in_line};
 ghost use Rattle.rtl_stim_lines.specs.View.{inputs_view, said_view, AreVectors, Leads, IsGiven};
 
-use crate::faults::{StimFault, StimProblem};
+use crate::faults::StimFault;
 use crate::inputs::InputTable;
 use crate::reading::Said;
 use crate::schedule::Schedule;
+use fault_rules::StimRule;
 use std::alloc::Global;
 
 /// What names with values say of these inputs: each sets its input at 0, where the simulation
@@ -66,7 +67,7 @@ impl Said {
         ensures each { vec_len self.new.courses ≡ vec_len self.old.courses }
     {
         match pair {
-            None => Err(StimProblem::BadLine.in_line(number)),
+            None => Err(StimFault::in_line(StimRule::BadLine, number)),
             Some((name, value)) => self.read_set(alloc, inputs, number, 0, name, value),
         }
     }

@@ -9,13 +9,14 @@ ghost use Rattle.rtl_stim_lines.specs.Reading.{nothing_said, after_line, after_l
 ghost use Rattle.rtl_stim_lines.specs.View.{inputs_view, said_view, AreVectors, Leads, IsGiven};
 
 use crate::courses::Course;
-use crate::faults::{StimFault, StimProblem};
+use crate::faults::StimFault;
 use crate::forms::{Form, form_of};
 use crate::inputs::{InputTable, input_named};
 use crate::numbers::Time;
 use crate::schedule::Schedule;
 use crate::values::values_for;
 use crate::words::{says_nothing, without_return, words_of};
+use fault_rules::StimRule;
 use std::alloc::{AllocError, Global};
 use std::collections::BTreeMap;
 
@@ -110,7 +111,7 @@ impl Said {
             return Ok(());
         }
         match form_of(&words) {
-            None => Err(StimProblem::BadLine.in_line(number)),
+            None => Err(StimFault::in_line(StimRule::BadLine, number)),
             Some(form) => self.read_form(alloc, inputs, number, form),
         }
     }
@@ -160,10 +161,10 @@ impl Said {
         ensures each { vec_len self.new.courses ≡ vec_len self.old.courses }
     {
         let Some((place, input)) = input_named(alloc, inputs, name)? else {
-            return Err(StimProblem::NotAnInput.in_line(line));
+            return Err(StimFault::in_line(StimRule::NotAnInput, line));
         };
         let Some(values) = values_for(input, text) else {
-            return Err(StimProblem::BadValue.in_line(line));
+            return Err(StimFault::in_line(StimRule::BadValue, line));
         };
         self.courses[place].set(line, time, values)
     }
@@ -184,10 +185,10 @@ impl Said {
         ensures each { vec_len self.new.courses ≡ vec_len self.old.courses }
     {
         let Some((place, input)) = input_named(alloc, inputs, name)? else {
-            return Err(StimProblem::NotAnInput.in_line(line));
+            return Err(StimFault::in_line(StimRule::NotAnInput, line));
         };
         if !input.is_scalar {
-            return Err(StimProblem::BadValue.in_line(line));
+            return Err(StimFault::in_line(StimRule::BadValue, line));
         }
         self.courses[place].tick(line, first, half)
     }
@@ -198,7 +199,7 @@ impl Said {
         ensures each { vec_len self.new.courses ≡ vec_len self.old.courses }
     {
         if self.stop.is_some() {
-            return Err(StimProblem::BadLine.in_line(line));
+            return Err(StimFault::in_line(StimRule::BadLine, line));
         }
         self.stop = Some(time.within(line)?);
         Ok(())

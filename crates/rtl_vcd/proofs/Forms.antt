@@ -3,7 +3,7 @@ use Rattle.std.proofs.Common.{◌≡◌, ℕ, ◌+◌, ◌-◌, ◌<◌, ◌≤�
 use Rattle.std.specs.Prelude.{codes}
 use Rattle.std.specs.Str.{bytes_eq}
 use Rattle.std.specs.List.{range_with_len}
-use Rattle.std.proofs.lemmas.List.{length-map, length-take, get_or-take, get_or-drop, take_rest}
+use Rattle.std.proofs.lemmas.List.{length-map, length-take, get_or-take, get_or-drop}
 use Rattle.std.proofs.lemmas.Simd.{pick_l-range_with_len}
 use Rattle.rtl_net.specs.declared.signal.SignalKind.{SignalKind}
 use Rattle.rtl_net.specs.declared.signal.SignalKind.TheVariants.{One, Vector, Enumeration}
@@ -81,19 +81,6 @@ position_is r values digits e = ap (λ f. elements_as f r.first r.count values) 
 -- a run whose nets keep their values, as they are compared: of one net, of so many, or of a slice
 pub alike : (r : Run) (old new : List ℕ) → 0 < r.count → take r.count (drop r.first old) ≡ take r.count (drop r.first new) → elements r old ≡ elements r new
 alike r old new some e = alike_as r.form r.first r.count old new some e
-
-pub alike_one : (r : Run) (old new : List ℕ) → r.count ≡ 1 → r.first < length old → r.first < length new → slice_index old r.first ≡ slice_index new r.first
-    → elements r old ≡ elements r new
-alike_one r old new one before after e =
-    let same = one_taken r.first old before ∙ ap (λ v. v ∷ []) e ∙ sym (one_taken r.first new after) in
-    alike r old new (omega (arith, one)) (subst (λ n. take n (drop r.first old) ≡ take n (drop r.first new)) (sym one) same)
-
-pub alike_rest : (r : Run) (old new : List ℕ) (n : ℕ) → r.count ≡ n → 0 < n
-    → take n (take (length old - r.first) (drop r.first old)) ≡ take n (take (length new - r.first) (drop r.first new))
-    → elements r old ≡ elements r new
-alike_rest r old new n count some e =
-    let same = ap (take n) (sym (take_rest old r.first)) ∙ e ∙ ap (take n) (take_rest new r.first) in
-    alike r old new (omega (arith, count, some)) (subst (λ m. take m (drop r.first old) ≡ take m (drop r.first new)) (sym count) same)
 
 pub alike_slice : (r : Run) (old new : List ℕ) → 0 < r.count
     → take (r.first + r.count - r.first) (drop r.first old) ≡ take (r.first + r.count - r.first) (drop r.first new) → elements r old ≡ elements r new

@@ -42,24 +42,35 @@ module _ (scopes : List ScopeView) (are : AreScopes scopes) where
   enough (suc n) zero (suc k) a b lt = absurd (omega arith)
   enough (suc n) (suc m) k a b lt = enough_up n m k a b lt (λ p x y z. enough n m p x y z) (parent_of scopes k) refl
 
-  pub depth_top : (k : ℕ) → k < length scopes → parent_of scopes k ≡ None → depth scopes k ≡ 0
+  depth_top : (k : ℕ) → k < length scopes → parent_of scopes k ≡ None → depth scopes k ≡ 0
   depth_top zero lt e = refl
   depth_top (suc k) lt e = ap (one_deeper (depth_within k scopes)) e
 
   -- a scope is one deeper than its parent, which has a lower number
-  pub depth_in : (k p : ℕ) → k < length scopes → parent_of scopes k ≡ Some p → (p < k) × (depth scopes k ≡ suc (depth scopes p))
+  depth_in : (k p : ℕ) → k < length scopes → parent_of scopes k ≡ Some p → (p < k) × (depth scopes k ≡ suc (depth scopes p))
   depth_in zero p lt e = absurd (none-some p (sym are.top ∙ e))
   depth_in (suc k) p lt e =
       let low = parent_is_lower (suc k) p lt e in
       (low, ap (one_deeper (depth_within k scopes)) e ∙ ap suc (enough k p p (omega arith) (omega arith) (omega arith)))
 
 -- a scope's parent and label, as contracts see them
-pub parent_is : (scopes : List Scope) (k : ℕ) (d : Scope) → k < length scopes → parent_of (map scope_view scopes) k ≡ (get_or scopes k d).parent
+parent_is : (scopes : List Scope) (k : ℕ) (d : Scope) → k < length scopes → parent_of (map scope_view scopes) k ≡ (get_or scopes k d).parent
 parent_is scopes k d lt =
     let views : List ScopeView = map scope_view scopes in
     let within : k < length views = omega (arith, length-map scopes scope_view) in
     get_or-map (λ (v : ScopeView). v.parent) views k (scope_view d) None within
     ∙ ap (λ (v : ScopeView). v.parent) (get_or-map scope_view scopes k d (scope_view d) lt)
+
+-- the depth of a scope with no parent, and of one with a parent
+module _ (scopes : List Scope) (are : AreScopes (map scope_view scopes)) (k : ℕ) (d : Scope) (within : k < length scopes) where
+  inside : k < length (map scope_view scopes)
+  inside = omega (arith, within, length-map scopes scope_view)
+
+  pub depth_of_top : (get_or scopes k d).parent ≡ None → depth (map scope_view scopes) k ≡ 0
+  depth_of_top is = depth_top (map scope_view scopes) are k inside (parent_is scopes k d within ∙ is)
+
+  pub depth_of_inner : (p : ℕ) → (get_or scopes k d).parent ≡ Some p → (p < k) × (depth (map scope_view scopes) k ≡ suc (depth (map scope_view scopes) p))
+  depth_of_inner p is = depth_in (map scope_view scopes) are k p inside (parent_is scopes k d within ∙ is)
 
 pub label_is : (scopes : List Scope) (k : ℕ) (s : Scope) → k < length scopes → s ≡ get_or scopes k s → label_at (map scope_view scopes) k ≡ s.label.items
 label_is scopes k s lt is =

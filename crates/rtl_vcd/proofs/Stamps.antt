@@ -2,7 +2,6 @@
 use Rattle.std.proofs.Common.{◌≡◌, ℕ, ◌+◌, Bool, true, false, not, ◌||◌, List, [], ◌∷◌, ◌++◌, map, refl, sym, ap, ◌∙◌, append_assoc, append-nil, slice_index, ◌≤◌, length, take, drop, arith}
 use Rattle.std.specs.Prelude.{if◌then◌else◌, codes}
 use Rattle.std.specs.Str.{bytes_eq}
-use Rattle.std.proofs.lemmas.Bool.{false≢true}
 use Rattle.rtl_net.specs.declared.signal.SignalKind.TheVariants.{One, Vector, Enumeration}
 use Rattle.rtl_net.specs.declared.signal.SignalKind.{SignalKind}
 use Rattle.rtl_net.specs.Nets.{SignalView}
@@ -37,10 +36,6 @@ pub are_some_append : (xs ys : List ℕ) → are_some (xs ++ ys) ≡ (are_some x
 are_some_append [] ys = refl
 are_some_append (x ∷ xs) ys = refl
 
-pub or_some : (b : Bool) (xs ys : List ℕ) → are_some ys ≡ true → (b || are_some (xs ++ ys)) ≡ true
-or_some true xs ys some = refl
-or_some false xs ys some = are_some_behind xs ys some
-
 pub or_append : (b : Bool) (xs ys : List ℕ) → (b || are_some (xs ++ ys)) ≡ ((b || are_some xs) || are_some ys)
 or_append true xs ys = refl
 or_append false xs ys = are_some_append xs ys
@@ -51,13 +46,6 @@ pub continued_more : (is_printed : Bool) (time : ℕ) (xs ys : List ℕ)
 continued_more true time xs ys = refl
 continued_more false time [] ys = refl
 continued_more false time (x ∷ xs) ys = sym (append_assoc (time_line time) (x ∷ xs) ys)
-
--- a change, behind its time if it is the first
-pub continued_one : (is_printed : Bool) (time : ℕ) (p : List ℕ) → are_some p ≡ true
-    → (if is_printed then [] else (time_line time)) ++ p ≡ continued is_printed time p
-continued_one true time p some = refl
-continued_one false time [] some = absurd (false≢true some)
-continued_one false time (x ∷ xs) some = refl
 
 -- the changes of more names
 pub changes_behind : (k n m : ℕ) (names : List SignalView) (old new : List ℕ) → n ≤ length names

@@ -6,6 +6,15 @@ use Rattle.rtl_model.specs.simulation.Report.{AreClocks}
 use Rattle.rtl_model.specs.simulation.Races.{IsRace, IsRaceOf, IsLowestRace, IsFirstRace}
 use Rattle.rtl_model.specs.simulation.Laws.{EachClockShowsRaces}
 
+-- two numbers neither of which is below the other
+neither_below : (a b : ℕ) → (a < b → ⊥) → (b < a → ⊥) → a ≡ b
+neither_below a b not_less not_more = by (cases_order a b)
+  where
+    by : (a ≡ b) ⊎ ((a < b) ⊎ (b < a)) → a ≡ b
+    by (inl e) = e
+    by (inr (inl l)) = absurd (not_less l)
+    by (inr (inr l)) = absurd (not_more l)
+
 module _ (net : Netlist) (clocks : List (ℕ × Edge)) (C : AreClocks net clocks) where
   named : (before now : ℕ → ℕ) → IsRace net before now → (input clock : ℕ) × IsRaceOf net clocks before now input clock
   named before now r = (
@@ -44,26 +53,13 @@ module _ (net : Netlist) (clocks : List (ℕ × Edge)) (C : AreClocks net clocks
       → (m ≡ m') × (input ≡ input') × (clock ≡ clock')
   one_first stimulus m input clock m' input' clock' r s = go (cases_order m m')
     where
-      inputs : (a b c d : ℕ) → IsLowestRace net clocks (stimulus m) (stimulus (suc m)) a c → IsLowestRace net clocks (stimulus m) (stimulus (suc m)) b d → a ≡ b
-      inputs a b c d x y = at (cases_order a b)
-        where
-          at : (a ≡ b) ⊎ ((a < b) ⊎ (b < a)) → a ≡ b
-          at (inl e) = e
-          at (inr (inl l)) = absurd (y.lowest_input a l x.race.0)
-          at (inr (inr l)) = absurd (x.lowest_input b l y.race.0)
-
-      tested : (a b c d : ℕ) → IsLowestRace net clocks (stimulus m) (stimulus (suc m)) a c → IsLowestRace net clocks (stimulus m) (stimulus (suc m)) b d → c ≡ d
-      tested a b c d x y = at (cases_order c d)
-        where
-          at : (c ≡ d) ⊎ ((c < d) ⊎ (d < c)) → c ≡ d
-          at (inl e) = e
-          at (inr (inl l)) = absurd (y.lowest_clock c l x.race.1)
-          at (inr (inr l)) = absurd (x.lowest_clock d l y.race.1)
-
       go : (m ≡ m') ⊎ ((m < m') ⊎ (m' < m)) → (m ≡ m') × (input ≡ input') × (clock ≡ clock')
       go (inl e) =
-          let other = subst (λ (k : ℕ). IsLowestRace net clocks (stimulus k) (stimulus (suc k)) input' clock') (sym e) s.race in
-          (e, inputs input input' clock clock' r.race other, tested input input' clock clock' r.race other)
+          let other = subst (λ (k : ℕ). IsLowestRace net clocks (stimulus k) (stimulus (suc k)) input' clock') (sym e) s.race in (
+            e,
+            neither_below input input' (λ l. other.lowest_input input l r.race.race.0) (λ l. r.race.lowest_input input' l other.race.0),
+            neither_below clock clock' (λ l. other.lowest_clock clock l r.race.race.1) (λ l. r.race.lowest_clock clock' l other.race.1),
+          )
       go (inr (inl l)) = absurd (not_before stimulus m input clock m' input' clock' r s l)
       go (inr (inr l)) = absurd (not_before stimulus m' input' clock' m input clock s r l)
 

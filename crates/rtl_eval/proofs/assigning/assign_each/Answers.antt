@@ -9,14 +9,13 @@ pub loop-at-preserved : goal.loop-at-preserved
 loop-at-preserved c =
     let ns = c.args.places.now in
     let vs = c.args.codes.now in
-    let i = c.loop-at.at in
     let o = c.loop-at.out in
-    let m : i < length vs = omega (arith, c.loop-at-test.true) in
+    let m : c.loop-at.at < length vs = omega (arith, c.loop-at-test.true) in
     let with : List (Option ℕ) → Outcome = λ es. record o { entries = es } in
     record {
-      each_driver = ap (λ (o : Outcome). length o.entries) c.set.ensures ∙ length-set o.entries (slice_index ns i) (Some (slice_index vs i)) ∙ c.loop-at.invariant.each_driver;
-      whole = ap (λ (o : Outcome). record o { entries = assigned (drop (i + 1) ns) (drop (i + 1) vs) o.entries }) c.set.ensures
-          ∙ ap with (assigned_more ns vs i o.entries (omega (arith, m, c.requires.as_many)) m) ∙ c.loop-at.invariant.whole;
+      each_driver = ap (λ (o : Outcome). length o.entries) c.set.ensures ∙ length-set o.entries (slice_index ns c.loop-at.at) (Some (slice_index vs c.loop-at.at)) ∙ c.loop-at.invariant.each_driver;
+      whole = ap (λ (o : Outcome). record o { entries = assigned (drop (c.loop-at.at + 1) ns) (drop (c.loop-at.at + 1) vs) o.entries }) c.set.ensures
+          ∙ ap with (assigned_more ns vs c.loop-at.at o.entries (omega (arith, m, c.requires.as_many)) m) ∙ c.loop-at.invariant.whole;
     }
 
 pub returns : goal.returns

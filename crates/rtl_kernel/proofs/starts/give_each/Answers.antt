@@ -11,12 +11,11 @@ loop-number-preserved c =
     let nets = c.args.nets.now in
     let values = c.args.values.now in
     let i = c.loop-number.number in
-    let I = c.loop-number.invariant in
     record {
-      as_many = length-set _ _ _ ∙ I.as_many;
+      as_many = length-set _ _ _ ∙ c.loop-number.invariant.as_many;
       rest = changed_more (each_given nets values) i _ c.code.result c.loop-number.codes c.args.codes.now
           (rw (length-given nets values c.requires.as_many) c.loop-number-test.true)
-          (given_at nets values i 0 c.code.result _ c.loop-number-test.true (rw (c.requires.as_many) c.loop-number-test.true) c.code.ensures.code) I.rest;
+          (given_at nets values i 0 c.code.result _ c.loop-number-test.true (rw (c.requires.as_many) c.loop-number-test.true) c.code.ensures.code) c.loop-number.invariant.rest;
     }
 
 pub returns : goal.returns

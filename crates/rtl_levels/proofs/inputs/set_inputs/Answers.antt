@@ -8,9 +8,8 @@ pub loop-net-preserved : goal.loop-net-preserved
 loop-net-preserved c =
     let cs = c.args.changes.now in
     let i = c.loop-net.net-index in
-    let I = c.loop-net.invariant in
     record {
-      as_many = length-set _ _ _ ∙ I.as_many;
+      as_many = length-set _ _ _ ∙ c.loop-net.invariant.as_many;
       rest = changed_more (changes_of cs) i _ c.code.result c.loop-net.values.items c.args.values.now.items (rw length-map c.loop-net-test.true)
-          (set_at cs i c.code.result _ c.loop-net-test.true c.code.ensures.code) I.rest;
+          (set_at cs i c.code.result _ c.loop-net-test.true c.code.ensures.code) c.loop-net.invariant.rest;
     }

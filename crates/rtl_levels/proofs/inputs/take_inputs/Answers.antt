@@ -40,7 +40,6 @@ pub loop-net-preserved : goal.loop-net-preserved
 loop-net-preserved c =
     let cs = c.args.changes.now in
     let i = c.loop-net.net-index in
-    let I = c.loop-net.invariant in
     let start = c.args.state.now in
     let old = c.loop-net.state in
     let new = c.set.new.self in
@@ -53,11 +52,11 @@ loop-net-preserved c =
     record {
       rest = λ m. ap (λ vs. with_changes (drop (i + 1) (changes_of cs)) vs m) c.set.ensures.value
           ∙ changed_more (changes_of cs) i _ c.code-code.result values start.values.items (rw length-map c.loop-net-test.true)
-          (set_at cs i c.code-code.result _ c.loop-net-test.true c.code-code.ensures.code) I.rest m;
-      woken = marks_then clocked given start.values.items values new.values.items c.args.woken.now.items c.loop-net.woken.items c.mark_readers.new.marks.items I.woken
+          (set_at cs i c.code-code.result _ c.loop-net-test.true c.code-code.ensures.code) c.loop-net.invariant.rest m;
+      woken = marks_then clocked given start.values.items values new.values.items c.args.woken.now.items c.loop-net.woken.items c.mark_readers.new.marks.items c.loop-net.invariant.woken
           (marks_wider clocked (λ n. n ≡ net) given (λ n e. subst given (sym e) (given_here cs i (0, U) c.loop-net-test.true)) values new.values.items
           c.loop-net.woken.items c.mark_readers.new.marks.items marks);
-      advances = advances_then readers (λ n. ⊤) start old new I.advances (advances_wider readers (λ n. n ≡ net) (λ n. ⊤) (λ n e. tt) old new c.set.ensures.advances);
+      advances = advances_then readers (λ n. ⊤) start old new c.loop-net.invariant.advances (advances_wider readers (λ n. n ≡ net) (λ n. ⊤) (λ n e. tt) old new c.set.ensures.advances);
     }
 
 pub returns-clause-woken : goal.returns-clause-woken

@@ -3,11 +3,10 @@ use Rattle.std.specs.Prelude.{AllPairs}
 use Rattle.rtl_stim_lines.specs.Courses.{is_busy}
 use Rattle.rtl_stim_lines.specs.Inputs.{input_at}
 use Rattle.rtl_stim_lines.specs.View.{inputs_view, schedule_view, course_view, course_in, element_view}
-use Rattle.rtl_stim_lines.proofs.Saying.{course_there}
 use Rattle.rtl_stim.specs.Pushes.{AddsTo, HasPushed, IsFree, gathered, element_pushes, due_pushes}
 use Rattle.rtl_stim.proofs.Adding.{adds_none}
 use Rattle.rtl_stim.proofs.Due.{due_found, none_due}
-use Rattle.rtl_stim.proofs.Places.{elements_seen, nets_seen, pairs_at}
+use Rattle.rtl_stim.proofs.Places.{elements_seen, kept_course, nets_seen, pairs_at}
 use Rattle.rtl_stim.proofs.filling.push_due.Goals as goal
 
 pub push_elements-requires-clause-own : goal.push_elements-requires-clause-own
@@ -35,7 +34,7 @@ returns-in-Some-clause-pushed g c =
     let new = (g.A.Agenda.state c.push_elements.new.agenda).waiting in
     let course = course_in schedule c.args.place in
     let is : course ≡ course_view c.index.result.now =
-    course_there c.args.schedule.now.courses.items c.args.place c.index.result.now (omega (arith, c.requires.there, c.args.schedule.now.courses.ok.0)) ∙ ap course_view (sym c.index.ensures) in
+    kept_course c.args.schedule.now.courses.items c.args.place c.index.result.now (omega (arith, c.requires.there, c.args.schedule.now.courses.ok.0)) ∙ ap course_view (sym c.index.ensures) in
     let busy : is_busy course t ≡ true = ap (λ k. is_busy k t) is ∙ c.in-Some.ensures.busy in
     let idle : (b : ℕ) → c.args.now < b → b < t → is_busy course b ≡ false = (λ b after before. ap (λ k. is_busy k b) is ∙ c.in-Some.ensures.idle b after before) in
     subst (λ pushes. HasPushed old new pushes c.push_elements.result)
@@ -50,6 +49,6 @@ returns-in-None-clause-pushed g c =
     let old = (g.A.Agenda.state c.args.agenda.now).waiting in
     let course = course_in schedule c.args.place in
     let is : course ≡ course_view c.index.result.now =
-    course_there c.args.schedule.now.courses.items c.args.place c.index.result.now (omega (arith, c.requires.there, c.args.schedule.now.courses.ok.0)) ∙ ap course_view (sym c.index.ensures) in
+    kept_course c.args.schedule.now.courses.items c.args.place c.index.result.now (omega (arith, c.requires.there, c.args.schedule.now.courses.ok.0)) ∙ ap course_view (sym c.index.ensures) in
     let none = none_due course c.args.now schedule.stop (λ b after before. ap (λ k. is_busy k b) is ∙ c.in-None.ensures.idle b after before) in
     subst (λ ts. AddsTo old old (gathered (element_pushes course (input_at inputs c.args.place).elements) ts)) (sym none) (adds_none old)

@@ -31,24 +31,18 @@ loop-next-preserved g c =
       λ i d ge lt. c.loop-next.invariant.3 i d (omega arith) lt,
     )
 
-pub returns-then-signal-scope-clause-text : goal.returns-then-signal-scope-clause-text
-returns-then-signal-scope-clause-text g c =
-    let signals = c.args.signals.now in
-    let next = c.loop-next.next in
-    let name = c.index-signals-next.result in
-    let higher = above signals c.requires.order c.args.scope next name c.loop-next-test.true c.index-signals-next.is
-    (c.loop-next.invariant.3 next name (omega arith) c.loop-next-test.true) c.if-signal-scope.true in
-    rw (rest_is_none c.args.scope signals next c.loop-next.invariant.1 (λ i d ge lt e. omega (arith, e, higher i d ge lt))) c.loop-next.invariant.0
-
-pub returns-then-signal-scope-clause-next : goal.returns-then-signal-scope-clause-next
-returns-then-signal-scope-clause-next g c =
+pub returns-then-signal-scope : goal.returns-then-signal-scope
+returns-then-signal-scope g c =
     let signals = c.args.signals.now in
     let next = c.loop-next.next in
     let name = c.index-signals-next.result in
     let higher = above signals c.requires.order c.args.scope next name c.loop-next-test.true c.index-signals-next.is
     (c.loop-next.invariant.3 next name (omega arith) c.loop-next-test.true) c.if-signal-scope.true in
     record {
-      within = c.loop-next.invariant.1;
-      before = λ i d lt. omega (arith, c.loop-next.invariant.2 i d lt);
-      behind = λ i d ge lt. omega (arith, higher i d ge lt);
+      text = rw (rest_is_none c.args.scope signals next c.loop-next.invariant.1 (λ i d ge lt e. omega (arith, e, higher i d ge lt))) c.loop-next.invariant.0;
+      next = record {
+        within = c.loop-next.invariant.1;
+        before = λ i d lt. omega (arith, c.loop-next.invariant.2 i d lt);
+        behind = λ i d ge lt. omega (arith, higher i d ge lt);
+      };
     }

@@ -11,13 +11,11 @@ loop-place-preserved c =
     let of_net = c.args.of_net.now in
     let targets = c.args.targets.now in
     let place = c.loop-place.place in
-    let len = c.run_from-len.result in
     let net = get_or targets place 0 in
-    let group = get_or of_net net 0 in
-    let cut : Cut = record { place = place; net = net; len = len; group = group } in
+    let cut : Cut = record { place = place; net = net; len = c.run_from-len.result; group = get_or of_net net 0 } in
     rw (c.in_ok-push.ensures.cuts, c.in_ok-push.ensures.numbers)
     (cuts_more of_net targets place c.loop-place.row.cuts.items c.loop-place.row.numbers.items c.loop-place.invariant cut
-    (cut_is of_net targets place net len group refl refl c.run_from-len.ensures) refl)
+    (cut_is of_net targets place net _ _ refl refl c.run_from-len.ensures) refl)
 
 pub returns : goal.returns
 returns c =

@@ -9,16 +9,13 @@ use Rattle.rtl_stim.proofs.ByInputs.{none_until}
 use Rattle.rtl_stim.proofs.stimulus.Stimulus.race_before.Goals as goal
 
 pub index-requires : goal.index-requires
-index-requires c =
-    let input = kept_input c.args.self.now c.self.inside c.args.place (search rules) c.self.invariant c.requires.there in
-    omega (arith, input.there, c.self.inside.schedule.courses.ok.0)
+index-requires c = omega (arith, (kept_input c.args.self.now c.self.inside c.args.place (search rules) c.self.invariant c.requires.there).there, c.self.inside.schedule.courses.ok.0)
 
 pub returns-then-has_race-clause-race : goal.returns-then-has_race-clause-race
 returns-then-has_race-clause-race c =
-    let v = c.args.self.now in
-    let input = kept_input v c.self.inside c.args.place (search rules) c.self.invariant c.requires.there in
+    let input = kept_input c.args.self.now c.self.inside c.args.place (search rules) c.self.invariant c.requires.there in
     let seen = input.nets c.elements_at-elements.result.now c.elements_at-elements.ensures in
-    λ before none. c.has_race.ensures.race c.if-has_race.true (subst (λ (ns : List ℕ). HasNoneHere v c.args.clocks.now ns c.in-Some.time) seen none)
+    λ before none. c.has_race.ensures.race c.if-has_race.true (subst (λ (ns : List ℕ). HasNoneHere c.args.self.now c.args.clocks.now ns c.in-Some.time) seen none)
 
 pub returns-then-has_race-clause-none : goal.returns-then-has_race-clause-none
 returns-then-has_race-clause-none c =

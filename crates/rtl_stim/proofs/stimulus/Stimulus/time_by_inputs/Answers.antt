@@ -1,25 +1,19 @@
-use Rattle.std.proofs.Common.{◌≡◌, ℕ, ◌+◌, ◌<◌, ◌≤◌, length, sym, subst, arith, rules}
-use Rattle.std.proofs.lemmas.List.{length-map}
+use Rattle.std.proofs.Common.{◌≡◌, ℕ, ◌+◌, ◌<◌, ◌≤◌, length, sym, subst, arith}
 use Rattle.rtl_stim_lines.specs.Inputs.{input_at}
 use Rattle.rtl_stim_lines.specs.Times.{nets_of}
-use Rattle.rtl_stim_lines.specs.View.{input_view}
-use Rattle.rtl_stim.specs.Stimuli.{StimulusView}
-use Rattle.rtl_stim.specs.Kept.{stimulus_view}
 use Rattle.rtl_stim.specs.Quiet.{HasNoneHere, HasPassed}
 use Rattle.rtl_stim.proofs.ByInputs.{none_of_clocks, passed_more}
+use Rattle.rtl_stim.proofs.Places.{each_kept_input}
 use Rattle.rtl_stim.proofs.stimulus.Stimulus.time_by_inputs.Goals as goal
 use Rattle.rtl_stim.proofs.stimulus.Stimulus.time_by_inputs.Goals.{then-is_data, else-is_data}
 
 pub loop-place-preserved : goal.loop-place-preserved
 loop-place-preserved c =
     let v = c.args.self.now in
-    let s = stimulus_view c.self.inside in
-    let view : v ≡ s = search rules in
     let i = c.loop-place.place in
-    let inside : i < length s.inputs = omega (arith, c.loop-place-test.true, c.len-place-end.ensures.len, length-map c.self.inside.inputs.entries input_view) in
-    let within : i < length v.inputs = subst (λ (w : StimulusView). i < length w.inputs) (sym view) inside in
-    let clocks = c.args.clocks.now in
+    let within : i < length v.inputs = omega (arith, c.loop-place-test.true, c.len-place-end.ensures.len, each_kept_input c.self.inside v c.self.view_is) in
     let past = c.loop-place.past in
+    let clocks = c.args.clocks.now in
     let nets = nets_of (input_at v.inputs i) in
     let more : (n : ℕ) → 0 < n → n ≤ past → (n < past → HasNoneHere v clocks nets n → ⊥) → ((t : ℕ) → 0 < t → t < n → HasNoneHere v clocks nets t) → HasPassed v clocks (i + 1) n =
     (λ n. passed_more v clocks i past n within c.loop-place.invariant) in
@@ -35,9 +29,5 @@ loop-place-preserved c =
 pub returns : goal.returns
 returns c =
     let v = c.args.self.now in
-    let s = stimulus_view c.self.inside in
-    let view : v ≡ s = search rules in
-    let i = c.loop-place.place in
-    let all : i ≡ length s.inputs = omega (arith, c.loop-place-test.false, c.loop-place.auto.place-end, c.len-place-end.ensures.len, length-map c.self.inside.inputs.entries input_view) in
-    let every : i ≡ length v.inputs = subst (λ (w : StimulusView). i ≡ length w.inputs) (sym view) all in
-    subst (λ n. HasPassed v c.args.clocks.now n c.loop-place.past) every c.loop-place.invariant
+    let all : c.loop-place.place ≡ length v.inputs = omega (arith, c.loop-place-test.false, c.loop-place.auto.place-end, c.len-place-end.ensures.len, each_kept_input c.self.inside v c.self.view_is) in
+    subst (λ n. HasPassed v c.args.clocks.now n c.loop-place.past) all c.loop-place.invariant

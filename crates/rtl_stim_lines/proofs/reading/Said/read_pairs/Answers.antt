@@ -8,12 +8,9 @@ use Rattle.rtl_stim_lines.proofs.reading.Said.read_pairs.Goals as goal
 
 pub returns-in_err-read_pair-clause-said : goal.returns-in_err-read_pair-clause-said
 returns-in_err-read_pair-clause-said c =
-    let inputs = inputs_view c.args.inputs.now in
-    let s = said_view c.loop-index.self in
     let new = said_view c.read_pair.new.self in
-    let fault = c.in_err-read_pair.field-0.0 in
-    leads_wrong _ _ new new fault c.from_residual.result
+    leads_wrong _ _ new new c.in_err-read_pair.field-0.0 c.from_residual.result
     (rw c.in_err-read_pair.was at c.read_pair.ensures.said)
     (λ says. c.loop-index.invariant.0
-    ∙ bad_pair pair_view inputs (c.loop-index.index + 1) c.args.pairs.now c.loop-index.index None s fault c.loop-index-test.true says)
+    ∙ bad_pair pair_view (inputs_view c.args.inputs.now) (c.loop-index.index + 1) c.args.pairs.now c.loop-index.index None (said_view c.loop-index.self) c.in_err-read_pair.field-0.0 c.loop-index-test.true says)
     c.from_residual.ensures.1
