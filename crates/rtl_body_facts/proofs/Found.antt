@@ -1,5 +1,5 @@
 -- What a search has found, where it was told leaves one after another.
-use Rattle.std.proofs.Common.{◌≡◌, ℕ, ◌||◌, List, [], ◌∷◌, ◌++◌, refl, sym, ap, ◌∙◌}
+use Rattle.std.proofs.Common.{◌≡◌, ℕ, ◌||◌, false, List, [], ◌∷◌, ◌++◌, refl, sym, ap, ◌∙◌}
 use Rattle.std.specs.Prelude.{flat_map}
 use Rattle.std.specs.List.{list_any}
 use Rattle.rtl_model.specs.bodies.Leaves.{Leaf}
@@ -11,15 +11,20 @@ use Rattle.rtl_body_facts.specs.Searching.{seeks}
 use Rattle.rtl_body_facts.proofs.Anys.{or_assoc, or_none}
 use Rattle.rtl_body_facts.proofs.Members.{in_append}
 
-pub told_any : (old new : Search) (ls : List Leaf)
-    → Tells (λ (u : Search) l (v : Search). (v.sought ≡ u.sought) × (v.found ≡ (u.found || seeks u.sought l))) old ls new
-    → new.found ≡ (old.found || list_any (seeks old.sought) ls)
-told_any old new [] h = ap (λ (s : Search). s.found) (sym h) ∙ or_none old.found
-told_any old new (x ∷ xs) (mid, (same, one), rest) =
-    told_any mid new xs rest
+-- a leaf of a search
+abbrev Takes : (old : Search) (leaf : Leaf) (new : Search) → Type 0
+Takes old leaf new = (new.sought ≡ old.sought) × (new.found ≡ (old.found || seeks old.sought leaf))
+
+told_more : (old new : Search) (ls : List Leaf) → Tells Takes old ls new → new.found ≡ (old.found || list_any (seeks old.sought) ls)
+told_more old new [] h = ap (λ (s : Search). s.found) (sym h) ∙ or_none old.found
+told_more old new (x ∷ xs) (mid, (same, one), rest) =
+    told_more mid new xs rest
     ∙ ap (λ b. b || list_any (seeks mid.sought) xs) one
     ∙ ap (λ (s : Sought). (old.found || seeks old.sought x) || list_any (seeks s) xs) same
     ∙ or_assoc old.found (seeks old.sought x) (list_any (seeks old.sought) xs)
+
+pub told_any : (sought : Sought) (old new : Search) (ls : List Leaf) → old ≡ record { sought = sought; found = false } → Tells Takes old ls new → new.found ≡ list_any (seeks sought) ls
+told_any sought old new ls is h = told_more old new ls h ∙ ap (λ (s : Search). s.found || list_any (seeks s.sought) ls) is
 
 -- ---- what stands in lists of leaves
 

@@ -70,13 +70,10 @@ fn common_of(alloc: Global, left: &[usize], right: &[usize]) -> Result<Vec<usize
     requires { IsStrictlyIncreasing right.now }
     ensures { IfOk result (λ v. v.items ≡ filter (λ n. is_in n right.now) left.now) }
 {
-    let mut common = Vec::new(alloc);
-    for n in left {
-        if contains_rising(right, *n) {
-            common.push(*n)?;
-        }
-    }
-    Ok(common)
+    left.iter()
+        .copied()
+        .filter(|n| contains_rising(right, *n))
+        .collect(alloc)
 }
 
 /// Appends the nets that a statement assigns on every syntactic path.

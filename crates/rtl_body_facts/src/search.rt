@@ -1,7 +1,7 @@
 //! Whether something stands in a body: an edge test or `'event`, a net that is read, or an element
 //! that is looked at.
 
-ghost use Rattle.std.specs.Prelude.{◌≡◌, ◌||◌, not};
+ghost use Rattle.std.specs.Prelude.{◌≡◌, ◌||◌, false, not};
 ghost use Rattle.std.specs.List.{list_any};
 ghost use Rattle.rtl_net.specs.Bodies.{value_view, test_view, statements_of};
 ghost use Rattle.rtl_net.specs.Visits.{leaf_view};
@@ -51,6 +51,18 @@ struct Search {
     found: bool,
 }
 
+impl Search {
+    /// Before any leaf.
+    fn of(sought: Sought) -> Search
+        ensures { result ≡ record { sought = sought; found = false } }
+    {
+        Search {
+            sought,
+            found: false,
+        }
+    }
+}
+
 impl Visit for Search {
     ghost takes = { λ old leaf new. (new.sought ≡ old.sought) × (new.found ≡ (old.found || seeks old.sought leaf)) };
 
@@ -65,10 +77,7 @@ impl Visit for Search {
 fn in_body(statements: &[Statement], sought: Sought) -> bool
     ensures { result ≡ list_any (seeks sought) (leaves (statements_of statements.now)) }
 {
-    let mut search = Search {
-        sought,
-        found: false,
-    };
+    let mut search = Search::of(sought);
     walk_body(statements, &mut search);
     search.found
 }
@@ -77,23 +86,8 @@ fn in_body(statements: &[Statement], sought: Sought) -> bool
 fn in_value(value: &Value, sought: Sought) -> bool
     ensures { result ≡ list_any (seeks sought) (value_leaves (value_view value.now)) }
 {
-    let mut search = Search {
-        sought,
-        found: false,
-    };
+    let mut search = Search::of(sought);
     walk_value(value, &mut search);
-    search.found
-}
-
-/// Whether it stands in a test.
-fn in_test(test: &Test, sought: Sought) -> bool
-    ensures { result ≡ list_any (seeks sought) (test_leaves (test_view test.now)) }
-{
-    let mut search = Search {
-        sought,
-        found: false,
-    };
-    walk_test(test, &mut search);
     search.found
 }
 
@@ -129,5 +123,7 @@ pub fn value_looks_at(value: &Value, element: usize) -> bool
 pub fn test_looks_at(test: &Test, element: usize) -> bool
     ensures { result ≡ s.test_looks_at element (test_view test.now) }
 {
-    in_test(test, Sought::Element(element))
+    let mut search = Search::of(Sought::Element(element));
+    walk_test(test, &mut search);
+    search.found
 }

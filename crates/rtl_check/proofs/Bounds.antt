@@ -11,7 +11,7 @@ use Rattle.rtl_model.proofs.basics.Lists.{any_true, all_none, in_contains, conta
 use Rattle.rtl_net.specs.declared.net.Source.{Source as Kept}
 use Rattle.rtl_net.specs.Nets.{NetlistView, flat, source_view}
 use Rattle.rtl_net.specs.Core.{core}
-use Rattle.rtl_check.specs.Rules.{AreClockNets}
+use Rattle.rtl_check.specs.Views.{AreClockNets}
 use Rattle.rtl_check.specs.Bounds as b
 use Rattle.rtl_check.proofs.Processes.{clock_there}
 use Rattle.rtl_check.proofs.Firsts.{sources_there}

@@ -25,8 +25,8 @@ use Rattle.rtl_body_facts.proofs.Members.{same_members}
 use Rattle.rtl_check.specs.declared.rule.Rule.{Rule}
 use Rattle.rtl_check.specs.declared.rule.Rule.TheVariants.{ClockNotInput, EdgeNotSensitive, ClockAsData, MissingSensitivity, Latch}
 use Rattle.rtl_net.specs.Core.{core}
-use Rattle.rtl_check.specs.Views.{reset_net, nets_tested, IsClocking, IsKind}
-use Rattle.rtl_check.specs.Rules.{fault_of, is_data, clocked_breaks, combinational_breaks, breaks, AreClockNets}
+use Rattle.rtl_check.specs.Views.{reset_net, nets_tested, IsClocking, IsKind, AreClockNets}
+use Rattle.rtl_check.specs.Rules.{fault_of, is_data, clocked_breaks, combinational_breaks, breaks}
 use Rattle.rtl_check.proofs.Processes.{many_processes, process_is}
 
 driven_is : (ds : List Driver) → map (λ (d : FlatDriver). d.net) (map driver_view ds) ≡ driven ds

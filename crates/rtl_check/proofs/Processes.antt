@@ -173,6 +173,12 @@ kinds_more net kinds new i kind many so_far is now p l = subst (λ (ks : List c.
         subst (λ (q : ℕ). IsKind (process net p) (get_or (kinds ++ kind ∷ []) q ck.Mixed)) (sym e)
         (subst (IsKind (process net p)) (sym (get_or-push kinds kind ck.Mixed)) (subst (λ (q : ℕ). IsKind (process net q) kind) f now))
 
+-- ---- places
+
+-- what is read of a list, of the same list under another name
+pub listed_as : {X : Type 0} {xs ys : List X} (p : ℕ) {x : X} → x ≡ get_or xs p x → xs ≡ ys → x ≡ get_or ys p x
+listed_as {X} {xs} {ys} p {x} is same = is ∙ ap (λ (zs : List X). get_or zs p x) same
+
 -- ---- numbers
 
 pub ends : {a m n i : ℕ} → a < m → n ≡ m → n ≤ i → a < i

@@ -22,7 +22,6 @@ use Rattle.rtl_body_facts.specs.Reading.{is_in}
 use Rattle.rtl_net.specs.Core.{core}
 use Rattle.rtl_check.specs.Views.{IsKind, AreKinds}
 use Rattle.rtl_check.specs.Feeders.{combinational_kind, combinational_at, feeds_by, IsRow}
-use Rattle.rtl_check.proofs.Processes.{process_is}
 use Rattle.rtl_check.proofs.Firsts.{sources_there}
 
 pub any_map : {X Y : Type 0} (g : Y → Bool) (h : X → Y) (xs : List X) → list_any g (map h xs) ≡ list_any (λ x. g (h x)) xs
@@ -81,19 +80,16 @@ module _ (net : Netlist) (kinds : List ProcessKind) (ks : AreKinds net kinds) wh
 
 -- ---- a row
 
-pub row_some : (net : NetlistView) (kinds : List ProcessKind) → AreKinds (core net) kinds → IsWired (core net) → (q : ℕ) (x : Process) → q < length net.processes → x ≡ get_or net.processes q x
-    → ((n : ℕ) → Contains x.wakes.items n → n < length net.types) → combinational_at kinds q ≡ true → (feeders : Vec ℕ)
-    → ((p : ℕ) → is_in p feeders.items ≡ list_any (λ n. list_any (feeds_by kinds p) (flat_sources (flat net) n)) x.wakes.items) → IsRow (core net) q (Some feeders)
-row_some net kinds ks wired q x there at nets t feeders are = (c, λ p. (to p, from p))
+pub row_some : (net : NetlistView) (kinds : List ProcessKind) → AreKinds (core net) kinds → IsWired (core net) → (q : ℕ) (nets : List ℕ) → (process (core net) q).wakes ≡ nets
+    → ((n : ℕ) → Contains nets n → n < length net.types) → combinational_at kinds q ≡ true → (feeders : Vec ℕ)
+    → ((p : ℕ) → is_in p feeders.items ≡ list_any (λ n. list_any (feeds_by kinds p) (flat_sources (flat net) n)) nets) → IsRow (core net) q (Some feeders)
+row_some net kinds ks wired q nets wakes there t feeders are = (c, λ p. (to p, from p))
   where
     c : IsCombinational (core net) q
     c = combinational_to (core net) kinds ks q t
 
-    wakes : (process (core net) q).wakes ≡ x.wakes.items
-    wakes = ap (λ (r : m.Process). r.wakes) (process_is net q x there at)
-
     same : (n : ℕ) → Contains (process (core net) q).wakes n → flat_sources (flat net) n ≡ sources_of (core net) n
-    same n w = sym (sources_there net n (nets n (subst (λ (ns : List ℕ). Contains ns n) wakes w)))
+    same n w = sym (sources_there net n (there n (subst (λ (ns : List ℕ). Contains ns n) wakes w)))
 
     to : (p : ℕ) → Contains feeders.items p → f.Feeds (core net) p q
     to p h =

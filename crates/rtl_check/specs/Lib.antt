@@ -3,7 +3,6 @@ pub mod Listing
 pub mod Rules
 pub mod Places
 pub mod Feeders
-pub mod Judging
 pub mod ClockEdges
 pub mod Bounds
 pub mod Verdicts

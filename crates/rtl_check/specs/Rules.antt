@@ -1,10 +1,9 @@
 -- Faults that name a process and a net: whether a net of a process breaks a rule, by what is kept of the process.
-use Rattle.std.specs.Prelude.{◌≡◌, ◌↔◌, IsTrue, ◌++◌, map, ℕ, Bool, false, not, ◌&&◌, ◌||◌, ◌==◌, List, [], ◌∷◌}
+use Rattle.std.specs.Prelude.{◌≡◌, ◌++◌, map, ℕ, Bool, false, not, ◌&&◌, ◌||◌, ◌==◌, List, [], ◌∷◌}
 use Rattle.std.specs.Option.{option_to_list}
-use Rattle.std.specs.List.Sorted.{IsStrictlyIncreasing}
-use Rattle.rtl_model.specs.simulation.Netlist.{Netlist}
 use Rattle.rtl_model.specs.bodies.Assigns.{must_assign}
 use Rattle.rtl_model.specs.simulation.Accepted as f
+use Rattle.rtl_model.specs.simulation.Faults.{fault_number}
 use Rattle.rtl_net.specs.declared.process.Process.{Process}
 use Rattle.rtl_net.specs.Nets.{body_of}
 use Rattle.rtl_body_facts.specs.declared.kinds.Clocking.{Clocking}
@@ -24,12 +23,9 @@ fault_of ClockAsData process net = f.ClockAsData process net
 fault_of MissingSensitivity process net = f.MissingSensitivity process net
 fault_of Latch process net = f.Latch process net
 
+-- the number of its faults
 abbrev pub rule_number : Rule → ℕ
-rule_number ClockNotInput = 3
-rule_number EdgeNotSensitive = 4
-rule_number ClockAsData = 5
-rule_number MissingSensitivity = 6
-rule_number Latch = 7
+rule_number rule = fault_number (fault_of rule 0 0)
 
 -- a net that it reads is read by the branch under its edge, or is its reset
 abbrev pub is_data : Clocking → (net : ℕ) → Bool
@@ -55,11 +51,6 @@ breaks inputs clocks p (k.Clocked c) rule n = clocked_breaks inputs clocks p c r
 breaks inputs clocks p k.Mixed rule n = false
 
 -- ---- lists
-
--- the clocks of a netlist, rising
-pub record AreClockNets (net : Netlist) (clocks : List ℕ) : Type 0 where
-  pub rise : IsStrictlyIncreasing clocks
-  pub are : (n : ℕ) → IsTrue (is_in n clocks) ↔ f.IsClock net n
 
 -- the faults of a process and these nets are appended
 pub record Pushes (rule : Rule) (process : ℕ) (nets : List ℕ) (old new : List CheckFault) : Type 0 where

@@ -1,15 +1,44 @@
--- What the checker answers.
-use Rattle.std.specs.Prelude.{◌≡◌, ⊤, ℕ, ◌≤◌, Bool, true, false, List, map, slice_index_or, Some, None, Contains}
+-- What the checker finds of a netlist, faults or levels, and what it answers.
+use Rattle.std.specs.Prelude.{◌≡◌, ⊤, ℕ, ◌≤◌, Bool, true, false, List, [], map, slice_index_or, Some, None, Contains}
 use Rattle.rtl_model.specs.simulation.Netlist.{Netlist, IsCombinational}
 use Rattle.rtl_model.specs.simulation.Accepted.{Fault, Loop, IsAccepted}
-use Rattle.rtl_model.specs.simulation.Faults.{AreFaults}
+use Rattle.rtl_model.specs.simulation.Faults.{AreFaults, AreFaultsButLoops}
 use Rattle.rtl_model.specs.simulation.Levels.{ChainTo, Rises}
 use Rattle.rtl_model.specs.simulation.Report.{IsReport, LeadsDown}
+use Rattle.rtl_check_levels.specs.declared.order.Levels.{Levels}
+use Rattle.rtl_check_levels.specs.Feeding.{Table}
+use Rattle.rtl_check_levels.specs.Levels as l
+use Rattle.rtl_check_levels.specs.OfNets.{IsTableOf}
 use Rattle.rtl_check_levels.specs.Rounds.{IsListedOnce}
+use Rattle.rtl_check.specs.declared.judging.Judged.{Judged}
+use Rattle.rtl_check.specs.declared.judging.Judged.TheVariants.{Faulty, Leveled}
 use Rattle.rtl_check.specs.declared.reporting.Report.{Report}
 use Rattle.rtl_check.specs.declared.checking.Verdict.{Verdict}
 use Rattle.rtl_check.specs.declared.checking.Verdict.TheVariants.{Yes, No}
 use Rattle.rtl_check.specs.Views.{fault_view}
+
+-- ---- what is found
+
+-- each loop among these faults is listed once round, from its lowest process
+abbrev pub AreLoopsOnce : List Fault → Type 0
+AreLoopsOnce faults = (processes : List ℕ) → Contains faults (Loop processes) → IsListedOnce processes
+
+-- no fault is found before loops are looked for, and its combinational processes have levels
+pub record IsLeveled (net : Netlist) (levels : Levels) : Type 0 where
+  pub no_fault : AreFaultsButLoops net []
+  pub table : Table
+  pub is_table : IsTableOf net table
+  pub are_levels : l.AreLevels table levels.levels.items levels.from.items levels.greatest
+
+abbrev pub IsJudged : Netlist → Judged → Type 0
+IsJudged net (Faulty faults) = AreFaults net (map fault_view faults.items)
+IsJudged net (Leveled levels) = IsLeveled net levels
+
+abbrev pub JudgesLoopsOnce : Judged → Type 0
+JudgesLoopsOnce (Faulty faults) = AreLoopsOnce (map fault_view faults.items)
+JudgesLoopsOnce (Leveled levels) = ⊤
+
+-- ---- what is answered
 
 -- the report on the netlist: an accepted netlist has no other
 abbrev pub IsReportOf : Netlist → Report → Type 0
@@ -20,10 +49,6 @@ abbrev pub IsVerdict : Netlist → Verdict → Type 0
 IsVerdict net (Yes report) = IsAccepted net × IsReportOf net report
 -- it has these faults: all but loops, in order, or else one loop
 IsVerdict net (No faults) = AreFaults net (map fault_view faults.items)
-
--- each loop among these faults is listed once round, from its lowest process
-abbrev pub AreLoopsOnce : List Fault → Type 0
-AreLoopsOnce faults = (processes : List ℕ) → Contains faults (Loop processes) → IsListedOnce processes
 
 abbrev pub ListsLoopsOnce : Verdict → Type 0
 ListsLoopsOnce (Yes report) = ⊤

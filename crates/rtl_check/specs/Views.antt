@@ -1,6 +1,7 @@
--- How the code's faults and kinds are seen.
-use Rattle.std.specs.Prelude.{◌≡◌, ℕ, ◌<◌, ◌||◌, List, ◌∷◌, length, slice_index_or, Option, option_map}
+-- How the code's faults, kinds and clocks are seen.
+use Rattle.std.specs.Prelude.{◌≡◌, ◌↔◌, IsTrue, ℕ, ◌<◌, ◌||◌, List, ◌∷◌, length, slice_index_or, Option, option_map}
 use Rattle.std.specs.Option.{option_to_list}
+use Rattle.std.specs.List.Sorted.{IsStrictlyIncreasing}
 use Rattle.rtl_model.specs.simulation.Netlist as m
 use Rattle.rtl_model.specs.simulation.Accepted as f
 use Rattle.rtl_net.specs.Nets.{source_view}
@@ -49,3 +50,8 @@ IsKind p k.Mixed = p.kind ≡ m.Mixed
 pub record AreKinds (net : m.Netlist) (kinds : List ProcessKind) : Type 0 where
   pub each_process : length kinds ≡ length net.processes
   pub each : (p : ℕ) → p < length net.processes → IsKind (m.process net p) (slice_index_or kinds p k.Mixed)
+
+-- the clocks of a netlist, rising
+pub record AreClockNets (net : m.Netlist) (clocks : List ℕ) : Type 0 where
+  pub rise : IsStrictlyIncreasing clocks
+  pub are : (n : ℕ) → IsTrue (is_in n clocks) ↔ f.IsClock net n

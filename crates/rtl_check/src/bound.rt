@@ -5,10 +5,10 @@ ghost use Rattle.rtl_model.specs.simulation.Netlist as m;
 ghost use Rattle.rtl_model.specs.simulation.Levels as l;
 ghost use Rattle.rtl_net.specs.Nets.{source_view};
 ghost use Rattle.rtl_net.specs.Core.{core};
-ghost use Rattle.rtl_check.specs.Views.{AreKinds};
-ghost use Rattle.rtl_check.specs.Rules.{AreClockNets};
+ghost use Rattle.rtl_check.specs.Views.{AreKinds, AreClockNets};
 ghost use Rattle.rtl_check.specs.Bounds as b;
 
+use crate::wakes::wakes_of;
 use rtl_body_facts::ProcessKind;
 use rtl_net::{Net, Source};
 
@@ -41,9 +41,7 @@ pub fn follows_driver(net: &Net, process: usize) -> bool
     requires { process < length net.now.processes }
     ensures { result ≡ b.follows_driver (core net.now) (m.process (core net.now) process) }
 {
-    net.is_elaborated();
-    let processes = net.processes();
-    let wakes = processes[process].wakes.as_slice();
+    let wakes = wakes_of(net, process);
     for wake in wakes {
         if is_driven(net, *wake) {
             return true;

@@ -20,13 +20,10 @@ fn outside(alloc: Global, nets: &[usize], others: &[usize]) -> Result<Vec<usize>
     requires { IsStrictlyIncreasing others.now }
     ensures { IfOk result (λ v. v.items ≡ filter (λ n. not (is_in n others.now)) nets.now) }
 {
-    let mut left = Vec::new(alloc);
-    for net in nets {
-        if !contains_rising(others, *net) {
-            left.push(*net)?;
-        }
-    }
-    Ok(left)
+    nets.iter()
+        .copied()
+        .filter(|net| !contains_rising(others, *net))
+        .collect(alloc)
 }
 
 /// The nets of some drivers.
@@ -87,13 +84,11 @@ fn clocks_as_data(
     requires { IsStrictlyIncreasing clocks.now }
     ensures { IfOk result (λ v. v.items ≡ filter (λ n. is_in n clocks.now && is_data clocking n) reads.now) }
 {
-    let mut data = Vec::new(alloc);
-    for net in reads {
-        if contains_rising(clocks, *net) && is_used(clocking, *net) {
-            data.push(*net)?;
-        }
-    }
-    Ok(data)
+    reads
+        .iter()
+        .copied()
+        .filter(|net| contains_rising(clocks, *net) && is_used(clocking, *net))
+        .collect(alloc)
 }
 
 /// The nets of a clocked process that break a rule.

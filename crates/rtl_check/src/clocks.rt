@@ -3,8 +3,8 @@
 ghost use Rattle.std.specs.Prelude.{◌≡◌, ◌||◌, ℕ, IfOk, OnOk};
 ghost use Rattle.rtl_body_facts.specs.Reading.{is_in};
 ghost use Rattle.rtl_net.specs.Core.{core};
-ghost use Rattle.rtl_check.specs.Views.{AreKinds};
-ghost use Rattle.rtl_check.specs.Rules.{AreClockNets, has_clock};
+ghost use Rattle.rtl_check.specs.Views.{AreKinds, AreClockNets};
+ghost use Rattle.rtl_check.specs.Rules.{has_clock};
 
 use rtl_body_facts::{ProcessKind, sort_once};
 use rtl_net::{Net, NoMemory};

@@ -3,8 +3,7 @@
 ghost use Rattle.std.specs.Prelude.{map, IfOk};
 ghost use Rattle.rtl_model.specs.simulation.Faults.{AreFaultsButLoops};
 ghost use Rattle.rtl_net.specs.Core.{core};
-ghost use Rattle.rtl_check.specs.Views.{fault_view, AreKinds};
-ghost use Rattle.rtl_check.specs.Rules.{AreClockNets};
+ghost use Rattle.rtl_check.specs.Views.{fault_view, AreKinds, AreClockNets};
 
 use crate::fault::CheckFault;
 use crate::listing::{mixed, two_drivers};

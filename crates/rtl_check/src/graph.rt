@@ -10,6 +10,7 @@ ghost use Rattle.rtl_net.specs.Core.{core};
 ghost use Rattle.rtl_check.specs.Views.{AreKinds};
 ghost use Rattle.rtl_check.specs.Feeders.{combinational_at, feeds_by, IsRow};
 
+use crate::wakes::wakes_of;
 use rtl_body_facts::ProcessKind;
 use rtl_net::{Net, NoMemory, Source, nets_meet_the_laws};
 use std::alloc::Global;
@@ -83,8 +84,7 @@ fn row_of(
     }
     nets_meet_the_laws();
     net.is_elaborated();
-    let processes = net.processes();
-    let wakes = processes[process].wakes.as_slice();
+    let wakes = wakes_of(net, process);
     let mut feeders = Vec::new(alloc);
     for wake in wakes {
         push_feeders(net, kinds, *wake, &mut feeders)?;

@@ -2,9 +2,8 @@
 
 ghost use Rattle.std.specs.Prelude.{IfOk};
 ghost use Rattle.rtl_net.specs.Core.{core};
-ghost use Rattle.rtl_check.specs.Views.{AreKinds};
-ghost use Rattle.rtl_check.specs.Rules.{AreClockNets};
-ghost use Rattle.rtl_check.specs.Judging.{IsJudged, JudgesLoopsOnce};
+ghost use Rattle.rtl_check.specs.Views.{AreKinds, AreClockNets};
+ghost use Rattle.rtl_check.specs.Verdicts.{IsJudged, JudgesLoopsOnce};
 
 use crate::fault::CheckFault;
 use crate::faults::faults_of;

@@ -13,12 +13,10 @@ use std::alloc::Global;
 pub fn kinds_of(alloc: Global, net: &Net) -> Result<Vec<ProcessKind>, NoMemory>
     ensures { IfOk result (λ kinds. AreKinds (core net.now) kinds.items) }
 {
-    net.is_elaborated();
-    let inputs = net.inputs();
-    let mut kinds = Vec::new(alloc);
     let processes = net.processes();
-    for process in processes {
-        kinds.push(kind_of(inputs, &process.body))?;
+    let mut kinds = Vec::new(alloc);
+    for process in 0..processes.len() {
+        kinds.push(kind_at(net, process))?;
     }
     Ok(kinds)
 }

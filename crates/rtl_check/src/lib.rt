@@ -23,6 +23,7 @@ mod rule;
 mod rules;
 mod standing;
 mod variables;
+mod wakes;
 
 pub use breaking::is_used;
 pub use checking::{Verdict, check};

@@ -3,10 +3,8 @@
 ghost use Rattle.std.specs.Prelude.{IfOk, OnOk};
 ghost use Rattle.rtl_model.specs.simulation.Accepted.{IsAccepted};
 ghost use Rattle.rtl_net.specs.Core.{core};
-ghost use Rattle.rtl_check.specs.Views.{AreKinds};
-ghost use Rattle.rtl_check.specs.Rules.{AreClockNets};
-ghost use Rattle.rtl_check.specs.Judging.{IsLeveled};
-ghost use Rattle.rtl_check.specs.Verdicts.{IsReportOf};
+ghost use Rattle.rtl_check.specs.Views.{AreKinds, AreClockNets};
+ghost use Rattle.rtl_check.specs.Verdicts.{IsLeveled, IsReportOf};
 
 use crate::bound::bound_of;
 use crate::clock_edges::clock_edges;

@@ -2,9 +2,9 @@
 
 ghost use Rattle.std.specs.Prelude.{◌<◌, length, OnOk};
 ghost use Rattle.rtl_net.specs.Core.{core};
-ghost use Rattle.rtl_check.specs.Views.{AreKinds};
+ghost use Rattle.rtl_check.specs.Views.{AreKinds, AreClockNets};
 ghost use Rattle.rtl_check.specs.Listing.{is_of_number, one_place, AddsFaults};
-ghost use Rattle.rtl_check.specs.Rules.{rule_number, Pushes, AreClockNets};
+ghost use Rattle.rtl_check.specs.Rules.{rule_number, Pushes};
 
 use crate::breaking::breaking_nets;
 use crate::fault::CheckFault;

@@ -9,6 +9,7 @@ ghost use Rattle.rtl_check.specs.Views.{IsKind};
 ghost use Rattle.rtl_check.specs.Standing as s;
 
 use crate::kinds::kind_at;
+use crate::wakes::wakes_of;
 use rtl_body_facts::ProcessKind;
 use rtl_net::{Net, Source, nets_meet_the_laws};
 
@@ -88,9 +89,7 @@ fn highest_of(net: &Net, levels: &[Option<u32>], process: usize) -> Highest
     requires { process < length net.now.processes }
     ensures { result ≡ s.highest_of (core net.now) levels.now process }
 {
-    net.is_elaborated();
-    let processes = net.processes();
-    let wakes = processes[process].wakes.as_slice();
+    let wakes = wakes_of(net, process);
     let mut highest = Highest {
         level: 0,
         process: None,

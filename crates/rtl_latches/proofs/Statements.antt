@@ -16,8 +16,7 @@ use Rattle.rtl_net.specs.Bodies.{statement_view, statements_of}
 use Rattle.rtl_body_facts.specs.Paths.{to_net}
 use Rattle.rtl_body_facts.proofs.Anys.{or_none, and_not, and_assoc}
 use Rattle.rtl_body_facts.proofs.EveryPath.{set_covers, if_covers, if_alone_covers, case_covers}
-use Rattle.rtl_latches.specs.Assigning.{stmt_assigns, stmts_assign, branches_assign, alternatives_assign, branch_assigns, alternative_assigns}
-use Rattle.rtl_latches.specs.Omissions.{leaves_out, in_statement, omission_of, part_omission, branches_omission, alternatives_omission}
+use Rattle.rtl_latches.specs.Omissions.{stmt_assigns, stmts_assign, branches_assign, alternatives_assign, branch_assigns, alternative_assigns, leaves_out, in_statement, omission_of, part_omission, branches_omission, alternatives_omission}
 use Rattle.rtl_latches.specs.declared.omission.Omission.{Omission}
 use Rattle.rtl_latches.specs.declared.omission.Omission.TheVariants as o
 use Rattle.rtl_latches.specs.declared.choosing.Counted.TheVariants as c

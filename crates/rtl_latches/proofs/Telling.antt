@@ -135,36 +135,6 @@ inner-more n l a p q so here before after is e inv more =
 pub inner-none : (a : Told) (so : Bool) → a ≡ both a (only_left (where_so so None))
 inner-none a so = sym (ap (λ (v : Option Omission). both a (only_left v)) (so-none so) ∙ both-nothing a)
 
--- of some nets those are listed for which it is so
-pub kept-more : (n x : ℕ) (so : ℕ → Bool) (here now old so_far all : Bool) → here ≡ so x → now ≡ (old || (here && (x == n))) → old ≡ (so_far && so n)
-    → all ≡ (so_far || (x == n)) → now ≡ (all && so n)
-kept-more n x so here now old so_far all is e inv more =
-    e ∙ (ap (λ (b : Bool). b || (here && (x == n))) inv ∙ (go (cases_eq x n) ∙ ap (λ (b : Bool). b && so n) (sym more)))
-  where
-    at : (f b d : Bool) → b ≡ d → ((f && d) || (b && true)) ≡ ((f || true) && d)
-    at true true true k = refl
-    at true false false k = refl
-    at false true true k = refl
-    at false false false k = refl
-    at f true false k = absurd cc
-    at f false true k = absurd cc
-
-    other : (f b d : Bool) → ((f && d) || (b && false)) ≡ ((f || false) && d)
-    other true true true = refl
-    other true true false = refl
-    other true false true = refl
-    other true false false = refl
-    other false true d = refl
-    other false false d = refl
-
-    go : (x ≡ n) ⊎ (x ≡ n → ⊥) → ((so_far && so n) || (here && (x == n))) ≡ ((so_far || (x == n)) && so n)
-    go (inl same) =
-        let k = eq-eqb x n same in
-        ap (λ (b : Bool). (so_far && so n) || (here && b)) k ∙ (at so_far here (so n) (is ∙ ap so same) ∙ ap (λ (b : Bool). (so_far || b) && so n) (sym k))
-    go (inr out) =
-        let k = ne_eqb x n out in
-        ap (λ (b : Bool). (so_far && so n) || (here && b)) k ∙ (other so_far here (so n) ∙ ap (λ (b : Bool). (so_far || b) && so n) (sym k))
-
 -- what a part leaves out, and then the part itself
 pub inner-chosen : (a b d : Told) (so without : Bool) (w : Option Omission) (itself : Omission) → b ≡ both a (only_left (where_so so w))
     → d ≡ both b (only_left (where_so without (Some itself))) → without ≡ so → d ≡ both a (only_left (where_so so (option_or w (Some itself))))
@@ -210,10 +180,6 @@ touched-chain n old mid new added lefts p is held more places =
 
 pub in-push : (n : ℕ) (old new : List ℕ) (x : ℕ) → new ≡ old ++ x ∷ [] → is_in n new ≡ (is_in n old || (x == n))
 in-push n old new x is = ap (is_in n) is ∙ (in_append n old (x ∷ []) ∙ ap (λ (b : Bool). is_in n old || b) (sym (or_none (x == n))))
-
-pub and-twice : (a b : Bool) → (a && (a && b)) ≡ (a && b)
-and-twice true b = refl
-and-twice false b = refl
 
 pub any-map : {X : Type 0} (g : Told → Bool) (f : X → Told) (xs : List X) → list_any (λ x. g (f x)) xs ≡ list_any g (map f xs)
 any-map g f [] = refl

@@ -1,4 +1,3 @@
-pub mod Assigning
 pub mod Omissions
 pub mod Parts
 pub mod Laws

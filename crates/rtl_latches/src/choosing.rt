@@ -1,6 +1,7 @@
 //! What the branches of an if with an else, or the alternatives of a case, come to for each net.
 
 ghost use Rattle.std.specs.Prelude.{◌≡◌, ◌&&◌, not, ℕ, All, map, Some, IfOk, OnOk};
+ghost use Rattle.std.specs.List.{filter};
 ghost use Rattle.std.specs.List.Sorted.{IsStrictlyIncreasing};
 ghost use Rattle.std.specs.Option.{option_or};
 ghost use Rattle.rtl_body_facts.specs.Reading.{is_in};
@@ -8,7 +9,7 @@ ghost use Rattle.rtl_latches.specs.Parts as spec;
 ghost use Rattle.rtl_latches.specs.declared.parts.Part.{Part};
 
 use crate::omission::Omission;
-use crate::parts::{Left, Part, push_if, touched};
+use crate::parts::{Left, Part, touched};
 use rtl_body_facts::{contains_rising, sort_once};
 use std::alloc::{AllocError, Global};
 
@@ -59,31 +60,24 @@ fn push_inner(
 
 /// Those of some nets that a part doesn't assign on every path.
 fn open_of(alloc: Global, inner: &Part, some: &[usize]) -> Result<Vec<usize>, AllocError>
-    requires some { IsStrictlyIncreasing some.now }
-    requires inner { IsStrictlyIncreasing inner.now.assigned.items }
-    ensures { IfOk result (λ v. (n : ℕ) → is_in n v.items
-        ≡ (is_in n some.now && not (is_in n inner.now.assigned.items))) }
+    requires { IsStrictlyIncreasing inner.now.assigned.items }
+    ensures { IfOk result (λ v. v.items ≡ filter (λ n. not (is_in n inner.now.assigned.items)) some.now) }
 {
-    let mut nets = Vec::new(alloc);
-    for net in some {
-        push_if(is_open(inner, some, *net), *net, &mut nets)?;
-    }
-    Ok(nets)
+    some.iter()
+        .copied()
+        .filter(|net| !contains_rising(&inner.assigned, *net))
+        .collect(alloc)
 }
 
-/// Those that it does, rising.
+/// Those that it does.
 fn closed_of(alloc: Global, inner: &Part, some: &[usize]) -> Result<Vec<usize>, AllocError>
     requires { IsStrictlyIncreasing inner.now.assigned.items }
-    ensures rise { IfOk result (λ v. IsStrictlyIncreasing v.items) }
-    ensures are { IfOk result (λ v. (n : ℕ) → is_in n v.items
-        ≡ (is_in n some.now && is_in n inner.now.assigned.items)) }
+    ensures { IfOk result (λ v. v.items ≡ filter (λ n. is_in n inner.now.assigned.items) some.now) }
 {
-    let mut nets = Vec::new(alloc);
-    for net in some {
-        push_if(contains_rising(&inner.assigned, *net), *net, &mut nets)?;
-    }
-    sort_once(&mut nets);
-    Ok(nets)
+    some.iter()
+        .copied()
+        .filter(|net| contains_rising(&inner.assigned, *net))
+        .collect(alloc)
 }
 
 /// Of some nets, lists where a part leaves them out, or the part itself; and those are left that it
@@ -106,7 +100,8 @@ fn choose_in(
     push_inner(inner, &inner.left, some, part)?;
     let without = open_of(alloc, inner, some)?;
     part.leave_out(&without, itself)?;
-    let within = closed_of(alloc, inner, some)?;
+    let mut within = closed_of(alloc, inner, some)?;
+    sort_once(&mut within);
     Ok(within)
 }
 

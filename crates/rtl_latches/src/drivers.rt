@@ -7,8 +7,7 @@ ghost use Rattle.std.specs.List.Sorted.{IsStrictlyIncreasing};
 ghost use Rattle.rtl_net.specs.Bodies.{statements_of};
 ghost use Rattle.rtl_body_facts.specs.Paths.{to_net};
 ghost use Rattle.rtl_body_facts.specs.Reading.{is_in};
-ghost use Rattle.rtl_latches.specs.Assigning.{stmts_assign};
-ghost use Rattle.rtl_latches.specs.Omissions.{omission_of};
+ghost use Rattle.rtl_latches.specs.Omissions as spec;
 ghost use Rattle.rtl_latches.specs.Parts.{left_at};
 
 use crate::gathering::gather;
@@ -39,7 +38,8 @@ pub fn omissions(
     statements: &[Statement],
     drives: &[Driver],
 ) -> Result<HashMap<usize, Omission>, AllocError>
-    ensures { IfOk result (λ places. (n : ℕ) → get nat_eq places n ≡ omission_of (to_net drives.now n) statements.now) }
+    ensures { IfOk result (λ places. (n : ℕ)
+        → get nat_eq places n ≡ spec.omission_of (to_net drives.now n) statements.now) }
 {
     let part = gather(alloc, drives, statements)?;
     first_places(alloc, &part.left)
@@ -54,7 +54,7 @@ pub fn assigned_on_some_path(
 ) -> Result<Vec<usize>, AllocError>
     ensures rise { IfOk result (λ nets. IsStrictlyIncreasing nets.items) }
     ensures are { IfOk result (λ nets. (n : ℕ) → is_in n nets.items
-        ≡ stmts_assign (to_net drives.now n) (statements_of statements.now)) }
+        ≡ spec.stmts_assign (to_net drives.now n) (statements_of statements.now)) }
 {
     let part = gather(alloc, drives, statements)?;
     touched(alloc, slice::from_ref(&part))

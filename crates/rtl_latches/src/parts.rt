@@ -81,23 +81,12 @@ impl Part {
     }
 }
 
-/// Appends a net, if so.
-pub(crate) fn push_if(so: bool, net: usize, nets: &mut Vec<usize>) -> Result<(), AllocError>
-    ensures { OnOk result ((n : ℕ) → is_in n nets.new.items ≡ (is_in n nets.old.items || (so && (net == n)))) }
-{
-    if !so {
-        return Ok(());
-    }
-    nets.push(net)?;
-    Ok(())
-}
-
 /// Appends the nets whose assignments are left out.
 fn push_left(left: &[Left], nets: &mut Vec<usize>) -> Result<(), AllocError>
     ensures { OnOk result ((n : ℕ) → is_in n nets.new.items ≡ (is_in n nets.old.items || spec.has_left n left.now)) }
 {
     for one in left {
-        push_if(true, one.net, nets)?;
+        nets.push(one.net)?;
     }
     Ok(())
 }

@@ -28,7 +28,7 @@ use Rattle.rtl_net.specs.declared.process.Process.{Process}
 use Rattle.rtl_net.specs.Nets.{NetlistView}
 use Rattle.rtl_mixed_reasons.specs.declared.ifs.EdgeIf.{EdgeIf}
 use Rattle.rtl_mixed_reasons.specs.declared.reads.First.{First}
-use Rattle.rtl_mixed_reasons.specs.Reasons.{plain, naming, at_or, at_of, branches_of_if, if_branches, conditions, branch_of, edge_branch, has_else, tests_of, inner_events, head_of, gated_edge, elsewhere, elsewhere_in, reset_net, sole_reset, reset_behind, first_that_fits, own_reasons, reset_reason, reset_of, other_before, computes, assigns_alike}
+use Rattle.rtl_mixed_reasons.specs.Reasons.{plain, naming, at_or, at_of, branches_of_if, if_branches, conditions, branch_of, edge_branch, has_else, tests_of, inner_events, head_of, gated_edge, elsewhere, elsewhere_in, reset_net, sole_reset, reset_behind, first_that_fits, own_reasons, reset_reason, other_before, computes, assigns_alike}
 
 -- ---- ifs
 
@@ -145,15 +145,6 @@ own-is net i last bs = go (option_map (λ v. v.items) last) ∙ ap (λ (b : Bool
     go : (o : Option (List Statement)) → first_that_fits (own_reasons net i (branches_of (otherwise_of o) bs))
         ≡ told_by i.at (reset_reason net i (tests_of bs) (branch_of (branches_of bodies.no_else bs) 0)) (other_before i.at i.before (tests_of bs)) (nat_lt 1 (length (drop i.before (tests_of bs))) || is_some o)
     go o = λ k. told_by i.at (reset_reason net i (conditions-are o bs k) (first-is o bs k)) (other_before i.at i.before (conditions-are o bs k)) (nat_lt 1 (length (drop i.before (conditions-are o bs k))) || else-is o bs k)
-
-pub first-there : (before : ℕ) (bs : List Branch) (b : Branch) (n : ℕ) → reset_of before (tests_of bs) ≡ Some n → b ≡ get_or bs 0 b
-    → statements_of b.statements.items ≡ branch_of (branches_of bodies.no_else bs) 0
-first-there before [] b n h e = absurd (none (before == 1) h)
-  where
-    none : (y : Bool) → (if y then None else None) ≡ Some n → ⊥
-    none true k = cc
-    none false k = cc
-first-there before (x ∷ bs) b n h e = ap (λ (y : Branch). statements_of y.statements.items) e
 
 -- the branch before which so many stand
 branch-there : (last : bodies.Branches) (bs : List Branch) (before : ℕ) (b : Branch) → before < length bs → b ≡ get_or bs before b

@@ -12,7 +12,7 @@ use Rattle.rtl_net.specs.declared.process.Process.{Process}
 use Rattle.rtl_body_facts.specs.Paths.{driven, to_net}
 use Rattle.rtl_body_facts.specs.Reading.{is_in}
 use Rattle.rtl_body_facts.proofs.Members.{has_in}
-use Rattle.rtl_latches.specs.Assigning.{stmt_assigns, stmts_assign, branches_assign, alternatives_assign}
+use Rattle.rtl_latches.specs.Omissions.{stmt_assigns, stmts_assign, branches_assign, alternatives_assign}
 use Rattle.rtl_mixed_reasons.specs.Reasons.{assigns, first_net, assigns_alike}
 
 -- ---- a net that isn't driven isn't assigned

@@ -42,6 +42,14 @@ module _ {X A : Type 0} (f : X → Option A) (search next : List X → Option A)
 pub ended : {X A : Type 0} (search : List X → Option A) (xs : List X) (i : ℕ) (all : Option A) → length xs ≤ i → search [] ≡ None → search (drop i xs) ≡ all → None ≡ all
 ended search xs i all l none inv = sym none ∙ (sym (at_drop_all search xs i l) ∙ inv)
 
+-- the same of the first statement of which something is told
+module _ {A : Type 0} (f : Statement → Option A) (xs : List Statement) (i : ℕ) (x : Statement) (all : Option A) (there : i < length xs) (is : x ≡ get_or xs i x) (inv : first_in f (drop i xs) ≡ all) where
+  pub first-found : (a : Option A) → a ≡ f x → is_some a ≡ true → a ≡ all
+  first-found a e so = found-so f (first_in f) (first_in f) xs i (λ x rest. refl) x a all there is inv e so
+
+  pub first-passed : (a : Option A) → a ≡ f x → is_some a ≡ false → first_in f (drop (i + 1) xs) ≡ all
+  first-passed a e so = passed-so f (first_in f) (first_in f) xs i (λ x rest. refl) x a all there is inv e so
+
 -- ---- searches that count on
 
 abbrev pub edge-one : (number at before : ℕ) → Option EdgeTest → Option EdgeIf

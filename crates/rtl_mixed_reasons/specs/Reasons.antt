@@ -17,10 +17,12 @@ use Rattle.rtl_net.specs.declared.body.Branch.{Branch}
 use Rattle.rtl_net.specs.declared.process.Process.{Process}
 use Rattle.rtl_net.specs.Bodies.{test_view, statement_view, statements_of}
 use Rattle.rtl_net.specs.Nets.{NetlistView, flat, body_of}
-use Rattle.rtl_latches.specs.Assigning.{stmts_assign}
+use Rattle.rtl_latches.specs.Omissions.{stmts_assign}
 use Rattle.rtl_body_facts.specs.Paths.{driven, to_net}
 use Rattle.rtl_body_facts.specs.Reading.{is_in, some}
 use Rattle.rtl_mixed_reasons.specs.Edges.{edge_of, is_gated}
+use Rattle.rtl_mixed_reasons.specs.declared.body.Alone.{Alone}
+use Rattle.rtl_mixed_reasons.specs.declared.body.Alone.TheVariants.{Gated, Elsewhere}
 use Rattle.rtl_mixed_reasons.specs.declared.ifs.EdgeIf.{EdgeIf}
 use Rattle.rtl_mixed_reasons.specs.declared.edges.EdgeTest.{EdgeTest}
 use Rattle.rtl_mixed_reasons.specs.declared.reason.Reason.{Reason}
@@ -265,6 +267,12 @@ elsewhere_in at (Some bs) = plain (if some (inner_events bs) then EdgeInside els
 
 abbrev pub elsewhere : Statement → Option Reason
 elsewhere x = if some (events (statements_of (x ∷ []))) then Some (elsewhere_in (at_of x) (if_branches x)) else None
+
+-- ---- what is told of a statement, whatever stands beside it
+
+abbrev pub told_alone : Alone → Statement → Option Reason
+told_alone Gated = gated_edge
+told_alone Elsewhere = elsewhere
 
 -- ---- the first that fits
 

@@ -7,7 +7,7 @@ ghost use Rattle.rtl_body_facts.specs.Reading.{some};
 ghost use Rattle.rtl_mixed_reasons.specs.Reasons as spec;
 
 use crate::beside::beside_edge;
-use crate::ifs::{EdgeIf, first_edge, gated_edge, second_edge};
+use crate::ifs::{EdgeIf, first_edge, gated_if, second_edge};
 use crate::nets::nets_of;
 use crate::reason::{Reason, ReasonKind};
 use crate::resets::{computes, other_before, reset_behind, reset_of};
@@ -193,12 +193,31 @@ fn event_in(statement: &Statement) -> Option<Reason>
     }
 }
 
+/// What is told of a statement, whatever stands beside it.
+#[derive(Clone, Copy)]
+enum Alone {
+    /// An edge that isn't all of its condition.
+    Gated,
+    /// An edge or `'event` in it.
+    Elsewhere,
+}
+
+/// What is told of a statement.
+fn told_alone(sought: Alone, statement: &Statement) -> Option<Reason>
+    ensures { result ≡ spec.told_alone sought statement.now }
+{
+    match sought {
+        Alone::Gated => gated_if(statement),
+        Alone::Elsewhere => event_in(statement),
+    }
+}
+
 /// What is told of the first such statement.
-fn elsewhere(statements: &[Statement]) -> Option<Reason>
-    ensures { result ≡ spec.first_in spec.elsewhere statements.now }
+fn first_alone(sought: Alone, statements: &[Statement]) -> Option<Reason>
+    ensures { result ≡ spec.first_in (spec.told_alone sought) statements.now }
 {
     for statement in statements {
-        if let Some(reason) = event_in(statement) {
+        if let Some(reason) = told_alone(sought, statement) {
             return Some(reason);
         }
     }
@@ -209,7 +228,7 @@ fn elsewhere(statements: &[Statement]) -> Option<Reason>
 fn reason_of_body(alloc: Global, net: &Net, process: &Process) -> Result<Option<Reason>, AllocError>
     ensures { IfOk result (λ reason. reason ≡ spec.reason_of_body net.now process.now) }
 {
-    if let Some(reason) = gated_edge(&process.body) {
+    if let Some(reason) = first_alone(Alone::Gated, &process.body) {
         return Ok(Some(reason));
     }
     if let Some(found) = first_edge(&process.body) {
@@ -218,7 +237,7 @@ fn reason_of_body(alloc: Global, net: &Net, process: &Process) -> Result<Option<
             return Ok(reason);
         }
     }
-    Ok(elsewhere(&process.body))
+    Ok(first_alone(Alone::Elsewhere, &process.body))
 }
 
 /// Whether a process is neither clocked nor combinational.

@@ -165,7 +165,7 @@ fn has_gated(branches: &[Branch]) -> bool
 }
 
 /// What is told of an if with such a condition.
-fn gated_if(statement: &Statement) -> Option<Reason>
+pub(crate) fn gated_if(statement: &Statement) -> Option<Reason>
     ensures { result ≡ spec.gated_edge statement.now }
 {
     match statement {
@@ -177,16 +177,4 @@ fn gated_if(statement: &Statement) -> Option<Reason>
         }
         _ => None,
     }
-}
-
-/// What is told of the first such if.
-pub(crate) fn gated_edge(statements: &[Statement]) -> Option<Reason>
-    ensures { result ≡ spec.first_in spec.gated_edge statements.now }
-{
-    for statement in statements {
-        if let Some(reason) = gated_if(statement) {
-            return Some(reason);
-        }
-    }
-    None
 }

@@ -1,12 +1,12 @@
 //! The first net that a value reads.
 
 ghost use Rattle.std.specs.Prelude.{◌≡◌};
+ghost use Rattle.std.specs.Option.{option_or};
 ghost use Rattle.rtl_model.specs.bodies.Leaves.{read_of};
 ghost use Rattle.rtl_model.specs.bodies.Reads.{value_reads};
 ghost use Rattle.rtl_net.specs.Bodies.{value_view};
 ghost use Rattle.rtl_net.specs.Indices.{numbers};
 ghost use Rattle.rtl_net.specs.Visits.{leaf_view};
-ghost use Rattle.std.specs.Option.{option_or};
 ghost use Rattle.rtl_mixed_reasons.specs.Reasons.{head_of};
 
 use rtl_net::{Indices, Leaf, Value, Visit, walk_value};

@@ -1,8 +1,13 @@
 -- The nets of a report's clocks.
-use Rattle.std.proofs.Common.{◌≡◌, ℕ, zero, suc, ◌+◌, ◌-◌, ◌/◌, ◌<◌, ◌≤◌, Bool, true, false, ◌&&◌, ◌==◌, List, [], ◌∷◌, length, get_or, refl, sym, ap, subst, ◌∙◌, ◌⊎◌, inl, inr, arith, Contains}
+use Rattle.std.proofs.Common.{◌≡◌, ℕ, zero, suc, ◌+◌, ◌<◌, ◌≤◌, Bool, true, false, ◌&&◌, ◌==◌, List, [], ◌∷◌, length, get_or, refl, sym, ap, subst, ◌∙◌, ◌⊎◌, inl, inr, arith, Contains, Result, Ok, Err}
 use Rattle.std.specs.List.{filter, range_with_len}
-use Rattle.std.specs.List.Sorted.{IsStrictlyIncreasing}
-use Rattle.std.proofs.lemmas.Bool.{or_cases, and_from, eqb-true, lt-ltb}
+use Rattle.std.specs.List.Sorted.{IsSearchInRange, IsBinarySearchResult, IsNonDecreasingBy}
+use Rattle.std.specs.Ordering.{nat_cmp, ordering_index}
+use Rattle.std.specs.Result.{is_ok}
+use Rattle.std.proofs.lemmas.Bool.{cases_lt, or_cases, and_from, eqb-true, lt-ltb}
+use Rattle.std.proofs.lemmas.Bool.Decides.{nat_tests}
+use Rattle.std.proofs.lemmas.Cmp.{ranked}
+use Rattle.std.proofs.lemmas.List.Sorted.{IsNonDecreasingBy-from_default}
 use Rattle.std.proofs.lemmas.List.{length-map, get_or_default}
 use Rattle.std.proofs.lemmas.List.Kept.{IsStrictlyIncreasing-filter}
 use Rattle.rtl_model.specs.basics.Lists.{IsLess, RisesBy}
@@ -13,9 +18,9 @@ use Rattle.rtl_model.proofs.basics.Lists.{in_contains, contains_in, get_or-map_w
 use Rattle.rtl_body_facts.specs.Reading.{is_in}
 use Rattle.rtl_body_facts.proofs.Anys.{any_within}
 use Rattle.rtl_body_facts.proofs.EveryPath.{in_filter}
-use Rattle.rtl_body_facts.proofs.Members.{not_in}
-use Rattle.rtl_check.specs.Rules.{AreClockNets}
-use Rattle.rtl_recheck.specs.Kept.{clock_nets, IsBetween}
+use Rattle.rtl_body_facts.proofs.Members.{not_in, range_rises}
+use Rattle.rtl_check.specs.Views.{AreClockNets}
+use Rattle.rtl_recheck.specs.Kept.{clock_nets}
 
 -- ---- the same nets in order, each once
 
@@ -27,22 +32,6 @@ below_above : (xs : List ℕ) (n : ℕ) → Contains xs n → n < above xs
 below_above [] n (i, l, e) = absurd (omega arith)
 below_above (x ∷ xs) n (zero, l, e) = let h : x ≡ n = e in let d : above (x ∷ xs) ≡ suc x + above xs = refl in omega (arith, h, d)
 below_above (x ∷ xs) n (suc i, l, e) = let h = below_above xs n (i, omega arith, e) in let d : above (x ∷ xs) ≡ suc x + above xs = refl in omega (arith, h, d)
-
-range_at : (a n k : ℕ) → k < n → get_or (range_with_len a n) k 0 ≡ a + k
-range_at a zero k l = absurd (omega arith)
-range_at a (suc n) zero l = omega arith
-range_at a (suc n) (suc k) l = let h = range_at (a + 1) n k (omega arith) in h ∙ omega arith
-
-range_long : (a n : ℕ) → length (range_with_len a n) ≡ n
-range_long a zero = refl
-range_long a (suc n) = ap suc (range_long (a + 1) n)
-
-range_rises : (n : ℕ) → IsStrictlyIncreasing (range_with_len 0 n)
-range_rises n k l =
-    let m = range_long 0 n in
-    let a = range_at 0 n k (omega arith) in
-    let b = range_at 0 n (k + 1) (omega arith) in
-    omega arith
 
 pub sorted_clocks : List ℕ → List ℕ
 sorted_clocks ns = filter (λ n. is_in n ns) (range_with_len 0 (above ns))
@@ -89,84 +78,50 @@ clocks_are net clocks A = record {
     from : (n : ℕ) → IsClock net n → is_in n (sorted_clocks (clock_nets clocks)) ≡ true
     from n (p, (edge, k)) = same_clocks (clock_nets clocks) n ∙ net_of_pair clocks n edge ((A.are n edge).1 (p, k))
 
--- ---- a search by halves
-
--- the nets of clocks in order don't fall
-pub in_order : (xs : List (ℕ × Edge)) → RisesBy clock_key xs → (i j : ℕ) → i < j → j < length xs → get_or (clock_nets xs) i 0 ≤ get_or (clock_nets xs) j 0
-in_order xs rise i j l m = go (get_or xs i (0, none)) (get_or xs j (0, none)) refl refl
-  where
-    none : Edge
-    none = Rising
-
-    go : (x y : ℕ × Edge) → get_or xs i (0, none) ≡ x → get_or xs j (0, none) ≡ y → get_or (clock_nets xs) i 0 ≤ get_or (clock_nets xs) j 0
-    go x y e f =
-        let a : get_or (clock_nets xs) i 0 ≡ x.0 = get_or-map_within (λ (z : ℕ × Edge). z.0) xs i (0, none) 0 (omega arith) ∙ ap (λ (z : ℕ × Edge). z.0) e in
-        let b : get_or (clock_nets xs) j 0 ≡ y.0 = get_or-map_within (λ (z : ℕ × Edge). z.0) xs j (0, none) 0 m ∙ ap (λ (z : ℕ × Edge). z.0) f in
-        by x y a b (subst (λ (z : ℕ × Edge). IsLess (clock_key z) (clock_key y)) e (subst (λ (z : ℕ × Edge). IsLess (clock_key (get_or xs i (0, none))) (clock_key z)) f (rise i j (0, none) l m)))
-      where
-        by : (x y : ℕ × Edge) → get_or (clock_nets xs) i 0 ≡ x.0 → get_or (clock_nets xs) j 0 ≡ y.0 → IsLess (clock_key x) (clock_key y) → get_or (clock_nets xs) i 0 ≤ get_or (clock_nets xs) j 0
-        by x y a b (inl k) = omega arith
-        by x y a b (inr (k, o)) = omega arith
+-- ---- a search
 
 module _ (xs : List (ℕ × Edge)) (rise : RisesBy clock_key xs) (net : ℕ) where
-  nets_at : (i : ℕ) (d : ℕ × Edge) → i < length xs → get_or (clock_nets xs) i 0 ≡ (get_or xs i d).0
-  nets_at i d l = get_or-map_within (λ (z : ℕ × Edge). z.0) xs i d 0 l
+  nothing : ℕ × Edge
+  nothing = (0, Rising)
 
-  pub higher : (low high i : ℕ) (d : ℕ × Edge) → i < length xs → (get_or xs i d).0 < net → IsBetween xs net low high → IsBetween xs net (i + 1) high
-  higher low high i d l k b = record { before = before; behind = b.behind }
+  -- the nets of clocks in order don't fall
+  nets_rise : (i j : ℕ) → i ≤ j → j < length xs → (get_or xs i nothing).0 ≤ (get_or xs j nothing).0
+  nets_rise i j le within = go (cases i j le)
     where
-      here : get_or (clock_nets xs) i 0 < net
-      here = subst (λ (n : ℕ). n < net) (sym (nets_at i d l)) k
+      cases : (i j : ℕ) → i ≤ j → (i ≡ j) ⊎ (i < j)
+      cases i j le = grind arith
 
-      before : (j : ℕ) → j < i + 1 → get_or (clock_nets xs) j 0 < net
-      before j m = go (cases j i m)
-        where
-          cases : (j i : ℕ) → j < i + 1 → (j ≡ i) ⊎ (j < i)
-          cases j i m = grind arith
+      by : (x y : ℕ × Edge) → IsLess (clock_key x) (clock_key y) → x.0 ≤ y.0
+      by x y (inl k) = omega arith
+      by x y (inr (k, o)) = omega arith
 
-          go : (j ≡ i) ⊎ (j < i) → get_or (clock_nets xs) j 0 < net
-          go (inl f) = subst (λ (o : ℕ). get_or (clock_nets xs) o 0 < net) (sym f) here
-          go (inr m) = let c = in_order xs rise j i m l in omega (arith, c, here)
+      go : (i ≡ j) ⊎ (i < j) → (get_or xs i nothing).0 ≤ (get_or xs j nothing).0
+      go (inl e) = subst (λ (k : ℕ). (get_or xs i nothing).0 ≤ (get_or xs k nothing).0) e (omega arith)
+      go (inr l) = by (get_or xs i nothing) (get_or xs j nothing) (rise i j nothing l within)
 
-  pub lower : (low high i : ℕ) (d : ℕ × Edge) → i < length xs → net < (get_or xs i d).0 → IsBetween xs net low high → IsBetween xs net low i
-  lower low high i d l k b = record { before = b.before; behind = behind }
+  comparisons_rise : IsNonDecreasingBy (λ pair. ordering_index (nat_cmp pair.0 net)) xs
+  comparisons_rise = IsNonDecreasingBy-from_default (λ pair. ordering_index (nat_cmp pair.0 net)) xs nothing (λ i j le within.
+      let nets = nets_rise i j le within in
+      grind (arith, nat_tests))
+
+  nets_at : (i : ℕ) → i < length xs → get_or (clock_nets xs) i 0 ≡ (get_or xs i nothing).0
+  nets_at i l = get_or-map_within (λ (z : ℕ × Edge). z.0) xs i nothing 0 l
+
+  pub searched : (r : Result ℕ ℕ) → IsSearchInRange r (length xs) → IsBinarySearchResult (λ pair. nat_cmp pair.0 net) xs r → is_ok r ≡ is_in net (clock_nets xs)
+  searched (Ok at) there equal =
+      let here : (get_or xs at nothing).0 ≡ net = ranked _ net _ (sym (equal nothing)) in
+      sym (contains_in (clock_nets xs) net (at, rw (length-map xs (λ (z : ℕ × Edge). z.0)) there, get_or-map_within (λ (z : ℕ × Edge). z.0) xs at nothing net there ∙ here))
+  searched (Err at) there parted = sym (not_in (clock_nets xs) net absent)
     where
-      here : net < get_or (clock_nets xs) i 0
-      here = subst (λ (n : ℕ). net < n) (sym (nets_at i d l)) k
-
-      behind : (j : ℕ) → i ≤ j → j < length xs → net < get_or (clock_nets xs) j 0
-      behind j m n = go (cases j i m)
+      absent : Contains (clock_nets xs) net → ⊥
+      absent (i, m, e) = go (cases_lt i at)
         where
-          cases : (j i : ℕ) → i ≤ j → (i ≡ j) ⊎ (i < j)
-          cases j i m = grind arith
+          within : i < length xs
+          within = rw (← length-map xs (λ (z : ℕ × Edge). z.0)) m
 
-          go : (i ≡ j) ⊎ (i < j) → net < get_or (clock_nets xs) j 0
-          go (inl f) = subst (λ (o : ℕ). net < get_or (clock_nets xs) o 0) f here
-          go (inr o) = let c = in_order xs rise i j o n in omega (arith, c, here)
+          here : (get_or xs i nothing).0 ≡ net
+          here = sym (nets_at i within) ∙ sym (get_or_default (clock_nets xs) i net 0 m) ∙ e
 
-  pub found : (i : ℕ) (d : ℕ × Edge) → i < length xs → (get_or xs i d).0 ≡ net → is_in net (clock_nets xs) ≡ true
-  found i d l f =
-      contains_in (clock_nets xs) net (i, rw (length-map xs (λ (z : ℕ × Edge). z.0)) l, get_or-map_within (λ (z : ℕ × Edge). z.0) xs i d net l ∙ f)
-
-  pub nowhere : (low high : ℕ) → high ≤ low → IsBetween xs net low high → is_in net (clock_nets xs) ≡ false
-  nowhere low high l b = not_in (clock_nets xs) net none
-    where
-      none : Contains (clock_nets xs) net → ⊥
-      none (i, m, e) = go (cases i low)
-        where
-          here : get_or (clock_nets xs) i 0 ≡ net
-          here = sym (get_or_default (clock_nets xs) i net 0 m) ∙ e
-
-          cases : (i low : ℕ) → (i < low) ⊎ (low ≤ i)
-          cases i low = grind arith
-
-          go : (i < low) ⊎ (low ≤ i) → ⊥
-          go (inl k) = let a = b.before i k in omega (arith, a, here)
-          go (inr k) = let a = b.behind i (omega arith) (rw (← length-map xs (λ (z : ℕ × Edge). z.0)) m) in omega (arith, a, here)
-
--- the middle of two places is between them
-pub half_below : (low high : ℕ) → low < high → low + (high - low) / 2 < high
-half_below low high l = omega arith
-
-pub apart : {a b : ℕ} → (a ≡ b → ⊥) → b ≤ a → b < a
-apart {a} {b} d l = grind (arith, d, l)
+          go : (i < at) ⊎ (at ≤ i) → ⊥
+          go (inl below) = let less : (get_or xs i nothing).0 < net = ranked _ net _ (sym ((parted comparisons_rise).0 i nothing (omega arith) below)) in omega (arith, less, here)
+          go (inr from) = let more : net < (get_or xs i nothing).0 = ranked _ net _ (sym ((parted comparisons_rise).1 i nothing from within)) in omega (arith, more, here)

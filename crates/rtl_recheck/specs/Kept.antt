@@ -1,5 +1,5 @@
 -- What an accepted netlist's processes and nets keep to, by what is kept of each of them.
-use Rattle.std.specs.Prelude.{◌≡◌, ℕ, ◌<◌, ◌≤◌, Bool, true, false, ◌&&◌, ⊤, List, length, map, slice_index_or}
+use Rattle.std.specs.Prelude.{◌≡◌, ℕ, ◌<◌, ◌≤◌, Bool, true, false, ◌&&◌, ⊤, List, length, map}
 use Rattle.rtl_model.specs.bodies.Body.{Stmts}
 use Rattle.rtl_model.specs.bodies.Assigns.{must_assign}
 use Rattle.rtl_model.specs.bodies.Stored.{stores_element}
@@ -21,11 +21,6 @@ use Rattle.rtl_check.specs.Rules.{is_data, fault_of}
 
 abbrev pub clock_nets : List (ℕ × Edge) → List ℕ
 clock_nets clocks = map (λ (x : ℕ × Edge). x.0) clocks
-
--- among the clocks from one place up to another a net may be, and nowhere else
-pub record IsBetween (clocks : List (ℕ × Edge)) (net low high : ℕ) : Type 0 where
-  pub before : (j : ℕ) → j < low → slice_index_or (clock_nets clocks) j 0 < net
-  pub behind : (j : ℕ) → high ≤ j → j < length clocks → net < slice_index_or (clock_nets clocks) j 0
 
 -- each of some nets is one of others
 abbrev pub AreWithin : (nets others : List ℕ) → Type 0

@@ -6,7 +6,7 @@ ghost use Rattle.rtl_model.specs.basics.Lists.{RisesBy};
 ghost use Rattle.rtl_model.specs.simulation.Report.{clock_key};
 ghost use Rattle.rtl_body_facts.specs.Reading.{is_in};
 ghost use Rattle.rtl_check.specs.Views.{nets_tested};
-ghost use Rattle.rtl_recheck.specs.Kept.{AreWithin, HasNoClockAsData, ClockedKeeps, clock_nets};
+ghost use Rattle.rtl_recheck.specs.Kept.{AreWithin, HasNoClockAsData, clock_nets};
 
 use rtl_body_facts::{Clocking, contains_rising};
 use rtl_check::is_used;
@@ -28,7 +28,7 @@ pub fn are_within(nets: &[usize], others: &[usize]) -> bool
 
 /// Whether the nets that the tests of a clocked process look at, its clock and its reset, are among
 /// others.
-fn tested_are_within(clocking: Clocking, others: &[usize]) -> bool
+pub fn tested_are_within(clocking: Clocking, others: &[usize]) -> bool
     requires { IsStrictlyIncreasing others.now }
     ensures { IsTrue result ↔ AreWithin (nets_tested clocking) others.now }
 {
@@ -43,25 +43,13 @@ fn is_clock(clocks: &[(usize, Edge)], net: usize) -> bool
     requires { RisesBy clock_key clocks.now }
     ensures { result ≡ is_in net (clock_nets clocks.now) }
 {
-    let mut low = 0;
-    let mut high = clocks.len();
-    while low < high {
-        let middle = low + (high - low) / 2;
-        let (clock, _) = clocks[middle];
-        if clock == net {
-            return true;
-        }
-        if clock < net {
-            low = middle + 1;
-        } else {
-            high = middle;
-        }
-    }
-    false
+    clocks
+        .binary_search_by_key(&net, |&(clock, _)| clock)
+        .is_ok()
 }
 
 /// Whether a clocked process uses no clock as data.
-fn has_no_clock_as_data(clocks: &[(usize, Edge)], process: &Process, clocking: Clocking) -> bool
+pub fn has_no_clock_as_data(clocks: &[(usize, Edge)], process: &Process, clocking: Clocking) -> bool
     requires { RisesBy clock_key clocks.now }
     ensures { IsTrue result ↔ HasNoClockAsData (clock_nets clocks.now) process.now clocking }
 {
@@ -71,22 +59,4 @@ fn has_no_clock_as_data(clocks: &[(usize, Edge)], process: &Process, clocking: C
         }
     }
     true
-}
-
-/// Whether a clocked process breaks no rule: its clock is an in port of the top, it is sensitive to
-/// its clock and its reset, and it uses no clock as data.
-pub fn clocked_keeps(
-    inputs: &[usize],
-    clocks: &[(usize, Edge)],
-    process: &Process,
-    clocking: Clocking,
-) -> bool
-    requires inputs { IsStrictlyIncreasing inputs.now }
-    requires clocks { RisesBy clock_key clocks.now }
-    requires wakes { IsStrictlyIncreasing process.now.wakes.items }
-    ensures { IsTrue result ↔ ClockedKeeps inputs.now (clock_nets clocks.now) process.now clocking }
-{
-    are_within(&[clocking.clock], inputs)
-        && tested_are_within(clocking, process.wakes.as_slice())
-        && has_no_clock_as_data(clocks, process, clocking)
 }

@@ -8,7 +8,7 @@ ghost use Rattle.rtl_net.specs.Core.{core};
 ghost use Rattle.rtl_check.specs.Standing.{HasNoMixed};
 ghost use Rattle.rtl_recheck.specs.Kept.{HasNoLatch, CombinationalKeeps, KeepsBy, KeepsRules, AllKeep, clock_nets, is_plain};
 
-use crate::clocked::{are_within, clocked_keeps};
+use crate::clocked::{are_within, has_no_clock_as_data, tested_are_within};
 use crate::variables::stores_nothing;
 use rtl_body_facts::ProcessKind;
 use rtl_check::kind_at;
@@ -37,7 +37,8 @@ fn combinational_keeps(process: &Process) -> bool
     are_within(&process.reads, process.wakes.as_slice()) && has_no_latch(process)
 }
 
-/// Whether a process of this kind breaks no rule.
+/// Whether a process of this kind breaks no rule. A clocked one's clock is an in port of the top,
+/// it is sensitive to its clock and its reset, and it uses no clock as data.
 fn keeps_by(
     inputs: &[usize],
     clocks: &[(usize, Edge)],
@@ -51,7 +52,11 @@ fn keeps_by(
 {
     match kind {
         ProcessKind::Combinational => combinational_keeps(process),
-        ProcessKind::Clocked(clocking) => clocked_keeps(inputs, clocks, process, clocking),
+        ProcessKind::Clocked(clocking) => {
+            are_within(&[clocking.clock], inputs)
+                && tested_are_within(clocking, process.wakes.as_slice())
+                && has_no_clock_as_data(clocks, process, clocking)
+        }
         ProcessKind::Mixed => true,
     }
 }

@@ -32,13 +32,10 @@ pub(crate) fn chosen(
     requires { IsStrictlyIncreasing others.now }
     ensures { IfOk result (λ left. left.items ≡ filter (λ n. is_same among (is_in n others.now)) from.now) }
 {
-    let mut left = Vec::new(alloc);
-    for number in from {
-        if is_chosen(others, *number, among) {
-            left.push(*number)?;
-        }
-    }
-    Ok(left)
+    from.iter()
+        .copied()
+        .filter(|number| is_chosen(others, *number, among))
+        .collect(alloc)
 }
 
 /// Numbers with others behind them, if so; else none.

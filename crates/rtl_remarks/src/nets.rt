@@ -2,6 +2,7 @@
 
 ghost use Rattle.std.specs.Prelude.{◌≡◌, ◌<◌, ◌++◌, length, map, OnOk};
 ghost use Rattle.std.specs.List.{list_any};
+ghost use Rattle.std.specs.Option.{option_to_list};
 ghost use Rattle.rtl_net.specs.Nets.{source_view};
 ghost use Rattle.rtl_remarks.specs.Remarks as spec;
 ghost use Rattle.rtl_remarks.specs.Tables.{IsKnown};
@@ -20,41 +21,29 @@ fn has_no_driver(net: &Net, number: usize) -> bool
     !contains_rising(net.inputs(), number) && net.sources(number).is_empty()
 }
 
-/// Appends the remark on a signal's net that nothing drives and that a process reads.
-fn push_undriven(
-    net: &Net,
-    known: &Known,
-    number: usize,
-    remarks: &mut Vec<Remark>,
-) -> Result<(), NoMemory>
+/// The remark on a signal's net that nothing drives and that a process reads.
+fn undriven(net: &Net, known: &Known, number: usize) -> Option<Remark>
     requires known { IsKnown net.now known.now }
     requires there { number < length net.now.types }
-    ensures { OnOk result (remarks.new.items ≡ remarks.old.items ++ spec.undriven net.now number) }
+    ensures { option_to_list result ≡ spec.undriven net.now number }
 {
     if !contains_rising(&known.signals, number) || !has_no_driver(net, number) {
-        return Ok(());
+        return None;
     }
-    if let Some(process) = known.readers[number] {
-        remarks.push(Remark::at_process(RemarkKind::Undriven, process, number))?;
-    }
-    Ok(())
+    let process = known.readers[number]?;
+    Some(Remark::at_process(RemarkKind::Undriven, process, number))
 }
 
-/// Appends the remark on a net of a port of the top that nothing drives.
-fn push_unassigned(
-    net: &Net,
-    known: &Known,
-    number: usize,
-    remarks: &mut Vec<Remark>,
-) -> Result<(), NoMemory>
+/// The remark on a net of a port of the top that nothing drives.
+fn unassigned(net: &Net, known: &Known, number: usize) -> Option<Remark>
     requires known { IsKnown net.now known.now }
     requires there { number < length net.now.types }
-    ensures { OnOk result (remarks.new.items ≡ remarks.old.items ++ spec.unassigned net.now number) }
+    ensures { option_to_list result ≡ spec.unassigned net.now number }
 {
     if contains_rising(&known.ports, number) && has_no_driver(net, number) {
-        remarks.push(Remark::at_net(RemarkKind::Unassigned, number))?;
+        return Some(Remark::at_net(RemarkKind::Unassigned, number));
     }
-    Ok(())
+    None
 }
 
 /// Whether a source is an out port that nothing drives.
@@ -79,58 +68,57 @@ fn has_idle(sources: &[Source]) -> bool
     false
 }
 
-/// Appends the remark on a net that an idle port drives.
-fn push_idle(net: &Net, number: usize, remarks: &mut Vec<Remark>) -> Result<(), NoMemory>
+/// The remark on a net that an idle port drives.
+fn idle(net: &Net, number: usize) -> Option<Remark>
     requires there { number < length net.now.types }
-    ensures { OnOk result (remarks.new.items ≡ remarks.old.items ++ spec.idle net.now number) }
+    ensures { option_to_list result ≡ spec.idle net.now number }
 {
     if has_idle(net.sources(number)) {
-        remarks.push(Remark::at_net(RemarkKind::IdlePort, number))?;
+        return Some(Remark::at_net(RemarkKind::IdlePort, number));
     }
-    Ok(())
+    None
 }
 
-/// Appends the remark on a net that nothing reads, of an in port of the top of which another
-/// element is read.
-fn push_unread(
-    net: &Net,
-    known: &Known,
-    number: usize,
-    remarks: &mut Vec<Remark>,
-) -> Result<(), NoMemory>
+/// The remark on a net that nothing reads, of an in port of the top of which another element is
+/// read.
+fn unread(net: &Net, known: &Known, number: usize) -> Option<Remark>
     requires known { IsKnown net.now known.now }
     requires there { number < length net.now.types }
-    ensures { OnOk result (remarks.new.items ≡ remarks.old.items ++ spec.unread net.now number) }
+    ensures { option_to_list result ≡ spec.unread net.now number }
 {
     net.is_elaborated();
     if contains_rising(net.inputs(), number)
         && contains_rising(&known.read_ports, number)
         && known.readers[number].is_none()
     {
-        remarks.push(Remark::at_net(RemarkKind::UnreadElement, number))?;
+        return Some(Remark::at_net(RemarkKind::UnreadElement, number));
     }
-    Ok(())
+    None
 }
 
-/// Appends the remark of a kind on a net.
-fn push_on_net(
-    net: &Net,
-    known: &Known,
-    kind: RemarkKind,
-    number: usize,
-    remarks: &mut Vec<Remark>,
-) -> Result<(), NoMemory>
+/// The remark of a kind on a net.
+fn on_net(net: &Net, known: &Known, kind: RemarkKind, number: usize) -> Option<Remark>
     requires known { IsKnown net.now known.now }
     requires there { number < length net.now.types }
-    ensures { OnOk result (remarks.new.items ≡ remarks.old.items ++ spec.on_net net.now kind number) }
+    ensures { option_to_list result ≡ spec.on_net net.now kind number }
 {
     match kind {
-        RemarkKind::Undriven => push_undriven(net, known, number, remarks),
-        RemarkKind::Unassigned => push_unassigned(net, known, number, remarks),
-        RemarkKind::IdlePort => push_idle(net, number, remarks),
-        RemarkKind::UnreadElement => push_unread(net, known, number, remarks),
-        _ => Ok(()),
+        RemarkKind::Undriven => undriven(net, known, number),
+        RemarkKind::Unassigned => unassigned(net, known, number),
+        RemarkKind::IdlePort => idle(net, number),
+        RemarkKind::UnreadElement => unread(net, known, number),
+        _ => None,
     }
+}
+
+/// Appends a remark, if there is one.
+fn push_told(told: Option<Remark>, remarks: &mut Vec<Remark>) -> Result<(), NoMemory>
+    ensures { OnOk result (remarks.new.items ≡ remarks.old.items ++ option_to_list told) }
+{
+    if let Some(remark) = told {
+        remarks.push(remark)?;
+    }
+    Ok(())
 }
 
 /// Appends the remarks of a kind on nets.
@@ -144,7 +132,7 @@ pub(crate) fn push_on_nets(
     ensures { OnOk result (remarks.new.items ≡ remarks.old.items ++ spec.on_nets net.now kind) }
 {
     for number in 0..net.nets() {
-        push_on_net(net, known, kind, number, remarks)?;
+        push_told(on_net(net, known, kind, number), remarks)?;
     }
     Ok(())
 }

@@ -2,4 +2,4 @@ use Rattle.rtl_body_facts.proofs.Found.{told_any}
 use Rattle.rtl_body_facts.proofs.search.in_value.Goals as goal
 
 pub returns : goal.returns
-returns c = told_any _ _ _ c.walk_value.ensures
+returns c = told_any _ _ _ _ c.of-search.ensures c.walk_value.ensures

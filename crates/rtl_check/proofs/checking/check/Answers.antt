@@ -1,7 +1,7 @@
 use Rattle.std.proofs.Common.{◌≡◌, ◌∙◌, ◌≤◌, ℕ, Some, sym, subst, map}
 use Rattle.rtl_net.specs.Core.{core}
 use Rattle.rtl_check.specs.Views.{fault_view}
-use Rattle.rtl_check.specs.Judging.{IsJudged}
+use Rattle.rtl_check.specs.Verdicts.{IsJudged}
 use Rattle.rtl_check.proofs.Verdicts.{refused}
 use Rattle.rtl_check.proofs.checking.check.Goals as goal
 

@@ -3,39 +3,29 @@ use Rattle.std.specs.List.{list_any}
 use Rattle.std.proofs.lemmas.List.{take_all, take_more}
 use Rattle.std.proofs.lemmas.List.Folds.{list_any-append}
 use Rattle.rtl_model.specs.nets.FlatNetlist.{flat_sources}
-use Rattle.rtl_net.specs.declared.process.Process.{Process}
 use Rattle.rtl_net.specs.Nets.{flat}
 use Rattle.rtl_body_facts.specs.Reading.{is_in}
 use Rattle.rtl_body_facts.proofs.Anys.{or_none}
 use Rattle.rtl_check.specs.Feeders.{feeds_by}
 use Rattle.rtl_check.proofs.Processes.{many_processes, within}
-use Rattle.rtl_check.proofs.Rows.{row_some, nets_of_wakes}
+use Rattle.rtl_check.proofs.Rows.{row_some}
 use Rattle.std.proofs.lemmas.Result.{IfOk-from_err}
 use Rattle.rtl_check.proofs.graph.row_of.Goals as goal
 
+pub wakes_of-wakes-requires : goal.wakes_of-wakes-requires
+wakes_of-wakes-requires c = within c.requires.there c.requires.kinds.each_process (many_processes c.args.net.now)
+
 pub push_feeders-requires : goal.push_feeders-requires
-push_feeders-requires c =
-    let net = c.args.net.now in
-    let x = c.index-processes-process.result in
-    let there = within c.requires.there c.requires.kinds.each_process (many_processes net) in
-    let at = c.index-processes-process.is ∙ ap (λ (ps : List Process). get_or ps c.args.process x) c.processes-processes.ensures in
-    let i = c.loop-wake.wake-index in
-    let are = c.as_slice-wakes.ensures ∙ sym (ap (λ (q : Process). q.wakes.items) c.index-processes-process.is) in
-    let l : i < length x.wakes.items = subst (λ (ns : List ℕ). i < length ns) are c.loop-wake-test.true in
-    subst (λ (ns : List ℕ). get_or ns i 0 < length net.types) (sym are) (nets_of_wakes net c.is_elaborated.ensures c.args.process x there at i 0 l)
+push_feeders-requires c = c.wakes_of-wakes.ensures.there c.loop-wake.wake-index 0 c.loop-wake-test.true
 
 pub returns : goal.returns
 returns c =
     let net = c.args.net.now in
-    let x = c.index-processes-process.result in
     let ks = c.args.kinds.now in
-    let there = within c.requires.there c.requires.kinds.each_process (many_processes net) in
-    let at = c.index-processes-process.is ∙ ap (λ (ps : List Process). get_or ps c.args.process x) c.processes-processes.ensures in
-    let N = c.is_elaborated.ensures in
-    let all = take_all c.loop-wake.wake-index c.as_slice-wakes.result.now c.loop-wake-test.false ∙ (c.as_slice-wakes.ensures ∙ sym (ap (λ (q : Process). q.wakes.items) c.index-processes-process.is)) in
-    row_some net ks c.requires.kinds (c.nets_meet_the_laws.ensures net N).elaborated.wiring c.args.process x there at
-    (λ n (k, l, e). subst (λ (j : ℕ). j < length net.types) e (nets_of_wakes net N c.args.process x there at k n l))
-    (sym c.is_combinational.ensures ∙ c.if-not-is_combinational.false) c.loop-wake.feeders
+    let wakes = c.wakes_of-wakes.ensures in
+    let all = take_all c.loop-wake.wake-index c.wakes_of-wakes.result.now c.loop-wake-test.false in
+    row_some net ks c.requires.kinds (c.nets_meet_the_laws.ensures net c.is_elaborated.ensures).elaborated.wiring c.args.process _ (sym wakes.value)
+    (λ n (k, l, e). subst (λ (j : ℕ). j < length net.types) e (wakes.there k n l)) (sym c.is_combinational.ensures ∙ c.if-not-is_combinational.false) c.loop-wake.feeders
     (λ p. c.loop-wake.invariant p ∙ ap (list_any (λ n. list_any (feeds_by ks p) (flat_sources (flat net) n))) all)
 
 pub loop-wake-init : goal.loop-wake-init
@@ -44,7 +34,7 @@ loop-wake-init c = λ p. ap (is_in p) c.new-feeders.ensures.items
 pub loop-wake-preserved : goal.loop-wake-preserved
 loop-wake-preserved c = λ p.
     let l = c.loop-wake in
-    let wakes = c.as_slice-wakes.result.now in
+    let wakes = c.wakes_of-wakes.result.now in
     let x = get_or wakes l.wake-index 0 in
     let f : ℕ → Bool = λ n. list_any (feeds_by c.args.kinds.now p) (flat_sources (flat c.args.net.now) n) in
     c.in_ok-push_feeders.ensures p
@@ -54,7 +44,3 @@ loop-wake-preserved c = λ p.
 
 pub returns-in_err-push_feeders : goal.returns-in_err-push_feeders
 returns-in_err-push_feeders c = IfOk-from_err c.from_residual.result _ c.from_residual.ensures.0
-
-pub bounds-processes-process : goal.bounds-processes-process
-bounds-processes-process c =
-    subst (λ (ps : List Process). c.args.process < length ps) (sym c.processes-processes.ensures) (within c.requires.there c.requires.kinds.each_process (many_processes c.args.net.now))

@@ -1,4 +1,4 @@
-use Rattle.std.proofs.Common.{◌≡◌, ℕ, List, get_or, sym, ap, subst, ◌∙◌}
+use Rattle.std.proofs.Common.{◌≡◌, ℕ, List, sym, ap, subst, ◌∙◌}
 use Rattle.rtl_model.specs.bodies.Reads.{events}
 use Rattle.rtl_model.specs.bodies.Kinds as k
 use Rattle.rtl_model.specs.simulation.Netlist as m
@@ -9,7 +9,7 @@ use Rattle.rtl_net.specs.Bodies.{statements_of}
 use Rattle.rtl_body_facts.specs.Timing.{kind_view}
 use Rattle.rtl_net.specs.Core.{core}
 use Rattle.rtl_check.specs.Views.{IsKind}
-use Rattle.rtl_check.proofs.Processes.{process_is, kind_is}
+use Rattle.rtl_check.proofs.Processes.{process_is, kind_is, listed_as}
 use Rattle.rtl_check.proofs.kinds.kind_at.Goals as goal
 
 pub returns : goal.returns
@@ -17,7 +17,7 @@ returns c =
     let net = c.args.net.now in
     let p = c.args.process in
     let x = c.index-processes-process.result in
-    let at = c.index-processes-process.is ∙ ap (λ (ps : List Process). get_or ps p x) c.processes-processes.ensures in
+    let at = listed_as p c.index-processes-process.is c.processes-processes.ensures in
     let is : c.kind_of.result ≡ kind_view (k.clocking net.inputs (body_of x)) (events (body_of x)) =
     c.kind_of.ensures ∙ (ap (λ (ns : List ℕ). kind_view (k.clocking ns (statements_of c.deref.result.now)) (events (statements_of c.deref.result.now))) c.inputs-inputs.ensures
     ∙ (ap (λ (xs : List Statement). kind_view (k.clocking net.inputs (statements_of xs)) (events (statements_of xs))) c.deref.ensures.value

@@ -7,6 +7,6 @@ use Rattle.rtl_check.proofs.kinds.kinds_of.Given as goal
 
 abbrev pub invariant-loop-process : goal.invariant-loop-process
 invariant-loop-process l = record {
-  so_many : length l.kinds.items ≡ l.process-index;
-  so_far : (p : ℕ) → p < l.process-index → IsKind (process (core l.net) p) (get_or l.kinds.items p k.Mixed);
+  so_many : length l.kinds.items ≡ l.process;
+  so_far : (p : ℕ) → p < l.process → IsKind (process (core l.net) p) (get_or l.kinds.items p k.Mixed);
 }

@@ -14,20 +14,14 @@ bound_of-bound-requires-clause-few c =
     let fits = greatest_fits l.table c.args.levels.levels.items c.args.levels.from.items c.args.levels.greatest l.are_levels in
     small fits l.is_table.each_process (many_processes c.args.net.now) c.is_elaborated.ensures.processes_limit
 
-pub returns-clause-report : goal.returns-clause-report
-returns-clause-report c =
+pub returns : goal.returns
+returns c =
     let l = c.requires.levels in
     let n = core c.args.net.now in
     let v = c.args.levels in
     let edges = c.in_ok-edges.edges.items in
-    subst (IsReport n v.levels.items v.from.items edges) (sym c.bound_of-bound.ensures)
-    (c.tables_are_of_nets.ensures.levels n l.table v.levels.items v.from.items v.greatest edges l.is_table l.are_levels c.in_ok-edges.ensures).0
-
-pub returns-clause-accepted : goal.returns-clause-accepted
-returns-clause-accepted c =
-    let l = c.requires.levels in
-    let n = core c.args.net.now in
-    let v = c.args.levels in
-    let edges = c.in_ok-edges.edges.items in
-    (c.faults_are_listed.ensures n).accepted_is.1
-    (l.no_fault, (c.tables_are_of_nets.ensures.levels n l.table v.levels.items v.from.items v.greatest edges l.is_table l.are_levels c.in_ok-edges.ensures).1)
+    let (report, no_loop) = c.tables_are_of_nets.ensures.levels n l.table v.levels.items v.from.items v.greatest edges l.is_table l.are_levels c.in_ok-edges.ensures in
+    record {
+      report = subst (IsReport n v.levels.items v.from.items edges) (sym c.bound_of-bound.ensures) report;
+      accepted = (c.faults_are_listed.ensures n).accepted_is.1 (l.no_fault, no_loop);
+    }

@@ -1,33 +1,28 @@
 use Rattle.std.proofs.Common.{ℕ, List, get_or, ap, subst, ◌∙◌}
-use Rattle.rtl_net.specs.declared.process.Process.{Process}
 use Rattle.rtl_body_facts.specs.declared.kinds.ProcessKind.TheVariants as k
 use Rattle.rtl_check.specs.Rules.{breaks, Pushes}
-use Rattle.rtl_check.proofs.Processes.{many_processes, within}
+use Rattle.rtl_check.proofs.Processes.{listed_as, many_processes, within}
 use Rattle.rtl_check.proofs.RuleLists.{if_done, reads_listed, wakes_rise, rule_done}
 use Rattle.rtl_check.proofs.rules.rule_at.Goals as goal
 
 pub breaking_nets-requires-clause-reads : goal.breaking_nets-requires-clause-reads
 breaking_nets-requires-clause-reads c =
     let net = c.args.net.now in
-    let x = c.index-processes-process.result in
     let there = within c.requires.there c.requires.kinds.each_process (many_processes net) in
-    let at = c.index-processes-process.is ∙ ap (λ (ps : List Process). get_or ps c.args.process x) c.processes-processes.ensures in
-    (reads_listed net c.is_elaborated.ensures c.args.process x there at).rise
+    (reads_listed net c.is_elaborated.ensures c.args.process _ there (listed_as c.args.process c.index-processes-process.is c.processes-processes.ensures)).rise
 
 pub breaking_nets-requires-clause-wakes : goal.breaking_nets-requires-clause-wakes
 breaking_nets-requires-clause-wakes c =
     let net = c.args.net.now in
-    let x = c.index-processes-process.result in
     let there = within c.requires.there c.requires.kinds.each_process (many_processes net) in
-    let at = c.index-processes-process.is ∙ ap (λ (ps : List Process). get_or ps c.args.process x) c.processes-processes.ensures in
-    wakes_rise net c.is_elaborated.ensures c.args.process x there at
+    wakes_rise net c.is_elaborated.ensures c.args.process _ there (listed_as c.args.process c.index-processes-process.is c.processes-processes.ensures)
 
 pub returns : goal.returns
 returns c =
     let net = c.args.net.now in
     let x = c.index-processes-process.result in
     let there = within c.requires.there c.requires.kinds.each_process (many_processes net) in
-    let at = c.index-processes-process.is ∙ ap (λ (ps : List Process). get_or ps c.args.process x) c.processes-processes.ensures in
+    let at = listed_as c.args.process c.index-processes-process.is c.processes-processes.ensures in
     if_done _ _ c.push_faults.result
     (λ pushed. rule_done net c.is_elaborated.ensures c.args.process x there at c.args.kinds.now c.requires.kinds c.args.clocks.now c.requires.clocks k.Combinational c.args.rule c.in_ok-nets.nets.items
     c.args.faults.now.items c.push_faults.new.faults.items c.in_ok-nets.ensures.rise

@@ -1,22 +1,18 @@
 use Rattle.std.proofs.Common.{refl, sym, ◌∙◌}
 use Rattle.rtl_body_facts.specs.Reading.{is_in}
 use Rattle.rtl_mixed_reasons.specs.Reasons.{first_in, assigns_beside}
-use Rattle.rtl_mixed_reasons.proofs.Searches.{found-so, passed-so, ended}
+use Rattle.rtl_mixed_reasons.proofs.Searches.{first-found, first-passed, ended}
 use Rattle.rtl_mixed_reasons.proofs.beside.first_assigning.Goals as goal
 
 pub returns-then-is_some : goal.returns-then-is_some
 returns-then-is_some c =
     let l = c.loop-statement in
-    let f = assigns_beside c.args.process.now (λ n. is_in n c.args.edge.now) c.args.at in
-    found-so f (first_in f) (first_in f) c.args.statements.now l.statement-index (λ x rest. refl) c.statement-item.result _ _ c.loop-statement-test.true c.statement-item.is l.invariant
-    c.in_ok-reason.ensures (sym c.is_some.ensures ∙ c.if-is_some.true)
+    first-found (assigns_beside c.args.process.now (λ n. is_in n c.args.edge.now) c.args.at) c.args.statements.now l.statement-index c.statement-item.result _ c.loop-statement-test.true c.statement-item.is l.invariant _ c.in_ok-reason.ensures (sym c.is_some.ensures ∙ c.if-is_some.true)
 
 pub loop-statement-preserved : goal.loop-statement-preserved
 loop-statement-preserved c =
     let l = c.loop-statement in
-    let f = assigns_beside c.args.process.now (λ n. is_in n c.args.edge.now) c.args.at in
-    passed-so f (first_in f) (first_in f) c.args.statements.now l.statement-index (λ x rest. refl) c.statement-item.result _ _ c.loop-statement-test.true c.statement-item.is l.invariant
-    c.in_ok-reason.ensures (sym c.is_some.ensures ∙ c.if-is_some.false)
+    first-passed (assigns_beside c.args.process.now (λ n. is_in n c.args.edge.now) c.args.at) c.args.statements.now l.statement-index c.statement-item.result _ c.loop-statement-test.true c.statement-item.is l.invariant _ c.in_ok-reason.ensures (sym c.is_some.ensures ∙ c.if-is_some.false)
 
 pub returns : goal.returns
 returns c = ended (first_in (assigns_beside c.args.process.now (λ n. is_in n c.args.edge.now) c.args.at)) c.args.statements.now c.loop-statement.statement-index _ c.loop-statement-test.false refl c.loop-statement.invariant

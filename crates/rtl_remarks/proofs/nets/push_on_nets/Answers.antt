@@ -8,7 +8,8 @@ loop-number-init c = sym (append-nil c.args.remarks.now.items)
 
 pub loop-number-preserved : goal.loop-number-preserved
 loop-number-preserved c =
-    next_net (on_net c.args.net.now c.args.kind) c.loop-number.number (c.loop-number.number + 1) _ _ _ (omega arith) c.loop-number.invariant c.in_ok-push_on_net.ensures
+    next_net (on_net c.args.net.now c.args.kind) c.loop-number.number (c.loop-number.number + 1) _ _ _ (omega arith) c.loop-number.invariant
+    (c.in_ok-push_told.ensures ∙ ap (λ rs. c.loop-number.remarks.items ++ rs) c.on_net.ensures)
 
 pub returns : goal.returns
 returns c =

@@ -22,12 +22,7 @@ index_mut-requires-2 c =
     let table = c.args.table.now in
     let q = c.args.q in
     let f = feeders_are table q c.index-table-q.result c.in-Some.feeders c.requires.there c.index-table-q.is c.in-Some.is in
-    let a = c.first_open-at.ensures.within in
-    let b = c.if-at-len.false in
-    let d = c.len.ensures in
-    let e = c.deref.ensures.len in
-    let g = c.in-Some.feeders.ok in
-    let within : c.first_open-at.result < length c.in-Some.feeders.items = omega arith in
+    let within : c.first_open-at.result < length c.in-Some.feeders.items = omega (arith, c.first_open-at.ensures.within, c.if-at-len.false, c.len.ensures, c.deref.ensures.len, c.in-Some.feeders.ok) in
     let m = subst (λ (xs : List ℕ). All (λ p. p < length table) xs) f (there table q c.requires.closed) c.first_open-at.result c.index-3.result.now within in
     let n = c.requires.sound.waiting.each_waiting in
     let o = c.args.self.now.waiting.ok in
@@ -43,12 +38,7 @@ returns-clause-sound c =
     let p = c.index-3.result.now in
     let fs = c.in-Some.feeders.items in
     let f = feeders_are table q c.index-table-q.result c.in-Some.feeders c.requires.there c.index-table-q.is c.in-Some.is in
-    let a = c.first_open-at.ensures.within in
-    let b = c.if-at-len.false in
-    let d = c.len.ensures in
-    let e = c.deref.ensures.len in
-    let g = c.in-Some.feeders.ok in
-    let within : at < length fs = omega arith in
+    let within : at < length fs = omega (arith, c.first_open-at.ensures.within, c.if-at-len.false, c.len.ensures, c.deref.ensures.len, c.in-Some.feeders.ok) in
     let v = c.deref.ensures.value in
     let w = c.deref-2.ensures.value in
     let k = c.requires.sound.waiting.each_passed in
@@ -72,12 +62,7 @@ pub returns-clause-grows : goal.returns-clause-grows
 returns-clause-grows c =
     let table = c.args.table.now in
     let f = feeders_are table c.args.q c.index-table-q.result c.in-Some.feeders c.requires.there c.index-table-q.is c.in-Some.is in
-    let a = c.first_open-at.ensures.within in
-    let b = c.if-at-len.false in
-    let d = c.len.ensures in
-    let e = c.deref.ensures.len in
-    let g = c.in-Some.feeders.ok in
-    let within : c.first_open-at.result < length c.in-Some.feeders.items = omega arith in
+    let within : c.first_open-at.result < length c.in-Some.feeders.items = omega (arith, c.first_open-at.ensures.within, c.if-at-len.false, c.len.ensures, c.deref.ensures.len, c.in-Some.feeders.ok) in
     record {
       levels = λ p level h. h;
       waits = later_waits table c.args.self.now c.args.q c.first_open-at.result c.index-3.result.now c.in-Some.feeders.items c.push.new.self c.index_mut-2.result.now c.requires.sound
@@ -89,11 +74,6 @@ pub returns-clause-placed : goal.returns-clause-placed
 returns-clause-placed c =
     let table = c.args.table.now in
     let f = feeders_are table c.args.q c.index-table-q.result c.in-Some.feeders c.requires.there c.index-table-q.is c.in-Some.is in
-    let a = c.first_open-at.ensures.within in
-    let b = c.if-at-len.false in
-    let d = c.len.ensures in
-    let e = c.deref.ensures.len in
-    let g = c.in-Some.feeders.ok in
-    let within : c.first_open-at.result < length c.in-Some.feeders.items = omega arith in
+    let within : c.first_open-at.result < length c.in-Some.feeders.items = omega (arith, c.first_open-at.ensures.within, c.if-at-len.false, c.len.ensures, c.deref.ensures.len, c.in-Some.feeders.ok) in
     λ _ _. waits_now table c.args.self.now c.args.q c.first_open-at.result c.index-3.result.now c.in-Some.feeders.items c.push.new.self c.index_mut-2.result.now c.requires.sound
     c.requires.closed c.requires.there f within c.index-3.ensures c.index_mut-2.ensures.value c.in_ok-push.ensures.items

@@ -1,5 +1,0 @@
-use Rattle.rtl_body_facts.proofs.Found.{told_any}
-use Rattle.rtl_body_facts.proofs.search.in_test.Goals as goal
-
-pub returns : goal.returns
-returns c = told_any _ _ _ c.walk_test.ensures
