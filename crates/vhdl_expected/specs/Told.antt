@@ -16,7 +16,8 @@ use Rattle.vhdl_expected.specs.declared.telling.Expected.TheVariants as variant
 use Rattle.vhdl_expected.specs.declared.reading.TheConstants.{MOST_TOKENS}
 use Rattle.vhdl_expected.specs.declared.respelling.TheConstants.{MOST_PLACES}
 use Rattle.vhdl_expected.specs.declared.otherwise.TheConstants.{OTHERWISE}
-use Rattle.vhdl_expected.specs.declared.table.TheConstants.{SLIPS, ENDED, OPERANDS, JOINTS, DECLARED, HEADS, CLOSED, PLACES}
+use Rattle.vhdl_expected.specs.declared.closed.TheConstants.{CLOSED, PLACES}
+use Rattle.vhdl_expected.specs.declared.table.TheConstants.{SLIPS, ENDED, OPERANDS, JOINTS, DECLARED, HEADS}
 use Rattle.vhdl_expected.specs.declared.word.TheConstants.{EARLY, LATE, JOINED}
 use Rattle.vhdl_expected.specs.declared.reserved.TheConstants.{NO_NAMES}
 use Rattle.vhdl_expected.specs.declared.texts.TheConstants.{RESERVED}

@@ -4,10 +4,11 @@
 //! `specs/Reading.antt` says which tokens are looked at, `specs/Changes.antt` how they are changed
 //! and when they then go on, and `specs/Told.antt` in which order that is tried and what is told.
 //! `specs/Near.antt` says which words are nearly the same. The words and the changes stand in
-//! `word`, `table` and `otherwise`, with what is told of each in `texts` and `help`.
+//! `word`, `table`, `closed` and `otherwise`, with what is told of each in `texts` and `help`.
 #![tactic(auto)]
 
 mod change;
+mod closed;
 mod help;
 mod near;
 mod otherwise;

@@ -8,16 +8,11 @@ ghost use Rattle.vhdl_tree.specs.Lexeme.{same_kind};
 
 use crate::change::behind;
 use crate::reading::Reading;
+use crate::row::kinds;
 use crate::texts::{RESERVED, Said};
 use crate::trial::{is_same_kind, tried};
 use std::alloc::{AllocError, Global};
 use vhdl_lexer::{Token, TokenKind};
-
-macro_rules! kinds {
-    ($($kind:ident)+) => {
-        [$(TokenKind::$kind),+]
-    };
-}
 
 /// What is no reserved word, and those for which no name stands.
 pub static NO_NAMES: [TokenKind; 28] = kinds!(

@@ -17,6 +17,12 @@ pub type Row = (
     Said,
 );
 
+macro_rules! kinds {
+    ($($kind:ident)+) => {
+        [$(TokenKind::$kind),+]
+    };
+}
+
 macro_rules! row {
     ($said:ident, $back:literal, [$($stands:ident)*] $taken:literal, [$($put:ident)*]) => {
         (
@@ -105,6 +111,7 @@ pub(crate) use bare;
 pub(crate) use before;
 pub(crate) use before_name;
 pub(crate) use in_place;
+pub(crate) use kinds;
 pub(crate) use row;
 pub(crate) use spare_end;
 pub(crate) use unended;

@@ -3,19 +3,19 @@
 ghost use Rattle.std.specs.Prelude.{◌≡◌, map};
 ghost use Rattle.vhdl_expected.specs.Told as spec;
 
+use crate::closed::{CLOSED, PLACES};
 use crate::help::{
-    ALL, ALTERNATIVE, ARROW, BEGIN, CASE, CLOSE, CLOSE_LIST, COLON, COMMA, COMPONENT, CONDITIONAL,
-    DOT, END, END_CASE, END_COMPONENT, END_GENERATE, END_IF, END_IT, END_LOOP, END_PROCESS,
-    END_UNIT, ENTITY, GENERATE, IF, IN, IS, IS_PORT, LABEL, LIBRARY, LOOP, MAP, OBJECT, OF, OPEN,
-    PORT, PROCESS, SELECT, SIGNAL, SPARE_END, THEN, TO, TYPE, VARIABLE,
+    ALL, ALTERNATIVE, ARROW, BEGIN, CASE, CLOSE, COLON, COMMA, COMPONENT, CONDITIONAL, DOT,
+    END_CASE, END_COMPONENT, END_GENERATE, END_IF, END_IT, END_LOOP, END_PROCESS, ENTITY, GENERATE,
+    IF, IN, IS, IS_PORT, LIBRARY, LOOP, MAP, OBJECT, OF, OPEN, PORT, PROCESS, SELECT, SIGNAL,
+    SPARE_END, THEN, TO, TYPE, VARIABLE,
 };
 use crate::row::{Row, bare, before, before_name, row, spare_end, unended};
 use crate::texts::{
-    ACTUAL, AROUND, ASSIGNED, ASSOCIATIONS, AT_MOST, BITS, BLANK, BOUND, CLOSED_BEFORE, CONDITION,
-    EITHER, ELSIF, END_ARCHITECTURE, END_ENTITY, FORMAL, INDEX, LAST_COMMA, LIST_END, LITERAL,
-    LOOP_OR_END, MODE_IN, MODE_OUT, NEGATED, NO_CASE, NO_END, NO_IF, NO_PORT, NO_PROCESS,
-    OPEN_PROCESS, OTHERS, POINTS, PORT_MAP, RELATION, SELECTED, SENSITIVITY, SHIFT, SIGN, SPARE,
-    SPARE_BEFORE, STEP, TARGET, THEN_OR_END, TWICE, TWO_MODES, UNEQUAL, UNTYPED, VALUE, WORD, WORK,
+    ACTUAL, AROUND, ASSIGNED, ASSOCIATIONS, AT_MOST, BITS, BLANK, BOUND, CONDITION, EITHER, ELSIF,
+    END_ARCHITECTURE, END_ENTITY, FORMAL, INDEX, LAST_COMMA, LITERAL, NEGATED, OTHERS, POINTS,
+    PORT_MAP, RELATION, SENSITIVITY, SHIFT, SIGN, SPARE, SPARE_BEFORE, STEP, TARGET, TWICE,
+    TWO_MODES, UNEQUAL, UNTYPED, VALUE, WORD, WORK,
 };
 use vhdl_lexer::TokenKind;
 
@@ -180,66 +180,6 @@ pub static HEADS: [Row; 23] = [
     before!("`all`", ALL, [] All),
     row!(ACTUAL, 0, [] 0, [Open]),
     row!(FORMAL, 0, [Dot Identifier LeftParen] 1, [Identifier Arrow]),
-];
-
-/// What is closed or ended too early, or isn't.
-pub static CLOSED: [Row; 20] = [
-    row!(SPARE_BEFORE, 1, [Semicolon And] 1, []),
-    row!(SPARE_BEFORE, 1, [Semicolon Or] 1, []),
-    row!(SPARE_BEFORE, 1, [Semicolon Ampersand] 1, []),
-    row!(SPARE_BEFORE, 1, [Semicolon Plus] 1, []),
-    row!(SPARE, 1, [RightParen Semicolon Begin] 2, [RightParen]),
-    row!(CLOSED_BEFORE, 2, [RightParen Semicolon Identifier] 1, []),
-    before!("`end`", END, [] End),
-    row!(NO_END, 1, [If Semicolon] 0, [End]),
-    row!(NO_END, 1, [Case Semicolon] 0, [End]),
-    before!("`.all`", ALL, [] Dot All),
-    before!("`end;`", END_UNIT, [] End Semicolon),
-    before!("`);`", CLOSE_LIST, [] RightParen Semicolon),
-    row!(LIST_END, 1, [Semicolon] 0, [RightParen]),
-    before!("`end if;`", END_IF, [] End If Semicolon),
-    before!("`end loop;`", END_LOOP, [] End Loop Semicolon),
-    before!("`end case;`", END_CASE, [] End Case Semicolon),
-    row!(SELECTED, 0, [With] 0, [End Process Semicolon]),
-    before!("`end process;`", END_PROCESS, [] End Process Semicolon),
-    before!("`end generate;`", END_GENERATE, [] End Generate Semicolon),
-    before!("`end component;`", END_COMPONENT, [] End Component Semicolon),
-];
-
-/// What stands in another place than its own.
-pub static PLACES: [Row; 31] = [
-    row!(OPEN_PROCESS, 0, [Process] 0, [Null Semicolon End Process Semicolon]),
-    row!(OPEN_PROCESS, 0, [Entity] 0, [Null Semicolon End Process Semicolon Identifier Colon]),
-    row!(OPEN_PROCESS, 0, [Component] 0, [Null Semicolon End Process Semicolon Identifier Colon]),
-    row!(OPEN_PROCESS, 0, [Port] 0, [LessEqual Integer Semicolon End Process Semicolon Identifier Colon Identifier]),
-    row!(OPEN_PROCESS, 0, [Generic] 0, [LessEqual Integer Semicolon End Process Semicolon Identifier Colon Identifier]),
-    row!(THEN_OR_END, 0, [Generate] 1, [Then]),
-    row!(LOOP_OR_END, 0, [Generate] 1, [Loop]),
-    before!("a label with `:`", LABEL, [For] Identifier Colon),
-    before!("a label with `:`", LABEL, [If] Identifier Colon),
-    before!("a label with `:`", LABEL, [Entity] Identifier Colon),
-    before!("a label with `:`", LABEL, [Component] Identifier Colon),
-    before_name!("a label with `:`", LABEL, [Identifier Port] Identifier Colon),
-    before_name!("a label with `:`", LABEL, [Identifier Generic] Identifier Colon),
-    row!(NO_PROCESS, 0, [If] 0, [Process Begin]),
-    row!(NO_PROCESS, 0, [Case] 0, [Process Begin]),
-    row!(NO_PROCESS, 0, [For] 0, [Process Begin]),
-    row!(NO_PROCESS, 0, [Null] 0, [Process Begin]),
-    row!(NO_IF, 0, [Else] 0, [If Identifier Then]),
-    row!(NO_IF, 0, [Elsif] 0, [If Identifier Then]),
-    row!(NO_CASE, 1, [Begin When] 1, [Begin Case Identifier Is]),
-    row!(NO_CASE, 1, [Then When] 1, [Then Case Identifier Is]),
-    row!(MODE_IN, 1, [Identifier In] 2, [In Identifier]),
-    row!(MODE_OUT, 1, [Identifier Out] 2, [Out Identifier]),
-    row!(NO_PORT, 1, [Colon In] 2, [Colon]),
-    row!(NO_PORT, 1, [Colon Out] 2, [Colon]),
-    row!(MODE_IN, 0, [In Colon] 2, [Colon In]),
-    row!(MODE_OUT, 0, [Out Colon] 2, [Colon Out]),
-    // Behind another port: so a declaration isn't taken for one.
-    row!(MODE_IN, 0, [In] 1, [Identifier Colon In Identifier Semicolon]),
-    row!(MODE_OUT, 0, [Out] 1, [Identifier Colon Out Identifier Semicolon]),
-    row!(NO_PORT, 0, [In] 1, [Signal]),
-    row!(NO_PORT, 0, [Out] 1, [Signal]),
 ];
 
 /// The tables of what lacks, or of what else is wrong, at the token or shortly before it; the first

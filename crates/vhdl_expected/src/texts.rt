@@ -1,6 +1,6 @@
 //! What is told of a change: what is wrong, and what helps.
 
-use crate::help::{ASSIGN, CLOSE_LIST, COMPARE, END, IF, MAP, OUTSIDE, OUTSIDE_IF, TO};
+use crate::help::{ASSIGN, CLOSE_LIST, COMPARE, END, IF, MAP, OUTSIDE, OUTSIDE_IF, SELECT, TO};
 
 /// What is wrong, and what a designer does about it.
 pub type Said = (&'static str, &'static str);
@@ -129,6 +129,11 @@ pub const SPARE_BEFORE: Said = (
     "leave that out",
 );
 
+pub const PARTED: Said = (
+    "can't stand here: `,` is expected in place of the `;` before it",
+    SELECT,
+);
+
 pub const ACTUAL: Said = (
     "can't stand here: a signal, or `open`, is expected before it",
     "name what is connected, or write open",
@@ -221,6 +226,11 @@ pub const NO_END: Said = (
 pub const NO_IF: Said = (
     "can't stand here: no if is open above it, or the else of that has begun",
     "write if .. then above it, move it before the end if; that is above it, or put the else last; in a case write when others =>",
+);
+
+pub const ELSE_BEGUN: Said = (
+    "can't stand here: the else of the if above it has begun, or `end if;` is expected before it",
+    "put the else of an if last, behind each elsif; or end an if inside another one by end if;",
 );
 
 pub const NO_CASE: Said = (

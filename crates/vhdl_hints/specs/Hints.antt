@@ -2,8 +2,8 @@
 use Rattle.std.specs.Prelude.{ℕ, ◌==◌, ◌&&◌, ◌||◌, not, Bool, true, false, if◌then◌else◌, List, [], ◌∷◌, drop, length, Option, Some, None}
 use Rattle.std.specs.List.{list_all}
 use Rattle.std.specs.Str.{str_eq_ignore_ascii_case}
-use Rattle.fault_rules.specs.declared.elaboration.ElabRule.TheVariants as elaboration
-use Rattle.fault_rules.specs.declared.naming.NameRule.TheVariants as naming
+use Rattle.fault_rules.specs.declared.source.ElabRule.TheVariants as elaboration
+use Rattle.fault_rules.specs.declared.source.NameRule.TheVariants as naming
 use Rattle.fault_rules.specs.declared.report.Rule.{Rule}
 use Rattle.fault_rules.specs.declared.report.Rule.TheVariants as rule
 use Rattle.fault_rules.specs.declared.report.Subject.{Subject}
@@ -13,54 +13,18 @@ use Rattle.vhdl_slips.specs.Words.{Read, text_of, text_of_first, with_tokens}
 use Rattle.vhdl_hints.specs.Bounds.{architecture, bounds_of, is_empty, is_declared, listed_bounds, ports_of, range_at}
 use Rattle.vhdl_slips.specs.Choices.{choices, is_among, type_of}
 use Rattle.vhdl_hints.specs.Ends.{but_last_two, end_word, last_begun, last_two}
+use Rattle.vhdl_hints.specs.Hinted.{Actual, Differs, Empty, Form, Hint, NoFormal, NoPosition, Nothing, OpenPort, OtherName, OtherType, Outside, form, or_else}
+use Rattle.vhdl_misfits.specs.Misfits.{behind_name, is_one_of, misfit}
 use Rattle.vhdl_slips.specs.Instances.{associations, entity_of, first_open, formal_in, is_by_name, labelled, open_instance}
 use Rattle.vhdl_slips.specs.Interfaces.{formals, interface_of}
 use Rattle.vhdl_slips.specs.Parts.{begins, behind_last, first_of, from, has, in_parentheses}
 use Rattle.vhdl_hints.specs.declared.end_name.Begun.{Begun}
 use Rattle.vhdl_hints.specs.declared.end_name.Begun.TheVariants as begun_as
-use Rattle.vhdl_hints.specs.declared.form.TheConstants.{ABOVE, BELOW, ELEMENTS, FORMAL_TWICE, INDEX, LITERALS, NO_NAME, NO_SIGNAL, NO_VARIABLE, PORT_TWICE}
-use Rattle.vhdl_hints.specs.declared.hint.Hint as code
-use Rattle.vhdl_hints.specs.declared.hint.Hint.TheVariants as c
+use Rattle.vhdl_hints.specs.declared.form.TheConstants.{ABOVE, ARCHITECTURE, BELOW, ELEMENTS, FORMAL_ARROW, FORMAL_TWICE, INDEX, ITSELF, LIBRARY, LITERALS, NO_NAME, NO_SIGNAL, NO_VARIABLE, OTHERS, PORT_TWICE}
 use Rattle.vhdl_lexer.specs.declared.token.Token.{Token}
 use Rattle.vhdl_lexer.specs.declared.token.TokenKind.{TokenKind}
 use Rattle.vhdl_lexer.specs.declared.token.TokenKind.TheVariants as k
 use Rattle.vhdl_tree.specs.Lexeme.{same_kind}
-
-pub data Hint : Type 0 where
-  -- nothing more than its rule
-  Nothing : Hint
-  -- this of the word
-  Form : Said → Hint
-  -- an entity has no generic or port of a name; it has these
-  NoFormal : (entity formal : Token) → (is_port : Bool) → (formals : List Token) → Hint
-  -- an instance leaves this port of its entity open
-  OpenPort : (entity port : Token) → Hint
-  -- what ends there has another name
-  OtherName : (name : Token) → Hint
-  -- an index or slice of a name, and the bounds that are declared
-  Outside : (name : Token) → (index bounds : List Token) → Hint
-  -- a range has no element: its bounds, and its direction
-  Empty : (left right : Token) → (is_upward : Bool) → Hint
-  -- an actual has another length than its port, which has these bounds
-  Actual : (entity port : Token) → (bounds : List Token) → (found needed : ℕ) → Hint
-  -- an actual has another type than its port
-  OtherType : (entity port : Token) → Hint
-
-abbrev pub hint_view : code.Hint → Hint
-hint_view c.Nothing = Nothing
-hint_view (c.Form said) = Form (said.0.now, said.1.now)
-hint_view (c.NoFormal entity formal is_port formals) = NoFormal entity formal is_port formals.now
-hint_view (c.OpenPort entity port) = OpenPort entity port
-hint_view (c.OtherName name) = OtherName name
-hint_view (c.Outside name index bounds) = Outside name index.now bounds.now
-hint_view (c.Empty left right is_upward) = Empty left right is_upward
-hint_view (c.Actual entity port bounds found needed) = Actual entity port bounds.now found needed
-hint_view (c.OtherType entity port) = OtherType entity port
-
--- the first of two that tells something
-abbrev pub or_else : (first second : Hint) → Hint
-or_else Nothing second = second
-or_else first second = first
 
 -- ---- a formal that isn't declared
 
@@ -91,49 +55,54 @@ no_formal source before from = formal_hint source from (has k.Port (open_instanc
 abbrev pub is_same_word : (text : List ℕ) → (first second : List Token) → Bool
 is_same_word text first second = str_eq_ignore_ascii_case (text_of_first text first) (text_of_first text second)
 
+-- the name before it is that of an entity
+abbrev pub goes_on_as_instance : (behind : List Token) → Bool
+goes_on_as_instance behind = begins k.Port behind || begins k.Generic behind
+
+-- a type is looked for, and no entity of an instance, of the name that is declared there
+abbrev pub is_itself : (text : List ℕ) → (last_two from : List Token) → Bool
+is_itself text (name ∷ colon ∷ []) tokens =
+    same_kind colon.kind k.Colon && is_same_word text (name ∷ []) tokens && not (goes_on_as_instance (drop 1 tokens))
+is_itself text _ tokens = false
+
+-- a use clause begins with a library
+abbrev pub unknown : (text : List ℕ) → (last_two from : List Token) → Hint
+unknown text last_two tokens =
+    if has k.Use last_two then form LIBRARY else if is_itself text last_two tokens then form ITSELF else Nothing
+
 -- the name at the front is that behind the last `for`, or of an object that is declared behind it or before it
 abbrev pub elsewhere : (text : List ℕ) → (before from : List Token) → Hint
 elsewhere text before tokens =
-    if begins k.Identifier tokens && is_same_word text (behind_last k.For before) tokens then Form (INDEX.0.now, INDEX.1.now)
-    else if is_declared text (text_of_first text tokens) false tokens then Form (BELOW.0.now, BELOW.1.now)
-    else if is_declared text (text_of_first text tokens) false before then Form (ABOVE.0.now, ABOVE.1.now) else Nothing
+    if begins k.Identifier tokens && is_same_word text (behind_last k.For before) tokens then form INDEX
+    else if is_declared text (text_of_first text tokens) false tokens then form BELOW
+    else if is_declared text (text_of_first text tokens) false before then form ABOVE else Nothing
 
 -- ---- a name that is given twice
 
 -- the formal of a map, or a signal with the name of a port of its entity
 abbrev pub twice : (source : Read) → (before from : List Token) → Hint
 twice source before tokens =
-    if begins k.Arrow (drop 1 tokens) then Form (FORMAL_TWICE.0.now, FORMAL_TWICE.1.now)
+    if begins k.Arrow (drop 1 tokens) then form FORMAL_TWICE
     else if begins k.Signal (drop 1 (last_two before))
     && is_declared source.text (text_of_first source.text tokens) true (ports_of source.text source.tokens (architecture before)) then
-    Form (PORT_TWICE.0.now, PORT_TWICE.1.now) else Nothing
+    form PORT_TWICE else Nothing
 
 -- ---- the target of an assignment
 
 -- a statement may begin behind such a token
 abbrev pub precedes_statement : TokenKind → Bool
-precedes_statement k.Semicolon = true
-precedes_statement k.Begin = true
-precedes_statement k.Then = true
-precedes_statement k.Else = true
-precedes_statement k.Loop = true
-precedes_statement k.Arrow = true
-precedes_statement _ = false
+precedes_statement kind = is_one_of (k.Semicolon ∷ k.Begin ∷ k.Then ∷ k.Else ∷ k.Loop ∷ k.Arrow ∷ []) kind
 
 -- behind the last of these
 abbrev pub begins_behind : (last_two : List Token) → Bool
 begins_behind (first ∷ last ∷ []) = precedes_statement last.kind
 begins_behind _ = false
 
--- what stands behind the name at the front, and its index
-abbrev pub behind_name : List Token → List Token
-behind_name tokens = if begins k.LeftParen (drop 1 tokens) then drop 1 (from k.RightParen tokens) else drop 1 tokens
-
 -- `:=` assigns variables, and `<=` signals
 abbrev pub target_hint : (behind : List Token) → Hint
 target_hint behind =
-    if begins k.Assign behind then Form (NO_VARIABLE.0.now, NO_VARIABLE.1.now)
-    else if begins k.LessEqual behind then Form (NO_SIGNAL.0.now, NO_SIGNAL.1.now) else Nothing
+    if begins k.Assign behind then form NO_VARIABLE
+    else if begins k.LessEqual behind then form NO_SIGNAL else Nothing
 
 abbrev pub no_target : (before from : List Token) → Hint
 no_target before tokens = if begins_behind (last_two before) then target_hint (behind_name tokens) else Nothing
@@ -150,7 +119,7 @@ are_elements written = list_all is_element written
 
 abbrev pub elements : (text : List ℕ) → (from : List Token) → Hint
 elements text tokens =
-    if begins k.String tokens && not (are_elements (text_of_first text tokens)) then Form (ELEMENTS.0.now, ELEMENTS.1.now) else Nothing
+    if begins k.String tokens && not (are_elements (text_of_first text tokens)) then form ELEMENTS else Nothing
 
 -- ---- a port that is left open
 
@@ -174,7 +143,7 @@ open_port source from = left_open source (labelled from) (entity_of (labelled fr
 
 abbrev pub begun_hint : Begun → Hint
 begun_hint begun_as.Unknown = Nothing
-begun_hint begun_as.Unnamed = Form (NO_NAME.0.now, NO_NAME.1.now)
+begun_hint begun_as.Unnamed = form NO_NAME
 begun_hint (begun_as.Named name) = OtherName name
 
 abbrev pub end_hint : (before : List Token) → Option TokenKind → Hint
@@ -191,7 +160,7 @@ abbrev pub choice_hint : (before : Read) → (first : Option Token) → Hint
 choice_hint before None = Nothing
 choice_hint before (Some choice) =
     if same_kind choice.kind k.Identifier && is_among (type_of before (text_of before.text choice)) (text_of before.text choice)
-    then Form (LITERALS.0.now, LITERALS.1.now) else Nothing
+    then form LITERALS else Nothing
 
 abbrev pub enumeration : (before : Read) → (from : List Token) → Hint
 enumeration before from = choice_hint before (first_of (choices from))
@@ -215,6 +184,58 @@ abbrev pub outside : (source : Read) → (before from : List Token) → Hint
 outside source before from =
     if is_empty source.text (range_at from) then empty_hint (range_at from) else index_hint source before from (first_of from)
 
+-- ---- a place in a map
+
+-- an association begins behind these
+abbrev pub begins_association : (last_two : List Token) → Bool
+begins_association (first ∷ last ∷ []) = same_kind last.kind k.Comma || (same_kind first.kind k.Map && same_kind last.kind k.LeftParen)
+begins_association _ = false
+
+abbrev pub is_positional : (last_two from : List Token) → Bool
+is_positional last_two tokens = begins_association last_two && not (begins k.Arrow (drop 1 tokens))
+
+abbrev pub position_of : (entity : Token) → (is_port : Bool) → (interface : List Token) → Hint
+position_of entity is_port interface = if length interface == 0 then Nothing else NoPosition entity is_port (formals is_port interface)
+
+abbrev pub position_hint : (source : Read) → (is_port is_positional : Bool) → (entity : Option Token) → Hint
+position_hint source is_port true (Some entity) = position_of entity is_port (interface_in source entity)
+position_hint source is_port _ _ = Nothing
+
+-- in an instance
+abbrev pub position : (source : Read) → (before from : List Token) → Hint
+position source before tokens =
+    position_hint source (has k.Port (open_instance before)) (is_positional (last_two before) tokens) (entity_of (open_instance before))
+
+-- `NAME <= ACTUAL` begins an association
+abbrev pub assigned : (before from : List Token) → Hint
+assigned before tokens =
+    if begins_association (last_two before) && begins k.LessEqual (drop 1 tokens) && has k.Map (open_instance before) then form FORMAL_ARROW
+    else Nothing
+
+-- ---- a component, an architecture or a choice
+
+-- the name of a component that is declared stands behind these
+abbrev pub begins_component : (last_two : List Token) → Bool
+begins_component (first ∷ last ∷ []) = same_kind last.kind k.Component && not (same_kind first.kind k.End || same_kind first.kind k.Colon)
+begins_component _ = false
+
+abbrev pub differing : (interface : List Token) → Hint
+differing interface = if length interface == 0 then Nothing else Differs (formals true interface)
+
+abbrev pub component : (source : Read) → (last_two from : List Token) → Hint
+component source last_two (name ∷ ts) = if begins_component last_two then differing (interface_in source name) else Nothing
+component source last_two [] = Nothing
+
+-- these tokens are `entity LIBRARY . NAME (`
+abbrev pub names_entity : List Token → Bool
+names_entity (entity ∷ library ∷ dot ∷ name ∷ paren ∷ []) = same_kind entity.kind k.Entity
+names_entity _ = false
+
+abbrev pub misplaced : (before from : List Token) → Hint
+misplaced before tokens =
+    if begins k.Others tokens then form OTHERS
+    else if names_entity (behind_last k.Colon before) then form ARCHITECTURE else Nothing
+
 -- ---- the port of an actual
 
 -- two lengths that differ, or else two types
@@ -237,18 +258,29 @@ actual source before from subject =
 
 -- ---- of each rule
 
+abbrev pub told_hint : Option Said → Hint
+told_hint None = Nothing
+told_hint (Some said) = Form said
+
+abbrev pub undeclared : (source : Read) → (before from : List Token) → Hint
+undeclared source before from =
+    or_else (or_else (no_formal source before from) (unknown source.text (last_two before) from)) (elsewhere source.text before from)
+
+abbrev pub wrong_kind : (source : Read) → (before from : List Token) → Hint
+wrong_kind source before from =
+    or_else (or_else (or_else (or_else (other_name before) (no_target before from)) (component source (last_two before) from))
+    (position source before from)) (misplaced before from)
+
 -- at a byte of a source, of whose tokens these start before it, and the others from it on
 abbrev pub hint_at : (source : Read) → (before from : List Token) → Rule → Subject → Hint
-hint_at source before from (rule.Name naming.Undeclared) subject = or_else (no_formal source before from) (elsewhere source.text before from)
+hint_at source before from (rule.Name naming.Undeclared) subject = undeclared source before from
 hint_at source before from (rule.Name naming.Twice) subject = twice source before from
-hint_at source before from (rule.Name naming.WrongKind) subject = or_else (other_name before) (no_target before from)
-hint_at source before from (rule.Name naming.TypeMismatch) subject = or_else (elements source.text from) (actual source before from subject)
+hint_at source before from (rule.Name naming.WrongKind) subject = wrong_kind source before from
+hint_at source before from (rule.Name naming.TypeMismatch) subject =
+    or_else (or_else (elements source.text from) (actual source before from subject)) (told_hint (misfit source.text (last_two before) from))
+hint_at source before from (rule.Name naming.LeftOut) subject = assigned before from
 hint_at source before from (rule.Name naming.NoOthers) subject = enumeration (with_tokens source.text before) from
 hint_at source before from (rule.Elab elaboration.Length) subject = actual source before from subject
 hint_at source before from (rule.Elab elaboration.Index) subject = outside source before from
 hint_at source before from (rule.Elab elaboration.Unassociated) subject = open_port source from
 hint_at source before from rule subject = Nothing
-
-abbrev pub is_nothing : Hint → Bool
-is_nothing Nothing = true
-is_nothing _ = false

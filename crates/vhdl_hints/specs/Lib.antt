@@ -3,5 +3,6 @@
 pub mod Ends
 pub mod Bounds
 -- what is told
+pub mod Hinted
 pub mod Hints
 pub mod Sayings

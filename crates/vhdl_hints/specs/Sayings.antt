@@ -1,14 +1,14 @@
 -- How a hint is told: its sentence, and what a designer does about it.
 use Rattle.std.specs.Prelude.{ℕ, ◌==◌, not, Bool, if◌then◌else◌, List, [], ◌∷◌, ◌++◌, drop, length, codes, decimal, flat_map, Option, Some, None}
 use Rattle.vhdl_slips.specs.Words.{Read, subject, text_of}
-use Rattle.vhdl_hints.specs.Hints.{Actual, Empty, Form, Hint, NoFormal, Nothing, OpenPort, OtherName, OtherType, Outside}
+use Rattle.vhdl_hints.specs.Hinted.{Actual, Differs, Empty, Form, Hint, NoFormal, NoPosition, Nothing, OpenPort, OtherName, OtherType, Outside}
 use Rattle.vhdl_slips.specs.Listings.{names_listed}
 use Rattle.vhdl_slips.specs.Parts.{first_of}
 use Rattle.vhdl_slips.specs.declared.listing.Listing.{Listing}
 use Rattle.vhdl_slips.specs.declared.listing.Listing.TheVariants.{Generics, Ports}
 use Rattle.vhdl_hints.specs.declared.part.Part as code
 use Rattle.vhdl_hints.specs.declared.part.Part.TheVariants as c
-use Rattle.vhdl_hints.specs.declared.saying.TheConstants.{HELP_EMPTY, HELP_FORMAL, HELP_LENGTH, HELP_NAME, HELP_TYPE}
+use Rattle.vhdl_hints.specs.declared.saying.TheConstants.{HELP_COMPONENT, HELP_EMPTY, HELP_FORMAL, HELP_LENGTH, HELP_NAME, HELP_POSITION, HELP_TYPE}
 use Rattle.vhdl_lexer.specs.declared.token.Token.{Token}
 
 -- a blank, and a token
@@ -64,8 +64,8 @@ code_text words part = part_text words (part_view part)
 abbrev pub told : (words : Read) → List Part → List ℕ
 told words parts = flat_map (part_text words) parts
 
-abbrev pub has_no : (is_port : Bool) → List ℕ
-has_no is_port = if is_port then codes " has no port " else codes " has no generic "
+abbrev pub formal_word : (is_port : Bool) → List ℕ
+formal_word is_port = if is_port then codes "port" else codes "generic"
 
 abbrev pub listing_of : (is_port : Bool) → Listing
 listing_of is_port = if is_port then Ports else Generics
@@ -79,7 +79,8 @@ abbrev pub parts : Hint → List Part
 parts Nothing = []
 parts (Form said) = Subject ∷ Text said.0 ∷ []
 parts (NoFormal entity formal is_port formals) =
-    Text (codes "entity ") ∷ Word entity ∷ Text (has_no is_port) ∷ Word formal ∷ Text (codes "; ") ∷ Names (listing_of is_port) formals ∷ []
+    Text (codes "entity ") ∷ Word entity ∷ Text (codes " has no ") ∷ Text (formal_word is_port) ∷ Text (codes " ") ∷ Word formal
+    ∷ Text (codes "; ") ∷ Names (listing_of is_port) formals ∷ []
 parts (OpenPort entity port) =
     Subject ∷ Text (codes "leaves open the in port ") ∷ Word port ∷ Text (codes " of entity ") ∷ Word entity ∷ Text (codes ", which has no default") ∷ []
 parts (OtherName name) = Subject ∷ Text (codes "stands at the end of ") ∷ Word name ∷ []
@@ -95,6 +96,10 @@ parts (Actual entity port bounds found needed) =
     ∷ Text (codes " has length ") ∷ Number needed ∷ Bounds bounds ∷ []
 parts (OtherType entity port) =
     Subject ∷ Text (codes "has another type than the port ") ∷ Word port ∷ Text (codes " of entity ") ∷ Word entity ∷ []
+parts (Differs ports) = Subject ∷ Text (codes "isn't declared as its entity is: ") ∷ Names Ports ports ∷ []
+parts (NoPosition entity is_port formals) =
+    Subject ∷ Text (codes "can't stand here for a ") ∷ Text (formal_word is_port) ∷ Text (codes " of entity ") ∷ Word entity ∷ Text (codes "; ")
+    ∷ Names (listing_of is_port) formals ∷ []
 
 abbrev pub sentence : (words : Read) → Hint → List ℕ
 sentence words hint = told words (parts hint)
@@ -107,4 +112,6 @@ help (OtherName name) usual = HELP_NAME.now
 help (Empty left right is_upward) usual = HELP_EMPTY.now
 help (Actual entity port bounds found needed) usual = HELP_LENGTH.now
 help (OtherType entity port) usual = HELP_TYPE.now
+help (Differs ports) usual = HELP_COMPONENT.now
+help (NoPosition entity is_port formals) usual = HELP_POSITION.now
 help _ usual = usual

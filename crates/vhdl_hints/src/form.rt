@@ -51,5 +51,31 @@ pub const NO_SIGNAL: Said = (
 
 pub const ELEMENTS: Said = (
     "has a character in it that is none of U X 0 1 Z W L H -",
-    "write the digits 0 and 1, and other values in capitals; with underscores write b\"0000_1111\"",
+    "write the digits 0 and 1, and other values in capitals; with underscores write b\"0000_1111\"; a literal of an \
+     enumeration has no quotation marks",
+);
+
+pub const ITSELF: Said = (
+    "is the name of this declaration itself, and no type",
+    "write a type behind the colon, as std_logic, or the name of a type that is declared above",
+);
+
+pub const LIBRARY: Said = (
+    "is a library that no library clause of this unit names",
+    "write library ieee; above it, and see its spelling",
+);
+
+pub const FORMAL_ARROW: Said = (
+    "is followed by <=, and a formal by =>",
+    "write => between a port and what it is connected to, as clk => clk",
+);
+
+pub const OTHERS: Said = (
+    "is the last choice, and stands alone",
+    "put the choice others last, and join no other one to it by |",
+);
+
+pub const ARCHITECTURE: Said = (
+    "is no architecture of this entity",
+    "write the name between the words architecture and of, as rtl in entity work.k(rtl), or leave the parentheses out",
 );

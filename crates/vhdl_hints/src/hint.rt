@@ -1,16 +1,20 @@
 //! Which hint the tokens around a fault give.
 
-ghost use Rattle.std.specs.Prelude.{◌≡◌, Some};
+ghost use Rattle.std.specs.Prelude.{◌≡◌, Some, option_map};
+ghost use Rattle.vhdl_misfits.specs.Misfits.{said_of};
 ghost use Rattle.vhdl_slips.specs.Parts.{first_of};
 ghost use Rattle.vhdl_slips.specs.Words.{read_of, with_tokens};
+ghost use Rattle.vhdl_hints.specs.Hinted.{hint_view, is_nothing, or_else};
 ghost use Rattle.vhdl_hints.specs.Hints as spec;
 
 use crate::bound::{bounds_of, is_declared, is_empty, listed_bounds, range_at};
 use crate::end_name::{Begun, but_last_two, end_word, last_begun, last_two};
 use crate::form::{LITERALS, NO_NAME};
+use crate::misplaced::{assigned, component, misplaced, position, unknown};
 use crate::word::{elements, elsewhere, no_target, twice};
 use fault_rules::{ElabRule, NameRule, Report, Rule, Subject};
 use vhdl_lexer::{Token, TokenKind};
+use vhdl_misfits::misfit;
 use vhdl_slips::{
     Lexed, Said, associations, begins, entity_of, first_choice, first_of, first_open, formal_in,
     formals, has, in_parentheses, interface_of, is_by_name, is_literal, is_same_kind, labelled,
@@ -39,19 +43,23 @@ pub enum Hint<'a> {
     Actual(Token, Token, &'a [Token], usize, usize),
     /// An actual has another type than of its entity this port.
     OtherType(Token, Token),
+    /// A component differs from its entity, which has these ports.
+    Differs(&'a [Token]),
+    /// What can't stand in a map for a port, or generic, of an entity, which has these.
+    NoPosition(Token, bool, &'a [Token]),
 }
 
 impl<'a> Hint<'a> {
     /// Whether it tells nothing.
     pub fn is_nothing(self) -> bool
-        ensures { result ≡ spec.is_nothing (spec.hint_view self.entry) }
+        ensures { result ≡ is_nothing (hint_view self.entry) }
     {
         matches!(self, Hint::Nothing)
     }
 
     /// This hint, or where it tells nothing the other.
     fn or_else(self, other: Hint<'a>) -> Hint<'a>
-        ensures { spec.hint_view result ≡ spec.or_else (spec.hint_view self.entry) (spec.hint_view other.entry) }
+        ensures { hint_view result ≡ or_else (hint_view self.entry) (hint_view other.entry) }
     {
         match self {
             Hint::Nothing => other,
@@ -68,18 +76,17 @@ pub fn hint_at<'a>(
     from: &'a [Token],
     report: Report,
 ) -> Hint<'a>
-    ensures { spec.hint_view result
+    ensures { hint_view result
         ≡ spec.hint_at (read_of source.entry) before.now from.now report.rule report.subject }
 {
     match report.rule {
-        Rule::Name(NameRule::Undeclared) => {
-            no_formal(source, before, from).or_else(elsewhere(source.text, before, from))
-        }
+        Rule::Name(NameRule::Undeclared) => undeclared(source, before, from),
         Rule::Name(NameRule::Twice) => twice(source, before, from),
-        Rule::Name(NameRule::WrongKind) => other_name(before).or_else(no_target(before, from)),
-        Rule::Name(NameRule::TypeMismatch) => {
-            elements(source.text, from).or_else(actual(source, before, from, report.subject))
-        }
+        Rule::Name(NameRule::WrongKind) => wrong_kind(source, before, from),
+        Rule::Name(NameRule::TypeMismatch) => elements(source.text, from)
+            .or_else(actual(source, before, from, report.subject))
+            .or_else(told_hint(misfit(source.text, last_two(before), from))),
+        Rule::Name(NameRule::LeftOut) => assigned(before, from),
         Rule::Name(NameRule::NoOthers) => enumeration(source.text, before, from),
         Rule::Elab(ElabRule::Length) => actual(source, before, from, report.subject),
         Rule::Elab(ElabRule::Index) => outside(source, before, from),
@@ -88,9 +95,39 @@ pub fn hint_at<'a>(
     }
 }
 
+/// What is told of a word, or nothing.
+fn told_hint(said: Option<Said>) -> Hint<'static>
+    ensures { hint_view result ≡ spec.told_hint (option_map said_of said.entry) }
+{
+    match said {
+        Some(said) => Hint::Form(said),
+        None => Hint::Nothing,
+    }
+}
+
+/// Of a name that isn't declared.
+fn undeclared<'a>(source: Lexed<'a>, before: &[Token], from: &[Token]) -> Hint<'a>
+    ensures { hint_view result ≡ spec.undeclared (read_of source.entry) before.now from.now }
+{
+    no_formal(source, before, from)
+        .or_else(unknown(source.text, last_two(before), from))
+        .or_else(elsewhere(source.text, before, from))
+}
+
+/// Of a name of another kind.
+fn wrong_kind<'a>(source: Lexed<'a>, before: &[Token], from: &[Token]) -> Hint<'a>
+    ensures { hint_view result ≡ spec.wrong_kind (read_of source.entry) before.now from.now }
+{
+    other_name(before)
+        .or_else(no_target(before, from))
+        .or_else(component(source, last_two(before), from))
+        .or_else(position(source, before, from))
+        .or_else(misplaced(before, from))
+}
+
 /// Of a name in an instance that is no formal of its entity.
 fn no_formal<'a>(source: Lexed<'a>, before: &[Token], from: &[Token]) -> Hint<'a>
-    ensures { spec.hint_view result ≡ spec.no_formal (read_of source.entry) before.now from.now }
+    ensures { hint_view result ≡ spec.no_formal (read_of source.entry) before.now from.now }
 {
     let instance = open_instance(before);
     match entity_of(instance) {
@@ -109,7 +146,7 @@ fn no_formal<'a>(source: Lexed<'a>, before: &[Token], from: &[Token]) -> Hint<'a
 }
 
 /// The generics and ports of the entity of this name.
-fn interface_in<'a>(source: Lexed<'a>, entity: Token) -> &'a [Token]
+pub(crate) fn interface_in<'a>(source: Lexed<'a>, entity: Token) -> &'a [Token]
     ensures { result.now ≡ spec.interface_in (read_of source.entry) entity }
 {
     interface_of(source.text, text_of(source.text, entity), source.tokens)
@@ -123,7 +160,7 @@ fn unknown_formal<'a>(
     interface: &'a [Token],
     from: &[Token],
 ) -> Hint<'a>
-    ensures { spec.hint_view result ≡ spec.unknown_formal text.now entity is_port interface.now from.now }
+    ensures { hint_view result ≡ spec.unknown_formal text.now entity is_port interface.now from.now }
 {
     let formals = formals(is_port, interface);
     match from {
@@ -155,7 +192,7 @@ fn is_unknown(
 
 /// Of the instance of which the label stands at the front.
 fn open_port<'a>(source: Lexed<'a>, from: &[Token]) -> Hint<'a>
-    ensures { spec.hint_view result ≡ spec.open_port (read_of source.entry) from.now }
+    ensures { hint_view result ≡ spec.open_port (read_of source.entry) from.now }
 {
     let instance = labelled(from);
     match entity_of(instance) {
@@ -183,7 +220,7 @@ fn open_among(text: &[u8], associations: &[Token], ports: &[Token]) -> Option<To
 }
 
 fn open_hint(entity: Token, port: Option<Token>) -> Hint<'static>
-    ensures { spec.hint_view result ≡ spec.open_hint entity port }
+    ensures { hint_view result ≡ spec.open_hint entity port }
 {
     match port {
         Some(port) => Hint::OpenPort(entity, port),
@@ -193,7 +230,7 @@ fn open_hint(entity: Token, port: Option<Token>) -> Hint<'static>
 
 /// Of a name at an end.
 fn other_name(before: &[Token]) -> Hint<'static>
-    ensures { spec.hint_view result ≡ spec.other_name before.now }
+    ensures { hint_view result ≡ spec.other_name before.now }
 {
     match end_word(last_two(before)) {
         Some(word) => begun_hint(last_begun(word, but_last_two(before))),
@@ -202,7 +239,7 @@ fn other_name(before: &[Token]) -> Hint<'static>
 }
 
 fn begun_hint(begun: Begun) -> Hint<'static>
-    ensures { spec.hint_view result ≡ spec.begun_hint begun }
+    ensures { hint_view result ≡ spec.begun_hint begun }
 {
     match begun {
         Begun::Unknown => Hint::Nothing,
@@ -213,7 +250,7 @@ fn begun_hint(begun: Begun) -> Hint<'static>
 
 /// Of choices, the first of which is an identifier and a literal of an enumeration.
 fn enumeration(text: &[u8], before: &[Token], from: &[Token]) -> Hint<'static>
-    ensures { spec.hint_view result ≡ spec.enumeration (with_tokens text.now before.now) from.now }
+    ensures { hint_view result ≡ spec.enumeration (with_tokens text.now before.now) from.now }
 {
     let before = Lexed {
         text,
@@ -226,7 +263,7 @@ fn enumeration(text: &[u8], before: &[Token], from: &[Token]) -> Hint<'static>
 }
 
 fn choice_hint(before: Lexed<'_>, choice: Token) -> Hint<'static>
-    ensures { spec.hint_view result ≡ spec.choice_hint (read_of before.entry) (Some choice) }
+    ensures { hint_view result ≡ spec.choice_hint (read_of before.entry) (Some choice) }
 {
     let literal = text_of(before.text, choice);
     if is_same_kind(choice.kind, TokenKind::Identifier)
@@ -240,7 +277,7 @@ fn choice_hint(before: Lexed<'_>, choice: Token) -> Hint<'static>
 
 /// Of an index behind the name at the front, or of the range in its declaration.
 fn outside<'a>(source: Lexed<'a>, before: &'a [Token], from: &'a [Token]) -> Hint<'a>
-    ensures { spec.hint_view result ≡ spec.outside (read_of source.entry) before.now from.now }
+    ensures { hint_view result ≡ spec.outside (read_of source.entry) before.now from.now }
 {
     let range = range_at(from);
     if is_empty(source.text, range) {
@@ -252,7 +289,7 @@ fn outside<'a>(source: Lexed<'a>, before: &'a [Token], from: &'a [Token]) -> Hin
 
 /// Of a range that has no element.
 fn empty_hint(range: &[Token]) -> Hint<'static>
-    ensures { spec.hint_view result ≡ spec.empty_hint range.now }
+    ensures { hint_view result ≡ spec.empty_hint range.now }
 {
     match range {
         [left, direction, right] => Hint::Empty(
@@ -266,7 +303,7 @@ fn empty_hint(range: &[Token]) -> Hint<'static>
 
 /// Of an index behind the name at the front, where its bounds are known.
 fn index_hint<'a>(source: Lexed<'a>, before: &'a [Token], from: &'a [Token]) -> Hint<'a>
-    ensures { spec.hint_view result
+    ensures { hint_view result
         ≡ spec.index_hint (read_of source.entry) before.now from.now (first_of from.now) }
 {
     match first_of(from) {
@@ -280,7 +317,7 @@ fn index_hint<'a>(source: Lexed<'a>, before: &'a [Token], from: &'a [Token]) -> 
 }
 
 fn outside_hint<'a>(name: Token, index: &'a [Token], bounds: &'a [Token]) -> Hint<'a>
-    ensures { spec.hint_view result ≡ spec.outside_hint name index.now bounds.now }
+    ensures { hint_view result ≡ spec.outside_hint name index.now bounds.now }
 {
     if index.is_empty() || bounds.is_empty() {
         Hint::Nothing
@@ -291,7 +328,7 @@ fn outside_hint<'a>(name: Token, index: &'a [Token], bounds: &'a [Token]) -> Hin
 
 /// Of an actual of another length or type than its port.
 fn actual<'a>(source: Lexed<'a>, before: &[Token], from: &[Token], subject: Subject) -> Hint<'a>
-    ensures { spec.hint_view result ≡ spec.actual (read_of source.entry) before.now from.now subject }
+    ensures { hint_view result ≡ spec.actual (read_of source.entry) before.now from.now subject }
 {
     let instance = open_instance(before);
     let is_port = ends_actual(from) && has(TokenKind::Port, instance);
@@ -310,7 +347,7 @@ fn ends_actual(from: &[Token]) -> bool
 
 /// Of two lengths that differ, or else of two types.
 fn actual_of<'a>(source: Lexed<'a>, entity: Token, port: Token, subject: Subject) -> Hint<'a>
-    ensures { spec.hint_view result ≡ spec.actual_of (read_of source.entry) entity port subject }
+    ensures { hint_view result ≡ spec.actual_of (read_of source.entry) entity port subject }
 {
     let ports = formals(true, interface_in(source, entity));
     let bounds = listed_bounds(source.text, text_of(source.text, port), ports);

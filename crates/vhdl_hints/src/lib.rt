@@ -11,6 +11,7 @@ mod bound;
 mod end_name;
 mod form;
 mod hint;
+mod misplaced;
 mod part;
 mod saying;
 mod word;

@@ -3,7 +3,7 @@
 ghost use Rattle.std.specs.Prelude.{◌≡◌};
 ghost use Rattle.byte_streams.specs.Written.{Goes};
 ghost use Rattle.vhdl_slips.specs.Words.{read_of};
-ghost use Rattle.vhdl_hints.specs.Hints.{hint_view};
+ghost use Rattle.vhdl_hints.specs.Hinted.{hint_view};
 ghost use Rattle.vhdl_hints.specs.Sayings as spec;
 
 use crate::hint::Hint;
@@ -25,6 +25,13 @@ const HELP_LENGTH: &str =
 const HELP_TYPE: &str =
     "see how the port is declared, and give a signal of that type: one element, a vector or unsigned";
 
+const HELP_COMPONENT: &str =
+    "repeat in it the generics and ports of the entity, in the same order, each with its mode, type, bounds and default";
+
+const HELP_POSITION: &str =
+    "give each by its position, in this order and no more than these, or by its name, as y => q, with names alone \
+     behind that; an actual of a port names a signal";
+
 /// What a designer does about it: in place of the usual, where a hint has a help of its own.
 pub fn help(hint: Hint<'_>, usual: &'static [u8]) -> &'static [u8]
     ensures { result.now ≡ spec.help (hint_view hint.entry) usual.now }
@@ -36,6 +43,8 @@ pub fn help(hint: Hint<'_>, usual: &'static [u8]) -> &'static [u8]
         Hint::Empty(..) => HELP_EMPTY.as_bytes(),
         Hint::Actual(..) => HELP_LENGTH.as_bytes(),
         Hint::OtherType(..) => HELP_TYPE.as_bytes(),
+        Hint::Differs(_) => HELP_COMPONENT.as_bytes(),
+        Hint::NoPosition(..) => HELP_POSITION.as_bytes(),
         _ => usual,
     }
 }
@@ -54,7 +63,7 @@ pub fn push_hint<S: Sink>(words: Lexed<'_>, hint: Hint<'_>, sink: &mut S)
         Hint::Nothing => push_parts(words, &[], sink),
         Hint::Form((said, _)) => push!(words sink: Subject Text(said)),
         Hint::NoFormal(entity, formal, is_port, formals) => push!(words sink:
-            Text("entity ") Word(entity) Text(has_no(is_port)) Word(formal) Text("; ")
+            Text("entity ") Word(entity) Text(" has no ") Text(formal_word(is_port)) Text(" ") Word(formal) Text("; ")
             Names(listing_of(is_port), formals)),
         Hint::OpenPort(entity, port) => push!(words sink:
             Subject Text("leaves open the in port ") Word(port) Text(" of entity ") Word(entity)
@@ -74,17 +83,17 @@ pub fn push_hint<S: Sink>(words: Lexed<'_>, hint: Hint<'_>, sink: &mut S)
             Word(entity) Text(" has length ") Number(needed) Bounds(bounds)),
         Hint::OtherType(entity, port) => push!(words sink:
             Subject Text("has another type than the port ") Word(port) Text(" of entity ") Word(entity)),
+        Hint::Differs(ports) => push!(words sink:
+            Subject Text("isn't declared as its entity is: ") Names(Listing::Ports, ports)),
+        Hint::NoPosition(entity, is_port, formals) => push!(words sink:
+            Subject Text("can't stand here for a ") Text(formal_word(is_port)) Text(" of entity ") Word(entity) Text("; ") Names(listing_of(is_port), formals)),
     }
 }
 
-fn has_no(is_port: bool) -> &'static str
-    ensures { result.now ≡ spec.has_no is_port }
+fn formal_word(is_port: bool) -> &'static str
+    ensures { result.now ≡ spec.formal_word is_port }
 {
-    if is_port {
-        " has no port "
-    } else {
-        " has no generic "
-    }
+    if is_port { "port" } else { "generic" }
 }
 
 fn listing_of(is_port: bool) -> Listing

@@ -2,6 +2,7 @@
 
 ghost use Rattle.std.specs.Prelude.{◌≡◌};
 ghost use Rattle.vhdl_slips.specs.Words.{read_of};
+ghost use Rattle.vhdl_hints.specs.Hinted.{hint_view};
 ghost use Rattle.vhdl_hints.specs.Hints as spec;
 
 use crate::bound::{is_declared, ports_of};
@@ -11,11 +12,18 @@ use crate::form::{
 };
 use crate::hint::Hint;
 use vhdl_lexer::{Token, TokenKind};
-use vhdl_slips::{Lexed, begins, behind_last, first_text, from, is_same_word, past};
+use vhdl_misfits::{behind_name, is_one_of};
+use vhdl_slips::{Lexed, begins, behind_last, first_text, is_same_word, past};
+
+macro_rules! kinds {
+    ($($kind:ident)+) => {
+        [$(TokenKind::$kind),+]
+    };
+}
 
 /// Of a name that is declared elsewhere.
 pub(crate) fn elsewhere(text: &[u8], before: &[Token], from: &[Token]) -> Hint<'static>
-    ensures { spec.hint_view result ≡ spec.elsewhere text.now before.now from.now }
+    ensures { hint_view result ≡ spec.elsewhere text.now before.now from.now }
 {
     let name = first_text(Lexed { text, tokens: from });
     let index = first_text(Lexed {
@@ -35,7 +43,7 @@ pub(crate) fn elsewhere(text: &[u8], before: &[Token], from: &[Token]) -> Hint<'
 
 /// Of a formal, or the name of a signal, that is given twice.
 pub(crate) fn twice(source: Lexed<'_>, before: &[Token], from: &[Token]) -> Hint<'static>
-    ensures { spec.hint_view result ≡ spec.twice (read_of source.entry) before.now from.now }
+    ensures { hint_view result ≡ spec.twice (read_of source.entry) before.now from.now }
 {
     let text = source.text;
     let name = first_text(Lexed { text, tokens: from });
@@ -53,7 +61,7 @@ pub(crate) fn twice(source: Lexed<'_>, before: &[Token], from: &[Token]) -> Hint
 
 /// Of a name with which an assignment begins.
 pub(crate) fn no_target(before: &[Token], from: &[Token]) -> Hint<'static>
-    ensures { spec.hint_view result ≡ spec.no_target before.now from.now }
+    ensures { hint_view result ≡ spec.no_target before.now from.now }
 {
     if begins_behind(last_two(before)) {
         target_hint(behind_name(from))
@@ -76,31 +84,12 @@ fn begins_behind(last_two: &[Token]) -> bool
 fn precedes_statement(kind: TokenKind) -> bool
     ensures { result ≡ spec.precedes_statement kind }
 {
-    matches!(
-        kind,
-        TokenKind::Semicolon
-            | TokenKind::Begin
-            | TokenKind::Then
-            | TokenKind::Else
-            | TokenKind::Loop
-            | TokenKind::Arrow
-    )
-}
-
-/// What stands behind the name at the front, and its index.
-fn behind_name(tokens: &[Token]) -> &[Token]
-    ensures { result.now ≡ spec.behind_name tokens.now }
-{
-    if begins(TokenKind::LeftParen, past(1, tokens)) {
-        past(1, from(TokenKind::RightParen, tokens))
-    } else {
-        past(1, tokens)
-    }
+    is_one_of(&kinds!(Semicolon Begin Then Else Loop Arrow), kind)
 }
 
 /// Of what stands behind the target.
 fn target_hint(behind: &[Token]) -> Hint<'static>
-    ensures { spec.hint_view result ≡ spec.target_hint behind.now }
+    ensures { hint_view result ≡ spec.target_hint behind.now }
 {
     if begins(TokenKind::Assign, behind) {
         Hint::Form(NO_VARIABLE)
@@ -113,7 +102,7 @@ fn target_hint(behind: &[Token]) -> Hint<'static>
 
 /// Of a string with a character that is none of the nine values.
 pub(crate) fn elements(text: &[u8], from: &[Token]) -> Hint<'static>
-    ensures { spec.hint_view result ≡ spec.elements text.now from.now }
+    ensures { hint_view result ≡ spec.elements text.now from.now }
 {
     let written = first_text(Lexed { text, tokens: from });
     if begins(TokenKind::String, from) && !are_elements(written) {

@@ -210,6 +210,12 @@ pub const SIGNED: Said = (
     "use unsigned, with the sign extended by hand",
 );
 
+/// A library, or a package of one.
+pub const LIBRARY: Said = (
+    "is no library or package that is read here",
+    "see its spelling: library ieee; use ieee.std_logic_1164.all; and use ieee.numeric_std.all; are read",
+);
+
 /// What else is left out.
 pub const OTHER: Said = (
     "is VHDL that isn't served here, or not in this place",

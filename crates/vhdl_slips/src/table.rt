@@ -2,9 +2,9 @@
 
 use crate::form::{
     ABSOLUTE, ACTUAL, AGGREGATE, ALIAS, ARRAY, ATTRIBUTE, BLOCK, Behind, CHOICE, DEFAULT, DELAY,
-    DYNAMIC_INDEX, ELEMENT, FormWord, INSTANCE, MESSAGE, MODE, NUMBER_RANGE, ORDER, OTHER_LOOP,
-    OTHER_TYPE, PACKAGE, POWER, QUALIFIED, RANGE_ATTRIBUTE, RECORD, REDUCTION, SECOND_INDEX, SHIFT,
-    SIGNED, SUBPROGRAM, SUBTYPE, VECTOR, WAIT, WHOLE_NUMBERS,
+    DYNAMIC_INDEX, ELEMENT, FormWord, INSTANCE, LIBRARY, MESSAGE, MODE, NUMBER_RANGE, ORDER,
+    OTHER_LOOP, OTHER_TYPE, PACKAGE, POWER, QUALIFIED, RANGE_ATTRIBUTE, RECORD, REDUCTION,
+    SECOND_INDEX, SHIFT, SIGNED, SUBPROGRAM, SUBTYPE, VECTOR, WAIT, WHOLE_NUMBERS,
 };
 use crate::slip::{
     ALTERNATIVE, ARROW, BEGIN, BEGIN_LINE, CASE_GENERATE, CASE_IS, CHOICE_RANGE, CHOICES, COMMA,
@@ -162,7 +162,7 @@ pub static UNREAD: [FormWord; 73] = [
 ];
 
 /// The names of packages, types and attributes that are left out.
-pub static LEFT_OUT: [FormWord; 31] = [
+pub static LEFT_OUT: [FormWord; 34] = [
     (b"", Behind::Kind(TokenKind::Arrow), ACTUAL),
     (b"", Behind::Opener(TokenKind::Map), ACTUAL),
     (b"high", Behind::Kind(TokenKind::Tick), RANGE_ATTRIBUTE),
@@ -193,5 +193,8 @@ pub static LEFT_OUT: [FormWord; 31] = [
     (b"time", Behind::Anything, OTHER_TYPE),
     (b"", Behind::Kind(TokenKind::Assign), DEFAULT),
     (b"", Behind::Kind(TokenKind::When), CHOICE),
+    (b"work", Behind::Kind(TokenKind::Use), PACKAGE),
+    (b"", Behind::Kind(TokenKind::Library), LIBRARY),
+    (b"", Behind::Kind(TokenKind::Dot), LIBRARY),
     (b"", Behind::Kind(TokenKind::Bar), CHOICE),
 ];

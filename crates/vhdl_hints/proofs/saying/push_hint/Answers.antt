@@ -16,3 +16,11 @@ returns-in-Actual g c = rw c.in-Actual.is c.push_parts-in-Actual.ensures
 
 pub returns-in-OtherType : goal.returns-in-OtherType
 returns-in-OtherType g c = rw c.in-OtherType.is c.push_parts-in-OtherType.ensures
+
+pub returns-in-Differs : goal.returns-in-Differs
+returns-in-Differs g c = rw c.in-Differs.is c.push_parts-in-Differs.ensures
+
+pub returns-in-NoPosition : goal.returns-in-NoPosition
+returns-in-NoPosition g c =
+    let parts = rw (c.formal_word-in-NoPosition.ensures, c.listing_of-in-NoPosition.ensures) at c.push_parts-in-NoPosition.ensures in
+    rw c.in-NoPosition.is parts

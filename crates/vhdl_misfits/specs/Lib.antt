@@ -1,0 +1,2 @@
+-- What is said where a type doesn't fit.
+pub mod Misfits
