@@ -1,12 +1,15 @@
 -- The program for words that are there, and for none.
-use Rattle.std.proofs.Common.{◌≡◌, ℕ, Bool, true, false, List, [], ◌∷◌, Option, length, map, refl, sym, subst, ◌∙◌, arith}
+use Rattle.std.proofs.Common.{◌≡◌, ℕ, Bool, true, false, List, [], ◌∷◌, Option, Ok, inr, length, map, refl, ap, sym, subst, ◌∙◌, arith}
 use Rattle.std.proofs.lemmas.Bool.Decides.{nat_tests}
+use Rattle.std.specs.List.{after_first}
 use Rattle.std.specs.Prelude.{◌==◌}
+use Rattle.rtl_stim_lines.specs.Lines.{ends_line}
 use Rattle.rtlsim_command_faults.specs.declared.status.Status.{Status}
 use Rattle.byte_streams.specs.Read.{ReaderState}
-use Rattle.rtlsim.specs.Inputs.{Reading}
+use Rattle.rtlsim.specs.Inputs.{GivesWhole, Reading, held}
+use Rattle.rtlsim.specs.Lines.{first_line_of}
 use Rattle.rtlsim.specs.Sinks.{Sinks}
-use Rattle.rtlsim.specs.Tools.{ServesCall, ServesFirstLine, ServesWords}
+use Rattle.rtlsim.specs.Tools.{ServesCall, ServesFirstLine, ServesLine, ServesWords}
 
 -- a test of a length
 pub is_none : (n : ℕ) (b : Bool) → b ≡ (n == 0) → b ≡ true → n ≡ 0
@@ -29,3 +32,10 @@ module _ {A : Type 0} (text : A → List ℕ) (Gives : Reading) (old new : Reade
   pub serves_some : (xs : List A) → (length xs ≡ 0 → ⊥) → ServesCall Gives (map text xs) old new outcome o → ServesWords Gives (map text xs) old new outcome o
   serves_some [] some s = absurd (some refl)
   serves_some (x ∷ xs) some s = s
+
+-- the words stand in the first line of what is read
+pub serves_first : (Gives : Reading) (old new : ReaderState) (outcome : Status) (o : Sinks) (all shown line rest left : List ℕ) → shown ≡ all → line ≡ first_line_of shown
+    → rest ≡ after_first ends_line shown → GivesWhole old new (Ok all) → ServesLine Gives line (held rest) (held left) outcome o → ServesFirstLine Gives old new outcome o
+serves_first Gives old new outcome o all shown line rest left same first others whole served =
+    let of_rest = subst (λ (r : List ℕ). ServesLine Gives line (held r) (held left) outcome o) (others ∙ ap (after_first ends_line) same) served in
+    inr (inr (all, whole, (left, subst (λ (l : List ℕ). ServesLine Gives l (held (after_first ends_line all)) (held left) outcome o) (first ∙ ap first_line_of same) of_rest)))

@@ -10,3 +10,4 @@ pub mod Halves
 pub mod Lines
 pub mod Texts
 pub mod Streams
+pub mod Orders

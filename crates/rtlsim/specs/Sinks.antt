@@ -2,7 +2,7 @@
 use Rattle.std.specs.Prelude.{◌≡◌, ℕ, Bool, true, false, ⊤, List}
 use Rattle.rtl_progress.specs.Shown.{whole_text}
 use Rattle.rtl_progress.specs.Stops.{stop_of}
-use Rattle.byte_streams.specs.Written.{SinkState, Goes}
+use Rattle.byte_streams.specs.Written.{SinkState, IsIntact, Goes}
 use Rattle.byte_streams.specs.Stands.{Stand}
 use Rattle.rtlsim_commands.specs.Served.{Outputs, both}
 
@@ -19,6 +19,10 @@ pub record Sinks : Type 0 where
 abbrev pub sinks : (out out_after err err_after progress progress_after : SinkState) → Sinks
 sinks out out_after err err_after progress progress_after =
     record { out = out; out_after = out_after; err = err; err_after = err_after; progress = progress; progress_after = progress_after }
+
+-- neither output has failed
+abbrev pub AreIntact : (out err : SinkState) → Type 0
+AreIntact out err = IsIntact out × IsIntact err
 
 -- those of a command
 abbrev pub outputs : Sinks → Outputs

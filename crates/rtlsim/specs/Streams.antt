@@ -68,8 +68,7 @@ pub record TellsMemory (result : Status) (err err_held : Option (List ℕ)) : Ty
   pub held : told.taken ≡ err_held
   pub status : result ≡ ended_by told.failed status.Memory
 
--- The program for its words, or where it has none, since they are no text or memory for them is refused. The standard input has
--- these bytes left.
+-- The program for its words, or for none, where they are no text or memory for them is refused; the standard input has these bytes left.
 abbrev pub ServesArguments : Reading → (words : Option (List (List ℕ))) → (left : Option (List ℕ)) → (outcome : Status) → Sinks → Type 0
 ServesArguments Gives None left outcome s = Silently (RefusesWords ⊤ outcome) s
 ServesArguments Gives (Some words) left outcome s =

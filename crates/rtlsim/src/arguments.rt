@@ -2,9 +2,8 @@
 
 ghost use Rattle.std.specs.Prelude.{◌≡◌, false, IfOk, List, Option, map, string_bytes, ℕ};
 ghost use Rattle.byte_streams.specs.Read.{ReaderState};
-ghost use Rattle.byte_streams.specs.Written.{IsIntact};
 ghost use Rattle.rtlsim.specs.Inputs.{GivesNamed};
-ghost use Rattle.rtlsim.specs.Sinks.{sinks};
+ghost use Rattle.rtlsim.specs.Sinks.{AreIntact, sinks};
 ghost use Rattle.rtlsim.specs.Streams.{ServesArguments};
 ghost use Rattle.rtlsim.specs.Tools.{ServesWords};
 
@@ -29,8 +28,7 @@ pub(crate) fn serve_arguments<
     E: Sink,
     G: Sink,
 >(rt: &T, reader: R, out: &mut O, err: &mut E, progress: &mut G) -> Status
-    requires out { IsIntact (O.state out.old) }
-    requires err { IsIntact (E.state err.old) }
+    requires { AreIntact (O.state out.old) (E.state err.old) }
     ensures { (words : Option (List (List ℕ)))
         × ServesArguments (GivesNamed T.File.remaining) words (R.remaining reader) result
         (sinks (O.state out.old) (O.state out.new) (E.state err.old) (E.state err.new)
@@ -57,11 +55,7 @@ fn words_of<T: Env + AllocGlobal>(rt: &T) -> Result<Vec<String>, Refused> {
         Err(error) if error.kind() == ErrorKind::OutOfMemory => return Err(Refused::NoMemory),
         Err(_) => return Err(not_text(rt.alloc())),
     };
-    let mut words = Vec::new(rt.alloc());
-    for word in args.skip(1) {
-        words.push(word)?;
-    }
-    Ok(words)
+    Ok(args.skip(1).collect(rt.alloc())?)
 }
 
 /// Does what the words ask for; without words, what the first line of the input asks for.
@@ -74,8 +68,7 @@ fn serve_words<F: Front, T: Files, R: Read + Drop, O: Sink, E: Sink, G: Sink>(
     err: &mut E,
     progress: &mut G,
 ) -> Status
-    requires out { IsIntact (O.state out.old) }
-    requires err { IsIntact (E.state err.old) }
+    requires { AreIntact (O.state out.old) (E.state err.old) }
     ensures { (after : ReaderState) × ServesWords (GivesNamed T.File.remaining) (map string_bytes args.now)
         (record { left = R.remaining reader; failed = false }) after result
         (sinks (O.state out.old) (O.state out.new) (E.state err.old) (E.state err.new)

@@ -2,13 +2,12 @@
 
 ghost use Rattle.std.specs.Prelude.{◌≡◌, ◌<◌, ◌==◌, not, filter, IfOk, IfErr, IfSome, IsUtf8, length, map, position};
 ghost use Rattle.std.specs.List.{before_first, after_first, slice_split};
-ghost use Rattle.byte_streams.specs.Written.{IsIntact};
 ghost use Rattle.rtlsim_command_line.specs.Words.{IsOfWords};
 ghost use Rattle.rtlsim.specs.Inputs.{GivesNamed, GivesStandardAlone};
 ghost use Rattle.rtl_stim_lines.specs.Lines as lines;
 ghost use Rattle.rtl_stim_lines.specs.Lines.{ends_line};
 ghost use Rattle.rtlsim.specs.Lines.{first_line_of};
-ghost use Rattle.rtlsim.specs.Sinks.{sinks};
+ghost use Rattle.rtlsim.specs.Sinks.{AreIntact, sinks};
 ghost use Rattle.rtlsim.specs.Tools.{ServesFirstLine, ServesLine, words_in};
 
 use crate::inputs::{Inputs, Named, Standard, read_input};
@@ -32,8 +31,7 @@ pub fn tool_first_line<F: Front, T: Files, R: Reader, O: Sink, E: Sink, G: Sink>
     err: &mut E,
     progress: &mut G,
 ) -> Status
-    requires out { IsIntact (O.state out.old) }
-    requires err { IsIntact (E.state err.old) }
+    requires { AreIntact (O.state out.old) (E.state err.old) }
     ensures { ServesFirstLine (GivesNamed T.File.remaining) (R.state reader.old) (R.state reader.new) result
         (sinks (O.state out.old) (O.state out.new) (E.state err.old) (E.state err.new)
         (G.state progress.old) (G.state progress.new)) }
@@ -54,18 +52,17 @@ pub fn tool_first_line<F: Front, T: Files, R: Reader, O: Sink, E: Sink, G: Sink>
 /// The same, where `@` is the only file.
 pub(crate) fn serve_reader_line<F: Front, R: Reader, O: Sink, E: Sink, G: Sink>(
     alloc: Global,
-    reader: &mut R,
+    input: &mut Standard<R>,
     out: &mut O,
     err: &mut E,
     progress: &mut G,
 ) -> Status
-    requires out { IsIntact (O.state out.old) }
-    requires err { IsIntact (E.state err.old) }
-    ensures { ServesFirstLine GivesStandardAlone (R.state reader.old) (R.state reader.new) result
+    requires { AreIntact (O.state out.old) (E.state err.old) }
+    ensures { ServesFirstLine GivesStandardAlone (R.state input.old.reader) (R.state input.new.reader) result
         (sinks (O.state out.old) (O.state out.new) (E.state err.old) (E.state err.new)
         (G.state progress.old) (G.state progress.new)) }
 {
-    match read_input(alloc, reader) {
+    match read_input(alloc, &mut input.reader) {
         Ok(all) => {
             let (line, rest) = first_line(&all);
             let mut inputs = Standard { reader: rest };
@@ -84,8 +81,7 @@ fn serve_line<F: Front, I: Inputs, O: Sink, E: Sink, G: Sink>(
     err: &mut E,
     progress: &mut G,
 ) -> Status
-    requires out { IsIntact (O.state out.old) }
-    requires err { IsIntact (E.state err.old) }
+    requires { AreIntact (O.state out.old) (E.state err.old) }
     ensures { ServesLine I.gives line.now (I.state inputs.old) (I.state inputs.new) result
         (sinks (O.state out.old) (O.state out.new) (E.state err.old) (E.state err.new)
         (G.state progress.old) (G.state progress.new)) }

@@ -1,11 +1,11 @@
 //! What is done for a call once its files are read.
 
 ghost use Rattle.std.specs.Prelude.{◌≡◌, ◌⊎◌, false, map, option_map, unwrap_or};
-ghost use Rattle.byte_streams.specs.Written.{IsIntact};
 ghost use Rattle.rtlsim.specs.Requests as requests;
-ghost use Rattle.rtlsim.specs.Served.{ServesBy, ServesTexts};
-ghost use Rattle.rtlsim.specs.Sinks.{ShowsIf, outputs, sinks};
-ghost use Rattle.rtlsim_commands.specs.Served.{both};
+ghost use Rattle.rtlsim.specs.Served.{ServesBy, ServesRun, ServesTexts};
+ghost use Rattle.rtlsim.specs.Sinks.{AreIntact, ShowsIf, outputs, sinks};
+ghost use Rattle.rtlsim_commands.specs.Served.{Serves, both};
+ghost use Rattle.rtlsim_commands.specs.Sights.{Seeing, events_of};
 ghost use Rattle.rtlsim.specs.Texts.{texts_view};
 ghost use Rattle.rtlsim.specs.Tools.{Silently, TellsInput};
 ghost use Rattle.rtlsim_command_line.specs.Words.{call_view};
@@ -13,15 +13,18 @@ ghost use Rattle.rtlsim_command_faults.specs.Lines.{memory_line};
 ghost use Rattle.rtlsim_command_faults.specs.declared.status.Status.TheVariants as status;
 
 use crate::job::Job;
+use crate::picking::Ordered;
 use crate::prepared::prepare;
 use crate::refusals::refuse_input;
-use crate::simulating::{serve_job, simulate, simulate_levels};
 use crate::texts::Texts;
 use crate::unread::ReadFault;
 use byte_streams::{Sink, Unwatched, Watch};
 use rtl_progress::{Progress, stop_of};
-use rtlsim_command_line::{Call, Request};
-use rtlsim_commands::{CheckNet, EvalNet, Form, Front, ListNet, Status, Telling, describe};
+use rtlsim_command_line::{Call, Order, Request};
+use rtlsim_commands::{
+    CheckNet, Command, Compared, EvalNet, Form, Front, ListNet, RunEvents, RunLevels, RunMachine,
+    Status, Telling, describe, serve,
+};
 use std::alloc::Global;
 
 /// Does what is asked for with what was read, or tells that memory was refused before.
@@ -33,8 +36,7 @@ pub(crate) fn perform_texts<'b, F: Front, O: Sink, E: Sink, G: Sink>(
     err: &mut E,
     progress: &mut G,
 ) -> Status
-    requires out { IsIntact (O.state out.old) }
-    requires err { IsIntact (E.state err.old) }
+    requires { AreIntact (O.state out.old) (E.state err.old) }
     ensures { let s = sinks (O.state out.old) (O.state out.new) (E.state err.old) (E.state err.new)
         (G.state progress.old) (G.state progress.new) in
         Silently (TellsInput memory_line status.Memory result) s
@@ -89,8 +91,7 @@ fn perform_shown<F: Front, O: Sink, E: Sink, G: Sink>(
     err: &mut E,
     progress: &mut G,
 ) -> Status
-    requires out { IsIntact (O.state out.old) }
-    requires err { IsIntact (E.state err.old) }
+    requires { AreIntact (O.state out.old) (E.state err.old) }
     ensures serves { let s = sinks (O.state out.old) (O.state out.new) (E.state err.old) (E.state err.new)
         (G.state progress.old) (G.state progress.new) in
         ServesBy job.now.telling.now job.now.source.now job.now.top.now result (outputs s)
@@ -116,14 +117,13 @@ fn perform_job<F: Front, V: Watch, O: Sink, E: Sink>(
     out: &mut O,
     err: &mut E,
 ) -> Status
-    requires out { IsIntact (O.state out.old) }
-    requires err { IsIntact (E.state err.old) }
+    requires { AreIntact (O.state out.old) (E.state err.old) }
     ensures { ServesBy job.now.telling.now job.now.source.now job.now.top.now result
         (both (O.state out.old) (O.state out.new) (E.state err.old) (E.state err.new))
         (λ stands. V.told watch.old stands watch.new) request
         (map (λ set. set.now) job.now.sets.now) job.now.stimulus.now (option_map (λ text. text.now) job.now.expected) }
 {
-    let telling = job.telling;
+    let (telling, stimulus, expected) = (job.telling, job.stimulus, job.expected);
     match request {
         Request::Eval => {
             let sets = job.sets;
@@ -142,6 +142,56 @@ fn perform_job<F: Front, V: Watch, O: Sink, E: Sink>(
         Request::Run { is_event, order } => {
             simulate::<F, _, _, _>(alloc, is_event, order, job, watch, out, err)
         }
-        Request::Levels => simulate_levels::<F, _, _, _>(alloc, job, watch, out, err),
+        Request::Levels => {
+            let run = RunLevels { stimulus };
+            serve_job::<F, _, _, _, _>(alloc, &mut Compared { run, expected }, job, watch, out, err)
+        }
     }
+}
+
+/// Runs a source while this watch looks on, by events alone where `is_event` says so, with its
+/// processes in this order.
+fn simulate<F: Front, V: Watch, O: Sink, E: Sink>(
+    alloc: Global,
+    is_event: bool,
+    order: Order,
+    job: &Job<'_>,
+    watch: &mut V,
+    out: &mut O,
+    err: &mut E,
+) -> Status
+    requires { AreIntact (O.state out.old) (E.state err.old) }
+    ensures { ServesRun job.now.telling.now job.now.source.now job.now.top.now result
+        (both (O.state out.old) (O.state out.new) (E.state err.old) (E.state err.new))
+        (λ stands. V.told watch.old stands watch.new) is_event job.now.stimulus.now
+        (option_map (λ text. text.now) job.now.expected) }
+{
+    let (stimulus, expected) = (job.stimulus, job.expected);
+    let pick = &mut Ordered { order };
+    if is_event {
+        let run = RunEvents { stimulus, pick };
+        serve_job::<F, _, _, _, _>(alloc, &mut Compared { run, expected }, job, watch, out, err)
+    } else {
+        let run = RunMachine { stimulus, pick };
+        serve_job::<F, _, _, _, _>(alloc, &mut Compared { run, expected }, job, watch, out, err)
+    }
+}
+
+/// Does a command on the source of a job, while this watch looks on, and tells what it answers.
+fn serve_job<F: Front, C: Command, V: Watch, O: Sink, E: Sink>(
+    alloc: Global,
+    command: &mut C,
+    job: &Job<'_>,
+    watch: &mut V,
+    out: &mut O,
+    err: &mut E,
+) -> Status
+    requires { AreIntact (O.state out.old) (E.state err.old) }
+    ensures { Serves (Seeing (C.sight command.old) (C.does command.old) (λ stands. V.told watch.old stands watch.new))
+        (record { text = C.Answer.text; status = C.Answer.said; events = events_of (C.sight command.old) })
+        job.now.telling.now job.now.source.now job.now.top.now result
+        (both (O.state out.old) (O.state out.new) (E.state err.old) (E.state err.new)) }
+{
+    let (source, top, telling) = (job.source, job.top, job.telling);
+    serve::<F, _, _, _, _>(alloc, source, top, telling, command, watch, out, err)
 }

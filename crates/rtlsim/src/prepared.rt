@@ -10,6 +10,7 @@ use std::alloc::{AllocError, Global};
 use vhdl_source_files::{SourceFile, joined};
 
 /// The files of a source, and the words that set inputs as bytes.
+#[derive(Drop)]
 pub(crate) struct Prepared<'a> {
     /// The files of the source, in order.
     pub files: Vec<SourceFile<'a>>,
@@ -18,21 +19,7 @@ pub(crate) struct Prepared<'a> {
     pub sets: Vec<&'a [u8]>,
 }
 
-impl Drop for Prepared<'_> {
-    fn drop(self) {
-        let Prepared {
-            files: _,
-            joined: _,
-            sets: _,
-        } = self;
-    }
-}
-
 impl Prepared<'_> {
-    ghost use Rattle.std.specs.Prelude.{◌≡◌, map};
-    ghost use Rattle.rtlsim.specs.Texts.{source_by};
-    ghost use Rattle.vhdl_source_files.specs.Files.{file_view};
-
     /// The text of the source.
     pub(crate) fn source(&self) -> &[u8]
         ensures { result.now ≡ source_by self.now.joined.items (map file_view self.now.files.items) }

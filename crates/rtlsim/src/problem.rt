@@ -43,7 +43,7 @@ impl InputProblem {
 
     /// What is said of it, behind the input's name.
     pub(crate) fn reason(self) -> &'static str
-        ensures { result.now ≡ unread.reason_of self }
+        ensures { result.now ≡ (unread.said_of self).0 }
     {
         match self {
             InputProblem::Missing => "there is no file of this name",
@@ -58,7 +58,7 @@ impl InputProblem {
 
     /// What is to be done about it.
     pub(crate) fn help(self) -> &'static str
-        ensures { result.now ≡ unread.help_of self }
+        ensures { result.now ≡ (unread.said_of self).1 }
     {
         match self {
             InputProblem::Missing =>

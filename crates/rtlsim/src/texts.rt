@@ -6,6 +6,7 @@ ghost use Rattle.rtlsim.specs.Reads.{GivesAll, GivesBoth, GivesMain, GivesMaybe,
 ghost use Rattle.rtlsim.specs.Texts.{read_view, texts_of, texts_view};
 ghost use Rattle.rtlsim.specs.Unread.{Unread, unread_of};
 ghost use Rattle.rtlsim_command_line.specs.Words.{call_view};
+ghost use Rattle.vhdl_source_files.specs.Files.{file_view};
 
 use crate::halves::halves_at_line;
 use crate::inputs::Inputs;
@@ -15,6 +16,7 @@ use std::alloc::Global;
 use vhdl_source_files::SourceFile;
 
 /// What was read for a call.
+#[derive(Drop)]
 pub(crate) struct Texts<'a> {
     /// The files whose texts stand before the source's, in order.
     pub before: Vec<ReadFile<'a>>,
@@ -26,30 +28,15 @@ pub(crate) struct Texts<'a> {
     pub expected: Option<Vec<u8>>,
 }
 
-impl Drop for Texts<'_> {
-    fn drop(self) {
-        let Texts {
-            before: _,
-            file: _,
-            main: _,
-            expected: _,
-        } = self;
-    }
-}
-
 /// A file and its bytes.
+#[derive(Drop)]
 pub(crate) struct ReadFile<'a> {
     pub name: &'a str,
     pub text: Vec<u8>,
 }
 
-impl Drop for ReadFile<'_> {
-    fn drop(self) {
-        let ReadFile { name: _, text: _ } = self;
-    }
-}
-
 /// A source, and a stimulus if there is one.
+#[derive(Drop)]
 pub(crate) enum Main {
     /// The source alone.
     Alone(Vec<u8>),
@@ -59,23 +46,7 @@ pub(crate) enum Main {
     Together(Vec<u8>),
 }
 
-impl Drop for Main {
-    fn drop(self) {
-        match self {
-            Main::Alone(_) => {}
-            Main::Apart {
-                source: _,
-                stimulus: _,
-            } => {}
-            Main::Together(_) => {}
-        }
-    }
-}
-
 impl Texts<'_> {
-    ghost use Rattle.std.specs.Prelude.{◌≡◌, option_map};
-    ghost use Rattle.rtlsim.specs.Texts.{texts_view};
-
     /// What is expected of a run, if that is given.
     pub(crate) fn expected(&self) -> Option<&[u8]>
         ensures { option_map (λ text. text.now) result ≡ (texts_view self.now).expected }
@@ -88,9 +59,6 @@ impl Texts<'_> {
 }
 
 impl Main {
-    ghost use Rattle.std.specs.Prelude.{◌≡◌};
-    ghost use Rattle.rtlsim.specs.Texts.{texts_of};
-
     /// The text of the source, and that of the stimulus, which is empty where there is none.
     pub(crate) fn texts(&self) -> (&[u8], &[u8])
         ensures source { result.0.now ≡ (texts_of self.now).0 }
@@ -105,10 +73,6 @@ impl Main {
 }
 
 impl ReadFile<'_> {
-    ghost use Rattle.std.specs.Prelude.{◌≡◌};
-    ghost use Rattle.rtlsim.specs.Texts.{read_view};
-    ghost use Rattle.vhdl_source_files.specs.Files.{file_view};
-
     /// Its name and bytes.
     pub(crate) fn file(&self) -> SourceFile<'_>
         ensures { file_view result ≡ read_view self.now }

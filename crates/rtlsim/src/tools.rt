@@ -3,9 +3,8 @@
 ghost use Rattle.std.specs.Prelude.{◌≡◌, map};
 ghost use Rattle.rtlsim_command_faults.specs.Status.{code_of};
 ghost use Rattle.rtlsim_command_faults.specs.declared.status.Status.{Status};
-ghost use Rattle.byte_streams.specs.Written.{IsIntact};
 ghost use Rattle.rtlsim.specs.Inputs.{GivesStandardAlone};
-ghost use Rattle.rtlsim.specs.Sinks.{sinks};
+ghost use Rattle.rtlsim.specs.Sinks.{AreIntact, sinks};
 ghost use Rattle.rtlsim.specs.Tools.{Performs, ServesCall, ServesWords};
 ghost use Rattle.rtlsim_command_line.specs.Words.{call_view};
 
@@ -30,8 +29,7 @@ pub fn tool<F: Front, R: Reader, O: Sink, E: Sink, G: Sink>(
     err: &mut E,
     progress: &mut G,
 ) -> u8
-    requires out { IsIntact (O.state out.old) }
-    requires err { IsIntact (E.state err.old) }
+    requires { AreIntact (O.state out.old) (E.state err.old) }
     ensures { (outcome : Status) × (result ≡ code_of outcome)
         × ServesWords GivesStandardAlone (map (λ word. word.now) words.now) (R.state input.old.reader)
         (R.state input.new.reader) outcome
@@ -39,13 +37,7 @@ pub fn tool<F: Front, R: Reader, O: Sink, E: Sink, G: Sink>(
         (G.state progress.old) (G.state progress.new)) }
 {
     if words.is_empty() {
-        return serve_reader_line::<F, _, _, _, _>(
-            alloc,
-            &mut input.reader,
-            out,
-            err,
-            progress,
-        ).code();
+        return serve_reader_line::<F, _, _, _, _>(alloc, input, out, err, progress).code();
     }
     tool_with::<F, _, _, _, _>(alloc, words, input, out, err, progress).code()
 }
@@ -63,8 +55,7 @@ pub fn tool_with<F: Front, I: Inputs, O: Sink, E: Sink, G: Sink>(
     err: &mut E,
     progress: &mut G,
 ) -> Status
-    requires out { IsIntact (O.state out.old) }
-    requires err { IsIntact (E.state err.old) }
+    requires { AreIntact (O.state out.old) (E.state err.old) }
     ensures { ServesCall I.gives (map (λ word. word.now) words.now) (I.state inputs.old) (I.state inputs.new) result
         (sinks (O.state out.old) (O.state out.new) (E.state err.old) (E.state err.new)
         (G.state progress.old) (G.state progress.new)) }
@@ -88,8 +79,7 @@ pub fn perform<F: Front, I: Inputs, O: Sink, E: Sink, G: Sink>(
     err: &mut E,
     progress: &mut G,
 ) -> Status
-    requires out { IsIntact (O.state out.old) }
-    requires err { IsIntact (E.state err.old) }
+    requires { AreIntact (O.state out.old) (E.state err.old) }
     ensures { Performs I.gives (call_view call.now) (I.state inputs.old) (I.state inputs.new) result
         (sinks (O.state out.old) (O.state out.new) (E.state err.old) (E.state err.new)
         (G.state progress.old) (G.state progress.new)) }

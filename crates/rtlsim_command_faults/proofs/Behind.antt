@@ -4,7 +4,7 @@ use Rattle.std.proofs.lemmas.Bool.Decides.{nat_tests}
 use Rattle.std.specs.Global.{Vec}
 use Rattle.std.specs.Prelude.{IsErrAnd, is_ok}
 use Rattle.rtlsim_refusals.specs.Explained.{Told}
-use Rattle.rtlsim_command_faults.specs.Further.{Asked, Found, Further, HasNames, NamesBehind, Reads, Tells, before, ended, name_told}
+use Rattle.rtlsim_command_faults.specs.Further.{Asked, Found, Further, NamesBehind, Reads, Tells, before, ended, name_told}
 use Rattle.rtlsim_command_faults.specs.Behind as behind
 use Rattle.rtlsim_command_faults.specs.Next.{Adds, Finds}
 use Rattle.rtlsim_command_faults.specs.declared.faults.Fault.{Fault}
@@ -19,34 +19,7 @@ use Rattle.vhdl_names_further.specs.Known.{is_known}
 use Rattle.vhdl_names_further.specs.Taken.{past}
 use Rattle.vhdl_names_rules.specs.declared.fault.NameFault.{NameFault}
 use Rattle.vhdl_parser.specs.declared.fault.SyntaxFault.{SyntaxFault}
-use Rattle.vhdl_front_rules.specs.Refusals.{Refuses}
 use Rattle.vhdl_front_rules.specs.declared.fault.SourceFault.TheVariants.{Name}
-
--- ---- what is found in what is left of the source: a fault, nothing, or that memory is refused
-
-abbrev pub FindsFault : (top : List ℕ) → Option (List ℕ) → (next : List ℕ) → NameFault → Type 0
-FindsFault top None next other = ⊥
-FindsFault top (Some left) next other = (next ≡ left) × Refuses left top (Name other)
-
-abbrev pub FindsNothing : (top : List ℕ) → Option (List ℕ) → Type 0
-FindsNothing top None = Unit {0}
-FindsNothing top (Some left) = HasNames left top
-
-abbrev pub FindsNoMemory : Option (List ℕ) → Type 0
-FindsNoMemory None = ⊥
-FindsNoMemory (Some left) = Unit {0}
-
-pub as_fault : (top : List ℕ) (p : Option (List ℕ)) (v : Vec ℕ) (other : NameFault) → Finds top p (n.Found v other) → FindsFault top p v.items other
-as_fault top None v other finds = finds
-as_fault top (Some left) v other finds = finds
-
-pub as_nothing : (top : List ℕ) (p : Option (List ℕ)) → Finds top p n.Nothing → FindsNothing top p
-as_nothing top None finds = finds
-as_nothing top (Some left) finds = finds
-
-pub as_no_memory : (top : List ℕ) (p : Option (List ℕ)) → Finds top p n.NoMemory → FindsNoMemory p
-as_no_memory top None finds = finds
-as_no_memory top (Some left) finds = finds
 
 -- ---- counts
 
@@ -59,20 +32,20 @@ less n = omega arith
 -- ---- what is left is read
 
 module _ (top : List ℕ) (So : List ℕ → NameFault → Type 0) where
-  reads_fault : (p : Option (List ℕ)) (found : Found) (next : List ℕ) (other : NameFault) → FindsFault top p next other → So next other → Reads top So p found
+  reads_fault : (p : Option (List ℕ)) (found : Found) (next : Vec ℕ) (other : NameFault) → Finds top p (n.Found next other) → So next.items other → Reads top So p found
   reads_fault None found next other finds so = absurd finds
   reads_fault (Some left) found next other finds so = inr (inr (other, finds.1, rw (← finds.0) so))
 
-  reads_nothing : (p : Option (List ℕ)) → FindsNothing top p → Reads top So p (ended end.Whole)
+  reads_nothing : (p : Option (List ℕ)) → Finds top p n.Nothing → Reads top So p (ended end.Whole)
   reads_nothing None finds = refl
   reads_nothing (Some left) finds = inr (inl (finds, refl))
 
-  reads_no_memory : (p : Option (List ℕ)) → FindsNoMemory p → Reads top So p (ended end.NoMemory)
+  reads_no_memory : (p : Option (List ℕ)) → Finds top p n.NoMemory → Reads top So p (ended end.NoMemory)
   reads_no_memory None finds = absurd finds
   reads_no_memory (Some left) finds = inl refl
 
   -- memory to tell of the fault is refused
-  reads_untold : (p : Option (List ℕ)) (next : List ℕ) (other : NameFault) → FindsFault top p next other → Reads top So p (ended end.NoMemory)
+  reads_untold : (p : Option (List ℕ)) (next : Vec ℕ) (other : NameFault) → Finds top p (n.Found next other) → Reads top So p (ended end.NoMemory)
   reads_untold None next other finds = absurd finds
   reads_untold (Some left) next other finds = inl refl
 
@@ -108,43 +81,43 @@ module _ (a : Asked) (more : ℕ) (left : List ℕ) (fault : NameFault) (told : 
   behind_last zero none = adds_none (Further a zero more left fault) told end.More refl
   behind_last (suc steps) none = absurd (true≢false (sym none ∙ suc_some steps))
 
-  pub behind_nothing : (steps : ℕ) → (steps == 0) ≡ false → FindsNothing a.top (past a.source a.tokens left fault) → Adds (Further a steps more left fault) told told end.Whole
+  pub behind_nothing : (steps : ℕ) → (steps == 0) ≡ false → Finds a.top (past a.source a.tokens left fault) n.Nothing → Adds (Further a steps more left fault) told told end.Whole
   behind_nothing zero some finds = absurd (true≢false some)
   behind_nothing (suc steps) some finds = adds_none (Further a (suc steps) more left fault) told end.Whole (reads_nothing a.top _ (past a.source a.tokens left fault) finds)
 
-  pub behind_no_memory : (steps : ℕ) → (steps == 0) ≡ false → FindsNoMemory (past a.source a.tokens left fault) → Adds (Further a steps more left fault) told told end.NoMemory
+  pub behind_no_memory : (steps : ℕ) → (steps == 0) ≡ false → Finds a.top (past a.source a.tokens left fault) n.NoMemory → Adds (Further a steps more left fault) told told end.NoMemory
   behind_no_memory zero some finds = absurd (true≢false some)
   behind_no_memory (suc steps) some finds =
       adds_none (Further a (suc steps) more left fault) told end.NoMemory (reads_no_memory a.top _ (past a.source a.tokens left fault) finds)
 
-module _ (a : Asked) (more : ℕ) (left next : List ℕ) (fault other : NameFault) (old new : List Told) (e : End) where
+module _ (a : Asked) (more : ℕ) (left : List ℕ) (next : Vec ℕ) (fault other : NameFault) (old new : List Told) (e : End) where
   -- a fault whose cause is told already
-  pub behind_known : (steps : ℕ) → (steps == 0) ≡ false → FindsFault a.top (past a.source a.tokens left fault) next other → is_known a.source a.tokens next other ≡ true
-      → Adds (Further a (steps - 1) more next other) old new e → Adds (Further a steps more left fault) old new e
+  pub behind_known : (steps : ℕ) → (steps == 0) ≡ false → Finds a.top (past a.source a.tokens left fault) (n.Found next other) → is_known a.source a.tokens next.items other ≡ true
+      → Adds (Further a (steps - 1) more next.items other) old new e → Adds (Further a steps more left fault) old new e
   behind_known zero some finds known adds = absurd (true≢false some)
   behind_known (suc steps) some finds known adds =
-      adds_so (Further a (suc steps - 1) more next other) (Further a (suc steps) more left fault) old new e
+      adds_so (Further a (suc steps - 1) more next.items other) (Further a (suc steps) more left fault) old new e
       (λ found is.
       reads_fault a.top _ (past a.source a.tokens left fault) found next other finds
-      (tells_known more (name_told a other) _ _ found known (subst (λ (k : ℕ). Further a k more next other found) (less steps) is)))
+      (tells_known more (name_told a other) _ _ found known (subst (λ (k : ℕ). Further a k more next.items other found) (less steps) is)))
       adds
 
   -- one is told, and then the others
-  pub behind_one : (steps : ℕ) (between : List Told) → (steps == 0) ≡ false → FindsFault a.top (past a.source a.tokens left fault) next other
-      → is_known a.source a.tokens next other ≡ false → (more == 0) ≡ false → between ≡ old ++ name_told a other
-      → Adds (Further a (steps - 1) (more - 1) next other) between new e → Adds (Further a steps more left fault) old new e
+  pub behind_one : (steps : ℕ) (between : List Told) → (steps == 0) ≡ false → Finds a.top (past a.source a.tokens left fault) (n.Found next other)
+      → is_known a.source a.tokens next.items other ≡ false → (more == 0) ≡ false → between ≡ old ++ name_told a other
+      → Adds (Further a (steps - 1) (more - 1) next.items other) between new e → Adds (Further a steps more left fault) old new e
   behind_one zero between some finds known enough grown adds = absurd (true≢false some)
   behind_one (suc steps) between some finds known enough grown adds = record {
     found = before (name_told a other) adds.found;
     is = reads_fault a.top _ (past a.source a.tokens left fault) _ next other finds
-        (tells_one _ more (name_told a other) _ adds.found known enough (subst (λ (k : ℕ). Further a k (more - 1) next other adds.found) (less steps) adds.is));
+        (tells_one _ more (name_told a other) _ adds.found known enough (subst (λ (k : ℕ). Further a k (more - 1) next.items other adds.found) (less steps) adds.is));
     grown = adds.grown ∙ ap (λ (told : List Told). told ++ adds.found.told) grown ∙ append_assoc old (name_told a other) adds.found.told;
     ends = adds.ends;
   }
 
-module _ (a : Asked) (more : ℕ) (left next : List ℕ) (fault other : NameFault) (told : List Told) where
+module _ (a : Asked) (more : ℕ) (left : List ℕ) (next : Vec ℕ) (fault other : NameFault) (told : List Told) where
   -- no more faults are told
-  pub behind_full : (steps : ℕ) → (steps == 0) ≡ false → FindsFault a.top (past a.source a.tokens left fault) next other → is_known a.source a.tokens next other ≡ false
+  pub behind_full : (steps : ℕ) → (steps == 0) ≡ false → Finds a.top (past a.source a.tokens left fault) (n.Found next other) → is_known a.source a.tokens next.items other ≡ false
       → (more == 0) ≡ true → Adds (Further a steps more left fault) told told end.More
   behind_full zero some finds known none = absurd (true≢false some)
   behind_full (suc steps) some finds known none =
@@ -152,7 +125,7 @@ module _ (a : Asked) (more : ℕ) (left next : List ℕ) (fault other : NameFaul
       (reads_fault a.top _ (past a.source a.tokens left fault) _ next other finds (tells_last _ more (name_told a other) _ known none))
 
   -- memory to tell one is refused
-  pub behind_untold : (steps : ℕ) → (steps == 0) ≡ false → FindsFault a.top (past a.source a.tokens left fault) next other → Adds (Further a steps more left fault) told told end.NoMemory
+  pub behind_untold : (steps : ℕ) → (steps == 0) ≡ false → Finds a.top (past a.source a.tokens left fault) (n.Found next other) → Adds (Further a steps more left fault) told told end.NoMemory
   behind_untold zero some finds = absurd (true≢false some)
   behind_untold (suc steps) some finds =
       adds_none (Further a (suc steps) more left fault) told end.NoMemory (reads_untold a.top _ (past a.source a.tokens left fault) next other finds)

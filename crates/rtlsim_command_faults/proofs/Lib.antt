@@ -1,7 +1,6 @@
 pub mod Refused
 pub mod Told
 pub mod Places
-pub mod Parts
 pub mod Names
 pub mod Behind
 pub mod Grammar

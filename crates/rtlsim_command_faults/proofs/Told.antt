@@ -1,6 +1,6 @@
 -- What is told of a fault.
 use Rattle.std.proofs.Common.{◌≡◌, ℕ, Bool, true, false, List, [], ◌++◌, Option, Some, None, inl, inr, length, Result, Ok, Err, refl, ap, sym, ◌∙◌, subst, append-nil, true≢false}
-use Rattle.std.specs.Prelude.{IfErr, IsErrAnd, if◌then◌else◌}
+use Rattle.std.specs.Prelude.{OnErr, if◌then◌else◌}
 use Rattle.rtl_net.specs.Nets.{NetlistView}
 use Rattle.fault_rules.specs.declared.report.Report.{Report}
 use Rattle.byte_streams.proofs.Writing.{Goes-append}
@@ -17,34 +17,16 @@ use Rattle.rtlsim_command_faults.specs.declared.faults.Fault.TheVariants as f
 use Rattle.rtlsim_command_faults.specs.declared.status.Status.{Status}
 use Rattle.rtlsim_command_faults.specs.declared.status.Status.TheVariants as status
 use Rattle.rtlsim_command_faults.specs.declared.telling.Telling.{Telling}
-use Rattle.std.proofs.Math.Seq.{take-length}
 use Rattle.vhdl_source_files.specs.Files.{FileView}
-use Rattle.rtlsim_listing.specs.Printing.{IsListed}
-use Rattle.rtlsim_listing.specs.declared.fault.ListingFault.{ListingFault}
-use Rattle.rtlsim_listing.specs.declared.fault.ListingFault.TheVariants as listing
 use Rattle.vhdl_expand_rules.specs.declared.fault.ElabFault.{ElabFault}
 use Rattle.vhdl_lexer.specs.declared.fault.LexFault.{LexFault}
 use Rattle.vhdl_names_rules.specs.declared.fault.NameFault.{NameFault}
 use Rattle.vhdl_parser.specs.declared.fault.SyntaxFault.{SyntaxFault}
-use Rattle.byte_streams.specs.Written.{SinkState, IsIntact, HasFailed, TakesAll, TakesBeginning, Goes}
-
--- the whole text, to a sink that was intact
-pub goes_whole : (old new : SinkState) (text : List ℕ) → IsIntact old → TakesAll old new text → Goes old new text
-goes_whole old new text intact all = record {
-  whole = λ ok. (intact, all);
-  beginning = λ ok. (length text, rw (take-length text) all);
-  nothing = λ failed. absurd (true≢false (sym failed ∙ intact));
-}
+use Rattle.byte_streams.specs.Written.{SinkState, TakesBeginning, Goes}
 
 -- a text that is the same
 pub goes_along : (old new : SinkState) (x y : List ℕ) → x ≡ y → Goes old new x → Goes old new y
 goes_along old new x y e h = subst (λ (t : List ℕ). Goes old new t) e h
-
--- a listing that a sink ended
-pub listed_failed : (result : Result (Unit {0}) ListingFault) (old new : SinkState) (text : List ℕ) → IsErrAnd result (λ f. f ≡ listing.Write) → HasFailed new → TakesBeginning old new text
-    → IsListed result old new text
-listed_failed (Ok x) old new text h failed part = absurd h
-listed_failed (Err f) old new text h failed part = rw h (failed, part)
 
 -- ---- faults whose source isn't read, and those whose source is
 
@@ -90,9 +72,9 @@ pub named_by : (fault : StimFault) → tells_race (stim_report fault) ≡ true �
 named_by (stim.Race time input clock) race = refl
 named_by _ race = absurd (true≢false (sym race))
 
-pub named_along : {T : Type 0} (r : Result T ListingFault) (P Q : Type 0) → (P → Q) → IfErr r (λ e. e ≡ listing.Memory → P) → IfErr r (λ e. e ≡ listing.Memory → Q)
+pub named_along : {T E : Type 0} (r : Result T E) (P Q : Type 0) → (P → Q) → OnErr r P → OnErr r Q
 named_along (Ok x) P Q so h = tt
-named_along (Err e) P Q so h = λ is. so (h is)
+named_along (Err e) P Q so h = so h
 
 -- a fault of a stimulus without names
 pub nameless_stim : (files : List FileView) (net : NetlistView) (fault : StimFault) → has_names (f.Stim fault) ≡ false
@@ -147,14 +129,6 @@ module _ (telling : Telling) (net : NetlistView) (fault : Fault) (old between ne
   )
 
 -- ---- faults that may have names
-
--- a sink that failed on the way took a beginning
-pub goes_failed : (old new : SinkState) (text : List ℕ) → IsIntact old → HasFailed new → TakesBeginning old new text → Goes old new text
-goes_failed old new text intact failed part = record {
-  whole = λ ok. absurd (true≢false (sym failed ∙ ok));
-  beginning = λ _. part;
-  nothing = λ fails. absurd (true≢false (sym fails ∙ intact));
-}
 
 module _ (telling : Telling) (net : NetlistView) (fault : Fault) (old between new : SinkState) (outcome : Status) where
   pub named_whole : is_of_names fault ≡ true → Goes old new (told telling unread net fault) → outcome ≡ status_of fault → TellsFault telling net fault old new outcome

@@ -1,6 +1,6 @@
 -- What was expected at a token of a source that the parser refuses.
 use Rattle.std.specs.Prelude.{◌≡◌, ℕ, Option, Some, None}
-use Rattle.fault_rules.specs.declared.grammar.SyntaxRule.TheVariants as grammar
+use Rattle.fault_rules.specs.declared.source.SyntaxRule.TheVariants as grammar
 use Rattle.fault_rules.specs.declared.report.Place.{Place}
 use Rattle.fault_rules.specs.declared.report.Place.TheVariants.{Byte}
 use Rattle.fault_rules.specs.declared.report.Report.{Report}

@@ -4,8 +4,6 @@ use Rattle.rtlsim_command_faults.specs.declared.faults.Fault.{Fault}
 use Rattle.rtlsim_command_faults.specs.declared.faults.Fault.TheVariants.{Lex, Syntax, Name, Elab, Rejected, Stim, Expect, Differs, NoSettling, Memory, Output}
 use Rattle.rtlsim_command_faults.specs.declared.status.Status.{Status}
 use Rattle.rtlsim_command_faults.specs.declared.status.Status.TheVariants as status
-use Rattle.rtlsim_listing.specs.declared.fault.ListingFault.{ListingFault}
-use Rattle.rtlsim_listing.specs.declared.fault.ListingFault.TheVariants as listing
 use Rattle.rtl_expect.specs.declared.faults.ExpectFault.{ExpectFault}
 use Rattle.rtl_expect.specs.declared.faults.ExpectFault.TheVariants as expect
 use Rattle.rtl_run.specs.declared.fault.MachineFault.{MachineFault}
@@ -46,10 +44,6 @@ of_machine (machine.Rejected faults) = Rejected faults
 of_machine (machine.Stim fault) = Stim fault
 of_machine machine.Memory = Memory
 of_machine machine.Output = Output
-
-abbrev pub of_listing : ListingFault → Fault
-of_listing listing.Memory = Memory
-of_listing listing.Write = Output
 
 abbrev pub status_of : Fault → Status
 status_of (Lex lex.NoMemory) = status.Memory

@@ -2,9 +2,8 @@
 use Rattle.std.specs.Prelude.{ℕ, Option, Some, None}
 use Rattle.rtl_expect.specs.declared.faults.ExpectFault.{ExpectFault}
 use Rattle.rtl_expect.specs.declared.faults.ExpectFault.TheVariants as expect
-use Rattle.rtl_expect.specs.BrokenRules as expected
-use Rattle.fault_rules.specs.declared.grammar.SyntaxRule.TheVariants as grammar
-use Rattle.fault_rules.specs.declared.lexing.LexRule.TheVariants as lexing
+use Rattle.fault_rules.specs.declared.source.SyntaxRule.TheVariants as grammar
+use Rattle.fault_rules.specs.declared.source.LexRule.TheVariants as lexing
 use Rattle.fault_rules.specs.declared.report.Place.TheVariants.{Byte, Line, Nowhere, Time}
 use Rattle.fault_rules.specs.declared.report.Report.{Report}
 use Rattle.fault_rules.specs.declared.report.Rule.{Rule}
@@ -15,7 +14,6 @@ use Rattle.fault_rules.specs.declared.settling.RunRule.TheVariants.{NoSettling}
 use Rattle.fault_rules.specs.declared.stimuli.StimRule.TheVariants as stimuli
 use Rattle.rtl_stim_lines.specs.declared.faults.StimFault.{StimFault}
 use Rattle.rtl_stim_lines.specs.declared.faults.StimFault.TheVariants as stim
-use Rattle.rtl_stim_lines.specs.BrokenRules as stimulus
 use Rattle.vhdl_expand_rules.specs.declared.fault.ElabFault.{ElabFault}
 use Rattle.vhdl_expand_rules.specs.declared.fault.ElabFault.TheVariants as elab
 use Rattle.vhdl_expand_rules.specs.declared.fault.ElabProblem.{ElabProblem}
@@ -65,13 +63,13 @@ elab_report elab.NoMemory = None
 -- ---- a stimulus, expected values and a run
 
 abbrev pub stim_report : StimFault → Option Report
-stim_report (stim.InLine problem line) = Some (record { rule = rule.Stim (stimulus.rule_of problem); place = Line line; subject = Nothing })
+stim_report (stim.InLine its_rule line) = Some (record { rule = rule.Stim its_rule; place = Line line; subject = Nothing })
 stim_report stim.NoStop = Some (record { rule = rule.Stim stimuli.NoStop; place = Nowhere; subject = Nothing })
 stim_report (stim.Race time input clock) = Some (record { rule = rule.Stim stimuli.Race; place = Time time; subject = Race input clock })
 stim_report stim.NoMemory = None
 
 abbrev pub expect_report : ExpectFault → Option Report
-expect_report (expect.InLine problem line) = Some (record { rule = rule.Expect (expected.rule_of problem); place = Line line; subject = Nothing })
+expect_report (expect.InLine its_rule line) = Some (record { rule = rule.Expect its_rule; place = Line line; subject = Nothing })
 expect_report expect.NoMemory = None
 
 -- a moment that doesn't settle

@@ -35,8 +35,7 @@ pub record TellsWhole (telling : Telling) (net : NetlistView) (fault : Fault) (o
   pub is : telling.explains ≡ true → is_read fault ≡ true → IsRead (files_of telling) (source_report fault) read
   pub goes : Goes old new (told telling read net fault)
 
--- The fault is told, with the netlist's names; or, where memory for its names is refused, a beginning of that,
--- and then the refusal.
+-- The fault is told, with the netlist's names; or, where memory for its names is refused, a beginning of that, and then the refusal.
 pub record TellsInPart (telling : Telling) (net : NetlistView) (fault : Fault) (old new : SinkState) : Type 0 where
   pub named : takes_memory fault ≡ true
   pub between : SinkState

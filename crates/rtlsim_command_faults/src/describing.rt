@@ -2,7 +2,6 @@
 
 ghost use Rattle.std.specs.Prelude.{◌≡◌, ◌⊎◌, IfOk, map, option_map};
 ghost use Rattle.rtlsim_refusals.specs.Explained.{told_of_refusal, told_view};
-ghost use Rattle.rtlsim_command_faults.specs.Faults.{of_source};
 ghost use Rattle.rtlsim_command_faults.specs.Further.{told_by};
 ghost use Rattle.rtlsim_command_faults.specs.Refusal as spec;
 ghost use Rattle.vhdl_source_files.specs.Files.{file_view};

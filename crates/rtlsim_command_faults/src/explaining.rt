@@ -1,26 +1,24 @@
 //! What stands below the lines of a fault.
 
-ghost use Rattle.std.specs.Prelude.{◌≡◌, [], if◌then◌else◌, false, true, IfErr, map};
-ghost use Rattle.byte_streams.specs.Written.{Goes, IsIntact};
+ghost use Rattle.std.specs.Prelude.{◌≡◌, [], if◌then◌else◌, false, true, OnErr, map};
+ghost use Rattle.byte_streams.specs.Written.{Goes};
 ghost use Rattle.vhdl_slips.specs.Words.{read_of};
 ghost use Rattle.rtlsim_command_faults.specs.Explanations as spec;
 ghost use Rattle.rtlsim_command_faults.specs.Faults.{is_of_names, takes_memory};
 ghost use Rattle.rtlsim_command_faults.specs.Told.{Explains, ExplainsRead};
 ghost use Rattle.vhdl_source_files.specs.Files.{file_view};
-ghost use Rattle.rtlsim_listing.specs.Printing.{IsListed};
+ghost use Rattle.rtlsim_listing.specs.Printing.{Prints};
 ghost use Rattle.vhdl_expected.specs.Told.{expected_of};
-ghost use Rattle.rtlsim_listing.specs.declared.fault.ListingFault.TheVariants.{Memory};
 
 use crate::expecting::expected_by;
 use crate::faults::Fault;
 use crate::reports::{elab_report, lex_report, name_report, stim_report, syntax_report};
-use crate::telling::Telling;
-use byte_streams::{Sink, finish, push_text};
+use crate::telling::{Site, Telling};
+use byte_streams::{Sink, push_text};
 use fault_rules::Report;
-use rtl_net::Net;
+use rtl_net::NoMemory;
 use rtl_stim::StimFault;
 use rtlsim_findings_text::explain_rejection;
-use rtlsim_listing::ListingFault;
 use rtlsim_refusals::{Lexed, explain_refusal, explain_source, explain_stim, explain_unsettled};
 use std::alloc::Global;
 use vhdl_expected::Expected;
@@ -29,64 +27,55 @@ use vhdl_source_files::{SourceFile, joined, source_name};
 
 /// Explains a fault of the checker or of a stimulus, where that is asked for.
 pub(crate) fn explain_fault<S: Sink>(
-    alloc: Global,
-    telling: &Telling<'_>,
-    net: &Net,
+    site: &Site<'_>,
     fault: &Fault,
     sink: &mut S,
-) -> Result<(), ListingFault>
-    requires intact { IsIntact (S.state sink.old) }
+) -> Result<(), NoMemory>
     requires names { is_of_names fault.now ≡ true }
-    ensures listed { IsListed result (S.state sink.old) (S.state sink.new)
-        (if telling.now.explains then spec.explanation telling.now spec.unread net.now fault.now else []) }
-    ensures named { IfErr result (λ e. e ≡ Memory → takes_memory fault.now ≡ true) }
+    ensures printed { Prints result (S.state sink.old) (S.state sink.new)
+        (if site.now.telling.now.explains then spec.explanation site.now.telling.now spec.unread site.now.net.now fault.now
+        else []) }
+    ensures named { OnErr result (takes_memory fault.now ≡ true) }
 {
-    if telling.explains {
-        push_explanation(alloc, telling, net, fault, sink)
+    if site.telling.explains {
+        explain_named(site, fault, sink)
     } else {
-        Ok(finish(sink)?)
+        Ok(())
     }
 }
 
-/// Writes the explanation of a fault of the checker or of a stimulus.
-fn push_explanation<S: Sink>(
-    alloc: Global,
-    telling: &Telling<'_>,
-    net: &Net,
-    fault: &Fault,
-    sink: &mut S,
-) -> Result<(), ListingFault>
-    requires intact { IsIntact (S.state sink.old) }
+/// Explains a fault of the checker or of a stimulus.
+fn explain_named<S: Sink>(site: &Site<'_>, fault: &Fault, sink: &mut S) -> Result<(), NoMemory>
     requires names { is_of_names fault.now ≡ true }
-    ensures listed { IsListed result (S.state sink.old) (S.state sink.new)
-        (spec.explanation telling.now spec.unread net.now fault.now) }
-    ensures named { IfErr result (λ e. e ≡ Memory → takes_memory fault.now ≡ true) }
+    ensures printed { Prints result (S.state sink.old) (S.state sink.new)
+        (spec.explanation site.now.telling.now spec.unread site.now.net.now fault.now) }
+    ensures named { OnErr result (takes_memory fault.now ≡ true) }
 {
     match fault {
-        Fault::Rejected(faults) => explain_rejection(alloc, telling.files, net, faults, sink),
-        Fault::Stim(stim) => explain_stimulus(alloc, telling, net, *stim, sink),
-        _ => Ok(finish(sink)?),
+        Fault::Rejected(faults) => {
+            explain_rejection(site.alloc, site.telling.files, site.net, faults, sink)
+        }
+        Fault::Stim(stim) => explain_stimulus(site, *stim, sink),
+        _ => Ok(()),
     }
 }
 
 /// Explains a fault of a stimulus.
 fn explain_stimulus<S: Sink>(
-    alloc: Global,
-    telling: &Telling<'_>,
-    net: &Net,
+    site: &Site<'_>,
     fault: StimFault,
     sink: &mut S,
-) -> Result<(), ListingFault>
-    requires intact { IsIntact (S.state sink.old) }
-    ensures listed { IsListed result (S.state sink.old) (S.state sink.new)
-        (spec.explanation telling.now spec.unread net.now (Fault.Stim fault)) }
-    ensures named { IfErr result (λ e. e ≡ Memory → takes_memory (Fault.Stim fault) ≡ true) }
+) -> Result<(), NoMemory>
+    ensures printed { Prints result (S.state sink.old) (S.state sink.new)
+        (spec.explanation site.now.telling.now spec.unread site.now.net.now (Fault.Stim fault)) }
+    ensures named { OnErr result (takes_memory (Fault.Stim fault) ≡ true) }
 {
     let Some(report) = stim_report(fault) else {
-        return Ok(finish(sink)?);
+        return Ok(());
     };
+    let (telling, net) = (site.telling, site.net);
     let text = telling.stimulus_text;
-    explain_stim(alloc, telling.stimulus, text, net, report, sink)
+    explain_stim(site.alloc, telling.stimulus, text, net, report, sink)
 }
 
 /// Explains any other fault. One of grammar, of names or of elaboration takes the memory of the

@@ -1,7 +1,7 @@
 //! Why a call of this library is refused.
 
 ghost use Rattle.std.specs.Prelude.{◌≡◌};
-ghost use Rattle.rtlsim_command_faults.specs.Faults.{of_source, of_stim, of_expect, of_run, of_machine, of_listing};
+ghost use Rattle.rtlsim_command_faults.specs.Faults.{of_source, of_stim, of_expect, of_run, of_machine, status_of};
 ghost use Rattle.rtlsim_command_faults.specs.declared.faults.Fault.TheVariants.{Memory};
 
 use crate::status::Status;
@@ -10,7 +10,6 @@ use rtl_check::CheckFault;
 use rtl_expect::{Difference, ExpectFault};
 use rtl_run::{MachineFault, RunFault};
 use rtl_stim::StimFault;
-use rtlsim_listing::ListingFault;
 use std::alloc::AllocError;
 use std::fmt;
 use thiserror::Error;
@@ -60,9 +59,6 @@ pub enum Fault {
 }
 
 impl Fault {
-    ghost use Rattle.std.specs.Prelude.{◌≡◌};
-    ghost use Rattle.rtlsim_command_faults.specs.Faults.{status_of};
-
     /// The status with which the program ends.
     pub fn status(&self) -> Status
         ensures { result ≡ status_of self.now }
@@ -148,17 +144,6 @@ impl From<MachineFault> for Fault {
             MachineFault::Stim(fault) => Fault::Stim(fault),
             MachineFault::Memory => Fault::Memory,
             MachineFault::Output => Fault::Output,
-        }
-    }
-}
-
-impl From<ListingFault> for Fault {
-    ghost from_gives = { λ listing fault. fault ≡ of_listing listing };
-
-    fn from(listing: ListingFault) -> Fault {
-        match listing {
-            ListingFault::Memory => Fault::Memory,
-            ListingFault::Write => Fault::Output,
         }
     }
 }

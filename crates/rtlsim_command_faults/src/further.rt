@@ -1,6 +1,6 @@
 //! The faults of a source behind its first, as paragraphs.
 
-ghost use Rattle.std.specs.Prelude.{◌≡◌, flat_map, map};
+ghost use Rattle.std.specs.Prelude.{flat_map, map};
 ghost use Rattle.byte_streams.specs.Written.{Goes};
 ghost use Rattle.rtlsim_refusals.specs.Explained.{paragraph, told_view};
 ghost use Rattle.rtlsim_command_faults.specs.Behind.{TellsFurther, end_text};

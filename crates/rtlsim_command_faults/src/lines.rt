@@ -1,12 +1,11 @@
 //! The lines that tell faults.
 
-ghost use Rattle.std.specs.Prelude.{◌≡◌, ◌++◌, decimal, map, true, false, IfErr};
-ghost use Rattle.rtlsim_listing.specs.Printing.{IsListed};
-ghost use Rattle.rtlsim_listing.specs.declared.fault.ListingFault.TheVariants.{Memory};
+ghost use Rattle.std.specs.Prelude.{◌≡◌, ◌++◌, codes, decimal, map, true, false, OnErr};
+ghost use Rattle.rtlsim_listing.specs.Printing.{Prints};
 ghost use Rattle.rtl_net.specs.Nets.{NetlistView};
 ghost use Rattle.byte_streams.specs.Written.{Goes, IsIntact};
 ghost use Rattle.rtlsim_command_faults.specs.Faults.{has_names, takes_memory, of_source};
-ghost use Rattle.rtlsim_command_faults.specs.Explanations.{told, unread};
+ghost use Rattle.rtlsim_command_faults.specs.Explanations.{files_of, told, unread};
 ghost use Rattle.vhdl_source_files.specs.Files.{file_view, spot_view};
 ghost use Rattle.rtlsim_command_faults.specs.Lines.{byte_text, spot_text, place_text, rule_text, told_line, race_line, stim_line, fault_lines, memory_line};
 ghost use Rattle.rtlsim_command_faults.specs.Told.{TellsFault, summary_line, levels_line};
@@ -18,14 +17,14 @@ use crate::reports::{
     elab_report, expect_report, lex_report, name_report, settle_report, stim_report, syntax_report,
 };
 use crate::status::Status;
-use crate::telling::Telling;
-use byte_streams::{Sink, finish, push_number, push_text};
+use crate::telling::{Site, Telling};
+use byte_streams::{Sink, push_number, push_text};
 use fault_rules::{Place, Report, Rule, StimRule};
 use rtl_expect::push_difference;
-use rtl_net::Net;
+use rtl_net::{Net, NoMemory};
 use rtl_run::{LevelSummary, Summary};
 use rtl_stim::StimFault;
-use rtlsim_listing::{ListingFault, net_name, show_faults};
+use rtlsim_listing::{net_name, show_faults};
 use std::alloc::Global;
 use vhdl_front_rules::SourceFault;
 use vhdl_source_files::{FilePlace, SourceFile, place_in};
@@ -45,7 +44,18 @@ pub fn tell_fault<E: Sink>(
     ensures { TellsFault telling.now net.now fault.now (E.state err.old) (E.state err.new) result }
 {
     if is_of_names(fault) {
-        tell_named(alloc, telling, net, fault, err)
+        let site = Site {
+            alloc,
+            telling,
+            net,
+        };
+        match push_told(&site, fault, err) {
+            Ok(()) => fault.status(),
+            Err(_refused) => {
+                push_memory(err);
+                Status::Memory
+            }
+        }
     } else {
         tell_nameless(alloc, telling, fault, err)
     }
@@ -76,29 +86,6 @@ fn is_of_names(fault: &Fault) -> bool
     )
 }
 
-/// Writes the lines that tell a fault that may have names, and its explanation where that is asked
-/// for, and answers the status.
-fn tell_named<E: Sink>(
-    alloc: Global,
-    telling: &Telling<'_>,
-    net: &Net,
-    fault: &Fault,
-    err: &mut E,
-) -> Status
-    requires intact { IsIntact (E.state err.old) }
-    requires names { faults.is_of_names fault.now ≡ true }
-    ensures { TellsFault telling.now net.now fault.now (E.state err.old) (E.state err.new) result }
-{
-    match push_told(alloc, telling, net, fault, err) {
-        Ok(()) => fault.status(),
-        Err(ListingFault::Write) => fault.status(),
-        Err(ListingFault::Memory) => {
-            push_memory(err);
-            Status::Memory
-        }
-    }
-}
-
 /// Writes the line of any other fault, and its explanation where that is asked for, and answers the
 /// status.
 fn tell_nameless<E: Sink>(
@@ -126,20 +113,25 @@ fn tell_nameless<E: Sink>(
 pub fn tell_summary<E: Sink>(summary: Summary, err: &mut E)
     ensures { Goes (E.state err.old) (E.state err.new) (summary_line summary) }
 {
-    push_counted(err, b"moments ", summary.moments);
-    push_text(err, b" deltas ");
-    push_number(err, u64::from(summary.most_deltas));
-    push_text(err, b"\n");
+    push_moments(err, summary.moments, b" deltas ", summary.most_deltas);
 }
 
 /// Writes how many moments there were, and the bound on the delta cycles of one.
 pub fn tell_levels<E: Sink>(summary: LevelSummary, err: &mut E)
     ensures { Goes (E.state err.old) (E.state err.new) (levels_line summary) }
 {
-    push_counted(err, b"moments ", summary.moments);
-    push_text(err, b" bound ");
-    push_number(err, u64::from(summary.bound));
-    push_text(err, b"\n");
+    push_moments(err, summary.moments, b" bound ", summary.bound);
+}
+
+/// Writes how many moments there were, a text and a number.
+fn push_moments<S: Sink>(sink: &mut S, moments: u64, text: &[u8], number: u32)
+    ensures { Goes (S.state sink.old) (S.state sink.new)
+        (codes "moments " ++ decimal moments ++ text.now ++ decimal number ++ codes "\n") }
+{
+    push_counted(sink, b"moments ", moments);
+    push_text(sink, text);
+    push_number(sink, u64::from(number));
+    push_text(sink, b"\n");
 }
 
 /// Writes that memory was refused.
@@ -150,85 +142,64 @@ pub fn push_memory<S: Sink>(sink: &mut S)
 }
 
 /// Writes what tells a fault of a netlist, and its explanation where that is asked for.
-fn push_told<S: Sink>(
-    alloc: Global,
-    telling: &Telling<'_>,
-    net: &Net,
-    fault: &Fault,
-    sink: &mut S,
-) -> Result<(), ListingFault>
-    requires intact { IsIntact (S.state sink.old) }
+fn push_told<S: Sink>(site: &Site<'_>, fault: &Fault, sink: &mut S) -> Result<(), NoMemory>
     requires names { faults.is_of_names fault.now ≡ true }
-    ensures listed { IsListed result (S.state sink.old) (S.state sink.new) (told telling.now unread net.now fault.now) }
-    ensures named { IfErr result (λ e. e ≡ Memory → takes_memory fault.now ≡ true) }
+    ensures printed { Prints result (S.state sink.old) (S.state sink.new)
+        (told site.now.telling.now unread site.now.net.now fault.now) }
+    ensures named { OnErr result (takes_memory fault.now ≡ true) }
 {
-    push_fault(alloc, telling.files, net, fault, sink)?;
-    explain_fault(alloc, telling, net, fault, sink)
+    push_fault(site, fault, sink)?;
+    explain_fault(site, fault, sink)
 }
 
 /// Writes the lines that tell a fault of a netlist.
-fn push_fault<S: Sink>(
-    alloc: Global,
-    files: &[SourceFile<'_>],
-    net: &Net,
-    fault: &Fault,
-    sink: &mut S,
-) -> Result<(), ListingFault>
-    requires intact { IsIntact (S.state sink.old) }
-    ensures listed { IsListed result (S.state sink.old) (S.state sink.new)
-        (fault_lines (map file_view files.now) net.now fault.now) }
-    ensures named { IfErr result (λ e. e ≡ Memory → takes_memory fault.now ≡ true) }
+fn push_fault<S: Sink>(site: &Site<'_>, fault: &Fault, sink: &mut S) -> Result<(), NoMemory>
+    ensures printed { Prints result (S.state sink.old) (S.state sink.new)
+        (fault_lines (files_of site.now.telling.now) site.now.net.now fault.now) }
+    ensures named { OnErr result (takes_memory fault.now ≡ true) }
 {
     match fault {
-        Fault::Rejected(faults) => show_faults(alloc, net, faults, sink),
-        Fault::Stim(stim) => push_stim(alloc, files, net, *stim, sink),
+        Fault::Rejected(faults) => show_faults(site.alloc, site.net, faults, sink),
+        Fault::Stim(stim) => push_stim(site, *stim, sink),
         Fault::Differs(difference) => {
-            push_difference(net, difference, sink);
-            Ok(finish(sink)?)
+            push_difference(site.net, difference, sink);
+            Ok(())
         }
         _ => {
-            push_nameless(files, fault, sink);
-            Ok(finish(sink)?)
+            push_nameless(site.telling.files, fault, sink);
+            Ok(())
         }
     }
 }
 
 /// Writes the line of a fault of a stimulus.
-fn push_stim<S: Sink>(
-    alloc: Global,
-    files: &[SourceFile<'_>],
-    net: &Net,
-    stim: StimFault,
-    sink: &mut S,
-) -> Result<(), ListingFault>
-    requires intact { IsIntact (S.state sink.old) }
-    ensures listed { IsListed result (S.state sink.old) (S.state sink.new)
-        (stim_line (map file_view files.now) net.now stim) }
-    ensures named { IfErr result (λ e. e ≡ Memory → takes_memory (Fault.Stim stim) ≡ true) }
+fn push_stim<S: Sink>(site: &Site<'_>, stim: StimFault, sink: &mut S) -> Result<(), NoMemory>
+    ensures printed { Prints result (S.state sink.old) (S.state sink.new)
+        (stim_line (files_of site.now.telling.now) site.now.net.now stim) }
+    ensures named { OnErr result (takes_memory (Fault.Stim stim) ≡ true) }
 {
     match stim {
-        StimFault::Race { time, input, clock } => push_race(alloc, net, time, input, clock, sink),
+        StimFault::Race { time, input, clock } => push_race(site, time, input, clock, sink),
         _ => {
-            push_nameless(files, &Fault::Stim(stim), sink);
-            Ok(finish(sink)?)
+            push_nameless(site.telling.files, &Fault::Stim(stim), sink);
+            Ok(())
         }
     }
 }
 
 /// Writes the line of a race.
 fn push_race<S: Sink>(
-    alloc: Global,
-    net: &Net,
+    site: &Site<'_>,
     time: u64,
     input: usize,
     clock: usize,
     sink: &mut S,
-) -> Result<(), ListingFault>
-    requires intact { IsIntact (S.state sink.old) }
-    ensures { IsListed result (S.state sink.old) (S.state sink.new) (race_line net.now time input clock) }
+) -> Result<(), NoMemory>
+    ensures { Prints result (S.state sink.old) (S.state sink.new)
+        (race_line site.now.net.now time input clock) }
 {
-    let input = net_name(alloc, net, input)?;
-    let clock = net_name(alloc, net, clock)?;
+    let input = net_name(site.alloc, site.net, input)?;
+    let clock = net_name(site.alloc, site.net, clock)?;
     push_rule(Rule::Stim(StimRule::Race), sink);
     push_text(sink, b" ");
     push_number(sink, time);
@@ -237,7 +208,7 @@ fn push_race<S: Sink>(
     push_text(sink, b" ");
     push_text(sink, &clock);
     push_text(sink, b"\n");
-    Ok(finish(sink)?)
+    Ok(())
 }
 
 /// Writes what tells a fault whose line has no names.

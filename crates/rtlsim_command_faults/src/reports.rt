@@ -89,8 +89,8 @@ pub(crate) fn stim_report(fault: StimFault) -> Option<Report>
     ensures { result ≡ spec.stim_report fault }
 {
     match fault {
-        StimFault::InLine { problem, line } => Some(Report {
-            rule: Rule::Stim(problem.rule()),
+        StimFault::InLine { rule, line } => Some(Report {
+            rule: Rule::Stim(rule),
             place: Place::Line(line),
             subject: Subject::Nothing,
         }),
@@ -113,8 +113,8 @@ pub(crate) fn expect_report(fault: ExpectFault) -> Option<Report>
     ensures { result ≡ spec.expect_report fault }
 {
     match fault {
-        ExpectFault::InLine { problem, line } => Some(Report {
-            rule: Rule::Expect(problem.rule()),
+        ExpectFault::InLine { rule, line } => Some(Report {
+            rule: Rule::Expect(rule),
             place: Place::Line(line),
             subject: Subject::Nothing,
         }),

@@ -64,7 +64,7 @@ pub(crate) fn find_further<'f, F: Front>(
         (map told_view told.old.items) (map told_view told.new.items) result }
 {
     match first {
-        Fault::Syntax(first) => find_grammar(alloc, files, source, *first, told),
+        Fault::Syntax(first) => find_grammar(alloc, files, source, first.byte(), told),
         Fault::Name(first) => find_names::<F>(alloc, files, source, top, *first, told),
         _ => End::Whole,
     }

@@ -1,6 +1,7 @@
 //! What the program ends with.
 
 ghost use Rattle.std.specs.Prelude.{◌≡◌};
+ghost use Rattle.rtlsim_command_faults.specs.Status.{code_of};
 
 /// How the program ended.
 #[derive(Clone, Copy)]
@@ -26,8 +27,6 @@ pub enum Status {
 }
 
 impl Status {
-    ghost use Rattle.rtlsim_command_faults.specs.Status.{code_of};
-
     /// The exit status.
     pub fn code(self) -> u8
         ensures { result ≡ code_of self }

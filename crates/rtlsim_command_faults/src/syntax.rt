@@ -6,7 +6,6 @@ ghost use Rattle.rtlsim_command_faults.specs.Grammar as spec;
 ghost use Rattle.rtlsim_command_faults.specs.Next.{Adds};
 ghost use Rattle.vhdl_source_files.specs.Files.{file_view};
 ghost use Rattle.vhdl_lexer.specs.Cut.{AreWithin};
-ghost use Rattle.vhdl_parser.specs.Fault.{fault_byte};
 ghost use Rattle.vhdl_parser_further.specs.Left.{left};
 ghost use Rattle.vhdl_parser_further.specs.Refusals.{Finds};
 
@@ -20,18 +19,19 @@ use vhdl_parser::SyntaxFault;
 use vhdl_parser_further::{Next, next_fault};
 use vhdl_source_files::SourceFile;
 
-/// Finds the faults of grammar of a source behind its first, and appends what is told of them.
+/// Finds the faults of grammar of a source behind its first, which is told at this byte, and
+/// appends what is told of them.
 pub(crate) fn find_grammar<'f>(
     alloc: Global,
     files: &[SourceFile<'f>],
     source: &[u8],
-    first: SyntaxFault,
+    first: Option<usize>,
     told: &mut Vec<Told<'f>>,
 ) -> End
-    ensures { Adds (spec.GrammarBehind (map file_view files.now) source.now (fault_byte first))
+    ensures { Adds (spec.GrammarBehind (map file_view files.now) source.now first)
         (map told_view told.old.items) (map told_view told.new.items) result }
 {
-    let Some(at) = first.byte() else {
+    let Some(at) = first else {
         return End::Whole;
     };
     let Ok(tokens) = lex(alloc, source) else {

@@ -1,5 +1,7 @@
 //! What faults are told with.
 
+use rtl_net::Net;
+use std::alloc::Global;
 use vhdl_source_files::SourceFile;
 
 /// The texts that a command was given, by which its faults are told, and how.
@@ -13,4 +15,12 @@ pub struct Telling<'a> {
     pub stimulus_text: Option<&'a [u8]>,
     /// Whether an explanation stands below the line of a fault.
     pub explains: bool,
+}
+
+/// What the faults of a netlist are told with.
+#[derive(Clone, Copy)]
+pub(crate) struct Site<'a> {
+    pub alloc: Global,
+    pub telling: &'a Telling<'a>,
+    pub net: &'a Net,
 }

@@ -6,8 +6,8 @@ use Rattle.clap.specs.Lexer.{name_and_value}
 use Rattle.rtlsim_command_line.specs.declared.call.Call.{Call}
 use Rattle.rtlsim_command_line.specs.declared.call.Order.{Order}
 use Rattle.rtlsim_command_line.specs.declared.call.Order.TheVariants.{Forward, Reverse}
-use Rattle.rtlsim_command_line.specs.declared.call.Refused.{Refused}
-use Rattle.rtlsim_command_line.specs.declared.call.Refused.TheVariants as refused
+use Rattle.rtlsim_command_line.specs.declared.reading.Refused.{Refused}
+use Rattle.rtlsim_command_line.specs.declared.reading.Refused.TheVariants as refused
 use Rattle.rtlsim_command_line.specs.declared.call.Request.{Request}
 use Rattle.rtlsim_command_line.specs.declared.call.Request.TheVariants.{Eval, Net, Check, Dot, Json, Run, Levels}
 use Rattle.rtlsim_command_line.specs.declared.parsed.Parsed.{Parsed}

@@ -1,9 +1,4 @@
-//! Calls, and why words are refused.
-
-ghost use Rattle.std.specs.Prelude.{◌≡◌};
-ghost use Rattle.rtlsim_command_line.specs.declared.call.Refused.TheVariants.{NoMemory};
-
-use std::alloc::{AllocError, AllocFailed};
+//! Calls.
 
 /// In which order the resumed processes of a simulation cycle run.
 #[derive(Clone, Copy)]
@@ -55,29 +50,4 @@ pub struct Call<'a> {
     pub expected: Option<&'a str>,
     /// Whether a run shows how far it is; `false` beside any other request.
     pub shows_progress: bool,
-}
-
-/// Why the words are refused.
-#[derive(Drop)]
-pub enum Refused {
-    /// They are no command; the text says why, or is the help that was asked for.
-    Words(String),
-    /// Memory was refused.
-    NoMemory,
-}
-
-impl From<AllocError> for Refused {
-    ghost from_gives = { λ _ refused. refused ≡ NoMemory };
-
-    fn from(_refused: AllocError) -> Refused {
-        Refused::NoMemory
-    }
-}
-
-impl<T: Drop> From<AllocFailed<T>> for Refused {
-    ghost from_gives = { λ _ refused. refused ≡ NoMemory };
-
-    fn from(_refused: AllocFailed<T>) -> Refused {
-        Refused::NoMemory
-    }
 }

@@ -11,5 +11,5 @@ mod parsed;
 mod parts;
 mod reading;
 
-pub use call::{Call, Order, Refused, Request};
-pub use reading::parse_words;
+pub use call::{Call, Order, Request};
+pub use reading::{Refused, parse_words};

@@ -3,16 +3,34 @@
 ghost use Rattle.std.specs.Prelude.{◌≡◌, ◌≤◌, IfOk, IfErr, IsErr, codes, length, map, option_map};
 ghost use Rattle.rtlsim_command_line.specs.Words as words;
 ghost use Rattle.rtlsim_command_line.specs.Words.{Says, SayNothing, IsOfWords, call_view, parsed_view, row_of, said_by, text_of, use_view};
+ghost use Rattle.rtlsim_command_line.specs.declared.reading.Refused.TheVariants.{NoMemory};
 ghost use Rattle.clap.specs.Values.{kind_of};
 ghost use Rattle.clap.specs.declared.error.kind.ErrorKind.TheVariants.{OutOfMemory};
 
-use crate::call::{Call, Order, Refused, Request};
+use crate::call::{Call, Order, Request};
 use crate::commands::command;
 use crate::parsed::{Parsed, read_words};
 use crate::parts::{Part, table};
 use clap::Error;
 use clap::error::ErrorKind;
 use std::alloc::{AllocError, Global};
+
+/// Why the words are refused.
+#[derive(Drop)]
+pub enum Refused {
+    /// They are no command; the text says why, or is the help that was asked for.
+    Words(String),
+    /// Memory was refused.
+    NoMemory,
+}
+
+impl From<AllocError> for Refused {
+    ghost from_gives = { λ _ refused. refused ≡ NoMemory };
+
+    fn from(_refused: AllocError) -> Refused {
+        Refused::NoMemory
+    }
+}
 
 /// What is told of words that clap has nothing against.
 static READ_TWICE: &str =

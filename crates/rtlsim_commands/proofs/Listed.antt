@@ -1,36 +1,40 @@
 -- What a listing answers as a command.
 use Rattle.std.proofs.Common.{◌≡◌, ℕ, Bool, List, Result, Ok, Err, inl, inr, refl, sym, subst}
-use Rattle.std.specs.Prelude.{IfErr, IsErrAnd}
+use Rattle.std.specs.Prelude.{IfErr, IsErrAnd, OnOk}
 use Rattle.rtl_check.specs.Verdicts.{IsVerdict, ListsLoopsOnce}
 use Rattle.rtl_net.specs.Core.{core}
 use Rattle.rtl_check.specs.declared.checking.Verdict.{Verdict}
-use Rattle.rtlsim_command_faults.specs.Faults.{of_listing}
 use Rattle.rtlsim_commands.specs.Listed.{Writes, ListsNet, AnswersVerdict}
 use Rattle.rtlsim_command_faults.specs.declared.faults.Fault.{Fault}
 use Rattle.rtlsim_command_faults.specs.declared.faults.Fault.TheVariants.{Memory, Output}
-use Rattle.rtlsim_listing.specs.Printing.{IsListed}
-use Rattle.rtlsim_listing.specs.declared.fault.ListingFault.{ListingFault}
-use Rattle.rtlsim_listing.specs.declared.fault.ListingFault.TheVariants as listing
+use Rattle.rtlsim_listing.specs.Printing.{GoesInPart}
+use Rattle.rtlsim_listing.proofs.Printing.{beginning}
 use Rattle.rtl_net.specs.Nets.{NetlistView}
-use Rattle.byte_streams.specs.Written.{SinkState}
+use Rattle.byte_streams.specs.Written.{SinkState, Goes, HasFailed, IsIntact}
 
--- a listing that fails
-writes_listing : (A : Type 0) (text : List ℕ) (fault : ListingFault) (old new : SinkState) → IsListed {T = Unit {0}} (Err fault) old new text → Writes {A = A} text (Err (of_listing fault)) old new
-writes_listing A text listing.Memory old new h = h
-writes_listing A text listing.Write old new h = h
+-- memory is refused on the way
+pub writes_part : {A : Type 0} (text : List ℕ) (answer : Result A Fault) (old new : SinkState) → IsErrAnd answer (λ f. f ≡ Memory) → IsIntact old
+    → GoesInPart old new text → Writes text answer old new
+writes_part text (Ok x) old new h intact part = absurd h
+writes_part text (Err f) old new h intact part = rw h (beginning old new text intact part)
 
-pub lists_failed : (net : NetlistView) (text : List ℕ) (answer : Result (Unit {0}) Fault) (fault : ListingFault) (old new : SinkState) → IsErrAnd answer (λ f. f ≡ of_listing fault)
-    → IsListed {T = Unit {0}} (Err fault) old new text → Writes text answer old new
-lists_failed net text (Ok x) fault old new h listed = absurd h
-lists_failed net text (Err f) fault old new h listed = rw h (writes_listing (Unit {0}) text fault old new listed)
+-- all was printed, and the output fails
+pub writes_failed : {A : Type 0} (text : List ℕ) (answer : Result A Fault) (fault : Fault) (old new : SinkState) → IsErrAnd answer (λ f. f ≡ fault) → IsIntact old
+    → Goes old new text → (fault ≡ Output) × HasFailed new → Writes text answer old new
+writes_failed text (Ok x) fault old new h intact goes failed = absurd h
+writes_failed text (Err f) fault old new h intact goes failed = rw (h, failed.0) (failed.1, goes.beginning intact)
 
--- a verdict whose listing fails
+-- all was printed, and the output fails or doesn't
+pub writes_all : (text : List ℕ) (answer : Result (Unit {0}) Fault) (old new : SinkState) → IsIntact old → Goes old new text → OnOk answer (IsIntact new)
+    → IfErr answer (λ fault. (fault ≡ Output) × HasFailed new) → Writes text answer old new
+writes_all text (Ok x) old new intact goes whole failed = (whole, (goes.whole whole).1)
+writes_all text (Err f) old new intact goes whole failed = rw failed.0 (failed.1, goes.beginning intact)
+
 module _ (text_of : NetlistView → Verdict → List ℕ) (net : NetlistView) where
-  pub checks_failed : (verdict : Verdict) (answer : Result Bool Fault) (fault : ListingFault) (old new : SinkState) → IsErrAnd answer (λ f. f ≡ of_listing fault)
-      → IsVerdict (core net) verdict → ListsLoopsOnce verdict → IsListed {T = Unit {0}} (Err fault) old new (text_of net verdict) → AnswersVerdict text_of net answer old new
-  checks_failed verdict (Ok x) fault old new h is once listed = absurd h
-  checks_failed verdict (Err f) fault old new h is once listed =
-      inl (record { verdict = verdict; is = is; once = once; written = rw h (writes_listing Bool (text_of net verdict) fault old new listed) })
+  pub checks_failed : (verdict : Verdict) (Q : Fault → Type 0) (answer : Result Bool Fault) (old new : SinkState) → IsErrAnd answer Q → IsVerdict (core net) verdict
+      → ListsLoopsOnce verdict → Writes (text_of net verdict) answer old new → AnswersVerdict text_of net answer old new
+  checks_failed verdict Q (Ok x) old new h is once written = absurd h
+  checks_failed verdict Q (Err f) old new h is once written = inl (record { verdict = verdict; is = is; once = once; written = written })
 
   -- no verdict for want of memory
   pub unchecked : (answer : Result Bool Fault) (old : SinkState) → IsErrAnd answer (λ f. f ≡ Memory) → AnswersVerdict text_of net answer old old

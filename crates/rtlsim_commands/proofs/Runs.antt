@@ -1,7 +1,7 @@
 -- What runs answer.
 use Rattle.std.proofs.Common.{◌≡◌, ℕ, List, [], ◌∷◌, length, Result, Ok, Err, map, inl, inr, refl, sym, subst, ◌∙◌, arith}
 use Rattle.std.specs.Global.{Global}
-use Rattle.std.specs.Prelude.{IfErr, IsErrAnd, Vec}
+use Rattle.std.specs.Prelude.{IfOk, IfErr, IsErrAnd, Vec}
 use Rattle.rtl_check.specs.Views.{fault_view}
 use Rattle.rtl_check.specs.declared.fault.CheckFault.{CheckFault}
 use Rattle.rtl_run.specs.declared.fault.MachineFault.{MachineFault}
@@ -19,21 +19,30 @@ use Rattle.rtl_stim.specs.Stimuli.{StimulusView, IsRead}
 use Rattle.rtl_stim_lines.specs.declared.faults.StimFault.{StimFault}
 use Rattle.rtl_stim_lines.specs.declared.faults.StimFault.TheVariants as stim
 use Rattle.byte_streams.specs.Stands.{Stand}
-use Rattle.rtlsim_command_faults.specs.Faults.{of_machine, of_run, of_stim}
+use Rattle.rtlsim_command_faults.specs.Faults.{of_run, of_stim}
 use Rattle.rtlsim_command_faults.specs.declared.faults.Fault.{Fault}
 use Rattle.rtlsim_command_faults.specs.declared.faults.Fault.TheVariants.{Lex, Syntax, Name, Elab, Rejected, Stim, Differs, NoSettling, Memory, Output}
 use Rattle.rtlsim_commands.specs.Sights.{events, IsOfNet}
 use Rattle.rtlsim_commands.specs.Simulated.{HasNoneStored, RefusesStored, Simulates, RunsEvents, most_deltas}
-use Rattle.rtlsim_commands.specs.Watched.{IfWhole}
+use Rattle.rtlsim_commands.specs.Machine.{as_answer}
+use Rattle.rtlsim_commands.specs.Watched.{IfWhole, Watched}
+use Rattle.rtlsim_commands.proofs.Watched.{machine_part}
 
 -- ---- the synchronous machine's faults
 
-pub as_machine : (A : Type 0) (So : Fault → Type 0) (fault : MachineFault) (answer : Fault) → ((faults : Vec CheckFault Global) → So (Rejected faults)) → ((stim : StimFault) → So (Stim stim))
-    → So Memory → So Output → answer ≡ of_machine fault → IfErr {T = A} (Err answer) So
-as_machine A So (machine.Rejected faults) answer rejected stim memory output is = subst So (sym is) (rejected faults)
-as_machine A So (machine.Stim fault) answer rejected stim memory output is = subst So (sym is) (stim fault)
-as_machine A So machine.Memory answer rejected stim memory output is = subst So (sym is) memory
-as_machine A So machine.Output answer rejected stim memory output is = subst So (sym is) output
+pub as_machine : {A : Type 0} (So : Fault → Type 0) (given : Result A MachineFault) (answer : Result A Fault) → ((faults : Vec CheckFault Global) → So (Rejected faults))
+    → ((stim : StimFault) → So (Stim stim)) → So Memory → So Output → answer ≡ as_answer given → IfErr answer So
+as_machine So (Ok x) answer rejected stim memory output is = rw is tt
+as_machine So (Err (machine.Rejected faults)) answer rejected stim memory output is = rw is (rejected faults)
+as_machine So (Err (machine.Stim fault)) answer rejected stim memory output is = rw is (stim fault)
+as_machine So (Err machine.Memory) answer rejected stim memory output is = rw is memory
+as_machine So (Err machine.Output) answer rejected stim memory output is = rw is output
+
+-- what is seen of it
+pub watched_machine : {A : Type 0} (Does : NetlistView → Result A Fault → SinkState → SinkState → Type 0) (Sees : NetlistView → Type 0) (net : NetlistView) (given : Result A MachineFault)
+    (answer : Result A Fault) (old new : SinkState) → Does net answer old new → answer ≡ as_answer given → IfOk given (λ _. Sees net) → Watched Does Sees net answer old new
+watched_machine Does Sees net (Ok x) answer old new does is told = record { does = does; sees = rw is told }
+watched_machine {A} Does Sees net (Err fault) answer old new does is told = record { does = does; sees = rw is (machine_part A fault (Sees net)) }
 
 -- ---- a simulation by events
 

@@ -1,5 +1,4 @@
--- What `run`, `run --levels` and `eval` do on a netlist: the calls of rtl_run, with their faults as those of a
--- command.
+-- What `run`, `run --levels` and `eval` do on a netlist: the calls of rtl_run, with their faults as those of a command.
 use Rattle.std.specs.Prelude.{◌≡◌, ℕ, List, Result, Ok, Err}
 use Rattle.rtlsim_command_faults.specs.Faults.{of_machine}
 use Rattle.rtlsim_command_faults.specs.declared.faults.Fault.{Fault}

@@ -1,5 +1,4 @@
--- What event-driven simulation answers, from the netlist and the text of the stimulus to the trace (IEEE 1076-2008, 14.7.5;
--- IEEE 1364-2005, clause 18).
+-- What event-driven simulation answers, from netlist and stimulus to the trace (IEEE 1076-2008, 14.7.5; IEEE 1364-2005, clause 18).
 use Rattle.std.specs.Prelude.{⊤, ◌≡◌, ◌≢◌, ◌⊎◌, ℕ, List, [], map, Result, Ok, Err}
 use Rattle.rtl_net.specs.Core.{core}
 use Rattle.rtl_check.specs.Views.{fault_view}
@@ -32,9 +31,8 @@ RefusesStored net (Err (Rejected faults)) = AreStored (core net) (map fault_view
 RefusesStored net (Err Memory) = ⊤
 RefusesStored net (Err _) = ⊥
 
--- The netlist is simulated under what the text says, within so many delta cycles at each moment, and the trace is written
--- as `Answers` says: whole; up to the first moment that doesn't settle; or a beginning of it, where memory is refused or
--- the sink fails.
+-- The netlist is simulated under what the text says, within so many delta cycles at each moment, and the trace is written as
+-- `Answers` says: whole; up to the first moment that doesn't settle; or a beginning of it, where memory is refused or the sink fails.
 pub record Simulates (text : List ℕ) (net : NetlistView) (answer : Result Summary RunFault) (old new : SinkState) : Type 0 where
   pub none_stored : HasNoneStored net
   pub stimulus : StimulusView

@@ -78,6 +78,13 @@ impl Answer for LevelSummary {
     }
 }
 
+/// A netlist, and the memory for what is done on it.
+#[derive(Clone, Copy)]
+pub struct Site<'a> {
+    pub alloc: Global,
+    pub net: &'a Net,
+}
+
 /// A command on a netlist.
 pub trait Command {
     type Answer: Answer;
@@ -91,18 +98,16 @@ pub trait Command {
     /// Does it, and lets this watch look on: writes what it prints to `out`.
     fn on_net<V: Watch, S: Sink>(
         &mut self,
-        alloc: Global,
-        net: &Net,
+        site: Site<'_>,
         watch: &mut V,
         out: &mut S,
     ) -> Result<Self::Answer, Fault>
-        requires ports { HasOwnPorts net.now }
+        requires ports { HasOwnPorts site.net.now }
         requires intact { IsIntact (S.state out.old) }
-        ensures does { Seeing (sight self.old) (does self.old) (λ stands. V.told watch.old stands watch.new) net.now
-            result
-            (S.state out.old) (S.state out.new) }
+        ensures does { Seeing (sight self.old) (does self.old) (λ stands. V.told watch.old stands watch.new)
+            site.entry.net.now result (S.state out.old) (S.state out.new) }
         ensures faults { IfErr result (IsOfNet (sight self.old)
-            (λ stands before now at. V.stuck watch.old stands before now at watch.new) net.now) };
+            (λ stands before now at. V.stuck watch.old stands before now at watch.new) site.entry.net.now) };
 }
 
 /// A run of a netlist.

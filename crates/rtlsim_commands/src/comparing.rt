@@ -5,12 +5,10 @@ ghost use Rattle.rtlsim_commands.specs.Expected as spec;
 ghost use Rattle.rtlsim_commands.specs.Expected.{Comparing};
 
 use crate::both::Both;
-use crate::command::{Command, Run};
+use crate::command::{Command, Run, Site};
 use byte_streams::{Sink, Watch};
 use rtl_expect::{Difference, Expectations};
-use rtl_net::Net;
 use rtlsim_command_faults::Fault;
-use std::alloc::Global;
 
 /// A run that is compared with what the lines of `expected` say, if these are given. It takes
 /// memory for each of them.
@@ -36,20 +34,19 @@ impl<R: Run + Drop> Command for Compared<'_, R> {
 
     fn on_net<V: Watch, S: Sink>(
         &mut self,
-        alloc: Global,
-        net: &Net,
+        site: Site<'_>,
         watch: &mut V,
         out: &mut S,
     ) -> Result<R::Answer, Fault> {
         let Some(expected) = self.expected else {
-            return self.run.on_net(alloc, net, watch, out);
+            return self.run.on_net(site, watch, out);
         };
-        let expected = Expectations::read(alloc, net, expected)?;
+        let expected = Expectations::read(site.alloc, site.net, expected)?;
         let mut both = Both {
             expected,
             other: watch,
         };
-        let answer = self.run.on_net(alloc, net, &mut both, out);
+        let answer = self.run.on_net(site, &mut both, out);
         let Both {
             expected,
             other: _watch,

@@ -3,7 +3,6 @@
 ghost use Rattle.std.specs.Prelude.{◌≡◌};
 ghost use Rattle.byte_streams.specs.Written.{IsIntact};
 ghost use Rattle.rtlsim_command_faults.specs.Faults.{of_source};
-ghost use Rattle.rtlsim_command_faults.specs.Behind as behind;
 ghost use Rattle.rtlsim_commands.specs.Refused.{RefusesSource};
 ghost use Rattle.rtlsim_commands.specs.Served.{ended};
 ghost use Rattle.rtlsim_commands.specs.Told as told;
@@ -60,21 +59,8 @@ fn tell_others<F: Front, E: Sink>(
 fn asks_others(explains: bool, first: &Fault, said: Status) -> bool
     ensures { result ≡ told.asks_others explains first.now said }
 {
-    explains && has_others(first) && !is_memory(said)
-}
-
-/// Whether others are looked for behind it.
-fn has_others(first: &Fault) -> bool
-    ensures { result ≡ behind.has_others first.now }
-{
-    matches!(first, Fault::Syntax(_) | Fault::Name(_))
-}
-
-/// Whether memory was refused.
-fn is_memory(said: Status) -> bool
-    ensures { result ≡ told.is_memory said }
-{
-    matches!(said, Status::Memory)
+    let has_others = matches!(first, Fault::Syntax(_) | Fault::Name(_));
+    explains && has_others && !matches!(said, Status::Memory)
 }
 
 /// Tells a fault of a netlist with its names, and below its explanation the nets of these numbers

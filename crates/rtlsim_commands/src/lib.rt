@@ -26,7 +26,7 @@ mod running;
 mod serving;
 
 pub use byte_streams::{Sink, Unwatched, Watch};
-pub use command::{Answer, Command, Run};
+pub use command::{Answer, Command, Run, Site};
 pub use comparing::Compared;
 pub use ending::ended_by_writes;
 pub use listing::Form;

@@ -1,21 +1,20 @@
 //! The lines of a netlist, and of the checker's verdict on it.
 
-ghost use Rattle.std.specs.Prelude.{◌≡◌, [], if◌then◌else◌};
+ghost use Rattle.std.specs.Prelude.{◌≡◌, [], if◌then◌else◌, IfErr, OnOk};
 ghost use Rattle.rtl_check.specs.Verdicts as verdicts;
-ghost use Rattle.byte_streams.specs.Written.{IsIntact};
-ghost use Rattle.rtlsim_commands.specs.Listed.{AnswersVerdict, ListsNet, form_text, with_remarks};
-ghost use Rattle.rtlsim_command_faults.specs.Explanations.{files_of, verdict_explained, with_explanation};
-ghost use Rattle.rtlsim_listing.specs.CheckText.{check_text};
-ghost use Rattle.rtlsim_listing.specs.DotText.{dot_text};
-ghost use Rattle.rtlsim_listing.specs.Printing.{IsListed};
+ghost use Rattle.byte_streams.specs.Written.{HasFailed, IsIntact};
+ghost use Rattle.rtlsim_commands.specs.Listed.{AnswersVerdict, ListsNet, form_text};
+ghost use Rattle.rtlsim_command_faults.specs.Explanations.{files_of, verdict_explained};
+ghost use Rattle.rtlsim_command_faults.specs.declared.faults.Fault.TheVariants.{Output};
+ghost use Rattle.rtlsim_listing.specs.Printing.{Prints};
 ghost use Rattle.rtlsim_findings_text.specs.RemarkText.{remarks_text};
 
-use byte_streams::{Sink, finish};
+use byte_streams::Sink;
 use rtl_check::{Verdict, check};
-use rtl_net::Net;
+use rtl_net::{Net, NoMemory};
 use rtlsim_command_faults::{Fault, Telling};
 use rtlsim_findings_text::{explain_rejection, show_check_json, show_remarks};
-use rtlsim_listing::{ListingFault, show_check, show_dot, show_net};
+use rtlsim_listing::{show_check, show_net};
 use std::alloc::Global;
 
 /// Writes the lines of a netlist. It takes memory for one name at a time.
@@ -27,7 +26,19 @@ pub(crate) fn list_net<S: Sink>(net: &Net, out: &mut S) -> Result<(), Fault>
     requires intact { IsIntact (S.state out.old) }
     ensures { ListsNet net.now result (S.state out.old) (S.state out.new) }
 {
-    Ok(show_net(net, out)?)
+    show_net(net, out)?;
+    went_out(out)
+}
+
+/// Refuses a sink that took less than the whole.
+fn went_out<S: Sink>(out: &S) -> Result<(), Fault>
+    ensures whole { OnOk result (IsIntact (S.state out.now)) }
+    ensures failed { IfErr result (λ fault. (fault ≡ Output) × HasFailed (S.state out.now)) }
+{
+    if out.failed() {
+        return Err(Fault::Output);
+    }
+    Ok(())
 }
 
 /// In which form a verdict is written.
@@ -63,6 +74,7 @@ pub(crate) fn check_net<S: Sink>(
 {
     let verdict = check(alloc, net)?;
     show_verdict(alloc, form, net, &verdict, out)?;
+    went_out(out)?;
     Ok(is_yes(&verdict))
 }
 
@@ -73,33 +85,23 @@ fn show_verdict<S: Sink>(
     net: &Net,
     verdict: &Verdict,
     out: &mut S,
-) -> Result<(), ListingFault>
-    requires intact { IsIntact (S.state out.old) }
-    ensures { IsListed result (S.state out.old) (S.state out.new) (form_text form.now net.now verdict.now) }
+) -> Result<(), NoMemory>
+    ensures { Prints result (S.state out.old) (S.state out.new) (form_text form.now net.now verdict.now) }
 {
     match form {
-        Form::Lines => show_check(alloc, net, verdict, out),
-        Form::Graph => show_dot(alloc, net, verdict, out),
-        Form::ToldLines(telling) => show_told(alloc, telling, net, verdict, out),
-        Form::ToldGraph(telling) => show_graph(alloc, telling, net, verdict, out),
+        Form::Lines => show_check(alloc, net, verdict, false, out),
+        Form::Graph => show_check(alloc, net, verdict, true, out),
+        Form::ToldLines(telling) => {
+            show_check(alloc, net, verdict, false, out)?;
+            show_explanation(alloc, telling, net, verdict, out)?;
+            show_asked_remarks(alloc, telling, net, out)
+        }
+        Form::ToldGraph(telling) => {
+            show_check(alloc, net, verdict, true, out)?;
+            show_explanation(alloc, telling, net, verdict, out)
+        }
         Form::Object(telling) => show_check_json(alloc, telling.files, net, verdict, out),
     }
-}
-
-/// Writes the lines of a verdict, and the explanation of its faults and the remarks where they are
-/// asked for.
-fn show_told<S: Sink>(
-    alloc: Global,
-    telling: &Telling<'_>,
-    net: &Net,
-    verdict: &Verdict,
-    out: &mut S,
-) -> Result<(), ListingFault>
-    requires intact { IsIntact (S.state out.old) }
-    ensures { IsListed result (S.state out.old) (S.state out.new) (with_remarks telling.now net.now verdict.now) }
-{
-    show_lines(alloc, telling, net, verdict, out)?;
-    show_asked_remarks(alloc, telling, net, out)
 }
 
 /// Writes the remarks on a netlist, where explanations are asked for.
@@ -108,49 +110,15 @@ fn show_asked_remarks<S: Sink>(
     telling: &Telling<'_>,
     net: &Net,
     out: &mut S,
-) -> Result<(), ListingFault>
-    requires intact { IsIntact (S.state out.old) }
-    ensures { IsListed result (S.state out.old) (S.state out.new)
+) -> Result<(), NoMemory>
+    ensures { Prints result (S.state out.old) (S.state out.new)
         (if telling.now.explains then remarks_text (files_of telling.now) net.now else []) }
 {
     if telling.explains {
         show_remarks(alloc, telling.files, net, out)
     } else {
-        Ok(finish(out)?)
+        Ok(())
     }
-}
-
-/// Writes the lines of a verdict, and the explanation of its faults where that is asked for.
-fn show_lines<S: Sink>(
-    alloc: Global,
-    telling: &Telling<'_>,
-    net: &Net,
-    verdict: &Verdict,
-    out: &mut S,
-) -> Result<(), ListingFault>
-    requires intact { IsIntact (S.state out.old) }
-    ensures { IsListed result (S.state out.old) (S.state out.new)
-        (with_explanation check_text telling.now net.now verdict.now) }
-{
-    show_check(alloc, net, verdict, out)?;
-    show_explanation(alloc, telling, net, verdict, out)
-}
-
-/// Writes the graph of a verdict or its lines, and the explanation of its faults where that is
-/// asked for.
-fn show_graph<S: Sink>(
-    alloc: Global,
-    telling: &Telling<'_>,
-    net: &Net,
-    verdict: &Verdict,
-    out: &mut S,
-) -> Result<(), ListingFault>
-    requires intact { IsIntact (S.state out.old) }
-    ensures { IsListed result (S.state out.old) (S.state out.new)
-        (with_explanation dot_text telling.now net.now verdict.now) }
-{
-    show_dot(alloc, net, verdict, out)?;
-    show_explanation(alloc, telling, net, verdict, out)
 }
 
 /// Writes the explanation of a verdict's faults where that is asked for.
@@ -160,16 +128,15 @@ fn show_explanation<S: Sink>(
     net: &Net,
     verdict: &Verdict,
     out: &mut S,
-) -> Result<(), ListingFault>
-    requires intact { IsIntact (S.state out.old) }
-    ensures { IsListed result (S.state out.old) (S.state out.new)
+) -> Result<(), NoMemory>
+    ensures { Prints result (S.state out.old) (S.state out.new)
         (if telling.now.explains then verdict_explained telling.now net.now verdict.now else []) }
 {
     match verdict {
         Verdict::No(faults) if telling.explains => {
             explain_rejection(alloc, telling.files, net, faults, out)
         }
-        _ => Ok(finish(out)?),
+        _ => Ok(()),
     }
 }
 

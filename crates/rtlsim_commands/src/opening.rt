@@ -8,7 +8,7 @@ ghost use Rattle.rtlsim_commands.specs.Machine.{RunsMachine, RunsMachineByLevels
 ghost use Rattle.rtlsim_commands.specs.Simulated.{RunsEvents};
 ghost use Rattle.rtlsim_commands.specs.Opened.{Opens};
 
-use crate::command::Command;
+use crate::command::{Command, Site};
 use crate::listing::Form;
 use crate::printing::{CheckNet, EvalNet, ListNet};
 use crate::running::{RunEvents, RunLevels, RunMachine};
@@ -39,7 +39,7 @@ pub fn on_source<F: Front, C: Command, S: Sink>(
     ensures told { IfErr result (IsTold (length source.now)) }
 {
     let net = F::open(alloc, source, top)?;
-    command.on_net(alloc, &net, &mut Unwatched, out)
+    command.on_net(Site { alloc, net: &net }, &mut Unwatched, out)
 }
 
 /// Writes the lines of the netlist of a source. It takes memory for that, and then for one name at

@@ -5,13 +5,12 @@ ghost use Rattle.rtlsim_commands.specs.Listed.{AnswersVerdict, ListsNet, form_te
 ghost use Rattle.rtlsim_commands.specs.Machine.{EvaluatesMachine};
 ghost use Rattle.rtlsim_commands.specs.Sights.{nothing};
 
-use crate::command::Command;
+use crate::command::{Command, Site};
 use crate::listing::{Form, check_net, list_net};
+use crate::running::answered;
 use byte_streams::{Sink, Watch};
-use rtl_net::Net;
 use rtl_run;
 use rtlsim_command_faults::Fault;
-use std::alloc::Global;
 
 /// `net`: the lines of a netlist.
 #[derive(Drop)]
@@ -26,12 +25,11 @@ impl Command for ListNet {
 
     fn on_net<V: Watch, S: Sink>(
         &mut self,
-        _alloc: Global,
-        net: &Net,
+        site: Site<'_>,
         _watch: &mut V,
         out: &mut S,
     ) -> Result<(), Fault> {
-        list_net(net, out)
+        list_net(site.net, out)
     }
 }
 
@@ -50,12 +48,11 @@ impl Command for CheckNet<'_, '_> {
 
     fn on_net<V: Watch, S: Sink>(
         &mut self,
-        alloc: Global,
-        net: &Net,
+        site: Site<'_>,
         _watch: &mut V,
         out: &mut S,
     ) -> Result<bool, Fault> {
-        check_net(alloc, &self.form, net, out)
+        check_net(site.alloc, &self.form, site.net, out)
     }
 }
 
@@ -74,14 +71,10 @@ impl Command for EvalNet<'_, '_> {
 
     fn on_net<V: Watch, S: Sink>(
         &mut self,
-        alloc: Global,
-        net: &Net,
+        site: Site<'_>,
         _watch: &mut V,
         out: &mut S,
     ) -> Result<(), Fault> {
-        match rtl_run::eval(alloc, net, self.sets, out) {
-            Ok(()) => Ok(()),
-            Err(fault) => Err(Fault::from(fault)),
-        }
+        answered(rtl_run::eval(site.alloc, site.net, self.sets, out))
     }
 }

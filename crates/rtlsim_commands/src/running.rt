@@ -1,18 +1,19 @@
 //! Runs: the three ways to simulate a netlist under a stimulus.
 
-ghost use Rattle.rtlsim_commands.specs.Machine.{RunsMachine, RunsMachineByLevels};
-ghost use Rattle.rtlsim_commands.specs.Simulated.{RefusesStored, RunsEvents, most_deltas};
+ghost use Rattle.std.specs.Prelude.{◌≡◌};
+ghost use Rattle.rtlsim_commands.specs.Machine.{RunsMachine, RunsMachineByLevels, as_answer};
+ghost use Rattle.rtlsim_commands.specs.Simulated.{RefusesStored, RunsEvents};
 ghost use Rattle.rtlsim_commands.specs.Sights.{machine, events};
 ghost use Rattle.rtlsim_commands.specs.Runs.{machine_unexpecting, events_unexpecting};
 
-use crate::command::{Command, Run};
+use crate::command::{Command, Run, Site};
 use byte_streams::{Sink, Watch};
 use rtl_check::stored;
 use rtl_eval_code::codes;
 use rtl_kernel::Pick;
 use rtl_net::Net;
 use rtl_run;
-use rtl_run::{LevelSummary, SLOTS, Simulation, Summary};
+use rtl_run::{LevelSummary, MachineFault, SLOTS, Simulation, Summary};
 use rtl_stim::{Stimulus, Wheel};
 use rtlsim_command_faults::Fault;
 use std::alloc::Global;
@@ -37,15 +38,11 @@ impl<P: Pick> Command for RunMachine<'_, P> {
 
     fn on_net<V: Watch, S: Sink>(
         &mut self,
-        alloc: Global,
-        net: &Net,
+        site: Site<'_>,
         watch: &mut V,
         out: &mut S,
     ) -> Result<Summary, Fault> {
-        match rtl_run::run_watched(alloc, net, self.stimulus, self.pick, watch, out) {
-            Ok(summary) => Ok(summary),
-            Err(fault) => Err(Fault::from(fault)),
-        }
+        answered(rtl_run::run_watched(site.alloc, site.net, self.stimulus, self.pick, watch, out))
     }
 }
 
@@ -69,15 +66,11 @@ impl Command for RunLevels<'_> {
 
     fn on_net<V: Watch, S: Sink>(
         &mut self,
-        alloc: Global,
-        net: &Net,
+        site: Site<'_>,
         watch: &mut V,
         out: &mut S,
     ) -> Result<LevelSummary, Fault> {
-        match rtl_run::run_levels_watched(alloc, net, self.stimulus, watch, out) {
-            Ok(summary) => Ok(summary),
-            Err(fault) => Err(Fault::from(fault)),
-        }
+        answered(rtl_run::run_levels_watched(site.alloc, site.net, self.stimulus, watch, out))
     }
 }
 
@@ -102,11 +95,11 @@ impl<P: Pick> Command for RunEvents<'_, P> {
 
     fn on_net<V: Watch, S: Sink>(
         &mut self,
-        alloc: Global,
-        net: &Net,
+        site: Site<'_>,
         watch: &mut V,
         out: &mut S,
     ) -> Result<Summary, Fault> {
+        let Site { alloc, net } = site;
         refuse_stored(alloc, net)?;
         let stimulus = Stimulus::read(alloc, net, self.stimulus)?;
         let bodies = codes(alloc, net)?;
@@ -126,6 +119,16 @@ impl<P: Pick> Command for RunEvents<'_, P> {
 
 impl<P: Pick> Run for RunEvents<'_, P> {
     ghost unexpecting = { λ run net fault old new does. events_unexpecting run.stimulus.now net fault old new does };
+}
+
+/// What the machine's answer is to the caller of a command.
+pub(crate) fn answered<A: Drop>(given: Result<A, MachineFault>) -> Result<A, Fault>
+    ensures { result ≡ as_answer given }
+{
+    match given {
+        Ok(answer) => Ok(answer),
+        Err(fault) => Err(Fault::from(fault)),
+    }
 }
 
 /// Refuses a netlist with a stored variable.

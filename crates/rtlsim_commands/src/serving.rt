@@ -7,7 +7,7 @@ ghost use Rattle.rtl_stim.specs.Ports.{HasOwnPorts};
 ghost use Rattle.rtlsim_commands.specs.Sights.{Seeing, IsOfNet, events_of};
 ghost use Rattle.rtlsim_commands.specs.Served.{Serves, ServesNet, ServesObject, both};
 
-use crate::command::{Answer, Command};
+use crate::command::{Answer, Command, Site};
 use crate::ending::{ended_by_writes, refuse_net, refuse_source};
 use crate::listing::Form;
 use crate::noting::{Noting, Numbers};
@@ -126,7 +126,7 @@ fn on_net_noting<C: Command, V: Watch, S: Sink>(
         changing: Numbers::new(),
         other: watch,
     };
-    let answer = command.on_net(alloc, net, &mut noting, out);
+    let answer = command.on_net(Site { alloc, net }, &mut noting, out);
     let Noting {
         changing,
         other: _watch,

@@ -1,41 +1,36 @@
 //! Explanations of the checker's faults, for a designer.
 
 ghost use Rattle.std.specs.Prelude.{◌≡◌, All, flat_map, map};
-ghost use Rattle.byte_streams.specs.Written.{Goes, IsIntact};
+ghost use Rattle.byte_streams.specs.Written.{Goes};
 ghost use Rattle.vhdl_source_files.specs.Files.{file_view};
 ghost use Rattle.rtlsim_findings.specs.Findings.{finding_view};
-ghost use Rattle.rtlsim_listing.specs.Printing.{IsListed, Prints};
+ghost use Rattle.rtlsim_listing.specs.Printing.{Prints};
 ghost use Rattle.rtlsim_findings_text.specs.Explained as spec;
 ghost use Rattle.rtlsim_findings_text.specs.Marks.{IsMarked, files_at};
 
 use crate::paragraph::paragraph;
 use crate::places::{Site, mark_files};
-use byte_streams::{Sink, finish, push_text};
+use byte_streams::{Sink, push_text};
 use fault_rules::Subject;
 use rtl_check::CheckFault;
 use rtl_net::{Net, NoMemory};
 use rtlsim_findings::{Finding, findings};
-use rtlsim_listing::{ListingFault, report_of};
+use rtlsim_listing::report_of;
 use std::alloc::Global;
 use vhdl_source_files::SourceFile;
 
 /// Explains what the checker found: a paragraph for each finding, at its place in these files,
 /// whose texts joined are the netlist's source, and below them what simulates the netlist all the
-/// same. It takes memory for the findings, and for one paragraph at a time.
-///
-/// # Errors
-///
-/// `Memory` where memory was refused, and `Write` where the sink failed: what went out is a
-/// beginning of the text.
+/// same. It takes memory for the findings, and for one paragraph at a time; where that is refused,
+/// what went out is a beginning of the text.
 pub fn explain_rejection<S: Sink>(
     alloc: Global,
     files: &[SourceFile<'_>],
     net: &Net,
     faults: &[CheckFault],
     sink: &mut S,
-) -> Result<(), ListingFault>
-    requires intact { IsIntact (S.state sink.old) }
-    ensures { IsListed result (S.state sink.old) (S.state sink.new)
+) -> Result<(), NoMemory>
+    ensures { Prints result (S.state sink.old) (S.state sink.new)
         (spec.rejection_explained (map file_view files.now) net.now faults.now) }
 {
     let found = findings(alloc, net, faults)?;
@@ -43,7 +38,7 @@ pub fn explain_rejection<S: Sink>(
     let files = marked.as_slice();
     push_paragraphs(&Site { alloc, files, net }, &found, sink)?;
     push_ending(faults, sink);
-    Ok(finish(sink)?)
+    Ok(())
 }
 
 /// Writes the paragraphs of these findings.

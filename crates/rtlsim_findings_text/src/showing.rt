@@ -1,46 +1,37 @@
 //! Remarks on a netlist and on its stimulus, written.
 
 ghost use Rattle.std.specs.Prelude.{◌≡◌, ◌++◌, All, map, flat_map, IfOk, OnOk};
-ghost use Rattle.byte_streams.specs.Written.{IsIntact};
 ghost use Rattle.vhdl_source_files.specs.Files.{file_view};
 ghost use Rattle.rtlsim_findings.specs.Remarked.{remark_view};
-ghost use Rattle.rtlsim_listing.specs.Printing.{IsListed};
+ghost use Rattle.rtlsim_listing.specs.Printing.{Prints};
 ghost use Rattle.rtlsim_findings_text.specs.Marks.{IsMarked, files_at};
 ghost use Rattle.rtlsim_findings_text.specs.RemarkText as spec;
 
 use crate::places::{Site, mark_files, push_place};
-use byte_streams::{Sink, finish, push_text};
+use byte_streams::{Sink, push_text};
 use rtl_net::{Net, NoMemory};
 use rtl_remarks::{Remark, remarks};
 use rtl_undriven_inputs::stimulus_remarks;
 use rtlsim_findings::{RemarkFinding, at_process, remark_findings, remark_message, remark_process};
-use rtlsim_listing::ListingFault;
 use std::alloc::Global;
 use vhdl_source_files::SourceFile;
 
 /// Writes the remarks on a netlist, whatever the checker says of it: a line for each, or one for
 /// elements of a vector that stand side by side and of which the same is told, at the place of its
 /// process in these files, whose texts joined are the netlist's source; nothing where there are
-/// none. It takes memory for the remarks and the text.
-///
-/// # Errors
-///
-/// `Memory` where memory was refused: nothing was written. `Write` where the sink failed: what went
-/// out is a beginning of the text.
+/// none. It takes memory for the remarks and the text; where that is refused, nothing was written.
 pub fn show_remarks<S: Sink>(
     alloc: Global,
     files: &[SourceFile<'_>],
     net: &Net,
     out: &mut S,
-) -> Result<(), ListingFault>
-    requires intact { IsIntact (S.state out.old) }
-    ensures { IsListed result (S.state out.old) (S.state out.new)
+) -> Result<(), NoMemory>
+    ensures { Prints result (S.state out.old) (S.state out.new)
         (spec.remarks_text (map file_view files.now) net.now) }
 {
     let remarks = remarks(alloc, net)?;
     let text = text_of(alloc, files, net, &remarks)?;
     push_text(out, &text);
-    finish(out)?;
     Ok(())
 }
 

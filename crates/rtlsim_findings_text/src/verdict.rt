@@ -1,11 +1,10 @@
 //! The object of a verdict.
 
 ghost use Rattle.std.specs.Prelude.{◌≡◌, All, flat_map, map, IfOk};
-ghost use Rattle.byte_streams.specs.Written.{IsIntact};
 ghost use Rattle.vhdl_source_files.specs.Files.{file_view};
 ghost use Rattle.rtlsim_findings.specs.Findings.{finding_view};
 ghost use Rattle.rtlsim_findings.specs.Remarked as remarked;
-ghost use Rattle.rtlsim_listing.specs.Printing.{IsListed, Prints};
+ghost use Rattle.rtlsim_listing.specs.Printing.{Prints};
 ghost use Rattle.rtlsim_findings_text.specs.Json as spec;
 ghost use Rattle.rtlsim_findings_text.specs.Marks.{IsMarked, files_at};
 ghost use Rattle.rtlsim_findings_text.specs.Values.{items_text, next_text};
@@ -14,42 +13,21 @@ use crate::object::{finding_text, remark_text};
 use crate::places::{Site, mark_files};
 use crate::rejection::any_stored;
 use crate::values::push_array;
-use byte_streams::{Sink, finish, push_text};
+use byte_streams::{Sink, push_text};
 use rtl_check::Verdict;
 use rtl_net::{Net, NoMemory};
 use rtl_remarks::remarks;
 use rtlsim_findings::{Finding, RemarkFinding, findings, remark_findings};
-use rtlsim_listing::{ListingFault, greatest_level, push_decimal};
+use rtlsim_listing::{greatest_level, push_decimal};
 use std::alloc::Global;
 use vhdl_source_files::SourceFile;
 
 /// Writes the checker's verdict on a netlist and the remarks on it as an object of JSON on one
 /// line: `yes` with the greatest level and the bound, or `no` with an object for each finding, at
 /// its place in these files, whose texts joined are the netlist's source. It takes memory for the
-/// findings and the remarks, and for the text of one at a time.
-///
-/// # Errors
-///
-/// `Memory` where memory was refused, and `Write` where the sink failed: what went out is a
-/// beginning of the text.
+/// findings and the remarks, and for the text of one at a time; where that is refused, what went
+/// out is a beginning of the text.
 pub fn show_check_json<S: Sink>(
-    alloc: Global,
-    files: &[SourceFile<'_>],
-    net: &Net,
-    verdict: &Verdict,
-    out: &mut S,
-) -> Result<(), ListingFault>
-    requires intact { IsIntact (S.state out.old) }
-    ensures { IsListed result (S.state out.old) (S.state out.new)
-        (spec.json_text (map file_view files.now) net.now verdict.now) }
-{
-    push_verdict(alloc, files, net, verdict, out)?;
-    finish(out)?;
-    Ok(())
-}
-
-/// Writes the object.
-fn push_verdict<S: Sink>(
     alloc: Global,
     files: &[SourceFile<'_>],
     net: &Net,

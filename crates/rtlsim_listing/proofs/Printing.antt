@@ -6,12 +6,10 @@ use Rattle.std.proofs.lemmas.Grind.{flat_map-append}
 use Rattle.std.proofs.lemmas.List.{take_more, take-append-drop}
 use Rattle.std.specs.Result.{IsErrAnd}
 use Rattle.std.proofs.lemmas.Result.{err_from_is_err_and}
-use Rattle.byte_streams.specs.Written.{SinkState, Goes, HasFailed, IsIntact, TakesAll, TakesBeginning}
+use Rattle.byte_streams.specs.Written.{SinkState, Goes, IsIntact, TakesBeginning}
 use Rattle.byte_streams.proofs.Writing.{Goes-append, Goes-nil, TakesBeginning-append}
 use Rattle.rtlsim_listing.specs.NetText.{lines}
-use Rattle.rtlsim_listing.specs.Printing.{GoesInPart, IsListed, Prints}
-use Rattle.rtlsim_listing.specs.declared.fault.ListingFault.{ListingFault}
-use Rattle.rtlsim_listing.specs.declared.fault.ListingFault.TheVariants.{Memory, Write}
+use Rattle.rtlsim_listing.specs.Printing.{GoesInPart, Prints}
 
 -- nothing went out
 pub none : (a : SinkState) (text : List ℕ) → GoesInPart a a text
@@ -48,20 +46,6 @@ refused r Q a b text failed p = let e = err_from_is_err_and r failed in rw e.1 p
 pub beginning : (a b : SinkState) (text : List ℕ) → IsIntact a → GoesInPart a b text → TakesBeginning a b text
 beginning a b text intact p =
     rw (← p.is) (TakesBeginning-append a b p.part p.rest (p.goes.beginning intact))
-
--- ---- a text, and its end
-
--- for want of memory a beginning of it went out
-pub unlisted : {T : Type 0} (r : Result T ListingFault) (a b : SinkState) (text : List ℕ) → IsErrAnd r (λ f. f ≡ Memory) → IsIntact a → GoesInPart a b text → IsListed r a b text
-unlisted r a b text failed intact p = let e = err_from_is_err_and r failed in rw (e.1, e.2) (beginning a b text intact p)
-
--- the sink ended it
-pub unwritten : {T : Type 0} (r : Result T ListingFault) (a b : SinkState) (text : List ℕ) → IsErrAnd r (λ f. f ≡ Write) → IsIntact a → HasFailed b → Goes a b text → IsListed r a b text
-unwritten r a b text failed intact fails p = let e = err_from_is_err_and r failed in rw (e.1, e.2) (fails, p.beginning intact)
-
--- it went out whole
-pub written : (a b : SinkState) (text : List ℕ) → IsIntact b → Goes a b text → IsIntact b × TakesAll a b text
-written a b text intact p = (intact, (p.whole intact).1)
 
 -- ---- lines
 

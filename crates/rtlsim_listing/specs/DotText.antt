@@ -2,7 +2,6 @@
 -- registers in a column of their own before them; and an arrow to each combinational process from each that drives what it is sensitive
 -- to, with the signal's name. Names stand between quotes as they are: none has a quote or a backslash in it.
 use Rattle.std.specs.Prelude.{ℕ, zero, suc, ◌+◌, ◌==◌, ◌&&◌, Bool, false, if◌then◌else◌, List, [], ◌∷◌, ◌++◌, length, position, bytes_eq, slice_get, slice_index, slice_index_or, Option, Some, None, codes, decimal}
-use Rattle.rtl_check.specs.declared.reporting.Report.{Report}
 use Rattle.rtl_check.specs.declared.checking.Verdict.{Verdict}
 use Rattle.rtl_check.specs.declared.checking.Verdict.TheVariants.{Yes, No}
 use Rattle.rtlsim_listing.specs.CheckText.{greatest_level, rejection_text}
@@ -112,11 +111,10 @@ graph_middle = codes "    node [shape=box];\n    edge [style=solid, fontname=Hel
 abbrev pub columns_text : (levels : ℕ) → List ℕ
 columns_text levels = graph_begin ++ lines column_text levels ++ graph_middle
 
-abbrev pub graph_text : NetlistView → Report → List ℕ
-graph_text net r =
-    columns_text (greatest_level r.levels.items) ++ lines (process_lines net r.levels.items) (length r.levels.items) ++ codes "}\n"
+abbrev pub graph_text : NetlistView → (levels : List (Option ℕ)) → List ℕ
+graph_text net levels = columns_text (greatest_level levels) ++ lines (process_lines net levels) (length levels) ++ codes "}\n"
 
 -- the graph of a netlist that the checker accepts, and the faults of another
 abbrev pub dot_text : NetlistView → Verdict → List ℕ
-dot_text net (Yes report) = graph_text net report
+dot_text net (Yes report) = graph_text net report.levels.items
 dot_text net (No faults) = rejection_text net faults.items

@@ -1,5 +1,5 @@
-//! The levels of an accepted netlist as a graph in Graphviz's language. Its arrows lead to the processes
-//! that are sensitive to nets from those that drive these.
+//! The levels of an accepted netlist as a graph in Graphviz's language. Its arrows lead to the
+//! processes that are sensitive to nets from those that drive these.
 
 ghost use Rattle.std.specs.Prelude.{◌≡◌, ◌<◌, ◌==◌, All, [], if◌then◌else◌, length, position, bytes_eq, map, IfOk, IfSome};
 ghost use Rattle.byte_streams.specs.Written.{Goes};
@@ -12,7 +12,6 @@ use crate::levels::greatest_level;
 use crate::names::process_name;
 use crate::report::process_of;
 use byte_streams::{Sink, push_number, push_text};
-use rtl_check::Report;
 use rtl_net::{Net, NoMemory, Source};
 use std::alloc::Global;
 
@@ -20,13 +19,13 @@ use std::alloc::Global;
 pub fn push_graph<W: Sink>(
     alloc: Global,
     net: &Net,
-    report: &Report,
+    levels: &[Option<u32>],
     out: &mut W,
 ) -> Result<(), NoMemory>
-    ensures { Prints result (W.state out.old) (W.state out.new) (spec.graph_text net.now report.now) }
+    ensures { Prints result (W.state out.old) (W.state out.new) (spec.graph_text net.now levels.now) }
 {
-    push_columns(greatest_level(&report.levels), out);
-    push_processes(alloc, net, &report.levels, out)?;
+    push_columns(greatest_level(levels), out);
+    push_processes(alloc, net, levels, out)?;
     push_text(out, b"}\n");
     Ok(())
 }

@@ -8,22 +8,8 @@ ghost use Rattle.rtlsim_listing.specs.Printing.{Prints};
 
 use crate::names::process_name;
 use byte_streams::{Sink, push_number, push_text};
-use rtl_check::Report;
 use rtl_net::{Net, NoMemory};
 use std::alloc::Global;
-
-/// The whole report.
-pub fn push_report<W: Sink>(
-    alloc: Global,
-    net: &Net,
-    report: &Report,
-    out: &mut W,
-) -> Result<(), NoMemory>
-    ensures { Prints result (W.state out.old) (W.state out.new) (spec.report_text net.now report.now) }
-{
-    push_bounds(greatest_level(&report.levels), report.bound, out);
-    push_levels(alloc, net, &report.levels, &report.from, out)
-}
 
 /// The greatest of the levels that there are, 0 without any.
 pub fn greatest_level(levels: &[Option<u32>]) -> u32
@@ -37,7 +23,7 @@ pub fn greatest_level(levels: &[Option<u32>]) -> u32
 }
 
 /// `yes`, the greatest level and the bound.
-fn push_bounds<W: Sink>(levels: u32, bound: u32, out: &mut W)
+pub(crate) fn push_bounds<W: Sink>(levels: u32, bound: u32, out: &mut W)
     ensures { Goes (W.state out.old) (W.state out.new) (spec.bounds_text levels bound) }
 {
     push_text(out, b"yes\nlevels ");
@@ -48,7 +34,7 @@ fn push_bounds<W: Sink>(levels: u32, bound: u32, out: &mut W)
 }
 
 /// The lines of all processes that have a level.
-fn push_levels<W: Sink>(
+pub(crate) fn push_levels<W: Sink>(
     alloc: Global,
     net: &Net,
     levels: &[Option<u32>],

@@ -1,12 +1,11 @@
 //! What is printed of a netlist and of the checker's verdict on it, in lines.
 //!
 //! `specs/NetText.antt` and `specs/CheckText.antt` define the lines, `specs/DotText.antt` the graph
-//! of an accepted netlist's levels, and `specs/Printing.antt` says what goes out of them where the
-//! sink fails or memory is refused.
+//! of an accepted netlist's levels, and `specs/Printing.antt` says what goes out of them where
+//! memory is refused.
 #![tactic(auto)]
 
 mod checking;
-mod fault;
 mod graph;
 mod levels;
 mod names;
@@ -17,11 +16,11 @@ mod sources;
 mod texts;
 mod variables;
 
-pub use checking::{show_check, show_dot, show_faults};
-pub use fault::ListingFault;
+pub use checking::show_check;
 pub use levels::greatest_level;
 pub use names::{net_name, process_name, source_name};
 pub use nets::show_net;
+pub use rejection::show_faults;
 pub use report::{circle_of, place_of, report_of};
 pub use texts::{push_decimal, push_title};
 pub use variables::element_of;

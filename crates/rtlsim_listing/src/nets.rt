@@ -1,34 +1,19 @@
 //! The lines of a netlist.
 
 ghost use Rattle.std.specs.Prelude.{◌<◌, length};
-ghost use Rattle.byte_streams.specs.Written.{IsIntact, Goes};
+ghost use Rattle.byte_streams.specs.Written.{Goes};
 ghost use Rattle.rtlsim_listing.specs.NetText.{lines, net_line, process_line, counts_text, net_text};
-ghost use Rattle.rtlsim_listing.specs.Printing.{Prints, IsListed};
+ghost use Rattle.rtlsim_listing.specs.Printing.{Prints};
 
-use crate::fault::ListingFault;
 use crate::sources::{push_sources, push_start};
-use byte_streams::{Sink, finish, push_number, push_text};
+use byte_streams::{Sink, push_number, push_text};
 use rtl_body_facts::contains_rising;
 use rtl_net::{Net, NoMemory};
 
 /// Writes how many nets and processes there are, then for each net its number, name, start and
-/// sources, and for each process its number and name. It takes the memory of one name at a time.
-///
-/// # Errors
-///
-/// `Memory` where a name's memory was refused, and `Write` where the sink failed: what went out is
-/// a beginning of the text.
-pub fn show_net<W: Sink>(net: &Net, out: &mut W) -> Result<(), ListingFault>
-    requires intact { IsIntact (W.state out.old) }
-    ensures { IsListed result (W.state out.old) (W.state out.new) (net_text net.now) }
-{
-    push_net_text(net, out)?;
-    finish(out)?;
-    Ok(())
-}
-
-/// The whole text.
-fn push_net_text<W: Sink>(net: &Net, out: &mut W) -> Result<(), NoMemory>
+/// sources, and for each process its number and name. It takes the memory of one name at a time;
+/// where that is refused, what went out is a beginning of the text.
+pub fn show_net<W: Sink>(net: &Net, out: &mut W) -> Result<(), NoMemory>
     ensures { Prints result (W.state out.old) (W.state out.new) (net_text net.now) }
 {
     push_counts(net.nets(), net.processes().len(), out);

@@ -15,8 +15,9 @@ use rtl_check::CheckFault;
 use rtl_net::{Net, NoMemory};
 use std::alloc::Global;
 
-/// `no`, and the lines of all faults.
-pub fn push_rejection<W: Sink>(
+/// Writes the checker's no: `no`, and a line for each of these faults of a netlist, as `show_check`
+/// does.
+pub fn show_faults<W: Sink>(
     alloc: Global,
     net: &Net,
     faults: &[CheckFault],

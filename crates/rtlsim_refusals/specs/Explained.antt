@@ -3,9 +3,9 @@
 use Rattle.std.specs.Prelude.{ℕ, Bool, List, [], if◌then◌else◌, ◌++◌, Option, Some, None, codes, decimal}
 use Rattle.std.specs.Str.{str_eq_ignore_ascii_case}
 use Rattle.fault_rules.specs.Rules.{words_of}
-use Rattle.fault_rules.specs.declared.elaboration.ElabRule.TheVariants as elaboration
-use Rattle.fault_rules.specs.declared.grammar.SyntaxRule.TheVariants as grammar
-use Rattle.fault_rules.specs.declared.naming.NameRule.TheVariants as naming
+use Rattle.fault_rules.specs.declared.source.ElabRule.TheVariants as elaboration
+use Rattle.fault_rules.specs.declared.source.SyntaxRule.TheVariants as grammar
+use Rattle.fault_rules.specs.declared.source.NameRule.TheVariants as naming
 use Rattle.fault_rules.specs.declared.report.Place.{Place}
 use Rattle.fault_rules.specs.declared.report.Place.TheVariants.{Byte}
 use Rattle.fault_rules.specs.declared.report.Report.{Report}
@@ -20,7 +20,8 @@ use Rattle.rtlsim_refusals.specs.Places.{begins_line, line_shown, position_behin
 use Rattle.rtlsim_refusals.specs.Refused.{refused, said_of, said_refused}
 use Rattle.vhdl_slips.specs.Words.{Read, first_text, from, read_of, subject}
 use Rattle.vhdl_slips.specs.Words as words
-use Rattle.vhdl_hints.specs.Hints.{Hint, hint_at, is_nothing}
+use Rattle.vhdl_hints.specs.Hinted.{Hint, is_nothing}
+use Rattle.vhdl_hints.specs.Hints.{hint_at}
 use Rattle.vhdl_hints.specs.Sayings.{help, sentence}
 use Rattle.rtlsim_refusals.specs.declared.explaining.Site.{Site}
 use Rattle.rtlsim_refusals.specs.declared.place.Position.{Position}

@@ -1,8 +1,8 @@
 -- Where the lexer refuses a text, there are no tokens: what stands there, and what is said of it.
 use Rattle.std.specs.Prelude.{ℕ, ◌==◌, ◌&&◌, ◌||◌, max, Bool, false, if◌then◌else◌, List, [], ◌∷◌, length, take, codes}
 use Rattle.fault_rules.specs.Rules.{words_of}
-use Rattle.fault_rules.specs.declared.elaboration.ElabRule.TheVariants as elaboration
-use Rattle.fault_rules.specs.declared.lexing.LexRule.TheVariants as lexing
+use Rattle.fault_rules.specs.declared.source.ElabRule.TheVariants as elaboration
+use Rattle.fault_rules.specs.declared.source.LexRule.TheVariants as lexing
 use Rattle.fault_rules.specs.declared.report.Rule.{Rule}
 use Rattle.fault_rules.specs.declared.report.Rule.TheVariants as rule
 use Rattle.rtlsim_refusals.specs.declared.refused.TheConstants.{BRACES, CHOICE, INDEX, IN_STRING, MARK, MATCHING, NEGATION}

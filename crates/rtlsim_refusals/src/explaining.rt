@@ -5,7 +5,7 @@ ghost use Rattle.byte_streams.specs.Written.{Goes};
 ghost use Rattle.rtlsim_refusals.specs.Explained as spec;
 ghost use Rattle.vhdl_slips.specs.Words.{read_of};
 ghost use Rattle.vhdl_source_files.specs.Files.{file_view, spot_view};
-ghost use Rattle.vhdl_hints.specs.Hints.{hint_view};
+ghost use Rattle.vhdl_hints.specs.Hinted.{hint_view};
 ghost use Rattle.vhdl_expected.specs.Told.{expected_of};
 
 use crate::place::{begins_line, position_behind, push_shown};

@@ -1,27 +1,22 @@
 //! Explanations of the faults of a stimulus, of NAME=VALUE words and of a run.
 
-ghost use Rattle.std.specs.Prelude.{◌≡◌, true, IfErr, option_map};
-ghost use Rattle.byte_streams.specs.Written.{Goes, IsIntact};
+ghost use Rattle.std.specs.Prelude.{◌≡◌, true, OnErr, option_map};
+ghost use Rattle.byte_streams.specs.Written.{Goes};
 ghost use Rattle.rtlsim_refusals.specs.Stimuli as spec;
-ghost use Rattle.rtlsim_listing.specs.Printing.{IsListed};
-ghost use Rattle.rtlsim_listing.specs.declared.fault.ListingFault.TheVariants.{Memory};
+ghost use Rattle.rtlsim_listing.specs.Printing.{Prints};
 
 use crate::explaining::{push_help, push_title};
 use crate::place::line_after;
 use crate::race::race_line;
-use byte_streams::{Sink, finish, push_number, push_text};
+use byte_streams::{Sink, push_number, push_text};
 use fault_rules::{Place, Report, Rule, RunRule, Subject};
-use rtl_net::Net;
-use rtlsim_listing::{ListingFault, net_name};
+use rtl_net::{Net, NoMemory};
+use rtlsim_listing::net_name;
 use std::alloc::Global;
 
 /// Explains why a stimulus is refused, whose text shows the line, or a NAME=VALUE word, without a
-/// text. It takes the memory of two names and of the words of a line at a race.
-///
-/// # Errors
-///
-/// `Memory` where a name's or a line's memory was refused, and `Write` where the sink failed: what
-/// went out is a beginning of the text.
+/// text. It takes the memory of two names and of the words of a line at a race; where that is
+/// refused, what went out is a beginning of the text.
 pub fn explain_stim<S: Sink>(
     alloc: Global,
     file: &[u8],
@@ -29,11 +24,10 @@ pub fn explain_stim<S: Sink>(
     net: &Net,
     report: Report,
     sink: &mut S,
-) -> Result<(), ListingFault>
-    requires intact { IsIntact (S.state sink.old) }
-    ensures listed { IsListed result (S.state sink.old) (S.state sink.new)
+) -> Result<(), NoMemory>
+    ensures printed { Prints result (S.state sink.old) (S.state sink.new)
         (spec.stim_explained file.now (option_map (λ t. t.now) text.entry) net.now report) }
-    ensures named { IfErr result (λ e. e ≡ Memory → spec.is_race report ≡ true) }
+    ensures named { OnErr result (spec.is_race report ≡ true) }
 {
     match (report.place, report.subject) {
         (Place::Time(time), Subject::Race { input, clock }) => explain_race(
@@ -47,7 +41,7 @@ pub fn explain_stim<S: Sink>(
         ),
         _ => {
             push_plain(file, text, report, sink);
-            Ok(finish(sink)?)
+            Ok(())
         }
     }
 }
@@ -61,9 +55,8 @@ fn explain_race<S: Sink>(
     rule: Rule,
     race: (u64, usize, usize),
     sink: &mut S,
-) -> Result<(), ListingFault>
-    requires intact { IsIntact (S.state sink.old) }
-    ensures { IsListed result (S.state sink.old) (S.state sink.new)
+) -> Result<(), NoMemory>
+    ensures { Prints result (S.state sink.old) (S.state sink.new)
         (spec.race_explained file.now (option_map (λ t. t.now) text.entry) net.now rule race.0 race.1 race.2) }
 {
     let (time, input, clock) = race;
@@ -71,7 +64,7 @@ fn explain_race<S: Sink>(
     let input = net_name(alloc, net, input)?;
     let clock = net_name(alloc, net, clock)?;
     push_race(file, text, rule, line, (time, &input, &clock), sink);
-    Ok(finish(sink)?)
+    Ok(())
 }
 
 /// Writes the explanation of a race, by its time and the names of its input and clock, in the line

@@ -1,4 +1,4 @@
-use Rattle.std.proofs.Common.{◌≡◌, ℕ, ◌+◌, ◌≤◌, Bool, true, false, List, Some, None, cond, length, refl, sym, ◌∙◌, arith}
+use Rattle.std.proofs.Common.{◌≡◌, ℕ, ◌+◌, ◌≤◌, List, Some, None, length, refl, sym, ◌∙◌, arith}
 use Rattle.std.proofs.lemmas.Bool.Decides.{nat_tests}
 use Rattle.std.proofs.lemmas.List.{take_all, take_rest, drop_all}
 use Rattle.std.specs.List.{position_or_len}
@@ -6,19 +6,11 @@ use Rattle.std.specs.Prelude.{position}
 use Rattle.rtl_stim_lines.specs.Lines.{ends_line}
 use Rattle.rtlsim.proofs.first_line.cut_line.Goals as goal
 
-found : (b : Bool) (n i : ℕ) → cond b (Some n) None ≡ Some i → n ≡ i
-found true n i e = cc
-found false n i e = absurd (cc)
-
-missed : (b : Bool) (n : ℕ) → cond b (Some n) None ≡ None → b ≡ false
-missed true n e = absurd (cc)
-missed false n e = refl
-
 at_end : (xs : List ℕ) (i : ℕ) → position ends_line xs ≡ Some i → position_or_len ends_line xs ≡ i
-at_end xs i e = found _ _ i e
+at_end xs i e = grind (arith, nat_tests, e)
 
 past_end : (xs : List ℕ) → position ends_line xs ≡ None → length xs ≤ position_or_len ends_line xs
-past_end xs e = let late = missed _ _ e in grind (arith, nat_tests, late)
+past_end xs e = grind (arith, nat_tests, e)
 
 pub returns-in-Some-clause-line : goal.returns-in-Some-clause-line
 returns-in-Some-clause-line c = rw (at_end _ _ (sym c.line_end.ensures.end ∙ c.in-Some.is)) refl

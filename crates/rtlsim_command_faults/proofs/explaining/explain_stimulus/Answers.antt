@@ -2,8 +2,8 @@ use Rattle.std.proofs.Common.{sym, ap, ◌∙◌}
 use Rattle.rtlsim_command_faults.proofs.Told.{named_along, named_by, tells_race}
 use Rattle.rtlsim_command_faults.proofs.explaining.explain_stimulus.Goals as goal
 
-pub returns-clause-listed : goal.returns-clause-listed
-returns-clause-listed g c = rw (← c.stim_report.ensures, c.in-Some.is) c.explain_stim.ensures.listed
+pub returns-clause-printed : goal.returns-clause-printed
+returns-clause-printed g c = rw (← c.stim_report.ensures, c.in-Some.is) c.explain_stim.ensures.printed
 
 pub returns-clause-named : goal.returns-clause-named
 returns-clause-named g c =

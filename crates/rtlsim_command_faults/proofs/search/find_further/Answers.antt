@@ -5,7 +5,7 @@ use Rattle.rtlsim_command_faults.proofs.Behind.{others_none}
 use Rattle.rtlsim_command_faults.proofs.search.find_further.Goals as goal
 
 pub returns-in-Syntax : goal.returns-in-Syntax
-returns-in-Syntax g c = rw c.in-Syntax.is c.find_grammar.ensures
+returns-in-Syntax g c = rw c.in-Syntax.is (rw c.byte.ensures at c.find_grammar.ensures)
 
 pub returns-in-Name : goal.returns-in-Name
 returns-in-Name g c = rw c.in-Name.is c.find_names.ensures

@@ -8,12 +8,11 @@ pub loop-number-preserved : goal.loop-number-preserved
 loop-number-preserved c =
     let before = c.args.before.now in
     let now = c.args.now.now in
-    let n = c.loop-number.number in
-    let I = c.loop-number.invariant in
+    let l = c.loop-number in
     elim c.if-before-number.branch [
       | then-before-number w ↦
           let push = w.try_push-is_kept in
           ap (λ (v : ArrayVec ℕ). v.items) w.numbers-is
-          ∙ noted before now n (let differ = w.if-before-number in search rules) c.loop-number.numbers push.new.self I push.result push.ensures.ok push.ensures.err push.ensures.full push.ensures.variant.0
-      | else-before-number w ↦ unnoted before now n (let alike = w.if-before-number in search rules) c.loop-number.numbers c.if-before-number.numbers I w.numbers-is
+          ∙ noted before now l.number (let differ = w.if-before-number in search rules) l.numbers push.new.self l.invariant push.result push.ensures.ok push.ensures.err push.ensures.full push.ensures.variant.0
+      | else-before-number w ↦ unnoted before now l.number (let alike = w.if-before-number in search rules) l.numbers c.if-before-number.numbers l.invariant w.numbers-is
     ]

@@ -1,12 +1,7 @@
-use Rattle.rtlsim_listing.proofs.Printing.{unlisted, unwritten, written}
 use Rattle.rtlsim_listing.proofs.checking.show_check.Goals as goal
 
-pub returns-in_err-push_report-in-Yes : goal.returns-in_err-push_report-in-Yes
-returns-in_err-push_report-in-Yes g c = rw c.in-Yes.is (unlisted _ _ _ _ c.from_residual.ensures.1 c.requires.intact c.in_err-push_report-in-Yes.ensures)
+pub returns-in-Yes : goal.returns-in-Yes
+returns-in-Yes g c = rw (c.if-draws.true, c.in-Yes.is) (rw c.deref.ensures.value at c.push_graph.ensures)
 
-pub returns-in_err-finish-in-Yes : goal.returns-in_err-finish-in-Yes
-returns-in_err-finish-in-Yes g c =
-    rw c.in-Yes.is (unwritten _ _ _ _ c.from_residual-in_err-finish-in-Yes.ensures.1 c.requires.intact c.in_err-finish-in-Yes.ensures.err c.in_ok-push_report-in-Yes.ensures)
-
-pub returns-in_ok-finish-in-Yes : goal.returns-in_ok-finish-in-Yes
-returns-in_ok-finish-in-Yes g c = rw c.in-Yes.is (written _ _ _ c.in_ok-finish-in-Yes.ensures.ok c.in_ok-push_report-in-Yes.ensures)
+pub returns-in-Yes-2 : goal.returns-in-Yes-2
+returns-in-Yes-2 g c = rw (c.if-draws.false, c.in-Yes-2.is) c.push_report.ensures

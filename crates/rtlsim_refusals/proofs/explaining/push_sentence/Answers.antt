@@ -1,5 +1,5 @@
 use Rattle.std.proofs.Common.{◌≡◌, ℕ, Bool, true, false, List, if◌then◌else◌, refl, sym, ap, ◌∙◌}
-use Rattle.vhdl_hints.specs.Hints.{is_nothing}
+use Rattle.vhdl_hints.specs.Hinted.{is_nothing}
 use Rattle.rtlsim_refusals.proofs.explaining.push_sentence.Goals as goal
 
 then_is : (b : Bool) (x y : List ℕ) → b ≡ true → (if b then x else y) ≡ x

@@ -10,7 +10,7 @@ returns-clause-does g c =
     let run = c.args.self.now.run in
     let sight = g.R.Command.sight run in
     let runs = g.R.Command.does run in
-    let net = c.args.net.now in
+    let net = c.args.site.net.now in
     let read = c.in_ok-expected.ensures in
     let start = expected_by c.in_ok-expected.expected in
     let work = c.on_net-answer in
@@ -23,4 +23,4 @@ pub returns-clause-faults : goal.returns-clause-faults
 returns-clause-faults g c =
     let work = c.on_net-answer in
     compared_fault _ work.result c.difference.result _ (λ d. tt) c.unless_differs.ensures
-    (of_net_so (g.R.Command.sight c.args.self.now.run) c.args.net.now _ _ work.result (λ stands before now at told. let held = told.1 in let same = told.0 in search rules) work.ensures.faults)
+    (of_net_so (g.R.Command.sight c.args.self.now.run) c.args.site.net.now _ _ work.result (λ stands before now at told. let held = told.1 in let same = told.0 in search rules) work.ensures.faults)

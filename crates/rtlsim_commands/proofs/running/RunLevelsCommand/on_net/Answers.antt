@@ -1,20 +1,9 @@
-use Rattle.std.proofs.Common.{Ok, Err, refl, ap}
-use Rattle.rtl_run.specs.declared.level_summary.LevelSummary.{LevelSummary}
-use Rattle.rtlsim_command_faults.specs.declared.faults.Fault.{Fault}
 use Rattle.rtlsim_commands.specs.Sights.{machine, IsOfNet}
-use Rattle.rtlsim_commands.proofs.Runs.{as_machine}
-use Rattle.rtlsim_commands.proofs.Watched.{machine_part}
+use Rattle.rtlsim_commands.proofs.Runs.{as_machine, watched_machine}
 use Rattle.rtlsim_commands.proofs.running.RunLevelsCommand.on_net.Goals as goal
 
-pub returns-in-Ok-clause-does : goal.returns-in-Ok-clause-does
-returns-in-Ok-clause-does g c = record { does = (Ok c.in-Ok.summary, refl, c.in-Ok.ensures.runs); sees = c.in-Ok.ensures.told }
-
-pub returns-in-Err-clause-does : goal.returns-in-Err-clause-does
-returns-in-Err-clause-does g c = record {
-  does = (Err c.in-Err.fault, ap (λ (f : Fault). Err f) c.from.ensures, c.in-Err.ensures.runs);
-  sees = rw c.from.ensures (machine_part LevelSummary c.in-Err.fault _);
+pub returns : goal.returns
+returns g c = record {
+  does = watched_machine _ _ _ c.run_levels_watched.result _ _ _ (c.run_levels_watched.result, c.answered.ensures, c.run_levels_watched.ensures.runs) c.answered.ensures c.run_levels_watched.ensures.told;
+  faults = as_machine (IsOfNet (machine c.args.self.now.stimulus.now) (λ stands before now at. Unit {0}) c.args.site.net.now) c.run_levels_watched.result _ (λ faults. tt) (λ stim. tt) tt tt c.answered.ensures;
 }
-
-pub returns-in-Err-clause-faults : goal.returns-in-Err-clause-faults
-returns-in-Err-clause-faults g c =
-    as_machine LevelSummary (IsOfNet (machine c.args.self.now.stimulus.now) (λ stands before now at. Unit {0}) c.args.net.now) c.in-Err.fault c.from.result (λ faults. tt) (λ stim. tt) tt tt c.from.ensures

@@ -2,7 +2,7 @@ use Rattle.std.proofs.Common.{codes}
 use Rattle.std.specs.Prelude.{flat_map}
 use Rattle.rtlsim_listing.specs.CheckText.{fault_line}
 use Rattle.rtlsim_listing.proofs.Printing.{then}
-use Rattle.rtlsim_listing.proofs.rejection.push_rejection.Goals as goal
+use Rattle.rtlsim_listing.proofs.rejection.show_faults.Goals as goal
 
 pub returns : goal.returns
 returns g c =

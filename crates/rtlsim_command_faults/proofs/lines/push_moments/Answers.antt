@@ -1,5 +1,5 @@
 use Rattle.byte_streams.proofs.Writing.{Goes-append}
-use Rattle.rtlsim_command_faults.proofs.lines.tell_levels.Goals as goal
+use Rattle.rtlsim_command_faults.proofs.lines.push_moments.Goals as goal
 
 pub returns : goal.returns
 returns g c =

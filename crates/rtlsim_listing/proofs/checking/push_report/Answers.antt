@@ -4,7 +4,7 @@ use Rattle.rtlsim_listing.specs.NetText.{lines}
 use Rattle.rtlsim_listing.specs.CheckText as spec
 use Rattle.rtlsim_listing.specs.Printing.{Prints}
 use Rattle.rtlsim_listing.proofs.Printing.{then}
-use Rattle.rtlsim_listing.proofs.levels.push_report.Goals as goal
+use Rattle.rtlsim_listing.proofs.checking.push_report.Goals as goal
 
 pub returns : goal.returns
 returns g c =
