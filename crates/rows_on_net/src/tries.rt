@@ -30,9 +30,10 @@ pub fn push_try<S: Sink>(alloc: Global, net: &Net, line: &str, out: &mut S) {
 fn push_check<S: Sink>(alloc: Global, net: &Net, out: &mut S) {
     let mut lines = Out::new(Vec::new(alloc));
     let is_told = match check(alloc, net) {
-        Ok(verdict) => show_check(alloc, net, &verdict, &mut lines).is_ok(),
+        Ok(verdict) => show_check(alloc, net, &verdict, false, &mut lines).is_ok(),
         Err(_) => false,
     };
+    let is_told = is_told && !lines.failed();
     push_lines(out, is_told, &lines.into_inner());
 }
 
@@ -43,6 +44,7 @@ fn push_stored<S: Sink>(alloc: Global, net: &Net, out: &mut S) {
         Ok(faults) => show_faults(alloc, net, &faults, &mut lines).is_ok(),
         Err(_) => false,
     };
+    let is_told = is_told && !lines.failed();
     push_lines(out, is_told, &lines.into_inner());
 }
 
