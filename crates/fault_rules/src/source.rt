@@ -35,7 +35,7 @@ static LEXING: [Words<&str>; 6] = [
         => "drop the underscore at the beginning or end, or the second of two" },
     rule! { lex 5 BadNumber: WORD "begins a number that isn't read"
         => "write a whole number up to 2147483647 in decimal digits, or a string of bits as x\"1F\", o\"17\" or \
-            b\"01\"" },
+            b\"01\"; a name begins with a letter" },
     rule! { lex 6 TooLong: WORD "stands behind the 4194304 bytes that a source may have"
         => "split the design, and check its parts one by one" },
 ];
@@ -100,15 +100,15 @@ static NAMING: [Words<&str>; 11] = [
         => "correct its spelling, or declare it above; where it is an entity in another file, give that file by \
             --with; an instance without a component names its entity as entity work.stage" },
     rule! { name 2 Twice: WORD "is declared or associated a second time"
-        => "give one of the two another name, or drop it" },
+        => "give one of the two another name, or drop it; in one architecture each port, signal, constant, literal, \
+            label and component has a name of its own, capitals and small letters alike" },
     rule! { name 3 WrongKind: WORD "names something else than what has to stand here, or stands in the wrong place"
         => "see what it is declared as: a value is that of a signal, port, variable, constant, generic or literal; a \
             declaration has a type behind its colon, an instance an entity or a component" },
     rule! { name 4 TypeMismatch: WORD "or what begins with it has a type that doesn't fit here, or it takes no such \
         operand, index or argument"
-        => "see how each side is declared: an element is written '0', a vector \"0101\" or (others => '0'), a test \
-            en = '1'; unsigned(v), std_logic_vector(n) and to_unsigned(5, length) convert; an index is static: for \
-            v(p) write a loop that compares p" },
+        => "see how each side is declared: one element, a vector, unsigned, a literal of an enumeration, a whole \
+            number or a test; unsigned(v), std_logic_vector(n) and to_unsigned(5, 8) convert" },
     rule! { name 5 NotVisible: WORD "is in a package that no use clause names"
         => "write library ieee; use ieee.std_logic_1164.all; and, for unsigned, use ieee.numeric_std.all; before the \
             entity" },
@@ -166,9 +166,7 @@ static ELABORATION: [Words<&str>; 12] = [
         => "see whether it divides by 0, goes past what an integer holds, or is negative where a length or count \
             stands" },
     rule! { elab 5 Length: WORD "stands where lengths of " LENGTHS " meet that have to be equal"
-        => "write both sides with one length: slices, a & at the end, or resize(n, length); a sum is as long as its \
-            longer side, so that resize(a, 9) + b keeps the carry of 8; a product is as long as both factors \
-            together, and is cut by resize" },
+        => "write both with one length: a slice, a & at the end, or resize(n, 8)" },
     rule! { elab 6 Index: WORD "has an index or slice outside of what is declared or against its direction, or a range \
         without elements"
         => "see the bounds and their direction: (7 downto 0) or (0 to 7); both sides of and, and branches that are \

@@ -20,15 +20,18 @@ pub enum StimRule {
 /// What is said of each, in their order.
 static STIMULI: [Words<&str>; 8] = [
     rule! { stim 1 BadLine: "the line isn't understood"
-        => "write at TIME NAME VALUE, clock NAME FIRST HALF or, once, stop TIME, a line each and in small letters; a \
-            time is a whole number alone, in ns; a comment is a line of its own that begins with #" },
+        => "write at TIME NAME VALUE, as at 20 en 1, clock NAME FIRST HALF, as clock clk 5 5, or, once, stop TIME, in \
+            small letters; each sets one input, with no comma; a time is a whole number alone, in ns; a comment is a \
+            line of its own that begins with #" },
     rule! { stim 2 NotAnInput: "the name is no in port of the top"
-        => "see the spelling of the port; in ports of the top alone are set, each as a whole, and no out port" },
+        => "see the spelling of the port; in ports of the top alone are set, each as a whole, and no out port and no \
+            signal inside" },
     rule! { stim 3 BadValue: "the value doesn't fit the input"
         => "write for each element one of U X 0 1 Z W L H -, the leftmost first, with no quotation mark and no x; a \
             clock has one element" },
     rule! { stim 4 SetTwice: "the input is set a second time at this time, or has a second clock"
-        => "drop one of the two" },
+        => "see which line above sets it too, and keep one of the two, or give one another time; an input has one \
+            clock" },
     rule! { stim 5 ClockAndSet: "the input is a clock, and is set too"
         => "drop the clock, or what sets the input" },
     rule! { stim 6 NoStop: "no line says when the run stops"
