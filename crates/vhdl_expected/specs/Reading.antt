@@ -1,15 +1,13 @@
 -- The tokens in which a refused one is looked at: from the beginning of its design unit, or of an item of the context clause before it, up
 -- to the next `;` behind it.
-use Rattle.std.specs.Prelude.{ℕ, ◌+◌, ◌≤◌, ◌&&◌, not, length, nat_lt, Bool, if◌then◌else◌, List, [], ◌∷◌, take, drop}
-use Rattle.std.specs.List.{list_any, prefix_len}
+use Rattle.std.specs.Prelude.{ℕ, ◌+◌, ◌≤◌, ◌&&◌, not, length, nat_lt, Bool, true, false, if◌then◌else◌, List, [], ◌∷◌, take, drop}
+use Rattle.std.specs.List.{prefix_len}
 use Rattle.vhdl_lexer.specs.Cut.{AreWithin}
 use Rattle.vhdl_lexer.specs.Kinds.{is_semicolon}
 use Rattle.vhdl_lexer.specs.declared.token.Token.{Token}
 use Rattle.vhdl_lexer.specs.declared.token.TokenKind.{TokenKind}
 use Rattle.vhdl_lexer.specs.declared.token.TokenKind.TheVariants as k
-use Rattle.vhdl_tree.specs.Lexeme.{same_kind}
 use Rattle.vhdl_expected.specs.declared.reading.Reading as code
-use Rattle.vhdl_expected.specs.declared.reading.TheConstants.{UNIT_WORDS}
 
 -- a source, tokens of it, and the place of the refused one among them
 pub record Reading : Type 0 where
@@ -35,7 +33,11 @@ starts_before at t = nat_lt t.start at
 
 -- a design unit or an item of a context clause begins with such a token
 abbrev pub is_head : TokenKind → Bool
-is_head kind = list_any (same_kind kind) UNIT_WORDS
+is_head k.Library = true
+is_head k.Use = true
+is_head k.Entity = true
+is_head k.Architecture = true
+is_head _ = false
 
 -- behind another it does
 abbrev pub begins_unit : (last kind : TokenKind) → Bool

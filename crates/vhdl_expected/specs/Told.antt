@@ -17,6 +17,8 @@ use Rattle.vhdl_expected.specs.declared.reading.TheConstants.{MOST_TOKENS}
 use Rattle.vhdl_expected.specs.declared.respelling.TheConstants.{MOST_PLACES}
 use Rattle.vhdl_expected.specs.declared.otherwise.TheConstants.{OTHERWISE}
 use Rattle.vhdl_expected.specs.declared.closed.TheConstants.{CLOSED, PLACES}
+use Rattle.vhdl_expected.specs.declared.names.TheConstants.{NAMES, TYPES}
+use Rattle.vhdl_expected.specs.declared.instead.TheConstants.{INSTEAD, PARTS}
 use Rattle.vhdl_expected.specs.declared.table.TheConstants.{SLIPS, ENDED, OPERANDS, JOINTS, DECLARED, HEADS}
 use Rattle.vhdl_expected.specs.declared.word.TheConstants.{EARLY, LATE, JOINED}
 use Rattle.vhdl_expected.specs.declared.reserved.TheConstants.{NO_NAMES}
@@ -209,11 +211,24 @@ closed = map (λ c. row c.0 c.1.now c.2.now c.3 (c.4.0.now, c.4.1.now)) CLOSED
 unfoldable pub places : List Row
 places = map (λ c. row c.0 c.1.now c.2.now c.3 (c.4.0.now, c.4.1.now)) PLACES
 
+unfoldable pub names : List Row
+names = map (λ c. row c.0 c.1.now c.2.now c.3 (c.4.0.now, c.4.1.now)) NAMES
+
+unfoldable pub types : List Row
+types = map (λ c. row c.0 c.1.now c.2.now c.3 (c.4.0.now, c.4.1.now)) TYPES
+
+unfoldable pub instead : List Row
+instead = map (λ c. row c.0 c.1.now c.2.now c.3 (c.4.0.now, c.4.1.now)) INSTEAD
+
+unfoldable pub parts : List Row
+parts = map (λ c. row c.0 c.1.now c.2.now c.3 (c.4.0.now, c.4.1.now)) PARTS
+
 unfoldable pub other_rows : List Row
 other_rows = map (λ c. row c.0 c.1.now c.2.now c.3 (c.4.0.now, c.4.1.now)) OTHERWISE
 
 abbrev pub missing_tables : List (List Row)
-missing_tables = slips ∷ ended ∷ operands ∷ joints ∷ declared ∷ heads ∷ closed ∷ places ∷ []
+missing_tables =
+    slips ∷ ended ∷ operands ∷ joints ∷ declared ∷ heads ∷ closed ∷ places ∷ names ∷ types ∷ instead ∷ parts ∷ []
 
 abbrev pub missing : Reading → List Trial
 missing r = flat_map (tried_in r) missing_tables

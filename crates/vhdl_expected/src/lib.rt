@@ -4,12 +4,15 @@
 //! `specs/Reading.antt` says which tokens are looked at, `specs/Changes.antt` how they are changed
 //! and when they then go on, and `specs/Told.antt` in which order that is tried and what is told.
 //! `specs/Near.antt` says which words are nearly the same. The words and the changes stand in
-//! `word`, `table`, `closed` and `otherwise`, with what is told of each in `texts` and `help`.
+//! `word`, `table`, `closed`, `names`, `instead` and `otherwise`, with what is told of each there,
+//! in `texts` and in `help`.
 #![tactic(auto)]
 
 mod change;
 mod closed;
 mod help;
+mod instead;
+mod names;
 mod near;
 mod otherwise;
 mod reading;
@@ -22,6 +25,7 @@ mod texts;
 mod trial;
 mod word;
 
+pub use near::is_near;
 pub use reading::MOST_TOKENS;
 pub use telling::{Expected, expected_at};
 pub use texts::Said;

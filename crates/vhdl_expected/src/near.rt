@@ -10,7 +10,7 @@ pub(crate) const LONG: usize = 6;
 
 /// Whether a text is nearly the same as a word.
 #[tactic(auto, unfolding(crate::specs::Near::is_near))]
-pub(crate) fn is_near(text: &[u8], word: &[u8]) -> bool
+pub fn is_near(text: &[u8], word: &[u8]) -> bool
     ensures { result ≡ spec.is_near text.now word.now }
 {
     let (text, left) = rests(text, word);

@@ -7,15 +7,16 @@ use crate::help::{
     ARROW, ASSIGN, COLON, COMMA, COMPARE, CONDITIONAL, END_STATEMENT, GENERATE, IN, IS, LOOP, OF,
     THEN, TO,
 };
-use crate::row::{Row, before, in_place, row};
+use crate::reading::MOST_TOKENS;
+use crate::row::{Row, before, here, in_place, row};
 use crate::texts::{
-    ARGUMENT, GENERATE_OR_PROCESS, LEFT_OUT, NOT_OPEN, OPERAND, OPERATOR, SPARE, TWO_NAMES,
-    UNFINISHED, UNIT, UNREAD,
+    ARGUMENT, GENERATE_OR_PROCESS, LEFT_OUT, NOT_OPEN, OPERAND, OPERATOR, OUTSIDE_UNITS, SPARE,
+    TWO_NAMES, UNFINISHED, UNIT, UNREAD,
 };
 use vhdl_lexer::TokenKind;
 
 /// What else the token may be: the first counts with which the text goes on.
-pub static OTHERWISE: [Row; 44] = [
+pub static OTHERWISE: [Row; 45] = [
     row!(UNIT, 1, [Integer Identifier] 1, [Integer Ampersand]),
     row!(ARGUMENT, 2, [Tick Identifier LeftParen] 2, []),
     row!(OPERATOR, 0, [] 0, [Ampersand]),
@@ -60,6 +61,7 @@ pub static OTHERWISE: [Row; 44] = [
     row!(OPERAND, 0, [] 0, [Identifier]),
     row!(NOT_OPEN, 0, [RightParen] 1, []),
     row!(LEFT_OUT, 0, [] 1, []),
+    here!(OUTSIDE_UNITS, 0, [] [Entity Identifier Is]),
 ];
 
 /// What else the token may be.

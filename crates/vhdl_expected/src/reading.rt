@@ -4,16 +4,11 @@ ghost use Rattle.std.specs.Prelude.{◌≡◌, ◌≤◌, ◌++◌, if◌then◌
 ghost use Rattle.std.specs.List.{prefix_len};
 ghost use Rattle.vhdl_expected.specs.Reading as spec;
 
-use crate::row::kinds;
-use crate::trial::is_same_kind;
 use std::alloc::{AllocError, Global};
 use vhdl_lexer::{Token, TokenKind, is_semicolon};
 
 /// Of a token in a longer text nothing is told: each trial reads the text once more.
 pub const MOST_TOKENS: usize = 4_096;
-
-/// With what a design unit, or an item of its context clause, begins.
-pub static UNIT_WORDS: [TokenKind; 4] = kinds!(Library Use Entity Architecture);
 
 /// A source, tokens of it, and the place of the refused one among them.
 #[derive(Clone, Copy)]
@@ -90,7 +85,10 @@ fn begins_unit(last: TokenKind, kind: TokenKind) -> bool
 fn is_head(kind: TokenKind) -> bool
     ensures { result ≡ spec.is_head kind }
 {
-    UNIT_WORDS.iter().any(|word| is_same_kind(kind, *word))
+    matches!(
+        kind,
+        TokenKind::Library | TokenKind::Use | TokenKind::Entity | TokenKind::Architecture
+    )
 }
 
 /// The first token, and those behind it up to the first `;`.

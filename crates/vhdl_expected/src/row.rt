@@ -71,6 +71,32 @@ macro_rules! in_place {
     };
 }
 
+/// What is put may stand there, whatever follows it: all from the changed token on is taken away.
+macro_rules! here {
+    ($said:ident, $back:literal, [$($stands:ident)*] [$($put:ident)+]) => {
+        (
+            $back,
+            &[$(TokenKind::$stands),*],
+            &[$(TokenKind::$put),+],
+            MOST_TOKENS,
+            $said,
+        )
+    };
+}
+
+/// The same in place of the refused token.
+macro_rules! in_place_here {
+    ($what:literal, $help:ident, [$($stands:ident)+] $($put:ident)+) => {
+        (
+            0,
+            &[$(TokenKind::$stands),+],
+            &[$(TokenKind::$put),+],
+            MOST_TOKENS,
+            (concat!("can't stand here: ", $what, " is expected in its place"), $help),
+        )
+    };
+}
+
 macro_rules! bare {
     ($what:literal, $help:ident, $kind:ident) => {
         (
@@ -110,7 +136,9 @@ macro_rules! unended {
 pub(crate) use bare;
 pub(crate) use before;
 pub(crate) use before_name;
+pub(crate) use here;
 pub(crate) use in_place;
+pub(crate) use in_place_here;
 pub(crate) use kinds;
 pub(crate) use row;
 pub(crate) use spare_end;

@@ -10,12 +10,15 @@ use crate::help::{
     IF, IN, IS, IS_PORT, LIBRARY, LOOP, MAP, OBJECT, OF, OPEN, PORT, PROCESS, SELECT, SIGNAL,
     SPARE_END, THEN, TO, TYPE, VARIABLE,
 };
-use crate::row::{Row, bare, before, before_name, row, spare_end, unended};
+use crate::instead::{INSTEAD, PARTS};
+use crate::names::{NAMES, TYPES};
+use crate::reading::MOST_TOKENS;
+use crate::row::{Row, bare, before, before_name, here, row, spare_end, unended};
 use crate::texts::{
-    ACTUAL, AROUND, ASSIGNED, ASSOCIATIONS, AT_MOST, BITS, BLANK, BOUND, CONDITION, EITHER, ELSIF,
-    END_ARCHITECTURE, END_ENTITY, FORMAL, INDEX, LAST_COMMA, LITERAL, NEGATED, OTHERS, POINTS,
-    PORT_MAP, RELATION, SENSITIVITY, SHIFT, SIGN, SPARE, SPARE_BEFORE, STEP, TARGET, TWICE,
-    TWO_MODES, UNEQUAL, UNTYPED, VALUE, WORD, WORK,
+    ACTUAL, ALONE, AROUND, ASSIGNED, ASSOCIATIONS, AT_MOST, BITS, BLANK, BOUND, CONDITION, EITHER,
+    ELSIF, END_ARCHITECTURE, END_ENTITY, FORMAL, INDEX, LAST_COMMA, LITERAL, NEGATED, OF_GENERATE,
+    OF_LOOP, OTHERS, POINTS, PORT_MAP, RELATION, SENSITIVITY, SHIFT, SIGN, SPARE, SPARE_BEFORE,
+    STEP, TARGET, TWICE, TWO_MODES, UNEQUAL, UNTYPED, VALUE, WORD, WORK,
 };
 use vhdl_lexer::TokenKind;
 
@@ -50,7 +53,7 @@ pub static SLIPS: [Row; 26] = [
 ];
 
 /// What lacks at an end, or is one too many.
-pub static ENDED: [Row; 19] = [
+pub static ENDED: [Row; 23] = [
     bare!("`end if;`", END_IF, If),
     bare!("`end loop;`", END_LOOP, Loop),
     bare!("`end case;`", END_CASE, Case),
@@ -65,6 +68,10 @@ pub static ENDED: [Row; 19] = [
     unended!("`end component;`", END_COMPONENT, Component),
     row!(END_ENTITY, 1, [End Architecture] 2, [End Entity]),
     row!(END_ARCHITECTURE, 1, [End Entity] 2, [End Architecture]),
+    row!(OF_LOOP, 1, [End For] 2, [End Loop]),
+    row!(OF_GENERATE, 1, [End For] 2, [End Generate]),
+    row!(OF_GENERATE, 1, [End If] 2, [End Generate]),
+    row!(OF_GENERATE, 1, [End Loop] 2, [End Generate]),
     spare_end!("if", If),
     spare_end!("loop", Loop),
     spare_end!("case", Case),
@@ -73,7 +80,7 @@ pub static ENDED: [Row; 19] = [
 ];
 
 /// What is wrong with an operand, an operator or a value.
-pub static OPERANDS: [Row; 20] = [
+pub static OPERANDS: [Row; 25] = [
     row!(TWICE, 1, [And And] 1, []),
     row!(TWICE, 1, [Or Or] 1, []),
     row!(TWICE, 1, [Xor Xor] 1, []),
@@ -91,6 +98,11 @@ pub static OPERANDS: [Row; 20] = [
     row!(BITS, 1, [Integer Tick Identifier] 3, [BitString]),
     row!(OTHERS, 1, [LessEqual Others Arrow] 3, [LessEqual]),
     row!(OTHERS, 1, [Assign Others Arrow] 3, [Assign]),
+    row!(ALONE, 5, [LeftParen Others Arrow Character RightParen Ampersand] 5, [Identifier]),
+    row!(ALONE, 5, [LeftParen Others Arrow Character RightParen Plus] 5, [Identifier]),
+    row!(ALONE, 5, [LeftParen Others Arrow Character RightParen And] 5, [Identifier]),
+    row!(ALONE, 5, [LeftParen Others Arrow Character RightParen Or] 5, [Identifier]),
+    row!(ALONE, 5, [LeftParen Others Arrow Character RightParen Xor] 5, [Identifier]),
     row!(STEP, 0, [Plus Equal] 2, [LessEqual]),
     row!(STEP, 0, [Minus Equal] 2, [LessEqual]),
     row!(WORD, 1, [Identifier Identifier Equal] 3, [Identifier LessEqual]),
@@ -167,7 +179,7 @@ pub static HEADS: [Row; 23] = [
     before!("`is port`", IS_PORT, [LeftParen] Is Port),
     before!("`port map`", MAP, [LeftParen] Port Map),
     row!(PORT_MAP, 0, [Map Port] 2, [Port Map]),
-    row!(ASSOCIATIONS, 1, [Map Identifier Arrow] 3, [Map LeftParen Identifier RightParen Semicolon Identifier LessEqual]),
+    here!(ASSOCIATIONS, 1, [Map Identifier] [Map LeftParen Open RightParen Semicolon]),
     before!("`entity`", ENTITY, [] Entity),
     before!("`architecture`", OF, [] Architecture),
     before!("`.`", DOT, [] Dot),
@@ -184,10 +196,11 @@ pub static HEADS: [Row; 23] = [
 
 /// The tables of what lacks, or of what else is wrong, at the token or shortly before it; the first
 /// row counts with which the text goes on.
-pub(crate) fn missing() -> [&'static [Row]; 8]
+pub(crate) fn missing() -> [&'static [Row]; 12]
     ensures { map spec.rows_of result ≡ spec.missing_tables }
 {
     [
-        &SLIPS, &ENDED, &OPERANDS, &JOINTS, &DECLARED, &HEADS, &CLOSED, &PLACES,
+        &SLIPS, &ENDED, &OPERANDS, &JOINTS, &DECLARED, &HEADS, &CLOSED, &PLACES, &NAMES, &TYPES,
+        &INSTEAD, &PARTS,
     ]
 }

@@ -33,9 +33,9 @@ pub enum Expected {
 ///
 /// Changes at that token, and shortly before it, are tried in a fixed order, until the text goes on
 /// with one up to the next `;`. Each trial reads the text once, from the beginning of the design
-/// unit on; of a text of more than [`MOST_TOKENS`] nothing is told. There are some 80 trials at
-/// most, and one for each word that one of 16 identifiers is nearly the same as: never 200. They
-/// take 40 ms at most.
+/// unit on; of a text of more than [`MOST_TOKENS`] nothing is told. There are fewer than 100 trials
+/// of rows, and one for each word that one of 16 identifiers is nearly the same as: never 200. They
+/// take some 40 ms at most.
 ///
 /// # Errors
 ///

@@ -39,6 +39,11 @@ pub const OTHERS: Said = (
     "write (others => '0')",
 );
 
+pub const ALONE: Said = (
+    "can't stand here: (others => value) stands alone behind <= or :=, since its length is that of the target",
+    "write a literal of its length in place of it: \"000\" & d",
+);
+
 pub const STEP: Said = (
     "can't stand here: an assignment has no operator in it",
     "write n <= n + 1; for a signal, and n := n + 1; for a variable",
@@ -72,6 +77,13 @@ pub const END_ENTITY: Said = (
 pub const END_ARCHITECTURE: Said = (
     "can't follow this end: it ends an architecture",
     "write end architecture;",
+);
+
+pub const OF_LOOP: Said = ("can't follow this end: it ends a loop", "write end loop;");
+
+pub const OF_GENERATE: Said = (
+    "can't follow this end: it ends a generate",
+    "write end generate;",
 );
 
 pub const PORT_MAP: Said = (
@@ -291,6 +303,11 @@ pub const UNREAD: Said = (
 pub const UNFINISHED: Said = (
     "can't stand here: what stands before it isn't finished",
     "write what lacks before it, as an operand, a value or a condition; or leave the `;` out",
+);
+
+pub const OUTSIDE_UNITS: Said = (
+    "can't stand here: outside of entities and architectures stand library and use clauses alone",
+    "move it into the architecture above it; where an end above it is one too many, leave that out",
 );
 
 pub const SPARE: Said = (

@@ -210,6 +210,11 @@ pub const SIGNED: Said = (
     "use unsigned, with the sign extended by hand",
 );
 
+pub const TRUTH: Said = (
+    "is a value of type boolean, and that isn't served here",
+    "assign '1' for true and '0' for false; in a condition leave = true out, and write not (..) for .. = false",
+);
+
 /// A library, or a package of one.
 pub const LIBRARY: Said = (
     "is no library or package that is read here",

@@ -163,6 +163,11 @@ pub const NAME: Said = (
     "take another name: it begins with a letter, and reserved words as next, bus, range or open are none",
 );
 
+pub const LOOP_NAME: Said = (
+    "can't stand here: the name of an index follows for, and no parenthesis",
+    "write for i in 0 to 3 loop, or g : for i in 0 to 3 generate",
+);
+
 /// `begin` behind a `)` that isn't that of a process.
 pub const BEGIN: Said = (
     "can't stand here: it begins the statements of a process, an architecture or a generate",

@@ -4,19 +4,19 @@ use crate::form::{
     ABSOLUTE, ACTUAL, AGGREGATE, ALIAS, ARRAY, ATTRIBUTE, BLOCK, Behind, CHOICE, DEFAULT, DELAY,
     DYNAMIC_INDEX, ELEMENT, FormWord, INSTANCE, LIBRARY, MESSAGE, MODE, NUMBER_RANGE, ORDER,
     OTHER_LOOP, OTHER_TYPE, PACKAGE, POWER, QUALIFIED, RANGE_ATTRIBUTE, RECORD, REDUCTION,
-    SECOND_INDEX, SHIFT, SIGNED, SUBPROGRAM, SUBTYPE, VECTOR, WAIT, WHOLE_NUMBERS,
+    SECOND_INDEX, SHIFT, SIGNED, SUBPROGRAM, SUBTYPE, TRUTH, VECTOR, WAIT, WHOLE_NUMBERS,
 };
 use crate::slip::{
     ALTERNATIVE, ARROW, BEGIN, BEGIN_LINE, CASE_GENERATE, CASE_IS, CHOICE_RANGE, CHOICES, COMMA,
     COMMENT, CONDITIONAL, DECLARATION, DECLARATION_LINE, ELSE_CONDITION, ELSE_GENERATE, EQUALITIES,
-    EQUALITY, FORMAL, GENERATE, GENERICS, LIST_END, LOGIC, LOOP_RANGE, MIXED_LOGIC, NAME, NAMES,
-    NEW_LINE, OTHERS, PORT_MAP, QUOTES, SELECTED, SLIP, TARGET, UNENDED, VARIABLE, VECTOR_GENERIC,
-    WHEN, WHEN_LINE,
+    EQUALITY, FORMAL, GENERATE, GENERICS, LIST_END, LOGIC, LOOP_NAME, LOOP_RANGE, MIXED_LOGIC,
+    NAME, NAMES, NEW_LINE, OTHERS, PORT_MAP, QUOTES, SELECTED, SLIP, TARGET, UNENDED, VARIABLE,
+    VECTOR_GENERIC, WHEN, WHEN_LINE,
 };
 use vhdl_lexer::TokenKind;
 
 /// The words at which slips of the pen are told; of two lines that fit the first counts.
-pub static SLIPS: [FormWord; 64] = [
+pub static SLIPS: [FormWord; 65] = [
     (b"", Behind::Kind(TokenKind::Signal), NAME),
     (b"", Behind::Kind(TokenKind::Variable), NAME),
     (b"", Behind::Kind(TokenKind::Constant), NAME),
@@ -48,6 +48,7 @@ pub static SLIPS: [FormWord; 64] = [
     (b"and", Behind::Opener(TokenKind::Comma), NAMES),
     (b"or", Behind::Opener(TokenKind::LeftParen), NAMES),
     (b"or", Behind::Opener(TokenKind::Comma), NAMES),
+    (b"(", Behind::Kind(TokenKind::For), LOOP_NAME),
     (b"(", Behind::Kind(TokenKind::Semicolon), TARGET),
     (b"(", Behind::Kind(TokenKind::Begin), TARGET),
     (b"(", Behind::Kind(TokenKind::Then), TARGET),
@@ -162,9 +163,11 @@ pub static UNREAD: [FormWord; 73] = [
 ];
 
 /// The names of packages, types and attributes that are left out.
-pub static LEFT_OUT: [FormWord; 34] = [
+pub static LEFT_OUT: [FormWord; 36] = [
     (b"", Behind::Kind(TokenKind::Arrow), ACTUAL),
     (b"", Behind::Opener(TokenKind::Map), ACTUAL),
+    (b"true", Behind::Anything, TRUTH),
+    (b"false", Behind::Anything, TRUTH),
     (b"high", Behind::Kind(TokenKind::Tick), RANGE_ATTRIBUTE),
     (b"low", Behind::Kind(TokenKind::Tick), RANGE_ATTRIBUTE),
     (b"left", Behind::Kind(TokenKind::Tick), RANGE_ATTRIBUTE),
