@@ -1,9 +1,9 @@
 -- The bounds of an object that one declaration alone declares.
 use Rattle.std.specs.Prelude.{ℕ, ◌&&◌, ◌||◌, min, nat_lt, Bool, true, false, if◌then◌else◌, List, [], ◌∷◌, drop}
-use Rattle.std.specs.List.{list_all}
 use Rattle.vhdl_slips.specs.Choices.{is_written}
 use Rattle.vhdl_slips.specs.Interfaces.{formals, interface_of}
-use Rattle.vhdl_slips.specs.Parts.{begins, behind_last, found_by, from, has, in_parentheses, up_to}
+use Rattle.vhdl_slips.specs.Parts.{begins, behind_last, found_by, from, in_parentheses, up_to}
+use Rattle.vhdl_misfits.specs.Places.{begins_declaration}
 use Rattle.vhdl_hints.specs.declared.bound.Declared as code
 use Rattle.vhdl_hints.specs.declared.bound.Declared.TheVariants as c
 use Rattle.vhdl_slips.specs.Words.{text_of}
@@ -32,13 +32,9 @@ opens in_list kind =
     (in_list && (same_kind kind k.LeftParen || same_kind kind k.Semicolon))
     || same_kind kind k.Signal || same_kind kind k.Variable || same_kind kind k.Constant
 
--- its names: NAME { , NAME }
-abbrev pub are_names : List Token → Bool
-are_names tokens = list_all (λ t. same_kind t.kind k.Identifier || same_kind t.kind k.Comma) tokens
-
 -- these tokens begin with names of a declaration, this one among them, and a colon
 abbrev pub declares : (text name : List ℕ) → List Token → Bool
-declares text name tokens = has k.Colon tokens && are_names (up_to k.Colon tokens) && is_written text (up_to k.Colon tokens) name
+declares text name tokens = begins_declaration tokens && is_written text (up_to k.Colon tokens) name
 
 abbrev pub once_more : Declared → (declaration : List Token) → Declared
 once_more Never declaration = Once declaration

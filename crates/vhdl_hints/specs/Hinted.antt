@@ -1,6 +1,7 @@
 -- Hints, as data.
 use Rattle.std.specs.Prelude.{ℕ, Bool, true, false, List}
 use Rattle.vhdl_slips.specs.Forms.{Said}
+use Rattle.vhdl_misfits.specs.Lengths.{Measure, measure_view}
 use Rattle.vhdl_hints.specs.declared.hint.Hint as code
 use Rattle.vhdl_hints.specs.declared.hint.Hint.TheVariants as c
 use Rattle.vhdl_lexer.specs.declared.token.Token.{Token}
@@ -26,6 +27,10 @@ pub data Hint : Type 0 where
   OtherType : (entity port : Token) → Hint
   -- a component differs from its entity, which has these ports
   Differs : (ports : List Token) → Hint
+  -- a word that is nearly the same may be meant
+  Meant : (word : List ℕ) → Hint
+  -- two lengths differ, which are measured so
+  Measured : Measure → (found needed : ℕ) → Hint
   -- what stands in a map can't stand there for a generic or port of an entity, which has these
   NoPosition : (entity : Token) → (is_port : Bool) → (formals : List Token) → Hint
 
@@ -40,6 +45,8 @@ hint_view (c.Empty left right is_upward) = Empty left right is_upward
 hint_view (c.Actual entity port bounds found needed) = Actual entity port bounds.now found needed
 hint_view (c.OtherType entity port) = OtherType entity port
 hint_view (c.Differs ports) = Differs ports.now
+hint_view (c.Meant word) = Meant word.now
+hint_view (c.Measured said found needed) = Measured (measure_view said) found needed
 hint_view (c.NoPosition entity is_port formals) = NoPosition entity is_port formals.now
 
 -- what the code says of a word

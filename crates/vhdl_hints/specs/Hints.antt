@@ -1,6 +1,5 @@
 -- What the tokens around a fault tell of it, beside what is said of its rule.
-use Rattle.std.specs.Prelude.{ℕ, ◌==◌, ◌&&◌, ◌||◌, not, Bool, true, false, if◌then◌else◌, List, [], ◌∷◌, drop, length, Option, Some, None}
-use Rattle.std.specs.List.{list_all}
+use Rattle.std.specs.Prelude.{ℕ, ◌==◌, ◌&&◌, ◌||◌, not, Bool, true, false, if◌then◌else◌, List, [], ◌∷◌, drop, length, map, Option, Some, None}
 use Rattle.std.specs.Str.{str_eq_ignore_ascii_case}
 use Rattle.fault_rules.specs.declared.source.ElabRule.TheVariants as elaboration
 use Rattle.fault_rules.specs.declared.source.NameRule.TheVariants as naming
@@ -10,17 +9,22 @@ use Rattle.fault_rules.specs.declared.report.Subject.{Subject}
 use Rattle.fault_rules.specs.declared.report.Subject.TheVariants.{Lengths}
 use Rattle.vhdl_slips.specs.Forms.{Said}
 use Rattle.vhdl_slips.specs.Words.{Read, text_of, text_of_first, with_tokens}
-use Rattle.vhdl_hints.specs.Bounds.{architecture, bounds_of, is_empty, is_declared, listed_bounds, ports_of, range_at}
+use Rattle.vhdl_hints.specs.Bounds.{all_declared, architecture, bounds_of, is_empty, is_declared, is_found, listed_bounds, ports_of, range_at}
 use Rattle.vhdl_slips.specs.Choices.{choices, is_among, type_of}
 use Rattle.vhdl_hints.specs.Ends.{but_last_two, end_word, last_begun, last_two}
-use Rattle.vhdl_hints.specs.Hinted.{Actual, Differs, Empty, Form, Hint, NoFormal, NoPosition, Nothing, OpenPort, OtherName, OtherType, Outside, form, or_else}
-use Rattle.vhdl_misfits.specs.Misfits.{behind_name, is_one_of, misfit}
+use Rattle.vhdl_hints.specs.Hinted.{Actual, Differs, Empty, Form, Hint, Meant, Measured, NoFormal, NoPosition, Nothing, OpenPort, OtherName, OtherType, Outside, form, or_else}
+use Rattle.vhdl_expected.specs.Near.{is_near}
+use Rattle.vhdl_misfits.specs.Lengths.{Measure, measured}
+use Rattle.vhdl_misfits.specs.Misfits.{foreign, misfit}
+use Rattle.vhdl_misfits.specs.Places.{begins_one_of, begins_statement, behind_name, is_inside_loop}
+use Rattle.vhdl_misfits.specs.declared.mismatch.Known.{Known}
+use Rattle.vhdl_misfits.specs.declared.mismatch.Known.TheVariants as known
 use Rattle.vhdl_slips.specs.Instances.{associations, entity_of, first_open, formal_in, is_by_name, labelled, open_instance}
 use Rattle.vhdl_slips.specs.Interfaces.{formals, interface_of}
 use Rattle.vhdl_slips.specs.Parts.{begins, behind_last, first_of, from, has, in_parentheses}
 use Rattle.vhdl_hints.specs.declared.end_name.Begun.{Begun}
 use Rattle.vhdl_hints.specs.declared.end_name.Begun.TheVariants as begun_as
-use Rattle.vhdl_hints.specs.declared.form.TheConstants.{ABOVE, ARCHITECTURE, BELOW, ELEMENTS, FORMAL_ARROW, FORMAL_TWICE, INDEX, ITSELF, LIBRARY, LITERALS, NO_NAME, NO_SIGNAL, NO_VARIABLE, OTHERS, PORT_TWICE}
+use Rattle.vhdl_hints.specs.declared.form.TheConstants.{ABOVE, ARCHITECTURE, BELOW, FORMAL_ARROW, FORMAL_TWICE, INDEX, ITSELF, LIBRARY, LITERALS, NO_NAME, NO_SIGNAL, NO_VARIABLE, OTHERS, PORT_TWICE, WORDS}
 use Rattle.vhdl_lexer.specs.declared.token.Token.{Token}
 use Rattle.vhdl_lexer.specs.declared.token.TokenKind.{TokenKind}
 use Rattle.vhdl_lexer.specs.declared.token.TokenKind.TheVariants as k
@@ -55,14 +59,10 @@ no_formal source before from = formal_hint source from (has k.Port (open_instanc
 abbrev pub is_same_word : (text : List ℕ) → (first second : List Token) → Bool
 is_same_word text first second = str_eq_ignore_ascii_case (text_of_first text first) (text_of_first text second)
 
--- the name before it is that of an entity
-abbrev pub goes_on_as_instance : (behind : List Token) → Bool
-goes_on_as_instance behind = begins k.Port behind || begins k.Generic behind
-
 -- a type is looked for, and no entity of an instance, of the name that is declared there
 abbrev pub is_itself : (text : List ℕ) → (last_two from : List Token) → Bool
 is_itself text (name ∷ colon ∷ []) tokens =
-    same_kind colon.kind k.Colon && is_same_word text (name ∷ []) tokens && not (goes_on_as_instance (drop 1 tokens))
+    same_kind colon.kind k.Colon && is_same_word text (name ∷ []) tokens && not (begins_one_of (k.Port ∷ k.Generic ∷ []) (drop 1 tokens))
 is_itself text _ tokens = false
 
 -- a use clause begins with a library
@@ -89,15 +89,6 @@ twice source before tokens =
 
 -- ---- the target of an assignment
 
--- a statement may begin behind such a token
-abbrev pub precedes_statement : TokenKind → Bool
-precedes_statement kind = is_one_of (k.Semicolon ∷ k.Begin ∷ k.Then ∷ k.Else ∷ k.Loop ∷ k.Arrow ∷ []) kind
-
--- behind the last of these
-abbrev pub begins_behind : (last_two : List Token) → Bool
-begins_behind (first ∷ last ∷ []) = precedes_statement last.kind
-begins_behind _ = false
-
 -- `:=` assigns variables, and `<=` signals
 abbrev pub target_hint : (behind : List Token) → Hint
 target_hint behind =
@@ -105,21 +96,29 @@ target_hint behind =
     else if begins k.LessEqual behind then form NO_SIGNAL else Nothing
 
 abbrev pub no_target : (before from : List Token) → Hint
-no_target before tokens = if begins_behind (last_two before) then target_hint (behind_name tokens) else Nothing
+no_target before tokens = if begins_statement (last_two before) then target_hint (behind_name tokens) else Nothing
 
--- ---- a string
+-- ---- a word that is nearly the same
 
--- a quotation mark, or the character of one of the nine values
-abbrev pub is_element : ℕ → Bool
-is_element byte =
-    byte == 34 || byte == 85 || byte == 88 || byte == 48 || byte == 49 || byte == 90 || byte == 87 || byte == 76 || byte == 72 || byte == 45
+-- the first of some words that is
+abbrev pub meant_among : List (List ℕ) → (word : List ℕ) → Hint
+meant_among [] word = Nothing
+meant_among (w ∷ words) word = if is_near word w then Meant w else meant_among words word
 
-abbrev pub are_elements : (written : List ℕ) → Bool
-are_elements written = list_all is_element written
+abbrev pub meant : (word : List ℕ) → Hint
+meant word = meant_among (map (λ w. w.now) WORDS) word
 
-abbrev pub elements : (text : List ℕ) → (from : List Token) → Hint
-elements text tokens =
-    if begins k.String tokens && not (are_elements (text_of_first text tokens)) then form ELEMENTS else Nothing
+-- ---- what else has a name
+
+-- the name behind the last `for`, in whose turns this stands, and which nothing else has since
+abbrev pub is_turn : (text : List ℕ) → (behind from : List Token) → Bool
+is_turn text behind tokens =
+    is_same_word text behind tokens && is_inside_loop behind && not (is_declared text (text_of_first text tokens) false behind)
+
+abbrev pub known_of : (source : Read) → (before from : List Token) → Known
+known_of source before tokens =
+    if is_turn source.text (behind_last k.For before) tokens then known.Turn
+    else if is_found (all_declared source.text (text_of_first source.text tokens) source.tokens before) then known.Object else known.Unknown
 
 -- ---- a port that is left open
 
@@ -206,11 +205,19 @@ abbrev pub position : (source : Read) → (before from : List Token) → Hint
 position source before tokens =
     position_hint source (has k.Port (open_instance before)) (is_positional (last_two before) tokens) (entity_of (open_instance before))
 
--- `NAME <= ACTUAL` begins an association
-abbrev pub assigned : (before from : List Token) → Hint
-assigned before tokens =
-    if begins_association (last_two before) && begins k.LessEqual (drop 1 tokens) && has k.Map (open_instance before) then form FORMAL_ARROW
-    else Nothing
+-- a generic or port of the entity of an instance
+abbrev pub formal_of : (source : Read) → (is_port : Bool) → (entity : Option Token) → (name : List ℕ) → Bool
+formal_of source is_port None name = false
+formal_of source is_port (Some entity) name = is_declared source.text name true (formals is_port (interface_in source entity))
+
+abbrev pub is_formal : (source : Read) → (instance from : List Token) → Bool
+is_formal source instance tokens = formal_of source (has k.Port instance) (entity_of instance) (text_of_first source.text tokens)
+
+-- `FORMAL <= ACTUAL` or `FORMAL = ACTUAL` stands for an association
+abbrev pub assigned : (source : Read) → (before from : List Token) → Hint
+assigned source before tokens =
+    if begins_association (last_two before) && begins_one_of (k.LessEqual ∷ k.Equal ∷ []) (drop 1 tokens)
+    && is_formal source (open_instance before) tokens then form FORMAL_ARROW else Nothing
 
 -- ---- a component, an architecture or a choice
 
@@ -248,13 +255,9 @@ abbrev pub port_hint : (source : Read) → (is_port : Bool) → (entity port : O
 port_hint source true (Some entity) (Some port) subject = actual_of source entity port subject
 port_hint source _ _ _ subject = Nothing
 
--- the token at the front ends the actual
-abbrev pub ends_actual : (from : List Token) → Bool
-ends_actual from = begins k.Comma (drop 1 from) || begins k.RightParen (drop 1 from)
-
 abbrev pub actual : (source : Read) → (before from : List Token) → Subject → Hint
 actual source before from subject =
-    port_hint source (ends_actual from && has k.Port (open_instance before)) (entity_of (open_instance before)) (formal_in (last_two before)) subject
+    port_hint source (begins_one_of (k.Comma ∷ k.RightParen ∷ []) (drop 1 from) && has k.Port (open_instance before)) (entity_of (open_instance before)) (formal_in (last_two before)) subject
 
 -- ---- of each rule
 
@@ -264,23 +267,36 @@ told_hint (Some said) = Form said
 
 abbrev pub undeclared : (source : Read) → (before from : List Token) → Hint
 undeclared source before from =
-    or_else (or_else (no_formal source before from) (unknown source.text (last_two before) from)) (elsewhere source.text before from)
+    or_else (or_else (or_else (or_else (or_else (no_formal source before from) (assigned source before from))
+    (unknown source.text (last_two before) from)) (elsewhere source.text before from)) (told_hint (foreign source.text from)))
+    (meant (text_of_first source.text from))
+
+-- of a value, an operator or a call
+abbrev pub mismatch : (source : Read) → (before from : List Token) → Subject → Hint
+mismatch source before from subject =
+    or_else (or_else (assigned source before from) (actual source before from subject))
+    (told_hint (misfit (known_of source before from) source.text (last_two before) from))
+
+-- of two lengths
+abbrev pub measure_hint : Subject → (said : Option Measure) → Hint
+measure_hint (Lengths found needed) (Some said) = Measured said found needed
+measure_hint subject _ = Nothing
 
 abbrev pub wrong_kind : (source : Read) → (before from : List Token) → Hint
 wrong_kind source before from =
-    or_else (or_else (or_else (or_else (other_name before) (no_target before from)) (component source (last_two before) from))
-    (position source before from)) (misplaced before from)
+    or_else (or_else (or_else (or_else (or_else (other_name before) (no_target before from)) (component source (last_two before) from))
+    (assigned source before from)) (position source before from)) (misplaced before from)
 
 -- at a byte of a source, of whose tokens these start before it, and the others from it on
 abbrev pub hint_at : (source : Read) → (before from : List Token) → Rule → Subject → Hint
 hint_at source before from (rule.Name naming.Undeclared) subject = undeclared source before from
 hint_at source before from (rule.Name naming.Twice) subject = twice source before from
 hint_at source before from (rule.Name naming.WrongKind) subject = wrong_kind source before from
-hint_at source before from (rule.Name naming.TypeMismatch) subject =
-    or_else (or_else (elements source.text from) (actual source before from subject)) (told_hint (misfit source.text (last_two before) from))
-hint_at source before from (rule.Name naming.LeftOut) subject = assigned before from
+hint_at source before from (rule.Name naming.TypeMismatch) subject = mismatch source before from subject
+hint_at source before from (rule.Name naming.LeftOut) subject = assigned source before from
 hint_at source before from (rule.Name naming.NoOthers) subject = enumeration (with_tokens source.text before) from
-hint_at source before from (rule.Elab elaboration.Length) subject = actual source before from subject
+hint_at source before from (rule.Elab elaboration.Length) subject =
+    or_else (actual source before from subject) (measure_hint subject (measured from))
 hint_at source before from (rule.Elab elaboration.Index) subject = outside source before from
 hint_at source before from (rule.Elab elaboration.Unassociated) subject = open_port source from
 hint_at source before from rule subject = Nothing

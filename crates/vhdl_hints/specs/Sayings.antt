@@ -1,14 +1,14 @@
 -- How a hint is told: its sentence, and what a designer does about it.
 use Rattle.std.specs.Prelude.{ℕ, ◌==◌, not, Bool, if◌then◌else◌, List, [], ◌∷◌, ◌++◌, drop, length, codes, decimal, flat_map, Option, Some, None}
 use Rattle.vhdl_slips.specs.Words.{Read, subject, text_of}
-use Rattle.vhdl_hints.specs.Hinted.{Actual, Differs, Empty, Form, Hint, NoFormal, NoPosition, Nothing, OpenPort, OtherName, OtherType, Outside}
+use Rattle.vhdl_hints.specs.Hinted.{Actual, Differs, Empty, Form, Hint, Meant, Measured, NoFormal, NoPosition, Nothing, OpenPort, OtherName, OtherType, Outside}
 use Rattle.vhdl_slips.specs.Listings.{names_listed}
 use Rattle.vhdl_slips.specs.Parts.{first_of}
 use Rattle.vhdl_slips.specs.declared.listing.Listing.{Listing}
 use Rattle.vhdl_slips.specs.declared.listing.Listing.TheVariants.{Generics, Ports}
 use Rattle.vhdl_hints.specs.declared.part.Part as code
 use Rattle.vhdl_hints.specs.declared.part.Part.TheVariants as c
-use Rattle.vhdl_hints.specs.declared.saying.TheConstants.{HELP_COMPONENT, HELP_EMPTY, HELP_FORMAL, HELP_LENGTH, HELP_NAME, HELP_POSITION, HELP_TYPE}
+use Rattle.vhdl_hints.specs.declared.saying.TheConstants.{HELP_COMPONENT, HELP_EMPTY, HELP_FORMAL, HELP_LENGTH, HELP_MEANT, HELP_NAME, HELP_POSITION, HELP_TYPE}
 use Rattle.vhdl_lexer.specs.declared.token.Token.{Token}
 
 -- a blank, and a token
@@ -97,6 +97,8 @@ parts (Actual entity port bounds found needed) =
 parts (OtherType entity port) =
     Subject ∷ Text (codes "has another type than the port ") ∷ Word port ∷ Text (codes " of entity ") ∷ Word entity ∷ []
 parts (Differs ports) = Subject ∷ Text (codes "isn't declared as its entity is: ") ∷ Names Ports ports ∷ []
+parts (Meant word) = Subject ∷ Text (codes "isn't declared: did you mean ") ∷ Text word ∷ Text (codes "?") ∷ []
+parts (Measured said found needed) = Subject ∷ Text said.0 ∷ Number found ∷ Text said.1 ∷ Number needed ∷ []
 parts (NoPosition entity is_port formals) =
     Subject ∷ Text (codes "can't stand here for a ") ∷ Text (formal_word is_port) ∷ Text (codes " of entity ") ∷ Word entity ∷ Text (codes "; ")
     ∷ Names (listing_of is_port) formals ∷ []
@@ -113,5 +115,7 @@ help (Empty left right is_upward) usual = HELP_EMPTY.now
 help (Actual entity port bounds found needed) usual = HELP_LENGTH.now
 help (OtherType entity port) usual = HELP_TYPE.now
 help (Differs ports) usual = HELP_COMPONENT.now
+help (Meant word) usual = HELP_MEANT.now
+help (Measured said found needed) usual = said.2
 help (NoPosition entity is_port formals) usual = HELP_POSITION.now
 help _ usual = usual

@@ -4,8 +4,9 @@ ghost use Rattle.std.specs.Prelude.{◌≡◌};
 ghost use Rattle.vhdl_hints.specs.Bounds as spec;
 
 use vhdl_lexer::{MAX_INTEGER, Token, TokenKind, integer_value};
+use vhdl_misfits::begins_declaration;
 use vhdl_slips::{
-    Lexed, begins, behind_last, formals, from, has, in_parentheses, interface_of, is_literal,
+    Lexed, begins, behind_last, formals, from, in_parentheses, interface_of, is_literal,
     is_same_kind, past, text_of, up_to,
 };
 
@@ -50,6 +51,14 @@ pub(crate) fn is_declared(text: &[u8], name: &[u8], in_list: bool, tokens: &[Tok
         declared_in(text, name, in_list, Declared::Never, tokens),
         Declared::Never
     )
+}
+
+/// Whether the architecture before a byte, or a port of its entity, declares a name.
+pub(crate) fn is_object(source: Lexed<'_>, name: &[u8], before: &[Token]) -> bool
+    ensures { result
+        ≡ spec.is_found (spec.all_declared source.entry.text.now name.now source.entry.tokens.now before.now) }
+{
+    !matches!(all_declared(source, name, before), Declared::Never)
 }
 
 /// How often the architecture before a byte and the ports of its entity declare a name together.
@@ -143,17 +152,7 @@ fn declares(text: &[u8], name: &[u8], tokens: &[Token]) -> bool
         text,
         tokens: up_to(TokenKind::Colon, tokens),
     };
-    has(TokenKind::Colon, tokens) && are_names(names.tokens) && is_literal(names, name)
-}
-
-/// Whether these are names of a declaration: `NAME { , NAME }`.
-fn are_names(tokens: &[Token]) -> bool
-    ensures { result ≡ spec.are_names tokens.now }
-{
-    tokens.iter().all(|token| {
-        is_same_kind(token.kind, TokenKind::Identifier)
-            || is_same_kind(token.kind, TokenKind::Comma)
-    })
+    begins_declaration(tokens) && is_literal(names, name)
 }
 
 /// One declaration more.

@@ -49,12 +49,6 @@ pub const NO_SIGNAL: Said = (
     "assign a variable by :=; a constant, a generic and the index of a loop aren't assigned",
 );
 
-pub const ELEMENTS: Said = (
-    "has a character in it that is none of U X 0 1 Z W L H -",
-    "write the digits 0 and 1, and other values in capitals; with underscores write b\"0000_1111\"; a literal of an \
-     enumeration has no quotation marks",
-);
-
 pub const ITSELF: Said = (
     "is the name of this declaration itself, and no type",
     "write a type behind the colon, as std_logic, or the name of a type that is declared above",
@@ -66,14 +60,32 @@ pub const LIBRARY: Said = (
 );
 
 pub const FORMAL_ARROW: Said = (
-    "is followed by <=, and a formal by =>",
-    "write => between a port and what it is connected to, as clk => clk",
+    "is a generic or port of the entity here, and => follows it in a map",
+    "write => between it and what it is connected to, as clk => clk or width => 8",
 );
 
 pub const OTHERS: Said = (
     "is the last choice, and stands alone",
     "put the choice others last, and join no other one to it by |",
 );
+
+/// Words of the packages that are read, and one that is reserved, which may be meant.
+pub static WORDS: [&str; 14] = [
+    "others",
+    "rising_edge",
+    "falling_edge",
+    "std_logic",
+    "std_logic_vector",
+    "std_ulogic",
+    "std_ulogic_vector",
+    "unsigned",
+    "to_unsigned",
+    "resize",
+    "shift_left",
+    "shift_right",
+    "integer",
+    "natural",
+];
 
 pub const ARCHITECTURE: Said = (
     "is no architecture of this entity",

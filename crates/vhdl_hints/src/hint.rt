@@ -1,6 +1,7 @@
 //! Which hint the tokens around a fault give.
 
 ghost use Rattle.std.specs.Prelude.{◌≡◌, Some, option_map};
+ghost use Rattle.vhdl_misfits.specs.Lengths.{measure_view};
 ghost use Rattle.vhdl_misfits.specs.Misfits.{said_of};
 ghost use Rattle.vhdl_slips.specs.Parts.{first_of};
 ghost use Rattle.vhdl_slips.specs.Words.{read_of, with_tokens};
@@ -9,16 +10,16 @@ ghost use Rattle.vhdl_hints.specs.Hints as spec;
 
 use crate::bound::{bounds_of, is_declared, is_empty, listed_bounds, range_at};
 use crate::end_name::{Begun, but_last_two, end_word, last_begun, last_two};
-use crate::form::{LITERALS, NO_NAME};
+use crate::form::{LITERALS, NO_NAME, WORDS};
 use crate::misplaced::{assigned, component, misplaced, position, unknown};
-use crate::word::{elements, elsewhere, no_target, twice};
+use crate::word::{elsewhere, known_of, meant_among, no_target, twice};
 use fault_rules::{ElabRule, NameRule, Report, Rule, Subject};
 use vhdl_lexer::{Token, TokenKind};
-use vhdl_misfits::misfit;
+use vhdl_misfits::{Measure, begins_one_of, foreign, measured, misfit};
 use vhdl_slips::{
-    Lexed, Said, associations, begins, entity_of, first_choice, first_of, first_open, formal_in,
-    formals, has, in_parentheses, interface_of, is_by_name, is_literal, is_same_kind, labelled,
-    open_instance, past, text_of, type_of,
+    Lexed, Said, associations, entity_of, first_choice, first_of, first_open, first_text,
+    formal_in, formals, has, in_parentheses, interface_of, is_by_name, is_literal, is_same_kind,
+    labelled, open_instance, past, text_of, type_of,
 };
 
 /// What the tokens around a fault tell of it.
@@ -45,6 +46,10 @@ pub enum Hint<'a> {
     OtherType(Token, Token),
     /// A component differs from its entity, which has these ports.
     Differs(&'a [Token]),
+    /// A word that is nearly the same may be meant.
+    Meant(&'static str),
+    /// Two lengths differ, which are measured so.
+    Measured(Measure, usize, usize),
     /// What can't stand in a map for a port, or generic, of an entity, which has these.
     NoPosition(Token, bool, &'a [Token]),
 }
@@ -83,12 +88,12 @@ pub fn hint_at<'a>(
         Rule::Name(NameRule::Undeclared) => undeclared(source, before, from),
         Rule::Name(NameRule::Twice) => twice(source, before, from),
         Rule::Name(NameRule::WrongKind) => wrong_kind(source, before, from),
-        Rule::Name(NameRule::TypeMismatch) => elements(source.text, from)
-            .or_else(actual(source, before, from, report.subject))
-            .or_else(told_hint(misfit(source.text, last_two(before), from))),
-        Rule::Name(NameRule::LeftOut) => assigned(before, from),
+        Rule::Name(NameRule::TypeMismatch) => mismatch(source, before, from, report.subject),
+        Rule::Name(NameRule::LeftOut) => assigned(source, before, from),
         Rule::Name(NameRule::NoOthers) => enumeration(source.text, before, from),
-        Rule::Elab(ElabRule::Length) => actual(source, before, from, report.subject),
+        Rule::Elab(ElabRule::Length) => actual(source, before, from, report.subject).or_else(
+            measure_hint(report.subject, measured(from)),
+        ),
         Rule::Elab(ElabRule::Index) => outside(source, before, from),
         Rule::Elab(ElabRule::Unassociated) => open_port(source, from),
         _ => Hint::Nothing,
@@ -109,9 +114,33 @@ fn told_hint(said: Option<Said>) -> Hint<'static>
 fn undeclared<'a>(source: Lexed<'a>, before: &[Token], from: &[Token]) -> Hint<'a>
     ensures { hint_view result ≡ spec.undeclared (read_of source.entry) before.now from.now }
 {
+    let text = source.text;
     no_formal(source, before, from)
-        .or_else(unknown(source.text, last_two(before), from))
-        .or_else(elsewhere(source.text, before, from))
+        .or_else(assigned(source, before, from))
+        .or_else(unknown(text, last_two(before), from))
+        .or_else(elsewhere(text, before, from))
+        .or_else(told_hint(foreign(text, from)))
+        .or_else(meant_among(&WORDS, first_text(Lexed { text, tokens: from })))
+}
+
+/// Of a value, an operator or a call.
+fn mismatch<'a>(source: Lexed<'a>, before: &[Token], from: &[Token], subject: Subject) -> Hint<'a>
+    ensures { hint_view result ≡ spec.mismatch (read_of source.entry) before.now from.now subject }
+{
+    let known = known_of(source, before, from);
+    assigned(source, before, from)
+        .or_else(actual(source, before, from, subject))
+        .or_else(told_hint(misfit(known, source.text, last_two(before), from)))
+}
+
+/// Of two lengths.
+fn measure_hint(subject: Subject, said: Option<Measure>) -> Hint<'static>
+    ensures { hint_view result ≡ spec.measure_hint subject (option_map measure_view said.entry) }
+{
+    match (subject, said) {
+        (Subject::Lengths { found, needed }, Some(said)) => Hint::Measured(said, found, needed),
+        _ => Hint::Nothing,
+    }
 }
 
 /// Of a name of another kind.
@@ -121,6 +150,7 @@ fn wrong_kind<'a>(source: Lexed<'a>, before: &[Token], from: &[Token]) -> Hint<'
     other_name(before)
         .or_else(no_target(before, from))
         .or_else(component(source, last_two(before), from))
+        .or_else(assigned(source, before, from))
         .or_else(position(source, before, from))
         .or_else(misplaced(before, from))
 }
@@ -331,18 +361,12 @@ fn actual<'a>(source: Lexed<'a>, before: &[Token], from: &[Token], subject: Subj
     ensures { hint_view result ≡ spec.actual (read_of source.entry) before.now from.now subject }
 {
     let instance = open_instance(before);
-    let is_port = ends_actual(from) && has(TokenKind::Port, instance);
+    let is_port = begins_one_of(&[TokenKind::Comma, TokenKind::RightParen], past(1, from))
+        && has(TokenKind::Port, instance);
     match (is_port, entity_of(instance), formal_in(last_two(before))) {
         (true, Some(entity), Some(port)) => actual_of(source, entity, port, subject),
         _ => Hint::Nothing,
     }
-}
-
-/// Whether the token at the front ends the actual.
-fn ends_actual(from: &[Token]) -> bool
-    ensures { result ≡ spec.ends_actual from.now }
-{
-    begins(TokenKind::Comma, past(1, from)) || begins(TokenKind::RightParen, past(1, from))
 }
 
 /// Of two lengths that differ, or else of two types.

@@ -2,7 +2,7 @@
 //! ports an entity has that has no such one, which port an instance leaves open, which name an end
 //! has to have, whether choices are of an enumeration, which bounds an index is outside of, of
 //! which port an actual has another length or type, where a name is declared, what is assigned, and
-//! the characters of a string.
+//! which word may be meant.
 //!
 //! `specs/Hints.antt` says which hint there is at a byte, and `specs/Sayings.antt` how it is told.
 #![tactic(auto)]

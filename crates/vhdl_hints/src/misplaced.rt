@@ -6,10 +6,12 @@ ghost use Rattle.vhdl_slips.specs.Words.{read_of};
 ghost use Rattle.vhdl_hints.specs.Hinted.{hint_view};
 ghost use Rattle.vhdl_hints.specs.Hints as spec;
 
+use crate::bound::is_declared;
 use crate::end_name::last_two;
 use crate::form::{ARCHITECTURE, FORMAL_ARROW, ITSELF, LIBRARY, OTHERS};
 use crate::hint::{Hint, interface_in};
 use vhdl_lexer::{Token, TokenKind};
+use vhdl_misfits::begins_one_of;
 use vhdl_slips::{
     Lexed, begins, behind_last, entity_of, first_text, formals, has, is_same_kind, is_same_word,
     open_instance, past, text_of,
@@ -39,17 +41,10 @@ fn is_itself(text: &[u8], last_two: &[Token], from: &[Token]) -> bool
                     text_of(text, *name),
                     first_text(Lexed { text, tokens: from }),
                 )
-                && !goes_on_as_instance(past(1, from))
+                && !begins_one_of(&[TokenKind::Port, TokenKind::Generic], past(1, from))
         }
         _ => false,
     }
-}
-
-/// Whether the name before it is that of an entity.
-fn goes_on_as_instance(behind: &[Token]) -> bool
-    ensures { result ≡ spec.goes_on_as_instance behind.now }
-{
-    begins(TokenKind::Port, behind) || begins(TokenKind::Generic, behind)
 }
 
 // ---- a place in a map
@@ -93,17 +88,33 @@ fn position_of(source: Lexed<'_>, entity: Token, is_port: bool) -> Hint<'_>
     }
 }
 
-/// Of `NAME <= ACTUAL` where an association begins.
-pub(crate) fn assigned(before: &[Token], from: &[Token]) -> Hint<'static>
-    ensures { hint_view result ≡ spec.assigned before.now from.now }
+/// Of `FORMAL <= ACTUAL` or `FORMAL = ACTUAL` where an association begins.
+pub(crate) fn assigned<'a>(source: Lexed<'a>, before: &[Token], from: &[Token]) -> Hint<'a>
+    ensures { hint_view result ≡ spec.assigned (read_of source.entry) before.now from.now }
 {
     if begins_association(last_two(before))
-        && begins(TokenKind::LessEqual, past(1, from))
-        && has(TokenKind::Map, open_instance(before))
+        && begins_one_of(&[TokenKind::LessEqual, TokenKind::Equal], past(1, from))
+        && is_formal(source, open_instance(before), from)
     {
         Hint::Form(FORMAL_ARROW)
     } else {
         Hint::Nothing
+    }
+}
+
+/// Whether it is a generic or port of the entity of an instance.
+fn is_formal(source: Lexed<'_>, instance: &[Token], from: &[Token]) -> bool
+    ensures { result ≡ spec.is_formal (read_of source.entry) instance.now from.now }
+{
+    let text = source.text;
+    match entity_of(instance) {
+        Some(entity) => is_declared(
+            text,
+            first_text(Lexed { text, tokens: from }),
+            true,
+            formals(has(TokenKind::Port, instance), interface_in(source, entity)),
+        ),
+        None => false,
     }
 }
 

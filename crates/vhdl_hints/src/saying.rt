@@ -28,6 +28,8 @@ const HELP_TYPE: &str =
 const HELP_COMPONENT: &str =
     "repeat in it the generics and ports of the entity, in the same order, each with its mode, type, bounds and default";
 
+const HELP_MEANT: &str = "correct its spelling, or declare it above this place";
+
 const HELP_POSITION: &str =
     "give each by its position, in this order and no more than these, or by its name, as y => q, with names alone \
      behind that; an actual of a port names a signal";
@@ -44,6 +46,8 @@ pub fn help(hint: Hint<'_>, usual: &'static [u8]) -> &'static [u8]
         Hint::Actual(..) => HELP_LENGTH.as_bytes(),
         Hint::OtherType(..) => HELP_TYPE.as_bytes(),
         Hint::Differs(_) => HELP_COMPONENT.as_bytes(),
+        Hint::Meant(_) => HELP_MEANT.as_bytes(),
+        Hint::Measured((_, _, help), _, _) => help.as_bytes(),
         Hint::NoPosition(..) => HELP_POSITION.as_bytes(),
         _ => usual,
     }
@@ -85,6 +89,10 @@ pub fn push_hint<S: Sink>(words: Lexed<'_>, hint: Hint<'_>, sink: &mut S)
             Subject Text("has another type than the port ") Word(port) Text(" of entity ") Word(entity)),
         Hint::Differs(ports) => push!(words sink:
             Subject Text("isn't declared as its entity is: ") Names(Listing::Ports, ports)),
+        Hint::Meant(word) =>
+            push!(words sink: Subject Text("isn't declared: did you mean ") Text(word) Text("?")),
+        Hint::Measured((first, second, _), found, needed) => push!(words sink:
+            Subject Text(first) Number(found) Text(second) Number(needed)),
         Hint::NoPosition(entity, is_port, formals) => push!(words sink:
             Subject Text("can't stand here for a ") Text(formal_word(is_port)) Text(" of entity ") Word(entity) Text("; ") Names(listing_of(is_port), formals)),
     }

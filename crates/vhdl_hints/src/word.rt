@@ -1,25 +1,18 @@
-//! What one word tells: where it is declared, what is assigned, and the characters of a string.
+//! What one word tells: where it is declared, what is assigned, and what may be meant.
 
-ghost use Rattle.std.specs.Prelude.{◌≡◌};
+ghost use Rattle.std.specs.Prelude.{◌≡◌, map};
 ghost use Rattle.vhdl_slips.specs.Words.{read_of};
 ghost use Rattle.vhdl_hints.specs.Hinted.{hint_view};
 ghost use Rattle.vhdl_hints.specs.Hints as spec;
 
-use crate::bound::{is_declared, ports_of};
+use crate::bound::{is_declared, is_object, ports_of};
 use crate::end_name::last_two;
-use crate::form::{
-    ABOVE, BELOW, ELEMENTS, FORMAL_TWICE, INDEX, NO_SIGNAL, NO_VARIABLE, PORT_TWICE,
-};
+use crate::form::{ABOVE, BELOW, FORMAL_TWICE, INDEX, NO_SIGNAL, NO_VARIABLE, PORT_TWICE};
 use crate::hint::Hint;
+use vhdl_expected::is_near;
 use vhdl_lexer::{Token, TokenKind};
-use vhdl_misfits::{behind_name, is_one_of};
+use vhdl_misfits::{Known, begins_statement, behind_name, is_inside_loop};
 use vhdl_slips::{Lexed, begins, behind_last, first_text, is_same_word, past};
-
-macro_rules! kinds {
-    ($($kind:ident)+) => {
-        [$(TokenKind::$kind),+]
-    };
-}
 
 /// Of a name that is declared elsewhere.
 pub(crate) fn elsewhere(text: &[u8], before: &[Token], from: &[Token]) -> Hint<'static>
@@ -63,28 +56,11 @@ pub(crate) fn twice(source: Lexed<'_>, before: &[Token], from: &[Token]) -> Hint
 pub(crate) fn no_target(before: &[Token], from: &[Token]) -> Hint<'static>
     ensures { hint_view result ≡ spec.no_target before.now from.now }
 {
-    if begins_behind(last_two(before)) {
+    if begins_statement(last_two(before)) {
         target_hint(behind_name(from))
     } else {
         Hint::Nothing
     }
-}
-
-/// Whether a statement may begin behind the last of these tokens.
-fn begins_behind(last_two: &[Token]) -> bool
-    ensures { result ≡ spec.begins_behind last_two.now }
-{
-    match last_two {
-        [_, last] => precedes_statement(last.kind),
-        _ => false,
-    }
-}
-
-/// Whether a statement may begin behind such a token.
-fn precedes_statement(kind: TokenKind) -> bool
-    ensures { result ≡ spec.precedes_statement kind }
-{
-    is_one_of(&kinds!(Semicolon Begin Then Else Loop Arrow), kind)
 }
 
 /// Of what stands behind the target.
@@ -100,30 +76,38 @@ fn target_hint(behind: &[Token]) -> Hint<'static>
     }
 }
 
-/// Of a string with a character that is none of the nine values.
-pub(crate) fn elements(text: &[u8], from: &[Token]) -> Hint<'static>
-    ensures { hint_view result ≡ spec.elements text.now from.now }
+/// The first of some words that is nearly the same.
+pub(crate) fn meant_among(mut words: &[&'static str], word: &[u8]) -> Hint<'static>
+    ensures { hint_view result ≡ spec.meant_among (map (λ w. w.now) words.entry.now) word.now }
 {
-    let written = first_text(Lexed { text, tokens: from });
-    if begins(TokenKind::String, from) && !are_elements(written) {
-        Hint::Form(ELEMENTS)
-    } else {
-        Hint::Nothing
+    while let [first, rest @ ..] = words {
+        if is_near(word, first.as_bytes()) {
+            return Hint::Meant(*first);
+        }
+        words = rest;
     }
+    Hint::Nothing
 }
 
-fn are_elements(written: &[u8]) -> bool
-    ensures { result ≡ spec.are_elements written.now }
+/// What else has the name at the front.
+pub(crate) fn known_of(source: Lexed<'_>, before: &[Token], from: &[Token]) -> Known
+    ensures { result ≡ spec.known_of (read_of source.entry) before.now from.now }
 {
-    written.iter().all(|byte| is_element(*byte))
-}
-
-/// Whether it is a quotation mark, or the character of one of the nine values.
-fn is_element(byte: u8) -> bool
-    ensures { result ≡ spec.is_element byte }
-{
-    matches!(
-        byte,
-        b'"' | b'U' | b'X' | b'0' | b'1' | b'Z' | b'W' | b'L' | b'H' | b'-'
-    )
+    let text = source.text;
+    let name = first_text(Lexed { text, tokens: from });
+    let behind = behind_last(TokenKind::For, before);
+    let index = first_text(Lexed {
+        text,
+        tokens: behind,
+    });
+    if is_same_word(index, name)
+        && is_inside_loop(behind)
+        && !is_declared(text, name, false, behind)
+    {
+        Known::Turn
+    } else if is_object(source, name, before) {
+        Known::Object
+    } else {
+        Known::Unknown
+    }
 }

@@ -1,2 +1,5 @@
--- What is said where a type doesn't fit.
+-- What is said where a type or a length doesn't fit. In order of reading:
+pub mod Places
+pub mod Values
 pub mod Misfits
+pub mod Lengths

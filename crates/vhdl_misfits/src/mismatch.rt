@@ -3,218 +3,123 @@
 ghost use Rattle.std.specs.Prelude.{◌≡◌, option_map};
 ghost use Rattle.vhdl_misfits.specs.Misfits as spec;
 
-use crate::form::{
-    ARITHMETIC, COMPARISON, CONDITION, CONVERTED, DIVISION, ELEMENT, INDEXED, JOINED, LOGIC,
-    NUMBER, SHIFTED, TEST, VECTOR,
-};
+use crate::assignment::{given_misfit, is_given};
+use crate::form::{BEGINS, CONDITION, ELEMENTS, FILLED, NO_VALUE};
+use crate::name::name_misfit;
+use crate::operator::{goes_on_as_value, token_misfit};
+use crate::place::{begins_one_of, has_one_of, kinds, stands_behind, up_to_one_of};
+use crate::word::{has_no_element, is_no_value};
 use vhdl_lexer::{Token, TokenKind};
-use vhdl_slips::{Lexed, Said, begins, first_text, from, is_same_kind, is_same_word, past};
+use vhdl_slips::{Said, begins, past};
 
-macro_rules! kinds {
-    ($($kind:ident)+) => {
-        [$(TokenKind::$kind),+]
-    };
+/// What else has the name at the front.
+#[derive(Clone, Copy)]
+pub enum Known {
+    /// Nothing that is declared in sight.
+    Unknown,
+    /// A signal, variable or constant.
+    Object,
+    /// The index of a loop or generate that is open.
+    Turn,
 }
 
 /// What is told of what stands at the front, and has or takes another type, behind the last two of
 /// the tokens before it; nothing where that shows no more.
-pub fn misfit(text: &[u8], last_two: &[Token], from: &[Token]) -> Option<Said>
-    ensures { option_map spec.said_of result ≡ spec.misfit text.now last_two.now from.now }
+pub fn misfit(known: Known, text: &[u8], last_two: &[Token], from: &[Token]) -> Option<Said>
+    ensures { option_map spec.said_of result ≡ spec.misfit known text.now last_two.now from.now }
 {
-    if is_condition(last_two, from) {
-        Some(CONDITION)
+    or_else(
+        value_misfit(text, from),
+        or_else(
+            opening_misfit(last_two, from),
+            type_misfit(known, text, last_two, from),
+        ),
+    )
+}
+
+/// The first that tells something.
+fn or_else(first: Option<Said>, second: Option<Said>) -> Option<Said>
+    ensures { option_map spec.said_of result
+        ≡ spec.or_else (option_map spec.said_of first.entry) (option_map spec.said_of second.entry) }
+{
+    match first {
+        Some(said) => Some(said),
+        None => second,
+    }
+}
+
+/// Of a literal that is no value, or of `(others => ..)` for what is no vector.
+fn value_misfit(text: &[u8], from: &[Token]) -> Option<Said>
+    ensures { option_map spec.said_of result ≡ spec.value_misfit text.now from.now }
+{
+    if has_no_element(text, from) {
+        Some(ELEMENTS)
+    } else if is_no_value(text, from) {
+        Some(NO_VALUE)
+    } else if begins(TokenKind::LeftParen, from) && begins(TokenKind::Others, past(1, from)) {
+        Some(FILLED)
+    } else {
+        None
+    }
+}
+
+/// Outside of the beginning of a condition.
+fn type_misfit(known: Known, text: &[u8], last_two: &[Token], from: &[Token]) -> Option<Said>
+    ensures { option_map spec.said_of result ≡ spec.type_misfit known text.now last_two.now from.now }
+{
+    if is_given(last_two, from) {
+        given_misfit(known, text, last_two, from)
     } else if begins(TokenKind::Identifier, from) {
-        name_misfit(text, last_two, from)
+        name_misfit(known, text, last_two, from)
     } else {
-        first_misfit(from)
+        token_misfit(last_two, from)
     }
 }
 
-/// Whether the token at the front is a whole condition.
-fn is_condition(last_two: &[Token], from: &[Token]) -> bool
-    ensures { result ≡ spec.is_condition last_two.now from.now }
-{
-    match (last_two, from) {
-        ([_, last], [_, next, ..]) => opens_condition(last.kind) && ends_condition(next.kind),
-        _ => false,
-    }
-}
+// ---- a condition
 
-fn opens_condition(kind: TokenKind) -> bool
-    ensures { result ≡ spec.opens_condition kind }
+/// Of a whole condition, or of what begins one, where it is no test.
+fn opening_misfit(last_two: &[Token], from: &[Token]) -> Option<Said>
+    ensures { option_map spec.said_of result ≡ spec.opening_misfit last_two.now from.now }
 {
-    is_one_of(&kinds!(If Elsif When), kind)
-}
-
-fn ends_condition(kind: TokenKind) -> bool
-    ensures { result ≡ spec.ends_condition kind }
-{
-    is_one_of(&kinds!(Then Else), kind)
-}
-
-/// Whether it is of one of these kinds.
-pub fn is_one_of(kinds: &[TokenKind], kind: TokenKind) -> bool
-    ensures { result ≡ spec.is_one_of kinds.now kind }
-{
-    kinds.iter().any(|other| is_same_kind(kind, *other))
-}
-
-// ---- a name
-
-/// Of the name at the front, behind the last two of the tokens before it.
-fn name_misfit(text: &[u8], last_two: &[Token], from: &[Token]) -> Option<Said>
-    ensures { option_map spec.said_of result ≡ spec.name_misfit text.now last_two.now from.now }
-{
-    if is_assigned(last_two) && goes_on_as_test(behind_name(from)) {
-        Some(TEST)
-    } else if is_alone_with_parentheses(from) {
-        in_parentheses_misfit(first_text(Lexed { text, tokens: from }))
+    if opens_condition(last_two) {
+        condition_misfit(from)
     } else {
         None
     }
 }
 
-/// Whether a value stands behind `<=` or `:=`.
-fn is_assigned(last_two: &[Token]) -> bool
-    ensures { result ≡ spec.is_assigned last_two.now }
+fn opens_condition(last_two: &[Token]) -> bool
+    ensures { result ≡ spec.opens_condition last_two.now }
 {
-    match last_two {
-        [_, last] => is_one_of(&kinds!(LessEqual Assign), last.kind),
-        _ => false,
-    }
+    stands_behind(&kinds!(If Elsif When), last_two)
 }
 
-/// Whether parentheses follow the name at the front, and no `&` behind them.
-fn is_alone_with_parentheses(from: &[Token]) -> bool
-    ensures { result ≡ spec.is_alone_with_parentheses from.now }
+fn condition_misfit(from: &[Token]) -> Option<Said>
+    ensures { option_map spec.said_of result ≡ spec.condition_misfit from.now }
 {
-    begins(TokenKind::LeftParen, past(1, from)) && !begins(TokenKind::Ampersand, behind_name(from))
-}
-
-/// What stands behind the name at the front, and its index.
-pub fn behind_name(tokens: &[Token]) -> &[Token]
-    ensures { result.now ≡ spec.behind_name tokens.now }
-{
-    if begins(TokenKind::LeftParen, past(1, tokens)) {
-        past(1, from(TokenKind::RightParen, tokens))
+    if begins_one_of(&kinds!(Then Else Generate), past(1, from)) {
+        Some(CONDITION)
+    } else if is_no_test(from) {
+        Some(BEGINS)
     } else {
-        past(1, tokens)
+        None
     }
 }
 
-/// Whether a relation goes on.
-fn goes_on_as_test(behind: &[Token]) -> bool
-    ensures { result ≡ spec.goes_on_as_test behind.now }
+/// Whether `not` negates a value, or an operator joins values.
+fn is_no_test(from: &[Token]) -> bool
+    ensures { result ≡ spec.is_no_test from.now }
 {
-    begins_one_of(
+    (begins(TokenKind::Not, from) || goes_on_as_value(past(1, from))) && !has_relation(from)
+}
+
+/// Whether a relation stands in the condition at the front.
+fn has_relation(from: &[Token]) -> bool
+    ensures { result ≡ spec.has_relation from.now }
+{
+    has_one_of(
         &kinds!(Equal NotEqual Less LessEqual Greater GreaterEqual),
-        behind,
+        up_to_one_of(&kinds!(Then Else Generate), from),
     )
-}
-
-/// Whether the first of some tokens is of one of these kinds.
-fn begins_one_of(kinds: &[TokenKind], tokens: &[Token]) -> bool
-    ensures { result ≡ spec.begins_one_of kinds.now tokens.now }
-{
-    match tokens {
-        [first, ..] => is_one_of(kinds, first.kind),
-        [] => false,
-    }
-}
-
-/// Of a call of this name, or of an index behind it.
-fn in_parentheses_misfit(word: &[u8]) -> Option<Said>
-    ensures { option_map spec.said_of result ≡ spec.in_parentheses_misfit word.now }
-{
-    if is_shift(word) {
-        Some(SHIFTED)
-    } else if is_conversion(word) {
-        Some(CONVERTED)
-    } else {
-        Some(INDEXED)
-    }
-}
-
-fn is_shift(word: &[u8]) -> bool
-    ensures { result ≡ spec.is_shift word.now }
-{
-    is_same_word(word, b"resize")
-        || is_same_word(word, b"shift_left")
-        || is_same_word(word, b"shift_right")
-}
-
-fn is_conversion(word: &[u8]) -> bool
-    ensures { result ≡ spec.is_conversion word.now }
-{
-    is_same_word(word, b"unsigned")
-        || is_same_word(word, b"std_logic_vector")
-        || is_same_word(word, b"std_ulogic_vector")
-        || is_same_word(word, b"to_unsigned")
-        || is_same_word(word, b"rising_edge")
-        || is_same_word(word, b"falling_edge")
-}
-
-// ---- a literal, or an operator
-
-/// Of the token at the front.
-fn first_misfit(from: &[Token]) -> Option<Said>
-    ensures { option_map spec.said_of result ≡ spec.first_misfit from.now }
-{
-    match from {
-        [first, next, ..] => token_misfit(first.kind, next.kind),
-        _ => None,
-    }
-}
-
-/// Of a token before another.
-fn token_misfit(kind: TokenKind, next: TokenKind) -> Option<Said>
-    ensures { option_map spec.said_of result ≡ spec.token_misfit kind next }
-{
-    if ends_value(next) {
-        literal_misfit(kind)
-    } else {
-        operator_misfit(kind)
-    }
-}
-
-/// Whether no operator follows a value before such a token.
-fn ends_value(kind: TokenKind) -> bool
-    ensures { result ≡ spec.ends_value kind }
-{
-    is_one_of(
-        &kinds!(Semicolon Comma RightParen When Else Arrow Bar),
-        kind,
-    )
-}
-
-fn literal_misfit(kind: TokenKind) -> Option<Said>
-    ensures { option_map spec.said_of result ≡ spec.literal_misfit kind }
-{
-    if is_one_of(&kinds!(Integer), kind) {
-        Some(NUMBER)
-    } else if is_one_of(&kinds!(String BitString), kind) {
-        Some(VECTOR)
-    } else if is_one_of(&kinds!(Character), kind) {
-        Some(ELEMENT)
-    } else {
-        None
-    }
-}
-
-fn operator_misfit(kind: TokenKind) -> Option<Said>
-    ensures { option_map spec.said_of result ≡ spec.operator_misfit kind }
-{
-    if is_one_of(&kinds!(Equal NotEqual), kind) {
-        Some(COMPARISON)
-    } else if is_one_of(&kinds!(And Or Xor Nand Nor Xnor), kind) {
-        Some(LOGIC)
-    } else if is_one_of(&kinds!(Ampersand), kind) {
-        Some(JOINED)
-    } else if is_one_of(&kinds!(Plus Minus Star), kind) {
-        Some(ARITHMETIC)
-    } else if is_one_of(&kinds!(Slash Mod Rem), kind) {
-        Some(DIVISION)
-    } else {
-        None
-    }
 }

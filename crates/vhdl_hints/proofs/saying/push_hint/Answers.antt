@@ -24,3 +24,9 @@ pub returns-in-NoPosition : goal.returns-in-NoPosition
 returns-in-NoPosition g c =
     let parts = rw (c.formal_word-in-NoPosition.ensures, c.listing_of-in-NoPosition.ensures) at c.push_parts-in-NoPosition.ensures in
     rw c.in-NoPosition.is parts
+
+pub returns-in-Measured : goal.returns-in-Measured
+returns-in-Measured g c = rw c.in-Measured.is c.push_parts-in-Measured.ensures
+
+pub returns-in-Meant : goal.returns-in-Meant
+returns-in-Meant g c = rw c.in-Meant.is c.push_parts-in-Meant.ensures

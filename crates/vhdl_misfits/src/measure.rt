@@ -1,0 +1,88 @@
+//! What is told of two lengths that differ.
+
+ghost use Rattle.std.specs.Prelude.{◌≡◌, option_map};
+ghost use Rattle.vhdl_misfits.specs.Lengths as spec;
+
+use crate::place::{begins_declaration, begins_one_of, behind_name, has_one_of, is_target, kinds};
+use vhdl_lexer::{Token, TokenKind};
+use vhdl_slips::{has, up_to};
+
+/// What is said before the first length, before the second, and what a designer does about it.
+pub type Measure = (&'static str, &'static str, &'static str);
+
+pub const CHOICE: Measure = (
+    "has a choice of length ",
+    ", and a selector of length ",
+    "write each choice with as many elements as the selector has, as \"01\" for two",
+);
+
+pub const SIDES: Measure = (
+    "joins a left side of length ",
+    " and a right side of length ",
+    "write both sides with one length: a slice, a & at the end, or resize(n, 8)",
+);
+
+pub const TARGET: Measure = (
+    "is assigned a value of length ",
+    ", and needs one of length ",
+    "write both with one length: a slice, a & at the end, or resize(n, 8); (width - 1 downto 0) has width \
+     elements",
+);
+
+pub const SUM: Measure = (
+    "is assigned a value of length ",
+    ", and needs one of length ",
+    "a sum is as long as its longer side: write resize(a, 9) + b to keep the carry of 8, and resize(a + b, 8) \
+     for less",
+);
+
+pub const PRODUCT: Measure = (
+    "is assigned a value of length ",
+    ", and needs one of length ",
+    "a product is as long as both factors together: declare the target so, or write resize(a * b, 8)",
+);
+
+pub const DECLARED: Measure = (
+    "is declared with a value of length ",
+    ", and with a range of length ",
+    "write as many digits as the range has, or (others => '0'); (width - 1 downto 0) has width elements",
+);
+
+/// What is told of two lengths, by the token at the front.
+pub fn measured(from: &[Token]) -> Option<Measure>
+    ensures { option_map spec.measure_view result ≡ spec.measured from.now }
+{
+    if begins_one_of(&kinds!(Case With), from) {
+        Some(CHOICE)
+    } else if begins_one_of(&kinds!(And Or Xor Nand Nor Xnor), from) {
+        Some(SIDES)
+    } else {
+        named(from)
+    }
+}
+
+/// Of a name that is assigned to, or declared.
+fn named(from: &[Token]) -> Option<Measure>
+    ensures { option_map spec.measure_view result ≡ spec.named from.now }
+{
+    if is_target(from) {
+        Some(assigned(up_to(TokenKind::Semicolon, behind_name(from))))
+    } else if begins_declaration(from) {
+        Some(DECLARED)
+    } else {
+        None
+    }
+}
+
+/// Of what is assigned, these tokens standing behind the target.
+fn assigned(value: &[Token]) -> Measure
+    ensures { spec.measure_view result ≡ spec.assigned value.now }
+{
+    if has(TokenKind::Star, value) {
+        PRODUCT
+    } else if has_one_of(&kinds!(Plus Minus), value) {
+        SUM
+    } else {
+        TARGET
+    }
+}
