@@ -6,7 +6,7 @@ use Rattle.fault_rules.specs.declared.report.Report.{Report}
 use Rattle.byte_streams.proofs.Writing.{Goes-append}
 use Rattle.rtl_stim_lines.specs.declared.faults.StimFault.{StimFault}
 use Rattle.rtl_stim_lines.specs.declared.faults.StimFault.TheVariants as stim
-use Rattle.rtlsim_refusals.specs.Stimuli.{is_race}
+use Rattle.rtlsim_refusals.specs.Stimuli as refusing
 use Rattle.rtlsim_command_faults.specs.Explanations.{IsRead, Source, explanation, files_of, is_read, source_report, source_said, told, unread}
 use Rattle.rtlsim_command_faults.specs.Faults.{has_names, is_of_names, status_of, takes_memory}
 use Rattle.rtlsim_command_faults.specs.Lines.{fault_lines, memory_line, stim_line, told_line}
@@ -62,19 +62,21 @@ explains_none telling (f.Stim x) old new names lex syntax name elab time goes = 
 explains_none telling (f.Differs x) old new names lex syntax name elab time goes = absurd (true≢false names)
 explains_none telling fault old new names lex syntax name elab time goes = explains_plain telling fault true old new refl refl (λ net. goes)
 
--- ---- a race takes memory for its names
+-- ---- a race takes memory for its names, and an input that is set twice for the words of lines
 
-abbrev pub tells_race : Option Report → Bool
-tells_race None = false
-tells_race (Some report) = is_race report
+abbrev pub report_takes : Option Report → Bool
+report_takes None = false
+report_takes (Some report) = refusing.takes_memory report
 
-pub named_by : (fault : StimFault) → tells_race (stim_report fault) ≡ true → takes_memory (f.Stim fault) ≡ true
-named_by (stim.Race time input clock) race = refl
-named_by _ race = absurd (true≢false (sym race))
+pub fault_takes : (fault : StimFault) → report_takes (stim_report fault) ≡ true → takes_memory (f.Stim fault) ≡ true
+fault_takes (stim.Race time input clock) takes = refl
+fault_takes (stim.InLine its_rule line) takes = takes
+fault_takes stim.NoStop takes = absurd (true≢false (sym takes))
+fault_takes stim.NoMemory takes = absurd (true≢false (sym takes))
 
-pub named_along : {T E : Type 0} (r : Result T E) (P Q : Type 0) → (P → Q) → OnErr r P → OnErr r Q
-named_along (Ok x) P Q so h = tt
-named_along (Err e) P Q so h = so h
+pub takes_along : {T E : Type 0} (r : Result T E) (P Q : Type 0) → (P → Q) → OnErr r P → OnErr r Q
+takes_along (Ok x) P Q so h = tt
+takes_along (Err e) P Q so h = so h
 
 -- a fault of a stimulus without names
 pub nameless_stim : (files : List FileView) (net : NetlistView) (fault : StimFault) → has_names (f.Stim fault) ≡ false
@@ -143,4 +145,4 @@ module _ (telling : Telling) (net : NetlistView) (fault : Fault) (old between ne
 
   pub named_part : takes_memory fault ≡ true → TakesBeginning old between (told telling unread net fault) → Goes between new memory_line → outcome ≡ status.Memory
       → TellsFault telling net fault old new outcome
-  named_part named part memory is = inr (inl (record { named = named; between = between; part = part; memory = memory }), is)
+  named_part takes part memory is = inr (inl (record { takes = takes; between = between; part = part; memory = memory }), is)

@@ -4,6 +4,7 @@ use Rattle.rtlsim_command_faults.specs.declared.faults.Fault.{Fault}
 use Rattle.rtlsim_command_faults.specs.declared.faults.Fault.TheVariants.{Lex, Syntax, Name, Elab, Rejected, Stim, Expect, Differs, NoSettling, Memory, Output}
 use Rattle.rtlsim_command_faults.specs.declared.status.Status.{Status}
 use Rattle.rtlsim_command_faults.specs.declared.status.Status.TheVariants as status
+use Rattle.fault_rules.specs.declared.report.Rule.TheVariants as rule
 use Rattle.rtl_expect.specs.declared.faults.ExpectFault.{ExpectFault}
 use Rattle.rtl_expect.specs.declared.faults.ExpectFault.TheVariants as expect
 use Rattle.rtl_run.specs.declared.fault.MachineFault.{MachineFault}
@@ -12,6 +13,7 @@ use Rattle.rtl_run.specs.declared.summary.RunFault.{RunFault}
 use Rattle.rtl_run.specs.declared.summary.RunFault.TheVariants as run
 use Rattle.rtl_stim_lines.specs.declared.faults.StimFault.{StimFault}
 use Rattle.rtl_stim_lines.specs.declared.faults.StimFault.TheVariants as stim
+use Rattle.rtlsim_refusals.specs.Stimuli.{sets_twice}
 use Rattle.vhdl_expand_rules.specs.declared.fault.ElabFault.TheVariants as elab
 use Rattle.vhdl_lexer.specs.declared.fault.LexFault.TheVariants as lex
 use Rattle.vhdl_names_rules.specs.declared.fault.NameFault.TheVariants as names
@@ -78,7 +80,8 @@ has_names (Stim (stim.Race time input clock)) = true
 has_names (Differs difference) = true
 has_names _ = false
 
--- these names take memory
+-- these names take memory, and so do the words of lines, to find the one that sets first what is set twice
 abbrev pub takes_memory : Fault → Bool
 takes_memory (Differs difference) = false
+takes_memory (Stim (stim.InLine its_rule line)) = sets_twice (rule.Stim its_rule)
 takes_memory fault = has_names fault

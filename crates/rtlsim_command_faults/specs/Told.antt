@@ -35,9 +35,9 @@ pub record TellsWhole (telling : Telling) (net : NetlistView) (fault : Fault) (o
   pub is : telling.explains ≡ true → is_read fault ≡ true → IsRead (files_of telling) (source_report fault) read
   pub goes : Goes old new (told telling read net fault)
 
--- The fault is told, with the netlist's names; or, where memory for its names is refused, a beginning of that, and then the refusal.
+-- Where memory for its names, or to explain it, is refused, a beginning of what is told goes out, and then the refusal.
 pub record TellsInPart (telling : Telling) (net : NetlistView) (fault : Fault) (old new : SinkState) : Type 0 where
-  pub named : takes_memory fault ≡ true
+  pub takes : takes_memory fault ≡ true
   pub between : SinkState
   pub part : TakesBeginning old between (told telling unread net fault)
   pub memory : Goes between new memory_line

@@ -19,7 +19,8 @@ use vhdl_source_files::SourceFile;
 /// Writes the remarks on a netlist, whatever the checker says of it: a line for each, or one for
 /// elements of a vector that stand side by side and of which the same is told, at the place of its
 /// process in these files, whose texts joined are the netlist's source; nothing where there are
-/// none. It takes memory for the remarks and the text; where that is refused, nothing was written.
+/// none. It takes memory for the remarks and the text; where that is refused, what went out is a
+/// beginning of the text.
 pub fn show_remarks<S: Sink>(
     alloc: Global,
     files: &[SourceFile<'_>],

@@ -1,4 +1,4 @@
--- What goes out of a text, or where memory for a name is refused.
+-- What goes out of a text where memory for a name may be refused.
 use Rattle.std.specs.Prelude.{◌≡◌, List, ◌++◌, ℕ, Result, Ok, Err}
 use Rattle.byte_streams.specs.Written.{SinkState, Goes}
 

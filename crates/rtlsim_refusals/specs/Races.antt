@@ -1,4 +1,4 @@
--- Which line of a stimulus makes an input change at a time.
+-- Which line of a stimulus makes an input change at a time, and which sets it first where it is set twice.
 use Rattle.std.specs.Prelude.{ℕ, suc, ◌==◌, ◌&&◌, nat_le, Bool, false, if◌then◌else◌, List, [], ◌∷◌, Option, Some, None}
 use Rattle.std.specs.List.{list_any}
 use Rattle.std.specs.Str.{str_eq_ignore_ascii_case}
@@ -41,3 +41,19 @@ setting_line port time text = line_among port time 1 (lines_of text)
 abbrev pub race_line : NetlistView → (time input : ℕ) → (text : Option (List ℕ)) → Option ℕ
 race_line net time input None = None
 race_line net time input (Some text) = setting_line (port_of net input) time text
+
+-- ---- an input that is set twice
+
+-- what a line of this form sets, and when; a clock from 0 on
+abbrev pub setting_of : Option Form → Option (List ℕ × ℕ)
+setting_of (Some (At time name value)) = if nat_le time latest_time then Some (name, time) else None
+setting_of (Some (Clock name first half)) = Some (name, 0)
+setting_of form = None
+
+abbrev pub first_with : Option (List ℕ × ℕ) → (text : List ℕ) → Option ℕ
+first_with None text = None
+first_with (Some setting) text = setting_line setting.0 setting.1 text
+
+-- the number of the first line that sets at its time what this line sets, or makes it a clock
+abbrev pub first_setting : (line text : List ℕ) → Option ℕ
+first_setting line text = first_with (setting_of (form_of (words_of line))) text

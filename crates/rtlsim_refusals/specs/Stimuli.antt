@@ -1,5 +1,5 @@
 -- What is written of the faults of a stimulus, of NAME=VALUE words and of a run.
-use Rattle.std.specs.Prelude.{ℕ, zero, suc, ◌-◌, Bool, true, false, if◌then◌else◌, List, [], ◌∷◌, ◌++◌, Option, Some, None, codes, decimal}
+use Rattle.std.specs.Prelude.{ℕ, zero, suc, ◌-◌, ◌||◌, Bool, true, false, if◌then◌else◌, List, [], ◌∷◌, ◌++◌, Option, Some, None, codes, decimal}
 use Rattle.rtl_net.specs.Names.{net_name}
 use Rattle.rtl_net.specs.Nets.{NetlistView}
 use Rattle.fault_rules.specs.Rules.{words_of}
@@ -11,10 +11,11 @@ use Rattle.fault_rules.specs.declared.report.Rule.TheVariants as rules
 use Rattle.fault_rules.specs.declared.report.Subject.{Subject}
 use Rattle.fault_rules.specs.declared.report.Subject.TheVariants.{Race}
 use Rattle.fault_rules.specs.declared.settling.RunRule.TheVariants.{NoSettling}
+use Rattle.fault_rules.specs.declared.stimuli.StimRule.TheVariants.{SetTwice}
 use Rattle.rtl_stim_lines.specs.Lines.{ends_line}
 use Rattle.rtlsim_refusals.specs.Explained.{title_text, help_line}
 use Rattle.rtlsim_refusals.specs.Places.{line_after}
-use Rattle.rtlsim_refusals.specs.Races.{race_line}
+use Rattle.rtlsim_refusals.specs.Races.{first_setting, race_line}
 
 -- ---- a line of a text
 
@@ -26,12 +27,26 @@ behind_lines (suc count) (byte ∷ bytes) = if ends_line byte then behind_lines 
 
 -- the line of this number, from 1
 abbrev pub numbered_line : (line : ℕ) → (text : List ℕ) → List ℕ
-numbered_line line text = line_after (behind_lines (line - 1) text) ++ codes "\n"
+numbered_line line text = line_after (behind_lines (line - 1) text)
 
--- the same, where there are both
+-- the same as a line, where there are both
 abbrev pub shown : (line : Option ℕ) → (text : Option (List ℕ)) → List ℕ
-shown (Some line) (Some text) = numbered_line line text
+shown (Some line) (Some text) = numbered_line line text ++ codes "\n"
 shown _ _ = []
+
+-- ---- an input that is set twice
+
+abbrev pub sets_twice : Rule → Bool
+sets_twice (rules.Stim SetTwice) = true
+sets_twice _ = false
+
+abbrev pub first_before : (line : Option ℕ) → (text : Option (List ℕ)) → Option ℕ
+first_before (Some line) (Some text) = first_setting (numbered_line line text) text
+first_before _ _ = None
+
+-- where a line sets an input twice, the number of the line that sets it first
+abbrev pub first_of : Rule → (line : Option ℕ) → (text : Option (List ℕ)) → Option ℕ
+first_of rule line text = if sets_twice rule then first_before line text else None
 
 -- ---- the parts of a paragraph
 
@@ -39,16 +54,25 @@ abbrev pub line_number : (line : Option ℕ) → List ℕ
 line_number None = []
 line_number (Some line) = codes ":" ++ decimal line
 
--- "FILE:LINE: LAYER NUMBER NAME: ", or without a line
+-- "FILE:LINE: ", or without a line
+abbrev pub place_text : (file : List ℕ) → (line : Option ℕ) → List ℕ
+place_text file line = file ++ line_number line ++ codes ": "
+
+-- the same, and "LAYER NUMBER NAME: "
 abbrev pub head : (file : List ℕ) → Rule → (line : Option ℕ) → List ℕ
-head file rule line = file ++ line_number line ++ codes ": " ++ title_text rule
+head file rule line = place_text file line ++ title_text rule
 
--- what stands behind the sentence: the line, and the help
-abbrev pub rest : (text : Option (List ℕ)) → Rule → (line : Option ℕ) → List ℕ
-rest text rule line = codes "\n" ++ shown line text ++ help_line (words_of rule).help.now
+-- a note at the first of two lines
+abbrev pub first_noted : (file : List ℕ) → (text : Option (List ℕ)) → (first : Option ℕ) → List ℕ
+first_noted file text None = []
+first_noted file text (Some line) = place_text file (Some line) ++ codes "note: the first of the two\n" ++ shown (Some line) text
 
-abbrev pub paragraph : (file : List ℕ) → (text : Option (List ℕ)) → Rule → (line : Option ℕ) → (sentence : List ℕ) → List ℕ
-paragraph file text rule line sentence = head file rule line ++ sentence ++ rest text rule line
+-- what stands behind the sentence: the line, the first of two, and the help
+abbrev pub rest : (file : List ℕ) → (text : Option (List ℕ)) → Rule → (line first : Option ℕ) → List ℕ
+rest file text rule line first = codes "\n" ++ shown line text ++ first_noted file text first ++ help_line (words_of rule).help.now
+
+abbrev pub paragraph : (file : List ℕ) → (text : Option (List ℕ)) → Rule → (line first : Option ℕ) → (sentence : List ℕ) → List ℕ
+paragraph file text rule line first sentence = head file rule line ++ sentence ++ rest file text rule line first
 
 -- ---- explanations
 
@@ -59,7 +83,7 @@ line_of _ = None
 
 -- a fault that names no net
 abbrev pub plain_explained : (file : List ℕ) → (text : Option (List ℕ)) → Rule → Place → List ℕ
-plain_explained file text rule place = paragraph file text rule (line_of place) (words_of rule).middle.now
+plain_explained file text rule place = paragraph file text rule (line_of place) (first_of rule (line_of place) text) (words_of rule).middle.now
 
 -- a time, and what is said of a rule before it and behind it
 abbrev pub time_text : Rule → (time : ℕ) → List ℕ
@@ -71,7 +95,7 @@ race_sentence rule time input clock = time_text rule time ++ input ++ (words_of 
 -- a race, in the line that makes the input change, which is shown; in the stimulus where there is none
 abbrev pub race_explained : (file : List ℕ) → (text : Option (List ℕ)) → NetlistView → Rule → (time input clock : ℕ) → List ℕ
 race_explained file text net rule time input clock =
-    paragraph file text rule (race_line net time input text) (race_sentence rule time (net_name net input) (net_name net clock))
+    paragraph file text rule (race_line net time input text) None (race_sentence rule time (net_name net input) (net_name net clock))
 
 abbrev pub stim_of : (file : List ℕ) → (text : Option (List ℕ)) → NetlistView → Rule → Place → Subject → List ℕ
 stim_of file text net rule (Time time) (Race input clock) = race_explained file text net rule time input clock
@@ -84,10 +108,10 @@ abbrev pub names_nets : Subject → Bool
 names_nets (Race input clock) = true
 names_nets _ = false
 
--- a race names nets
-abbrev pub is_race : Report → Bool
-is_race r = names_nets r.subject
+-- a race takes memory for its names, and an input that is set twice for the words of lines
+abbrev pub takes_memory : Report → Bool
+takes_memory r = names_nets r.subject || sets_twice r.rule
 
 -- a moment that doesn't settle
 abbrev pub settle_explained : (file : List ℕ) → (time : ℕ) → List ℕ
-settle_explained file time = paragraph file None (rules.Run NoSettling) None (time_text (rules.Run NoSettling) time)
+settle_explained file time = paragraph file None (rules.Run NoSettling) None None (time_text (rules.Run NoSettling) time)

@@ -1,4 +1,5 @@
-//! Which line of a stimulus makes an input change at a time.
+//! Which line of a stimulus makes an input change at a time, and which sets it first where it is
+//! set twice.
 
 ghost use Rattle.std.specs.Prelude.{◌≡◌, IfOk, Option, map, option_map};
 ghost use Rattle.rtl_net.specs.Nets.{signal_view};
@@ -88,5 +89,39 @@ fn form_sets(port: &[u8], time: u64, form: Option<Form<'_>>) -> bool
         ) => at == time && is_same_word(name, port),
         Some(Form::Clock { name, .. }) => is_same_word(name, port),
         _ => false,
+    }
+}
+
+/// The number of the first line of a text that sets at its time what a line sets, or makes it a
+/// clock. It takes the memory of a line's words.
+pub(crate) fn first_setting(
+    alloc: Global,
+    line: &[u8],
+    text: &[u8],
+) -> Result<Option<usize>, AllocError>
+    ensures { IfOk result (λ first. first ≡ spec.first_setting line.now text.now) }
+{
+    let words = words_of(alloc, line)?;
+    match setting_of(form_of(&words)) {
+        Some((name, time)) => setting_line(alloc, name, time, text),
+        None => Ok(None),
+    }
+}
+
+/// What a line of this form sets, and when; a clock from 0 on.
+fn setting_of(form: Option<Form<'_>>) -> Option<(&[u8], u64)>
+    ensures { (said : Option forms.Form) → IsFormOf said form.entry
+        → option_map (λ setting. (setting.0.now, setting.1)) result ≡ spec.setting_of said }
+{
+    match form {
+        Some(
+            Form::At {
+                time: Time::At(time),
+                name,
+                ..
+            },
+        ) => Some((name, time)),
+        Some(Form::Clock { name, .. }) => Some((name, 0)),
+        _ => None,
     }
 }

@@ -74,8 +74,8 @@ any_signals xs = all_any (OfSignal Any) any xs
     any (u.Declaration.signal o) = tt
     any _ = tt
 
-no-signals : (P : Object → Type 0) (os : List Object) → WithSignals P os os
-no-signals P os = record { signals = []; are = sym (append-nil os); hold = All-nil P }
+no-signals : (P : Object → Type 0) (d e : InstanceObjects) → d ≡ e → WithSignals P d.objects e.objects
+no-signals P d e same = subst (λ (y : InstanceObjects). WithSignals P d.objects y.objects) same (record { signals = []; are = sym (append-nil d.objects); hold = All-nil P })
 
 module _ (S : u.Object → Type 0) (R : Port → Object → Type 0) (P : Object → Type 0) (of : OfObjects S R P) where
   ports-hold : (before ps : List Port) (d e : InstanceObjects) → AllZip R before d.objects → All (λ (p : Port). S p.object) ps → ports d ps ≡ Ok e → AllZip R (before ++ ps) e.objects
@@ -118,12 +118,10 @@ module _ (S : u.Object → Type 0) (R : Port → Object → Type 0) (P : Object 
   declaration-adds : (x : Declaration) (d e : InstanceObjects) → OfSignal S x → declaration d x ≡ Ok e → WithSignals P d.objects e.objects
   unfolding declaration
   declaration-adds (u.integer at type s) d e w k =
-      let x = bound (integer_of type d.site.integers at s) _ e k in
-      subst (λ (y : InstanceObjects). WithSignals P d.objects y.objects) (ok _ e x.then_gave) (no-signals P d.objects)
+      let x = bound (integer_of type d.site.integers at s) _ e k in no-signals P _ e (ok _ e x.then_gave)
   declaration-adds (u.Declaration.constant at form f) d e w k =
       let x = bound (kind_of d.site.integers at form) _ e k in
-      let vs = bound (fixed_values d.site at (size x.x) f) _ e x.then_gave in
-      subst (λ (y : InstanceObjects). WithSignals P d.objects y.objects) (ok _ e vs.then_gave) (no-signals P d.objects)
+      let vs = bound (fixed_values d.site at (size x.x) f) _ e x.then_gave in no-signals P _ e (ok _ e vs.then_gave)
   declaration-adds (u.Declaration.signal o) d e w k =
       let x = bound (object d.site internal o) _ e k in
       subst (λ (y : InstanceObjects). WithSignals P d.objects y.objects) (ok (with_signal d x.x) e x.then_gave)
@@ -131,7 +129,7 @@ module _ (S : u.Object → Type 0) (R : Port → Object → Type 0) (P : Object 
 
   pub declarations_add : (xs : List Declaration) (d e : InstanceObjects) → All (OfSignal S) xs → declarations d xs ≡ Ok e → WithSignals P d.objects e.objects
   unfolding declarations
-  declarations_add [] d e w k = subst (λ (y : InstanceObjects). WithSignals P d.objects y.objects) (ok d e k) (no-signals P d.objects)
+  declarations_add [] d e w k = no-signals P d e (ok d e k)
   declarations_add (x ∷ xs) d e w k =
       let y = bound (declaration d x) _ e k in
       let a = declaration-adds x d y.x (All-head (OfSignal S) x xs w) y.gave in
@@ -398,5 +396,4 @@ module _ (Known : Entity → Type 0) (S : u.Object → Type 0) (R : Port → Obj
 
   pub design_holds : (units : Units) → All Known units → (top : List ℕ) (design : Design) → expanded_design units top ≡ Ok design → EachInstance Holds design.top
   design_holds units known top design h =
-      let m = each_filled units known top design h in
-      subst (λ (x : Design). EachInstance Holds x.top) m.is (instance_holds m.unit m.tree m.filled)
+      let m = each_filled units known top design h in subst (λ (x : Design). EachInstance Holds x.top) m.is (instance_holds m.unit m.tree m.filled)

@@ -1,5 +1,5 @@
 use Rattle.std.proofs.Common.{sym, ap, ◌∙◌}
-use Rattle.rtlsim_command_faults.proofs.Told.{named_along, named_by, tells_race}
+use Rattle.rtlsim_command_faults.proofs.Told.{fault_takes, report_takes, takes_along}
 use Rattle.rtlsim_command_faults.proofs.explaining.explain_stimulus.Goals as goal
 
 pub returns-clause-printed : goal.returns-clause-printed
@@ -7,4 +7,4 @@ returns-clause-printed g c = rw (← c.stim_report.ensures, c.in-Some.is) c.expl
 
 pub returns-clause-named : goal.returns-clause-named
 returns-clause-named g c =
-    named_along _ _ _ (λ race. named_by c.args.fault (ap tells_race (sym c.stim_report.ensures ∙ c.in-Some.is) ∙ race)) c.explain_stim.ensures.named
+    takes_along _ _ _ (λ takes. fault_takes c.args.fault (ap report_takes (sym c.stim_report.ensures ∙ c.in-Some.is) ∙ takes)) c.explain_stim.ensures.memory

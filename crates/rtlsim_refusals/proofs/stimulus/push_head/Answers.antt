@@ -2,5 +2,4 @@ use Rattle.byte_streams.proofs.Writing.{Goes-append}
 use Rattle.rtlsim_refusals.proofs.stimulus.push_head.Goals as goal
 
 pub returns : goal.returns
-returns g c =
-    Goes-append _ _ _ _ _ (Goes-append _ _ _ _ _ (Goes-append _ _ _ _ _ c.push_text.ensures c.push_line_number.ensures) c.push_text-2.ensures) c.push_title.ensures
+returns g c = Goes-append _ _ _ _ _ c.push_place.ensures c.push_title.ensures
