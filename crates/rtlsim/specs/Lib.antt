@@ -10,4 +10,3 @@ pub mod Halves
 pub mod Lines
 pub mod Texts
 pub mod Streams
-pub mod Orders

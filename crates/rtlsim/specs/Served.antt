@@ -1,5 +1,5 @@
 -- What commands do with what was read.
-use Rattle.std.specs.Prelude.{◌≡◌, ℕ, Bool, true, false, List, Option, map, option_map, unwrap_or}
+use Rattle.std.specs.Prelude.{◌≡◌, ◌+◌, ℕ, Bool, true, false, List, Option, map, option_map, unwrap_or}
 use Rattle.rtlsim.specs.Requests.{TextsView, set_form}
 use Rattle.byte_streams.specs.Stands.{Stand}
 use Rattle.rtlsim.specs.Sinks.{Sinks, IsSilent, ShowsIf, outputs}
@@ -16,6 +16,7 @@ use Rattle.rtlsim_command_faults.specs.declared.status.Status.{Status}
 use Rattle.rtlsim_command_faults.specs.declared.telling.Telling.{Telling}
 use Rattle.vhdl_source_files.specs.Files.{file_view, joined}
 use Rattle.rtlsim_command_line.specs.Words.{CallView}
+use Rattle.rtlsim_command_line.specs.declared.call.Order.TheVariants.{Forward, Reverse}
 use Rattle.rtlsim_command_line.specs.declared.call.Request.{Request}
 use Rattle.rtlsim_command_line.specs.declared.call.Request.TheVariants.{Eval, Net, Check, Dot, Json, Run, Levels}
 
@@ -25,6 +26,12 @@ pub record IsToldOf (call : CallView) (texts : TextsView) (telling : Telling) : 
   pub stimulus : telling.stimulus.now ≡ unwrap_or call.stimulus set_form
   pub text : option_map (λ text. text.now) telling.stimulus_text ≡ option_map (λ name. texts.stimulus) call.stimulus
   pub explains : telling.explains ≡ call.explains
+
+-- a picker goes by the order of the run that is asked for: of so many processes the first is next, or the last
+abbrev pub GoesBy : {P : Type 0} → Request → (picks : P → (count place : ℕ) → P → Type 0) → Type 0
+GoesBy {P} (Run is_event Forward) picks = (old new : P) (count place : ℕ) → picks old count place new → place ≡ 0
+GoesBy {P} (Run is_event Reverse) picks = (old new : P) (count place : ℕ) → picks old count place new → place + 1 ≡ count
+GoesBy _ picks = ⊥
 
 module _ (telling : Telling) (source top : List ℕ) (outcome : Status) (o : Outputs) (Holds : List Stand → Type 0) where
   -- A run under the text of a stimulus, compared with what is expected if that is given. This holds of what is seen of it where it writes the

@@ -1,10 +1,12 @@
 //! What commands are given.
 
+use rtlsim_command_line::Request;
 use rtlsim_commands::Telling;
 
 /// A source, and what is done with it.
 #[derive(Clone, Copy)]
 pub(crate) struct Job<'a> {
+    pub request: Request,
     pub source: &'a [u8],
     pub top: &'a [u8],
     pub telling: &'a Telling<'a>,

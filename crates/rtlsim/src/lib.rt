@@ -14,7 +14,6 @@ mod inputs;
 mod job;
 pub mod laws;
 mod performing;
-mod picking;
 mod prepared;
 mod problem;
 mod refusals;

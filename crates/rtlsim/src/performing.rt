@@ -2,7 +2,7 @@
 
 ghost use Rattle.std.specs.Prelude.{◌≡◌, ◌⊎◌, false, map, option_map, unwrap_or};
 ghost use Rattle.rtlsim.specs.Requests as requests;
-ghost use Rattle.rtlsim.specs.Served.{ServesBy, ServesRun, ServesTexts};
+ghost use Rattle.rtlsim.specs.Served.{GoesBy, ServesBy, ServesRun, ServesTexts};
 ghost use Rattle.rtlsim.specs.Sinks.{AreIntact, ShowsIf, outputs, sinks};
 ghost use Rattle.rtlsim_commands.specs.Served.{Serves, both};
 ghost use Rattle.rtlsim_commands.specs.Sights.{Seeing, events_of};
@@ -13,7 +13,6 @@ ghost use Rattle.rtlsim_command_faults.specs.Lines.{memory_line};
 ghost use Rattle.rtlsim_command_faults.specs.declared.status.Status.TheVariants as status;
 
 use crate::job::Job;
-use crate::picking::Ordered;
 use crate::prepared::prepare;
 use crate::refusals::refuse_input;
 use crate::texts::Texts;
@@ -22,8 +21,8 @@ use byte_streams::{Sink, Unwatched, Watch};
 use rtl_progress::{Progress, stop_of};
 use rtlsim_command_line::{Call, Order, Request};
 use rtlsim_commands::{
-    CheckNet, Command, Compared, EvalNet, Form, Front, ListNet, RunEvents, RunLevels, RunMachine,
-    Status, Telling, describe, serve,
+    CheckNet, Command, Compared, EvalNet, Form, Forward, Front, ListNet, Pick, Reverse, RunEvents,
+    RunLevels, RunMachine, Status, Telling, describe, serve,
 };
 use std::alloc::Global;
 
@@ -53,6 +52,7 @@ pub(crate) fn perform_texts<'b, F: Front, O: Sink, E: Sink, G: Sink>(
         explains: call.explains,
     };
     let job = Job {
+        request: call.request,
         source: prepared.source(),
         top: call.top.as_bytes(),
         telling: &telling,
@@ -60,15 +60,7 @@ pub(crate) fn perform_texts<'b, F: Front, O: Sink, E: Sink, G: Sink>(
         stimulus,
         expected: texts.expected(),
     };
-    perform_shown::<F, _, _, _>(
-        alloc,
-        call.request,
-        &job,
-        call.shows_progress,
-        out,
-        err,
-        progress,
-    )
+    perform_shown::<F, _, _, _>(alloc, &job, call.shows_progress, out, err, progress)
 }
 
 /// The name of the stimulus, or what stands for it.
@@ -84,7 +76,6 @@ fn stimulus_name<'b>(call: &'b Call<'_>) -> &'b [u8]
 /// Does what is asked for, and shows how far a run is where `shows` says so.
 fn perform_shown<F: Front, O: Sink, E: Sink, G: Sink>(
     alloc: Global,
-    request: Request,
     job: &Job<'_>,
     shows: bool,
     out: &mut O,
@@ -95,15 +86,15 @@ fn perform_shown<F: Front, O: Sink, E: Sink, G: Sink>(
     ensures serves { let s = sinks (O.state out.old) (O.state out.new) (E.state err.old) (E.state err.new)
         (G.state progress.old) (G.state progress.new) in
         ServesBy job.now.telling.now job.now.source.now job.now.top.now result (outputs s)
-        (ShowsIf shows job.now.stimulus.now s) request
+        (ShowsIf shows job.now.stimulus.now s) job.now.request
         (map (λ set. set.now) job.now.sets.now) job.now.stimulus.now (option_map (λ text. text.now) job.now.expected) }
     ensures silent { shows ≡ false → G.state progress.new ≡ G.state progress.old }
 {
     if !shows {
-        return perform_job::<F, _, _, _>(alloc, request, job, &mut Unwatched, out, err);
+        return perform_job::<F, _, _, _>(alloc, job, &mut Unwatched, out, err);
     }
     let mut watch = Progress::new(progress, stop_of(job.stimulus));
-    let status = perform_job::<F, _, _, _>(alloc, request, job, &mut watch, out, err);
+    let status = perform_job::<F, _, _, _>(alloc, job, &mut watch, out, err);
     watch.end();
     status
 }
@@ -111,7 +102,6 @@ fn perform_shown<F: Front, O: Sink, E: Sink, G: Sink>(
 /// Does what is asked for, while this watch looks on where it is a run.
 fn perform_job<F: Front, V: Watch, O: Sink, E: Sink>(
     alloc: Global,
-    request: Request,
     job: &Job<'_>,
     watch: &mut V,
     out: &mut O,
@@ -120,11 +110,11 @@ fn perform_job<F: Front, V: Watch, O: Sink, E: Sink>(
     requires { AreIntact (O.state out.old) (E.state err.old) }
     ensures { ServesBy job.now.telling.now job.now.source.now job.now.top.now result
         (both (O.state out.old) (O.state out.new) (E.state err.old) (E.state err.new))
-        (λ stands. V.told watch.old stands watch.new) request
+        (λ stands. V.told watch.old stands watch.new) job.now.request
         (map (λ set. set.now) job.now.sets.now) job.now.stimulus.now (option_map (λ text. text.now) job.now.expected) }
 {
     let (telling, stimulus, expected) = (job.telling, job.stimulus, job.expected);
-    match request {
+    match job.request {
         Request::Eval => {
             let sets = job.sets;
             serve_job::<F, _, _, _, _>(alloc, &mut EvalNet { sets }, job, watch, out, err)
@@ -139,9 +129,14 @@ fn perform_job<F: Front, V: Watch, O: Sink, E: Sink>(
             serve_job::<F, _, _, _, _>(alloc, &mut CheckNet { form }, job, watch, out, err)
         }
         Request::Json => describe::<F, _, _>(alloc, job.source, job.top, telling, out, err),
-        Request::Run { is_event, order } => {
-            simulate::<F, _, _, _>(alloc, is_event, order, job, watch, out, err)
-        }
+        Request::Run {
+            is_event,
+            order: Order::Forward,
+        } => simulate::<F, _, _, _, _>(alloc, is_event, &mut Forward, job, watch, out, err),
+        Request::Run {
+            is_event,
+            order: Order::Reverse,
+        } => simulate::<F, _, _, _, _>(alloc, is_event, &mut Reverse, job, watch, out, err),
         Request::Levels => {
             let run = RunLevels { stimulus };
             serve_job::<F, _, _, _, _>(alloc, &mut Compared { run, expected }, job, watch, out, err)
@@ -150,24 +145,24 @@ fn perform_job<F: Front, V: Watch, O: Sink, E: Sink>(
 }
 
 /// Runs a source while this watch looks on, by events alone where `is_event` says so, with its
-/// processes in this order.
-fn simulate<F: Front, V: Watch, O: Sink, E: Sink>(
+/// processes in the order of the picker.
+fn simulate<F: Front, P: Pick, V: Watch, O: Sink, E: Sink>(
     alloc: Global,
     is_event: bool,
-    order: Order,
+    pick: &mut P,
     job: &Job<'_>,
     watch: &mut V,
     out: &mut O,
     err: &mut E,
 ) -> Status
-    requires { AreIntact (O.state out.old) (E.state err.old) }
+    requires order { GoesBy job.now.request P.picks }
+    requires intact { AreIntact (O.state out.old) (E.state err.old) }
     ensures { ServesRun job.now.telling.now job.now.source.now job.now.top.now result
         (both (O.state out.old) (O.state out.new) (E.state err.old) (E.state err.new))
         (λ stands. V.told watch.old stands watch.new) is_event job.now.stimulus.now
         (option_map (λ text. text.now) job.now.expected) }
 {
     let (stimulus, expected) = (job.stimulus, job.expected);
-    let pick = &mut Ordered { order };
     if is_event {
         let run = RunEvents { stimulus, pick };
         serve_job::<F, _, _, _, _>(alloc, &mut Compared { run, expected }, job, watch, out, err)
