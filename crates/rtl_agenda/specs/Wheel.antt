@@ -46,7 +46,8 @@ pub record IsRing (slots : List (ℕ × List Change)) (words : List ℕ) : Type 
 
 -- the times of slots are within one turn from a time on
 abbrev pub IsWithinTurn : List (ℕ × List Change) → ℕ → Type 0
-IsWithinTurn slots from = (s : ℕ) → IsFilled slots s → (from ≤ (slot_at slots s).0) × ((slot_at slots s).0 - from < length slots)
+IsWithinTurn slots from =
+    (s : ℕ) → IsFilled slots s → (from ≤ (slot_at slots s).0) × ((slot_at slots s).0 - from < length slots)
 
 -- the times of slots are within one turn from a time on, and far ones a turn ahead or more
 pub record IsParted (far slots : List (ℕ × List Change)) (from : ℕ) : Type 0 where

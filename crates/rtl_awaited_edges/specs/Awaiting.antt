@@ -34,7 +34,8 @@ pub record AreEdges (net : m.Netlist) (edges : List (Option ClockEdge)) : Type 0
 pub record AreLeaders (edges : List (Option ClockEdge)) (leaders : List ℕ) : Type 0 where
   pub each_process : length leaders ≡ length edges
   pub there : (p : ℕ) → p < length edges → slice_index leaders p < length edges
-  pub alike : (p : ℕ) → p < length edges → slice_index_or edges (slice_index leaders p) None ≡ slice_index_or edges p None
+  pub alike : (p : ℕ) → p < length edges
+      → slice_index_or edges (slice_index leaders p) None ≡ slice_index_or edges p None
 
 -- the first edge that one of these processes awaits
 abbrev pub first_edge : List m.Process → Option ClockEdge
@@ -50,4 +51,5 @@ pub record AwaitFirst (net : m.Netlist) (awaited : Option ClockEdge) (await_it :
 -- there is an edge that is awaited, and it isn't there
 abbrev pub IsAsleep : Option ClockEdge → (before now : List ℕ) → Type 0
 IsAsleep None before now = ⊥
-IsAsleep (Some e) before now = has_edge e.edge (value_of_code (slice_index before e.clock)) (value_of_code (slice_index now e.clock)) ≡ false
+IsAsleep (Some e) before now =
+    has_edge e.edge (value_of_code (slice_index before e.clock)) (value_of_code (slice_index now e.clock)) ≡ false

@@ -8,5 +8,7 @@ use Rattle.rtl_awaited_edges.specs.Awaiting.{IsAsleep, awaited_edge}
 
 -- It assigns nothing.
 abbrev pub EachAsleepAssignsNothing : Type 0
-EachAsleepAssignsNothing = (net : NetlistView) → IsElaborated (core net) → (before now : List ℕ) (p : ℕ) → IsAsleep (awaited_edge (core net) p) before now
+EachAsleepAssignsNothing =
+    (net : NetlistView) → IsElaborated (core net) → (before now : List ℕ) (p : ℕ)
+    → IsAsleep (awaited_edge (core net) p) before now
     → (place : ℕ) → slice_index_or ((process (core net) p).effect before now) place None ≡ None

@@ -15,7 +15,8 @@ abbrev pub alternative_assigns : (element : ℕ) → Alternative → Bool
 alternative_assigns element a = must_assign (is_element element) (statements_of a.statements.items)
 
 abbrev pub branch_stores : (element : ℕ) → Branch → Bool
-branch_stores element b = test_looks_at element (test_view b.test) || stores_element element (statements_of b.statements.items)
+branch_stores element b =
+    test_looks_at element (test_view b.test) || stores_element element (statements_of b.statements.items)
 
 abbrev pub alternative_stores : (element : ℕ) → Alternative → Bool
 alternative_stores element a = stores_element element (statements_of a.statements.items)

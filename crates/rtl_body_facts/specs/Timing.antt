@@ -26,8 +26,10 @@ atom_of _ = a.Other
 
 -- the edge that the two sides of `and` test
 abbrev pub edge_pair : Atom → Atom → Option EdgeTest
-edge_pair (a.Event net) (a.Level true other v) = option_map edge_test_view (k.edge_of_net (net == other) net (k.edge_to v))
-edge_pair (a.Level true other v) (a.Event net) = option_map edge_test_view (k.edge_of_net (net == other) net (k.edge_to v))
+edge_pair (a.Event net) (a.Level true other v) =
+    option_map edge_test_view (k.edge_of_net (net == other) net (k.edge_to v))
+edge_pair (a.Level true other v) (a.Event net) =
+    option_map edge_test_view (k.edge_of_net (net == other) net (k.edge_to v))
 edge_pair _ _ = None
 
 abbrev pub reset_net : k.ResetTest → ℕ

@@ -38,7 +38,8 @@ tested_at nets n edge = pair_if (is_in n (nets edge)) n edge
 
 -- the pairs of a net, and of some nets, in order
 abbrev pub edges_at : (nets : Edge → List ℕ) → (n : ℕ) → List (ℕ × Edge)
-edges_at nets n = tested_at nets n m.Rising ++ (tested_at nets n m.Falling ++ (tested_at nets n m.To1 ++ tested_at nets n m.To0))
+edges_at nets n =
+    tested_at nets n m.Rising ++ (tested_at nets n m.Falling ++ (tested_at nets n m.To1 ++ tested_at nets n m.To0))
 
 abbrev pub pairs_of : (nets : Edge → List ℕ) → (clocks : List ℕ) → List (ℕ × Edge)
 pairs_of nets [] = []

@@ -43,7 +43,8 @@ combinational_breaks p ClockNotInput n = false
 combinational_breaks p EdgeNotSensitive n = false
 combinational_breaks p ClockAsData n = false
 combinational_breaks p MissingSensitivity n = is_in n p.reads.items && not (is_in n p.wakes.items)
-combinational_breaks p Latch n = is_in n (driven p.drives.items) && not (must_assign (to_net p.drives.items n) (body_of p))
+combinational_breaks p Latch n =
+    is_in n (driven p.drives.items) && not (must_assign (to_net p.drives.items n) (body_of p))
 
 abbrev pub breaks : (inputs clocks : List ℕ) → Process → ProcessKind → Rule → (net : ℕ) → Bool
 breaks inputs clocks p k.Combinational rule n = combinational_breaks p rule n

@@ -14,7 +14,8 @@ pub record ShowFroms (net : Netlist) (levels from : List (Option ℕ)) : Type 0 
   pub shown : ShowLevels net levels from
   pub each_process : length levels ≡ length net.processes
   pub each_from : length from ≡ length net.processes
-  pub clocked : (p clock : ℕ) (edge : Edge) → IsClockedBy net p clock edge → (level_of levels p ≡ None) × (slice_index_or from p None ≡ None)
+  pub clocked : (p clock : ℕ) (edge : Edge) → IsClockedBy net p clock edge
+      → (level_of levels p ≡ None) × (slice_index_or from p None ≡ None)
   pub from_first : (q : ℕ) → IsCombinational net q → level_of levels q ≡ Some 1 → slice_index_or from q None ≡ None
   pub from_lowest : (q p below r : ℕ) → IsCombinational net q → level_of levels q ≡ Some (suc below)
       → slice_index_or from q None ≡ Some p → r < p → level_of levels r ≡ Some below → Feeds net r q → ⊥
@@ -56,16 +57,19 @@ with_nets net levels h (n ∷ ns) = with_nets net levels (with_sources levels h 
 abbrev pub highest_of : Netlist → (levels : List (Option ℕ)) → (q : ℕ) → Highest
 highest_of net levels q = with_nets net levels no_highest (process net q).wakes
 
--- it is one above them, from the lowest of the highest; and a process that isn't combinational has neither level nor from
+-- it is one above them, from the lowest of the highest; and a process that isn't combinational has neither level
+-- nor from
 abbrev pub StandsAs : Highest → m.ProcessKind → (level from : Option ℕ) → Type 0
 StandsAs h m.Combinational level from = (level ≡ Some (suc h.level)) × (from ≡ h.process)
 StandsAs h (m.Clocked clock edge reset) level from = (level ≡ None) × (from ≡ None)
 StandsAs h m.Mixed level from = (level ≡ None) × (from ≡ None)
 
 abbrev pub Stands : Netlist → (levels from : List (Option ℕ)) → (q : ℕ) → Type 0
-Stands net levels from q = StandsAs (highest_of net levels q) (process net q).kind (level_of levels q) (slice_index_or from q None)
+Stands net levels from q =
+    StandsAs (highest_of net levels q) (process net q).kind (level_of levels q) (slice_index_or from q None)
 
 -- the greatest level of some processes, and the lowest that has it; those without a level don't count
 pub record IsHighest (among : ℕ → Type 0) (levels : List (Option ℕ)) (h : Highest) : Type 0 where
-  pub each : (p b : ℕ) → among p → level_of levels p ≡ Some b → (b ≤ h.level) × (b ≡ h.level → IfSome h.process (λ f. f ≤ p))
+  pub each : (p b : ℕ) → among p → level_of levels p ≡ Some b
+      → (b ≤ h.level) × (b ≡ h.level → IfSome h.process (λ f. f ≤ p))
   pub met : MatchOption h.process (h.level ≡ 0) (λ f. among f × (level_of levels f ≡ Some h.level))

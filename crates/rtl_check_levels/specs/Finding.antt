@@ -25,7 +25,8 @@ pub record LevelsSoFar (table : Table) (levels from : List (Option ℕ)) (greate
   pub each_from : length from ≡ length table
   pub unplaced : (q : ℕ) → level_of levels q ≡ None → slice_index_or from q None ≡ None
   pub inside : (q level : ℕ) → level_of levels q ≡ Some level → IsIn table q
-  pub stand : (q level : ℕ) → level_of levels q ≡ Some level → StandsAbove table levels q level (slice_index_or from q None)
+  pub stand : (q level : ℕ) → level_of levels q ≡ Some level
+      → StandsAbove table levels q level (slice_index_or from q None)
   pub none_above : (p level : ℕ) → level_of levels p ≡ Some level → level ≤ greatest
   pub met : greatest ≢ 0 → (p : ℕ) × (level_of levels p ≡ Some greatest)
   -- so no level is above the number of processes
@@ -36,7 +37,8 @@ abbrev pub Waits : Table → List (Vec ℕ) → (q : ℕ) → Type 0
 Waits table waiting q = (p : ℕ) × Contains (waiters waiting p) q × Feeds table p q
 
 -- Who waits: nobody for a process whose level is found and that isn't ready, and whoever waits is in the table.
-pub record WaitingSoFar (table : Table) (levels : List (Option ℕ)) (waiting : List (Vec ℕ)) (ready : List ℕ) (passed : List ℕ) : Type 0 where
+pub record WaitingSoFar (table : Table) (levels : List (Option ℕ))
+    (waiting : List (Vec ℕ)) (ready : List ℕ) (passed : List ℕ) : Type 0 where
   pub each_waiting : length waiting ≡ length table
   pub each_passed : length passed ≡ length table
   pub idle : (p : ℕ) → IsSome (level_of levels p) → Contains ready p ⊎ (waiters waiting p ≡ [])
@@ -70,5 +72,6 @@ IsRanked table f q = IsIn table q → level_of f.levels.items q ≡ None → Wai
 pub record AreReleased (old new : Finding) (released : List ℕ) : Type 0 where
   pub levels : new.levels ≡ old.levels
   pub less : length new.ready.items < length old.ready.items
-  pub waits : (p q : ℕ) → Contains (waiters old.waiting.items p) q → Contains (waiters new.waiting.items p) q ⊎ Contains released q
+  pub waits : (p q : ℕ) → Contains (waiters old.waiting.items p) q
+      → Contains (waiters new.waiting.items p) q ⊎ Contains released q
   pub there : All (λ q. q < length old.levels.items) released

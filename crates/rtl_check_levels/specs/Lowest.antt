@@ -9,8 +9,10 @@ pub record IsLowestOpen (processes : List ℕ) (levels : List (Option ℕ)) (p :
   pub lowest : (r : ℕ) → Contains processes r → level_of levels r ≡ None → p ≤ r
 
 abbrev pub LowestOpen : List ℕ → List (Option ℕ) → Option ℕ → Type 0
-LowestOpen processes levels o = MatchOption o ((p : ℕ) → Contains processes p → level_of levels p ≡ None → ⊥) (IsLowestOpen processes levels)
+LowestOpen processes levels o =
+    MatchOption o ((p : ℕ) → Contains processes p → level_of levels p ≡ None → ⊥) (IsLowestOpen processes levels)
 
 -- each process of the table that has no level is fed by another
 abbrev pub AreLeft : Table → List (Option ℕ) → Type 0
-AreLeft table levels = (q : ℕ) → IsIn table q → level_of levels q ≡ None → (p : ℕ) × Feeds table p q × (level_of levels p ≡ None)
+AreLeft table levels =
+    (q : ℕ) → IsIn table q → level_of levels q ≡ None → (p : ℕ) × Feeds table p q × (level_of levels p ≡ None)

@@ -17,9 +17,12 @@ pub record IsTableOf (n : Netlist) (table : Table) : Type 0 where
 -- The levels of a netlist's table are those of a report on it, and there is no loop.
 abbrev pub LevelsAreOfNets : Type 0
 LevelsAreOfNets =
-    (n : Netlist) (table : Table) (levels from : List (Option ℕ)) (greatest : ℕ) (clocks : List (ℕ × Edge)) → IsTableOf n table
-    → AreLevels table levels from greatest → AreClocks n clocks → IsReport n levels from clocks (bound n greatest) × net.HasNoLoop n
+    (n : Netlist) (table : Table) (levels from : List (Option ℕ)) (greatest : ℕ) (clocks : List (ℕ × Edge))
+    → IsTableOf n table
+    → AreLevels table levels from greatest → AreClocks n clocks
+    → IsReport n levels from clocks (bound n greatest) × net.HasNoLoop n
 
 -- A loop of a netlist's table is a loop of the netlist.
 abbrev pub RoundsAreLoops : Type 0
-RoundsAreLoops = (n : Netlist) (table : Table) (round : List ℕ) → IsTableOf n table → IsRound table round → net.IsLoop n round
+RoundsAreLoops =
+    (n : Netlist) (table : Table) (round : List ℕ) → IsTableOf n table → IsRound table round → net.IsLoop n round

@@ -1,5 +1,5 @@
--- Small bodies: their kinds, and what runs of them assign, read and store. Places stand for drivers: in each process the driver
--- at place 0 is that of the target.
+-- Small bodies: their kinds, and what runs of them assign, read and store. Places stand for drivers: in each process
+-- the driver at place 0 is that of the target.
 use Rattle.std.specs.Prelude.{◌≡◌, ℕ, Bool, true, false, List, [], ◌∷◌, map, Option, Some, None}
 use Rattle.vhdl_values.specs.declared.scalar.Nine.{Nine}
 use Rattle.vhdl_values.specs.declared.scalar.Nine.TheVariants.{X, Zero, One}
@@ -72,7 +72,9 @@ rising_clk = rising 0
 
 -- the kind of a process with one driver
 abbrev pub kind_of : Stmts → ProcessKind
-kind_of body = (core_process (0 ∷ 1 ∷ []) (record { drivers = record { net = 5; start = 0 } ∷ []; wakes = []; variables = []; body = body })).kind
+kind_of body =
+    (core_process (0 ∷ 1 ∷ [])
+    (record { drivers = record { net = 5; start = 0 } ∷ []; wakes = []; variables = []; body = body })).kind
 
 pub record KindsOfBodies : Type 0 where
   -- `if rising_edge(clk) then q <= d; end if;`, and falling_edge
@@ -93,7 +95,8 @@ pub record KindsOfBodies : Type 0 where
   pub other_level : kind_of (on (combined And clk_event (is_at 1 One))) ≡ Mixed
   pub level_of_x : kind_of (on (combined And clk_event (is_at 0 X))) ≡ Mixed
   -- a declared constant with the value '1'; `'1' = clk` and `clk = ('1')`
-  pub named_constant : kind_of (on (combined And clk_event (equal (elements (one_signal 0)) (elements (text (One ∷ [])))))) ≡ Mixed
+  pub named_constant : kind_of
+      (on (combined And clk_event (equal (elements (one_signal 0)) (elements (text (One ∷ [])))))) ≡ Mixed
   pub level_reversed : kind_of (on (combined And clk_event (level false 0 One))) ≡ Mixed
   -- `else null;`, an elsif, a second statement, and an edge test within the branch
   pub with_else : kind_of (step (if_of (branch rising_clk load (otherwise (step null_of done)))) done) ≡ Mixed
@@ -109,22 +112,26 @@ pub record KindsOfResets : Type 0 where
   -- `if rst = '1' then q <= '0'; elsif rising_edge(clk) then q <= d; end if;`
   pub by_level : kind_of (if_elsif (is_at 1 One) low rising_clk load) ≡ Clocked 0 v.Rising (reset_at 3 (Some 2 ∷ []))
   -- `'0' = rst`, or a side in parentheses
-  pub turned_round : kind_of (if_elsif (level false 1 Zero) low rising_clk load) ≡ Clocked 0 v.Rising (reset_at 2 (Some 2 ∷ []))
+  pub turned_round : kind_of (if_elsif (level false 1 Zero) low rising_clk load)
+      ≡ Clocked 0 v.Rising (reset_at 2 (Some 2 ∷ []))
   -- `null; q <= (others => '0');`, and nothing
-  pub with_null : kind_of (if_elsif (is_at 1 One) (step null_of (assigned (filled 1 (text (Zero ∷ []))))) rising_clk load)
+  pub with_null : kind_of
+      (if_elsif (is_at 1 One) (step null_of (assigned (filled 1 (text (Zero ∷ []))))) rising_clk load)
       ≡ Clocked 0 v.Rising (reset_at 3 (Some 2 ∷ []))
   pub of_nothing : kind_of (if_elsif (is_at 1 One) done rising_clk load) ≡ Clocked 0 v.Rising (reset_at 3 (None ∷ []))
   -- a net that is no input, a level of 'X', a declared constant, another test
   pub no_input : kind_of (if_elsif (is_at 2 One) low rising_clk load) ≡ Mixed
   pub other_level : kind_of (if_elsif (is_at 1 X) low rising_clk load) ≡ Mixed
-  pub named_constant : kind_of (if_elsif (equal (elements (one_signal 1)) (elements (text (One ∷ [])))) low rising_clk load) ≡ Mixed
+  pub named_constant : kind_of
+      (if_elsif (equal (elements (one_signal 1)) (elements (text (One ∷ [])))) low rising_clk load) ≡ Mixed
   pub other_test : kind_of (if_elsif (condition (one_signal 1)) low rising_clk load) ≡ Mixed
   -- the reset's branch reads a signal, assigns a variable, or has an if
   pub reads_signal : kind_of (if_elsif (is_at 1 One) load rising_clk load) ≡ Mixed
   pub sets_variable : kind_of (if_elsif (is_at 1 One) (step (set_one 0 (text (Zero ∷ []))) low) rising_clk load) ≡ Mixed
   pub has_if : kind_of (if_elsif (is_at 1 One) (if_only (decided true) low) rising_clk load) ≡ Mixed
   -- an else, no edge, and the reset last
-  pub with_else : kind_of (step (if_of (branch (is_at 1 One) low (branch rising_clk load (otherwise low)))) done) ≡ Mixed
+  pub with_else : kind_of (step (if_of (branch (is_at 1 One) low (branch rising_clk load (otherwise low)))) done)
+      ≡ Mixed
   pub without_edge : kind_of (if_elsif (is_at 1 One) low (is_at 0 One) load) ≡ Combinational
   pub reset_last : kind_of (if_elsif rising_clk load (is_at 1 One) low) ≡ Mixed
 
@@ -154,7 +161,8 @@ value e = elements_of seen e
 
 -- an operator of two truth values, at true and true, true and false, false and true, false and false
 abbrev pub truth_table : Logic → List Bool
-truth_table op = met (combined op (decided true) (decided true)) ∷ met (combined op (decided true) (decided false)) ∷ met
+truth_table op =
+    met (combined op (decided true) (decided true)) ∷ met (combined op (decided true) (decided false)) ∷ met
     (combined op (decided false) (decided true)) ∷ met (combined op (decided false) (decided false)) ∷ []
 
 pub record RunsOfBodies : Type 0 where
@@ -180,13 +188,16 @@ pub record RunsOfBodies : Type 0 where
       (false ∷ false ∷ false ∷ true ∷ []) ∷ (false ∷ true ∷ true ∷ false ∷ []) ∷ (true ∷ false ∷ false ∷ true ∷ []) ∷ []
   pub negation : met (negated (decided true)) ≡ false
   -- the leftmost element goes to the first place, and the left operand of `&` stands first
-  pub in_order : runs (step (assign (5 ∷ 4 ∷ []) (elements (binary joined (one_signal 2) (one_signal 1)))) done) 5 ≡ Some 3
-  pub in_order' : runs (step (assign (5 ∷ 4 ∷ []) (elements (binary joined (one_signal 2) (one_signal 1)))) done) 4 ≡ Some 1
+  pub in_order : runs (step (assign (5 ∷ 4 ∷ []) (elements (binary joined (one_signal 2) (one_signal 1)))) done) 5
+      ≡ Some 3
+  pub in_order' : runs (step (assign (5 ∷ 4 ∷ []) (elements (binary joined (one_signal 2) (one_signal 1)))) done) 4
+      ≡ Some 1
   -- "1H" + "0001" is "0100", and "1X" + "01" is "XX"
   pub sums : value (binary plus (pair 2 0) (text (Zero ∷ Zero ∷ Zero ∷ One ∷ []))) ≡ Zero ∷ One ∷ Zero ∷ Zero ∷ []
   pub sums_unknown : value (binary plus (pair 2 1) (text (Zero ∷ One ∷ []))) ≡ X ∷ X ∷ []
   -- "0000" - "0001" is "1111", and "11" * "10" is "0110"
-  pub differs : value (binary minus (text (Zero ∷ Zero ∷ Zero ∷ Zero ∷ [])) (text (Zero ∷ Zero ∷ Zero ∷ One ∷ []))) ≡ One ∷ One ∷ One ∷ One ∷ []
+  pub differs : value (binary minus (text (Zero ∷ Zero ∷ Zero ∷ Zero ∷ [])) (text (Zero ∷ Zero ∷ Zero ∷ One ∷ [])))
+      ≡ One ∷ One ∷ One ∷ One ∷ []
   pub multiplies : value (binary times (text (One ∷ One ∷ [])) (text (One ∷ Zero ∷ []))) ≡ Zero ∷ One ∷ One ∷ Zero ∷ []
   -- "1H" and "10" is "10", and not "1H" is "00"
   pub ands : value (binary (logical And) (pair 2 0) (text (One ∷ Zero ∷ []))) ≡ One ∷ Zero ∷ []
@@ -202,13 +213,16 @@ pub record RunsOfBodies : Type 0 where
   pub fills_ones : value (filled 2 (text (One ∷ []))) ≡ One ∷ One ∷ []
   -- the first branch that holds is taken, later ones aren't, and the else only where none holds
   pub first_branch : runs
-      (step (if_of (branch (is_at 0 One) (assigned (text (Zero ∷ []))) (branch (is_at 2 One) (assigned (text (One ∷ [])))
+      (step
+      (if_of (branch (is_at 0 One) (assigned (text (Zero ∷ []))) (branch (is_at 2 One) (assigned (text (One ∷ [])))
       (branch (decided true) (assigned (text (X ∷ []))) no_else)))) done) 0 ≡ Some 3
-  pub the_else : runs (step (if_of (branch (is_at 0 One) (assigned (text (Zero ∷ []))) (otherwise (assigned (text (X ∷ [])))))) done) 0 ≡ Some 1
+  pub the_else : runs (step (if_of
+      (branch (is_at 0 One) (assigned (text (Zero ∷ []))) (otherwise (assigned (text (X ∷ [])))))) done) 0 ≡ Some 1
   pub no_branch : runs (if_only (is_at 0 One) (assigned (text (Zero ∷ [])))) 0 ≡ None
   -- a case matches the values as they are: 'H' isn't '1'
   pub case_others : runs
-      (step (case_of (elements (one_signal 0)) (alternative ((3 ∷ []) ∷ []) (assigned (text (One ∷ []))) (others (assigned (text (X ∷ [])))))) done) 0
+      (step (case_of (elements (one_signal 0))
+      (alternative ((3 ∷ []) ∷ []) (assigned (text (One ∷ []))) (others (assigned (text (X ∷ [])))))) done) 0
       ≡ Some 1
   pub case_choice : runs
       (step (case_of (elements (pair 2 1)) (alternative ((2 ∷ 2 ∷ []) ∷ (3 ∷ 1 ∷ []) ∷ []) (assigned (text (One ∷ [])))
@@ -243,16 +257,19 @@ pub record AssignsOfBodies : Type 0 where
   pub with_null : assigns 6 (one_stmt (if_else (to_place 2) null_of)) ≡ false
   -- an else doesn't help where an elsif is left out
   pub elsif_left_out : assigns 6
-      (one_stmt (if_of (branch (is_at 1 One) (one_stmt (to_place 2)) (branch (is_at 0 One) (one_stmt null_of) (otherwise (one_stmt (to_place 2)))))))
+      (one_stmt (if_of (branch (is_at 1 One) (one_stmt (to_place 2))
+      (branch (is_at 0 One) (one_stmt null_of) (otherwise (one_stmt (to_place 2)))))))
       ≡ false
   -- one net under two names, each assigned in one branch
   pub two_names : assigns 5 (one_stmt (if_else (to_place 0) (to_place 1))) ≡ true
   pub two_nets : assigns 6 (one_stmt (if_else (to_place 0) (to_place 2))) ≡ false
   -- each alternative of a case, and one that doesn't
   pub each_alternative : assigns 6
-      (one_stmt (case_of (elements (one_signal 1)) (alternative ((3 ∷ []) ∷ []) (one_stmt (to_place 2)) (others (one_stmt (to_place 2)))))) ≡ true
+      (one_stmt (case_of (elements (one_signal 1))
+      (alternative ((3 ∷ []) ∷ []) (one_stmt (to_place 2)) (others (one_stmt (to_place 2)))))) ≡ true
   pub no_alternative : assigns 6
-      (one_stmt (case_of (elements (one_signal 1)) (alternative ((3 ∷ []) ∷ []) (one_stmt (to_place 2)) (others (one_stmt null_of))))) ≡ false
+      (one_stmt (case_of (elements (one_signal 1))
+      (alternative ((3 ∷ []) ∷ []) (one_stmt (to_place 2)) (others (one_stmt null_of))))) ≡ false
 
 -- ---- variables: a is net 2, which has '1'; b net 1, which has 'X'; elements 0 and 1
 
@@ -267,28 +284,37 @@ pub record VariablesOfBodies : Type 0 where
   -- `y <= v;` shows the initial value; `v := a; y <= v;` the one just assigned; `y <= v; v := a;` the initial one
   pub initial : entry (7 ∷ []) (then_show 0) ≡ Some 7
   pub at_once : entry (7 ∷ []) (step (set_one 0 (one_signal 2)) (then_show 0)) ≡ Some 3
-  pub too_late : entry (7 ∷ []) (step (assign (0 ∷ []) (elements (one_variable 0))) (step (set_one 0 (one_signal 2)) done)) ≡ Some 7
+  pub too_late : entry (7 ∷ [])
+      (step (assign (0 ∷ []) (elements (one_variable 0))) (step (set_one 0 (one_signal 2)) done)) ≡ Some 7
   -- `v := v xor a;` twice reads the old value each time
   pub twice : entry (2 ∷ [])
-      (step (set_one 0 (binary (logical Xor) (one_variable 0) (one_signal 2))) (step (set_one 0 (binary (logical Xor) (one_variable 0) (one_signal 2)))
+      (step (set_one 0 (binary (logical Xor) (one_variable 0) (one_signal 2)))
+      (step (set_one 0 (binary (logical Xor) (one_variable 0) (one_signal 2)))
       (then_show 0))) ≡ Some 2
   -- `w := a & b;`: the left element gets the left value
-  pub in_order : entry (0 ∷ 0 ∷ []) (step (set (0 ∷ 1 ∷ []) (elements (binary joined (one_signal 2) (one_signal 1)))) (then_show 0)) ≡ Some 3
-  pub in_order' : entry (0 ∷ 0 ∷ []) (step (set (0 ∷ 1 ∷ []) (elements (binary joined (one_signal 2) (one_signal 1)))) (then_show 1)) ≡ Some 1
+  pub in_order : entry (0 ∷ 0 ∷ [])
+      (step (set (0 ∷ 1 ∷ []) (elements (binary joined (one_signal 2) (one_signal 1)))) (then_show 0)) ≡ Some 3
+  pub in_order' : entry (0 ∷ 0 ∷ [])
+      (step (set (0 ∷ 1 ∷ []) (elements (binary joined (one_signal 2) (one_signal 1)))) (then_show 1)) ≡ Some 1
   -- what the branch taken leaves, and what stays where none is
   pub of_branch : entry (2 ∷ [])
-      (step (if_of (branch (is_at 2 One) (step (set_one 0 (one_signal 1)) done) (otherwise (step (set_one 0 (one_signal 2)) done)))) (then_show 0))
+      (step (if_of (branch (is_at 2 One) (step (set_one 0 (one_signal 1)) done)
+      (otherwise (step (set_one 0 (one_signal 2)) done)))) (then_show 0))
       ≡ Some 1
   pub of_else : entry (2 ∷ [])
-      (step (if_of (branch (is_at 2 Zero) (step (set_one 0 (one_signal 1)) done) (otherwise (step (set_one 0 (one_signal 2)) done)))) (then_show 0))
+      (step (if_of (branch (is_at 2 Zero) (step (set_one 0 (one_signal 1)) done)
+      (otherwise (step (set_one 0 (one_signal 2)) done)))) (then_show 0))
       ≡ Some 3
-  pub of_none : entry (2 ∷ []) (step (if_of (branch (is_at 2 Zero) (step (set_one 0 (one_signal 1)) done) no_else)) (then_show 0)) ≡ Some 2
+  pub of_none : entry (2 ∷ [])
+      (step (if_of (branch (is_at 2 Zero) (step (set_one 0 (one_signal 1)) done) no_else)) (then_show 0)) ≡ Some 2
   pub of_others : entry (2 ∷ [])
-      (step (case_of (elements (one_signal 2)) (alternative ((2 ∷ []) ∷ []) done (others (step (set_one 0 (one_signal 1)) done)))) (then_show 0))
+      (step (case_of (elements (one_signal 2))
+      (alternative ((2 ∷ []) ∷ []) done (others (step (set_one 0 (one_signal 1)) done)))) (then_show 0))
       ≡ Some 1
   -- a test and a case look at variables too
   pub tested : entry (3 ∷ []) (if_only (condition (one_variable 0)) load) ≡ Some 3
-  pub cased : entry (6 ∷ []) (step (case_of (position_in 0) (alternative ((6 ∷ []) ∷ []) load (others done))) done) ≡ Some 3
+  pub cased : entry (6 ∷ []) (step (case_of (position_in 0) (alternative ((6 ∷ []) ∷ []) load (others done))) done)
+      ≡ Some 3
 
 -- ---- what is stored
 
@@ -306,17 +332,21 @@ pub record StoresOfBodies : Type 0 where
   -- an if without else doesn't assign it, one with an else does, and so does a case
   pub by_if : stored (step (if_of (branch (is_at 2 One) zero_it no_else)) (then_show 0)) ≡ true
   pub by_if_else : stored (step (if_of (branch (is_at 2 One) zero_it (otherwise zero_it))) (then_show 0)) ≡ false
-  pub by_case : stored (step (case_of (elements (one_signal 2)) (alternative ((3 ∷ []) ∷ []) zero_it (others zero_it))) (then_show 0)) ≡ false
-  pub by_one_alternative : stored (step (case_of (elements (one_signal 2)) (alternative ((3 ∷ []) ∷ []) zero_it (others done))) (then_show 0)) ≡ true
+  pub by_case : stored (step (case_of (elements (one_signal 2)) (alternative ((3 ∷ []) ∷ []) zero_it (others zero_it)))
+      (then_show 0)) ≡ false
+  pub by_one_alternative : stored (step
+      (case_of (elements (one_signal 2)) (alternative ((3 ∷ []) ∷ []) zero_it (others done))) (then_show 0)) ≡ true
   -- what stands before the if counts within it, and one branch doesn't count in another
   pub before_branch : stored (step (set_one 0 (one_signal 2)) (if_only (is_at 2 One) (then_show 0))) ≡ false
   pub other_branch : stored (step (if_of (branch (is_at 2 One) zero_it (otherwise (then_show 0)))) done) ≡ true
   -- `v := v xor a`, a condition, an elsif's condition, a case's value, and one of two elements
   pub in_its_value : stored (step (set_one 0 (binary (logical Xor) (one_variable 0) (one_signal 2))) done) ≡ true
   pub in_condition : stored (if_only (condition (one_variable 0)) done) ≡ true
-  pub in_elsif : stored (if_elsif (decided false) zero_it (equal (elements (one_variable 0)) (elements (one_signal 2))) done) ≡ true
+  pub in_elsif : stored
+      (if_elsif (decided false) zero_it (equal (elements (one_variable 0)) (elements (one_signal 2))) done) ≡ true
   pub in_case : stored (step (case_of (position_in 0) (others done)) done) ≡ true
-  pub in_slice : stored (step (set_one 1 (one_signal 2)) (step (assign (0 ∷ 1 ∷ []) (elements (variable (1 ∷ 0 ∷ [])))) done)) ≡ true
+  pub in_slice : stored
+      (step (set_one 1 (one_signal 2)) (step (assign (0 ∷ 1 ∷ []) (elements (variable (1 ∷ 0 ∷ [])))) done)) ≡ true
   pub of_other_element : stored (step (set_one 1 (one_signal 2)) (then_show 0)) ≡ true
   -- nothing else reads it: a net or a literal of its number, or another element
   pub not_a_net : stored (assigned (one_signal 0)) ≡ false
@@ -330,16 +360,20 @@ abbrev pub of_each_form : Stmts
 of_each_form =
     step (if_of (
     branch (condition (inverse (one_signal 1))) (assigned (filled 2 (one_signal 2))) (
-    branch (combined Or (equal (elements (one_signal 3)) (position_of 4)) (unequal (position 0) (elements (one_signal 5))))
+    branch
+    (combined Or (equal (elements (one_signal 3)) (position_of 4)) (unequal (position 0) (elements (one_signal 5))))
     (assigned (counted Resize 3 (one_signal 6))) (
     branch (combined And (event 7) (level true 8 One)) (assigned (counted ShiftLeft 1 (one_signal 9))) (
     branch (compared Lt (one_signal 10) (one_signal 11)) (assigned (counted ShiftRight 1 (one_signal 12))) (
     branch (negated (compared_to Eq (one_signal 13) 7)) (step (set_one 0 (one_signal 14)) done) (
     otherwise (step null_of done)))))))) (
     step (case_of (position_of 15) (alternative ((1 ∷ []) ∷ []) (on (rising 16)) (others (on (falling 17))))) (
-    step (assign (0 ∷ 1 ∷ []) (elements (binary joined (binary plus (one_signal 18) (text (One ∷ []))) (signal (19 ∷ 20 ∷ []))))) (
-    step (if_of (branch (combined And (decided true) (equal (position_in 0) (elements (variable (0 ∷ 1 ∷ []))))) done no_else)) done)))
+    step (assign (0 ∷ 1 ∷ [])
+    (elements (binary joined (binary plus (one_signal 18) (text (One ∷ []))) (signal (19 ∷ 20 ∷ []))))) (
+    step (if_of (branch (combined And (decided true) (equal (position_in 0) (elements (variable (0 ∷ 1 ∷ [])))))
+    done no_else)) done)))
 
 pub record ReadsOfBodies : Type 0 where
-  pub nets_read : reads of_each_form ≡ 1 ∷ 2 ∷ 3 ∷ 4 ∷ 5 ∷ 6 ∷ 7 ∷ 8 ∷ 9 ∷ 10 ∷ 11 ∷ 12 ∷ 13 ∷ 14 ∷ 15 ∷ 16 ∷ 2 ∷ 17 ∷ 2 ∷ 18 ∷ 19 ∷ 20 ∷ []
+  pub nets_read : reads of_each_form
+      ≡ 1 ∷ 2 ∷ 3 ∷ 4 ∷ 5 ∷ 6 ∷ 7 ∷ 8 ∷ 9 ∷ 10 ∷ 11 ∷ 12 ∷ 13 ∷ 14 ∷ 15 ∷ 16 ∷ 2 ∷ 17 ∷ 2 ∷ 18 ∷ 19 ∷ 20 ∷ []
   pub events_of : events of_each_form ≡ 7 ∷ 16 ∷ 17 ∷ []

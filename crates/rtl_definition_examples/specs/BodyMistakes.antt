@@ -41,18 +41,23 @@ latch = record {
   start = 0 ∷ 0 ∷ 0 ∷ [];
   inputs = 0 ∷ 1 ∷ [];
   idle = [] ∷ [] ∷ [] ∷ [];
-  processes = record
-      { drivers = record { net = 2; start = 0 } ∷ []; wakes = 0 ∷ 1 ∷ []; variables = []; body = if_only (is_at 1 One) (assigned (one_signal 0)) } ∷
+  processes = record {
+    drivers = record { net = 2; start = 0 } ∷ [];
+    wakes = 0 ∷ 1 ∷ [];
+    variables = [];
+    body = if_only (is_at 1 One) (assigned (one_signal 0));
+  } ∷
       [];
 }
 
--- The run with s at '0' assigns nothing, and no valuation solves the netlist's equations: what is combinational and accepted
--- would have no value.
+-- The run with s at '0' assigns nothing, and no valuation solves the netlist's equations: what is combinational and
+-- accepted would have no value.
 pub record LatchWouldPass : Type 0 where
   pub right : branches_must_assign (of_drivers (λ place. place == 0)) latch_branches ≡ false
   pub wrong : branches_assign_without_else (of_drivers (λ place. place == 0)) latch_branches ≡ true
   pub is_fault : IsFault (core_netlist latch) (Latch 0 2)
-  pub no_entry : effect (sees (3 ∷ 2 ∷ 0 ∷ []) (3 ∷ 2 ∷ 0 ∷ [])) (if_only (is_at 1 One) (assigned (one_signal 0))) 0 ≡ None
+  pub no_entry : effect (sees (3 ∷ 2 ∷ 0 ∷ []) (3 ∷ 2 ∷ 0 ∷ [])) (if_only (is_at 1 One) (assigned (one_signal 0))) 0
+      ≡ None
   pub no_solution : (registers : ℕ → ℕ) (v : List ℕ) → Solves (core_netlist latch) (λ n. 2) registers v → ⊥
 
 -- ---- a later assignment doesn't replace an earlier one
@@ -70,11 +75,13 @@ high = assigned (text (One ∷ []))
 pub record DefaultWouldStay : Type 0 where
   pub right : effect (sees [] []) (followed_by low high) 0 ≡ Some 3
   pub wrong : effect_of_first (sees [] []) (followed_by low high) 0 ≡ Some 2
-  pub law_fails : effect_of_first (sees [] []) (followed_by low high) 0 ≡ or_else (effect_of_first (sees [] []) high 0) (effect_of_first (sees [] []) low 0) → ⊥
+  pub law_fails : effect_of_first (sees [] []) (followed_by low high) 0
+      ≡ or_else (effect_of_first (sees [] []) high 0) (effect_of_first (sees [] []) low 0) → ⊥
 
 -- ---- a test to '1' is taken as a rising edge
 
--- `if clk'event and clk = '1' then q <= d; end if;` runs its branch where clk goes from 'U' to '1', which is no rising edge.
+-- `if clk'event and clk = '1' then q <= d; end if;` runs its branch where clk goes from 'U' to '1', which is no
+-- rising edge.
 abbrev pub at_one : Stmts
 at_one = on (combined And clk_event (is_at 0 One))
 

@@ -1,5 +1,5 @@
--- Flat netlists of std_logic signals whose processes have one driver each. The values are those of std_logic by place: 0 is
--- 'U', 1 is 'X', 2 is '0' and 3 is '1'.
+-- Flat netlists of std_logic signals whose processes have one driver each. The values are those of std_logic by place:
+-- 0 is 'U', 1 is 'X', 2 is '0' and 3 is '1'.
 use Rattle.std.specs.Prelude.{◌≡◌, ℕ, List, [], ◌∷◌, map}
 use Rattle.rtl_model.specs.bodies.Body.{Stmts}
 use Rattle.rtl_model.specs.bodies.Types.{nine_valued}
@@ -10,7 +10,8 @@ use Rattle.rtl_model.specs.simulation.Moments.{HasSettled}
 
 -- a process whose body assigns place 0, which is the driver of this net
 abbrev pub drives_one : (target start : ℕ) → (wakes : List ℕ) → Stmts → FlatProcess
-drives_one target start wakes body = record { drivers = record { net = target; start = start } ∷ []; wakes = wakes; variables = []; body = body }
+drives_one target start wakes body =
+    record { drivers = record { net = target; start = start } ∷ []; wakes = wakes; variables = []; body = body }
 
 -- without idle ports
 abbrev pub circuit : (inputs start : List ℕ) → List FlatProcess → FlatNetlist

@@ -31,7 +31,12 @@ counting = record {
 }
 
 abbrev pub showing : FlatProcess
-showing = record { drivers = driver 1 0 ∷ driver 2 0 ∷ []; wakes = 3 ∷ 4 ∷ []; variables = []; body = assigned_pair (pair 3 4) }
+showing = record {
+  drivers = driver 1 0 ∷ driver 2 0 ∷ [];
+  wakes = 3 ∷ 4 ∷ [];
+  variables = [];
+  body = assigned_pair (pair 3 4);
+}
 
 abbrev pub counter : FlatNetlist
 counter = record {

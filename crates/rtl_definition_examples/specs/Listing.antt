@@ -45,7 +45,8 @@ abbrev pub CounterIsListed : Type 0
 CounterIsListed =
     (counting showing : Process) → IsBare counting example.counting → IsBare showing example.showing
     → net_text (cnt counting showing)
-    ≡ codes "nets 5\nprocesses 2\n0 cnt.clk U in\n1 cnt.y(1) U 1\n2 cnt.y(0) U 1\n3 cnt.q(1) 0 0\n4 cnt.q(0) 0 0\nprocess 0 cnt.#0\nprocess 1 cnt.#1\n"
+    ≡ codes
+    "nets 5\nprocesses 2\n0 cnt.clk U in\n1 cnt.y(1) U 1\n2 cnt.y(0) U 1\n3 cnt.q(1) 0 0\n4 cnt.q(0) 0 0\nprocess 0 cnt.#0\nprocess 1 cnt.#1\n"
 
 abbrev pub CounterIsReported : Type 0
 CounterIsReported =
@@ -71,7 +72,8 @@ of_processes name processes = record {
 abbrev pub LoopIsListed : Type 0
 LoopIsListed =
     (p q r : Process) → IsUnlabelled p [] → IsUnlabelled q [] → IsUnlabelled r []
-    → line_of (of_processes (codes "l3") (p ∷ q ∷ r ∷ [])) (Loop (0 ∷ 2 ∷ 1 ∷ [])) ≡ codes "fault 8 Loop l3.#0 l3.#2 l3.#1\n"
+    → line_of (of_processes (codes "l3") (p ∷ q ∷ r ∷ [])) (Loop (0 ∷ 2 ∷ 1 ∷ []))
+    ≡ codes "fault 8 Loop l3.#0 l3.#2 l3.#1\n"
 
 -- a process in a generate, whose level comes from one outside
 abbrev pub LevelIsListed : Type 0
@@ -82,7 +84,8 @@ LevelIsListed =
 -- Faults of the counter, had it these; a net without a source, one with two drivers and an idle port, and what an
 -- enumeration starts with.
 pub record AreListed (net : NetlistView) : Type 0 where
-  pub two_drivers : line_of net (TwoDrivers 1 (Driver 1 0) (Idle 0)) ≡ codes "fault 1 TwoDrivers net cnt.y(1) by cnt.#1 and idle\n"
+  pub two_drivers : line_of net (TwoDrivers 1 (Driver 1 0) (Idle 0))
+      ≡ codes "fault 1 TwoDrivers net cnt.y(1) by cnt.#1 and idle\n"
   pub mixed : line_of net (MixedProcess 0) ≡ codes "fault 2 Mixed cnt.#0\n"
   pub clock : line_of net (ClockNotInput 0 3) ≡ codes "fault 3 ClockNotInput cnt.#0 net cnt.q(1)\n"
   pub no_source : driven_text [] ≡ codes "none"
@@ -92,4 +95,5 @@ pub record AreListed (net : NetlistView) : Type 0 where
 
 abbrev pub LinesAreAsSaid : Type 0
 LinesAreAsSaid =
-    (counting showing : Process) → IsBare counting example.counting → IsBare showing example.showing → AreListed (cnt counting showing)
+    (counting showing : Process) → IsBare counting example.counting
+    → IsBare showing example.showing → AreListed (cnt counting showing)

@@ -52,13 +52,15 @@ half_idle = record {
 -- `x <= z; y <= x; z <= y;`
 abbrev pub ring : FlatNetlist
 ring = circuit [] (0 ∷ 0 ∷ 0 ∷ []) (
-    drives_one 0 0 (2 ∷ []) (assigned (one_signal 2)) ∷ drives_one 1 0 (0 ∷ []) (assigned (one_signal 0)) ∷ drives_one 2 0 (1 ∷ [])
+    drives_one 0 0 (2 ∷ []) (assigned (one_signal 2))
+    ∷ drives_one 1 0 (0 ∷ []) (assigned (one_signal 0)) ∷ drives_one 2 0 (1 ∷ [])
     (assigned (one_signal 1)) ∷ [])
 
 -- process 0 is clocked by c, net 0, and reset by r, net 1; process 1 is clocked by r
 abbrev pub reset_as_clock : FlatNetlist
 reset_as_clock = circuit (0 ∷ 1 ∷ 2 ∷ []) (0 ∷ 0 ∷ 0 ∷ 0 ∷ 0 ∷ []) (
-    drives_one 3 0 (0 ∷ 1 ∷ []) (if_elsif (is_at 1 One) low rising_clk load) ∷ drives_one 4 0 (1 ∷ []) (if_only (rising 1) load) ∷ [])
+    drives_one 3 0 (0 ∷ 1 ∷ []) (if_elsif (is_at 1 One) low rising_clk load)
+    ∷ drives_one 4 0 (1 ∷ []) (if_only (rising 1) load) ∷ [])
 
 pub record FaultsOfNets : Type 0 where
   pub in_order : flat_sources shared 0 ≡ Driver 0 0 ∷ Driver 0 1 ∷ Driver 1 0 ∷ Idle 4 ∷ []
@@ -80,7 +82,8 @@ pub record OrderOfFaults : Type 0 where
 
 -- by net, then rising, falling, to '1', to '0'
 pub record OrderOfClocks : Type 0 where
-  pub edges : IsLess (clock_key (0, Rising)) (clock_key (0, Falling)) × IsLess (clock_key (0, Falling)) (clock_key (0, To1))
+  pub edges : IsLess (clock_key (0, Rising)) (clock_key (0, Falling))
+      × IsLess (clock_key (0, Falling)) (clock_key (0, To1))
       × IsLess (clock_key (0, To1)) (clock_key (0, To0))
   pub net_first : IsLess (clock_key (0, To0)) (clock_key (1, Rising))
 
@@ -117,7 +120,8 @@ pub record ReportsOfNets : Type 0 where
 -- ---- a counter with a reset: the nets are clk, rst, y(1), y(0), q(1) and q(0)
 
 abbrev pub counts : (of_reset : Stmts) → Stmts
-counts of_reset = if_elsif (is_at 1 One) of_reset rising_clk (assigned_pair (binary plus (pair 4 5) (text (Zero ∷ One ∷ []))))
+counts of_reset =
+    if_elsif (is_at 1 One) of_reset rising_clk (assigned_pair (binary plus (pair 4 5) (text (Zero ∷ One ∷ []))))
 
 abbrev pub resetting : (wakes : List ℕ) → (of_reset : Stmts) → FlatNetlist
 resetting wakes of_reset = record {
@@ -127,7 +131,12 @@ resetting wakes of_reset = record {
   idle = [] ∷ [] ∷ [] ∷ [] ∷ [] ∷ [] ∷ [];
   processes =
       record { drivers = driver 4 0 ∷ driver 5 0 ∷ []; wakes = wakes; variables = []; body = counts of_reset }
-      ∷ record { drivers = driver 2 0 ∷ driver 3 0 ∷ []; wakes = 4 ∷ 5 ∷ []; variables = []; body = assigned_pair (pair 4 5) } ∷ [];
+      ∷ record {
+        drivers = driver 2 0 ∷ driver 3 0 ∷ [];
+        wakes = 4 ∷ 5 ∷ [];
+        variables = [];
+        body = assigned_pair (pair 4 5);
+      } ∷ [];
 }
 
 abbrev pub rc : FlatNetlist
@@ -145,7 +154,8 @@ pub record ResetsOfNets : Type 0 where
   pub takes_two : Takes (core_netlist rc) released 0 2
   pub one_counted : SettlesAs (core_netlist rc) released 2 (3 ∷ 2 ∷ 2 ∷ 3 ∷ 2 ∷ 3 ∷ [])
   -- not sensitive to its reset, and a reset's branch that reads a signal
-  pub not_sensitive : IsFault (core_netlist (resetting (0 ∷ []) (assigned_pair (text (Zero ∷ Zero ∷ []))))) (EdgeNotSensitive 0 1)
+  pub not_sensitive : IsFault
+      (core_netlist (resetting (0 ∷ []) (assigned_pair (text (Zero ∷ Zero ∷ []))))) (EdgeNotSensitive 0 1)
   pub reads_signal : IsFault (core_netlist (resetting (0 ∷ 1 ∷ []) (assigned_pair (pair 4 5)))) (MixedProcess 0)
 
 -- ---- wrong definitions of resets
@@ -156,7 +166,8 @@ edge_entry reset_holds edge_holds of_reset of_branch = clocked_entry edge_holds 
 
 -- the edge comes while the reset holds, and d is '1': q becomes '0', and would become '1'
 pub record EdgeWouldWin : Type 0 where
-  pub right : effect (record { before = 2 ∷ 3 ∷ 3 ∷ []; now = 3 ∷ 3 ∷ 3 ∷ []; variables = [] }) (if_elsif (is_at 1 One) low rising_clk load) 0 ≡ Some 2
+  pub right : effect (record { before = 2 ∷ 3 ∷ 3 ∷ []; now = 3 ∷ 3 ∷ 3 ∷ []; variables = [] })
+      (if_elsif (is_at 1 One) low rising_clk load) 0 ≡ Some 2
   pub wrong : edge_entry true true (Some 2) (Some 3) ≡ Some 3
 
 -- wrong: a register's first value without its reset
@@ -165,8 +176,8 @@ pub record ResetWouldBeLeftOut : Type 0 where
   pub right : register_first (core_netlist (toggling true)) 0 0 (one_edge true 0) ≡ 2
   pub wrong : slice_index (core_netlist (toggling true)).start 2 ≡ 0
 
--- A reset's branch that reads d has one entry where d is '1' and another where it is '0', so it has none to be given once and
--- for all.
+-- A reset's branch that reads d has one entry where d is '1' and another where it is '0', so it has none to be given
+-- once and for all.
 pub record ResetWouldRead : Type 0 where
   pub of_one : effect (record { before = []; now = 0 ∷ 3 ∷ 3 ∷ []; variables = [] }) load 0 ≡ Some 3
   pub of_zero : effect (record { before = []; now = 0 ∷ 3 ∷ 2 ∷ []; variables = [] }) load 0 ≡ Some 2
@@ -184,7 +195,8 @@ states = record {
       alternative ((0 ∷ []) ∷ []) (step (assign (0 ∷ []) (position 2)) done) (
       alternative ((2 ∷ []) ∷ []) (step (assign (0 ∷ []) (position 1)) done) (
       others (step (assign (0 ∷ []) (position 0)) done))))) done))
-      ∷ drives_one 2 0 (1 ∷ []) (step (if_of (branch (equal (position_of 1) (position 2)) (assigned (text (One ∷ []))) (otherwise low))) done)
+      ∷ drives_one 2 0 (1 ∷ [])
+      (step (if_of (branch (equal (position_of 1) (position 2)) (assigned (text (One ∷ []))) (otherwise low))) done)
       ∷ drives_one 3 0 (0 ∷ []) (assigned (one_signal 0)) ∷ [];
 }
 
@@ -202,7 +214,8 @@ pub record StatesOfNets : Type 0 where
 -- two registers, of d and of e, at two clocks; the nets are c0, c1, d, e, q0 and q1
 abbrev pub two_clocks : FlatNetlist
 two_clocks = circuit (0 ∷ 1 ∷ 2 ∷ 3 ∷ []) (0 ∷ 0 ∷ 0 ∷ 0 ∷ 0 ∷ 0 ∷ []) (
-    drives_one 4 0 (0 ∷ []) (if_only (rising 0) (assigned (one_signal 2))) ∷ drives_one 5 0 (1 ∷ []) (if_only (rising 1) (assigned (one_signal 3))) ∷ [])
+    drives_one 4 0 (0 ∷ []) (if_only (rising 0) (assigned (one_signal 2)))
+    ∷ drives_one 5 0 (1 ∷ []) (if_only (rising 1) (assigned (one_signal 3))) ∷ [])
 
 abbrev pub clocks_of_two : List (ℕ × Edge)
 clocks_of_two = (0, Rising) ∷ (1, Rising) ∷ []

@@ -1,5 +1,5 @@
--- Wrong definitions, each with a small netlist on which it differs from the right one. Where a law asks for an elaborated and
--- accepted netlist, this is one (`fit`).
+-- Wrong definitions, each with a small netlist on which it differs from the right one. Where a law asks for an
+-- elaborated and accepted netlist, this is one (`fit`).
 use Rattle.std.specs.Prelude.{◌≡◌, ℕ, suc, zero, ◌<◌, Bool, true, false, ◌==◌, List}
 use Rattle.std.specs.Prelude.{[], ◌∷◌, slice_index, slice_index_or, slice_set, map, Some, None, Contains, if◌then◌else◌}
 use Rattle.std.specs.List.{list_any}
@@ -50,7 +50,8 @@ abbrev pub ran_seeing : Netlist → ℕ → State → State
 ran_seeing net p s =
     record s {
       pending = slice_set s.pending p
-          (over ((process net p).effect s.before (net_values net (all_driver_values s.pending s.drivers) s.now)) (slice_index_or s.pending p []));
+          (over ((process net p).effect s.before (net_values net (all_driver_values s.pending s.drivers) s.now))
+          (slice_index_or s.pending p []));
       waiting = slice_set s.waiting p false;
     }
 
@@ -89,17 +90,20 @@ abbrev pub cycles : (update : Netlist → State → State) → Netlist → (orde
 cycles update net order zero s = s
 cycles update net order (suc k) s = cycles update net order k (run_each net order (update net s))
 
-abbrev pub cycles_from_start : (update : Netlist → State → State) → Netlist → (order : List ℕ) → ℕ → (inputs : ℕ → ℕ) → State
+abbrev pub cycles_from_start : (update : Netlist → State → State)
+    → Netlist → (order : List ℕ) → ℕ → (inputs : ℕ → ℕ) → State
 cycles_from_start update net order k inputs = cycles update net order k (run_each net order (start_state net inputs))
 
--- The oscillator from 'U' would still be active after nine delta cycles, though y keeps its value; and so would the accepted
--- netlist that is held in reset and whose bound is three, since its two processes would resume each other.
+-- The oscillator from 'U' would still be active after nine delta cycles, though y keeps its value; and so would the
+-- accepted netlist that is held in reset and whose bound is three, since its two processes would resume each other.
 pub record ActivityWouldGoOn : Type 0 where
   pub right : is_quiet (cycles_from_start after_update (oscillator 0) (0 ∷ []) 1 (no_inputs 0)) ≡ true
   pub wrong : is_quiet (cycles_from_start updated_by_activity (oscillator 0) (0 ∷ []) 9 (no_inputs 0)) ≡ false
   pub fit : IsSound (toggling true)
-  pub accepted_right : is_quiet (cycles_from_start after_update (core_netlist (toggling true)) (0 ∷ 1 ∷ []) 3 (one_edge true 0)) ≡ true
-  pub accepted_wrong : is_quiet (cycles_from_start updated_by_activity (core_netlist (toggling true)) (0 ∷ 1 ∷ []) 9 (one_edge true 0)) ≡ false
+  pub accepted_right : is_quiet
+      (cycles_from_start after_update (core_netlist (toggling true)) (0 ∷ 1 ∷ []) 3 (one_edge true 0)) ≡ true
+  pub accepted_wrong : is_quiet
+      (cycles_from_start updated_by_activity (core_netlist (toggling true)) (0 ∷ 1 ∷ []) 9 (one_edge true 0)) ≡ false
 
 -- ---- the bound without the registers' cycle
 
@@ -148,7 +152,8 @@ enable_drops (suc (suc (suc m))) n = if n == 1 then 2 else 3
 
 -- wrong: without an entry the starting value
 abbrev pub register_or_start : Netlist → (p place clock : ℕ) → Edge → (v : List ℕ) → (inputs : ℕ → ℕ) → ℕ
-register_or_start net p place clock tested v inputs = entry_or (register_entry net p place clock tested v inputs) (slice_index net.start (target net p place))
+register_or_start net p place clock tested v inputs =
+    entry_or (register_entry net p place clock tested v inputs) (slice_index net.start (target net p place))
 
 -- the simulation keeps '1', and the machine would have '0'
 pub record RegisterWouldFallBack : Type 0 where
@@ -164,7 +169,8 @@ pub record RegisterWouldFallBack : Type 0 where
 abbrev pub register_from_after : Netlist → (p place clock : ℕ) → Edge → (v w : List ℕ) → (inputs : ℕ → ℕ) → ℕ
 register_from_after net p place clock tested v w inputs =
     entry_or (clocked_entry (resets (reset_of net p) inputs) (net.edge tested (slice_index v clock) (inputs clock))
-    (reset_entry (reset_of net p) place) (slice_index_or ((process net p).acting_effect w) place None)) (slice_index v (target net p place))
+    (reset_entry (reset_of net p) place)
+    (slice_index_or ((process net p).acting_effect w) place None)) (slice_index v (target net p place))
 
 -- at the edge q1 becomes '1' and q2 keeps '0'; the machine's q2 would be '1'
 pub record RegisterWouldRunAhead : Type 0 where
@@ -172,13 +178,15 @@ pub record RegisterWouldRunAhead : Type 0 where
   pub earlier : SettlesAs (core_netlist shift) shift_edge 0 (2 ∷ 3 ∷ 2 ∷ 2 ∷ [])
   pub simulated : SettlesAs (core_netlist shift) shift_edge 1 (3 ∷ 3 ∷ 3 ∷ 2 ∷ [])
   pub right : register_next (core_netlist shift) 1 0 0 Rising (2 ∷ 3 ∷ 2 ∷ 2 ∷ []) (shift_edge 1) ≡ 2
-  pub wrong : register_from_after (core_netlist shift) 1 0 0 Rising (2 ∷ 3 ∷ 2 ∷ 2 ∷ []) (3 ∷ 3 ∷ 3 ∷ 2 ∷ []) (shift_edge 1) ≡ 3
+  pub wrong : register_from_after (core_netlist shift) 1 0 0 Rising
+      (2 ∷ 3 ∷ 2 ∷ 2 ∷ []) (3 ∷ 3 ∷ 3 ∷ 2 ∷ []) (shift_edge 1) ≡ 3
 
 -- ---- races are looked for at rising edges alone
 
 -- if falling_edge(clk) then q <= d; end if;  the nets are clk, d and q
 abbrev pub falls : FlatNetlist
-falls = circuit (0 ∷ 1 ∷ []) (0 ∷ 0 ∷ 2 ∷ []) (drives_one 2 2 (0 ∷ []) (if_only (falling 0) (assigned (one_signal 1))) ∷ [])
+falls =
+    circuit (0 ∷ 1 ∷ []) (0 ∷ 0 ∷ 2 ∷ []) (drives_one 2 2 (0 ∷ []) (if_only (falling 0) (assigned (one_signal 1))) ∷ [])
 
 -- clk falls at moment 1, and d rises with it
 abbrev pub both_change : ℕ → ℕ → ℕ

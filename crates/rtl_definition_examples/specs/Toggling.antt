@@ -1,5 +1,5 @@
--- A register that toggles, with and without an asynchronous reset: an accepted netlist, so the laws' premises can be met; its
--- moments take as many delta cycles as the bound says.
+-- A register that toggles, with and without an asynchronous reset: an accepted netlist, so the laws' premises can be
+-- met; its moments take as many delta cycles as the bound says.
 --
 --     process (clk) begin if rising_edge(clk) then q <= y; end if; end process;
 --     y <= not q;
@@ -38,7 +38,8 @@ start true = 0
 abbrev pub toggling : (with_reset : Bool) → FlatNetlist
 toggling with_reset =
     circuit (0 ∷ 1 ∷ []) (0 ∷ 0 ∷ start with_reset ∷ 0 ∷ [])
-    (drives_one 2 (start with_reset) (sensitivity with_reset) (register with_reset) ∷ drives_one 3 0 (2 ∷ []) (assigned (inverse (one_signal 2))) ∷ [])
+    (drives_one 2 (start with_reset) (sensitivity with_reset) (register with_reset)
+    ∷ drives_one 3 0 (2 ∷ []) (assigned (inverse (one_signal 2))) ∷ [])
 
 -- clk rises at moment 1; rst is '1' where there is a reset
 abbrev pub one_edge : (with_reset : Bool) → (m n : ℕ) → ℕ
@@ -53,7 +54,8 @@ pub record MeetsPremises (with_reset : Bool) : Type 0 where
   pub sound : IsSound (toggling with_reset)
   pub inputs : (m : ℕ) → AreInputs (core_netlist (toggling with_reset)) (one_edge with_reset m)
   pub no_race : (last : ℕ) → HasNoRace (core_netlist (toggling with_reset)) (one_edge with_reset) last
-  pub report : IsReport (core_netlist (toggling with_reset)) (None ∷ Some 1 ∷ []) (None ∷ None ∷ []) ((0, Rising) ∷ []) (bound_of with_reset)
+  pub report : IsReport (core_netlist (toggling with_reset)) (None ∷ Some 1 ∷ [])
+      (None ∷ None ∷ []) ((0, Rising) ∷ []) (bound_of with_reset)
 
 abbrev pub PremisesCanBeMet : Type 0
 PremisesCanBeMet = (with_reset : Bool) → MeetsPremises with_reset

@@ -1,6 +1,7 @@
 -- Processes with variables: what they compute, which variables they store, and two wrong definitions.
 --
---     par: process (a) variable v : std_logic; begin v := '0'; for i in 0 to 3 loop v := v xor a(i); end loop; y <= v; end process;
+--     par: process (a) variable v : std_logic; begin v := '0'; for i in 0 to 3 loop v := v xor a(i); end loop; y <= v;
+-- end process;
 use Rattle.std.specs.Prelude.{◌≡◌, ℕ, true, false, List, [], ◌∷◌, slice_index, Some}
 use Rattle.vhdl_values.specs.declared.scalar.Nine.TheVariants.{Zero}
 use Rattle.vhdl_values.specs.declared.kinds.Logic.TheVariants.{Xor}
@@ -32,7 +33,12 @@ of_process variables body = record {
   start = 0 ∷ 0 ∷ 0 ∷ 0 ∷ 0 ∷ [];
   inputs = 0 ∷ 1 ∷ 2 ∷ 3 ∷ [];
   idle = [] ∷ [] ∷ [] ∷ [] ∷ [] ∷ [];
-  processes = record { drivers = record { net = 4; start = 0 } ∷ []; wakes = 0 ∷ 1 ∷ 2 ∷ 3 ∷ []; variables = variables; body = body } ∷ [];
+  processes = record {
+    drivers = record { net = 4; start = 0 } ∷ [];
+    wakes = 0 ∷ 1 ∷ 2 ∷ 3 ∷ [];
+    variables = variables;
+    body = body;
+  } ∷ [];
 }
 
 abbrev pub turn : (net : ℕ) → Stmt
@@ -58,17 +64,22 @@ pub record VariablesOfNets : Type 0 where
   pub of_unknown : SettlesAs (core_netlist par) (inputs_of (3 ∷ 2 ∷ 1 ∷ 3 ∷ [])) 0 (3 ∷ 2 ∷ 1 ∷ 3 ∷ 1 ∷ [])
   -- without `v := '0';`, and with an if in its place
   pub without_first : IsFault (core_netlist (of_process (logic_variable (0 ∷ []) ∷ []) turns)) (StoredVariable 0 0 0)
-  pub with_if : IsFault (core_netlist (of_process (logic_variable (0 ∷ []) ∷ []) (step (if_of (branch (is_at 3 Zero) zero_it no_else)) turns)))
+  pub with_if : IsFault (core_netlist
+      (of_process (logic_variable (0 ∷ []) ∷ []) (step (if_of (branch (is_at 3 Zero) zero_it no_else)) turns)))
       (StoredVariable 0 0 0)
   -- `w(0) := a(0); y <= w(1);`
-  pub of_vector : IsFault (core_netlist (of_process (logic_variable (0 ∷ 0 ∷ []) ∷ []) (step (set_one 1 (one_signal 3)) (then_show 0)))) (StoredVariable 0 0 0)
+  pub of_vector : IsFault (core_netlist (of_process (logic_variable (0 ∷ 0 ∷ []) ∷ [])
+      (step (set_one 1 (one_signal 3)) (then_show 0)))) (StoredVariable 0 0 0)
   -- elements are numbered through the variables, from the left
   pub numbers : (element_number three_variables 0 0 ≡ Some 0) × (element_number three_variables 1 0 ≡ Some 1)
       × (element_number three_variables 1 1 ≡ Some 2) × (element_number three_variables 2 0 ≡ Some 3)
-  pub of_second : IsFault (core_netlist (of_process three_variables (step (set_one 1 (one_signal 3)) (then_show 2)))) (StoredVariable 0 1 1)
-  pub not_of_first : IsFault (core_netlist (of_process three_variables (step (set_one 1 (one_signal 3)) (then_show 2)))) (StoredVariable 0 1 0) → ⊥
+  pub of_second : IsFault (core_netlist (of_process three_variables (step (set_one 1 (one_signal 3)) (then_show 2))))
+      (StoredVariable 0 1 1)
+  pub not_of_first : IsFault (core_netlist (of_process three_variables (step (set_one 1 (one_signal 3)) (then_show 2))))
+      (StoredVariable 0 1 0) → ⊥
   -- each run begins with the initial values
-  pub starts_with : effect (seen_from (record { drivers = []; wakes = []; variables = three_variables; body = done }) [] []) (then_show 0) 0 ≡ Some 3
+  pub starts_with : effect (seen_from (record { drivers = []; wakes = []; variables = three_variables; body = done })
+      [] []) (then_show 0) 0 ≡ Some 3
   -- a variable of an enumeration has one element, of the nine values one at least, and starts with values of its type
   pub two_literals : VariableInRange (literal_variable 3 (0 ∷ 0 ∷ [])) → ⊥
   pub no_element : VariableInRange (logic_variable []) → ⊥

@@ -1,5 +1,6 @@
--- Whether what is expected holds of what stands. At a time the values stand to which the last moment before it or at it settled: the
--- first values that end behind it. Where none stand any more, behind the stop, nothing that is expected holds.
+-- Whether what is expected holds of what stands. At a time the values stand to which the last moment before it or at it
+-- settled: the first values that end behind it. Where none stand any more, behind the stop, nothing that is
+-- expected holds.
 use Rattle.std.specs.Prelude.{ℕ, ◌==◌, ◌&&◌, nat_lt, Bool, true, List, [], ◌∷◌, map, Option, Some, None, slice_index, if◌then◌else◌}
 use Rattle.byte_streams.specs.Stands.{Stand}
 use Rattle.rtl_expect.specs.declared.expected.Wanted.{Wanted}
@@ -25,7 +26,8 @@ abbrev pub are_met : (values : List ℕ) → List Wanted → Bool
 are_met values [] = true
 are_met values (w ∷ ws) = is_met values w && are_met values ws
 
--- an expectation that doesn't hold: its line, time and signal, and what was found of each net; nothing, where no values stand
+-- an expectation that doesn't hold: its line, time and signal, and what was found of each net; nothing, where no
+-- values stand
 pub record Difference : Type 0 where
   pub line : ℕ
   pub time : ℕ
@@ -38,7 +40,8 @@ differs e found = record { line = e.line; time = e.time; signal = e.signal; foun
 -- of an expectation and the values that stand at its time
 abbrev pub difference_in : Expectation → Option (List ℕ) → Option Difference
 difference_in e None = Some (differs e None)
-difference_in e (Some values) = if are_met values e.wanted then None else Some (differs e (Some (map (found_at values) e.wanted)))
+difference_in e (Some values) =
+    if are_met values e.wanted then None else Some (differs e (Some (map (found_at values) e.wanted)))
 
 abbrev pub difference_at : List Stand → Expectation → Option Difference
 difference_at stands e = difference_in e (standing_at stands e.time)

@@ -1,6 +1,6 @@
--- What is expected: of a signal, at a time, the value of each element. A scalar's or a vector's is told by one letter of the
--- nine values for each element from the left, where `-` stands for any value; an enumeration's by the position of its literal, from 0,
--- where `-` stands for any.
+-- What is expected: of a signal, at a time, the value of each element. A scalar's or a vector's is told by one letter
+-- of the nine values for each element from the left, where `-` stands for any value; an enumeration's by the position
+-- of its literal, from 0, where `-` stands for any.
 use Rattle.std.specs.Prelude.{ℕ, nat_lt, List, [], ◌∷◌, Option, Some, None, bytes_eq, codes, slice_index, if◌then◌else◌}
 use Rattle.vhdl_values.specs.declared.scalar.Nine.{Nine}
 use Rattle.vhdl_values.specs.declared.scalar.Nine.TheVariants.{Dash}
@@ -38,7 +38,8 @@ abbrev pub letters_wanted : (nets : List ℕ) → (text : Word) → Option (List
 letters_wanted [] [] = Some []
 letters_wanted [] (letter ∷ letters) = None
 letters_wanted (net ∷ nets) [] = None
-letters_wanted (net ∷ nets) (letter ∷ letters) = before_wanted net (value_of_letter letter) (letters_wanted nets letters)
+letters_wanted (net ∷ nets) (letter ∷ letters) =
+    before_wanted net (value_of_letter letter) (letters_wanted nets letters)
 
 -- ---- positions
 
@@ -48,7 +49,8 @@ number_wanted net count (Some position) = if nat_lt position count then Some (wa
 
 -- of so many literals
 abbrev pub position_wanted : (net count : ℕ) → (text : Word) → Option (List Wanted)
-position_wanted net count text = if bytes_eq text (codes "-") then Some (wants net None ∷ []) else number_wanted net count (number_of text)
+position_wanted net count text =
+    if bytes_eq text (codes "-") then Some (wants net None ∷ []) else number_wanted net count (number_of text)
 
 -- ---- signals
 

@@ -1,4 +1,5 @@
--- What the lines of a file of expected values say: `at TIME NAME VALUE`, times in ns. Lines and words are those of a stimulus.
+-- What the lines of a file of expected values say: `at TIME NAME VALUE`, times in ns. Lines and words are those of
+-- a stimulus.
 use Rattle.std.specs.Prelude.{ℕ, suc, nat_lt, Bool, List, [], ◌∷◌, Option, Some, None, Result, Ok, Err, if◌then◌else◌}
 use Rattle.rtl_net.specs.Nets.{NetlistView, ScopeView, SignalView}
 use Rattle.rtl_stim_lines.specs.Lines.{Word, lines_of, words_of, says_nothing}
@@ -21,14 +22,16 @@ is_named scopes name s = are_alike name (full_name scopes s)
 -- of these signals, the first of which has this number, the first with the name, and its number
 abbrev pub signal_from : List ScopeView → (number : ℕ) → List SignalView → (name : Word) → Option (ℕ × SignalView)
 signal_from scopes number [] name = None
-signal_from scopes number (s ∷ ss) name = if is_named scopes name s then Some (number, s) else signal_from scopes (suc number) ss name
+signal_from scopes number (s ∷ ss) name =
+    if is_named scopes name s then Some (number, s) else signal_from scopes (suc number) ss name
 
 abbrev pub signal_named : NetlistView → (name : Word) → Option (ℕ × SignalView)
 signal_named net name = signal_from net.scopes 0 net.signals name
 
 -- ---- order
 
--- Expectations stand in order of time, and those of one time in order of their lines: one more stands behind those of its time.
+-- Expectations stand in order of time, and those of one time in order of their lines: one more stands behind those of
+-- its time.
 abbrev pub placed : Expectation → List Expectation → List Expectation
 placed e [] = e ∷ []
 placed e (x ∷ xs) = if nat_lt e.time x.time then e ∷ x ∷ xs else x ∷ placed e xs
@@ -45,7 +48,8 @@ of_signal line time (Some found) text = with_wanted line time found.0 (value_wan
 
 -- what the line of this number expects by its form, or what is wrong with it
 abbrev pub expected_in : NetlistView → (line : ℕ) → Option Form → Result Expectation ExpectRule
-expected_in net line (Some (At time name text)) = if is_too_large time then Err TimeTooLarge else of_signal line time (signal_named net name) text
+expected_in net line (Some (At time name text)) =
+    if is_too_large time then Err TimeTooLarge else of_signal line time (signal_named net name) text
 expected_in net line (Some (Clock name first half)) = Err BadLine
 expected_in net line (Some (Stop time)) = Err BadLine
 expected_in net line None = Err BadLine
@@ -55,9 +59,11 @@ with_expected so_far (Err problem) = Err problem
 with_expected so_far (Ok e) = Ok (placed e so_far)
 
 -- what is expected once this line is read too, or what is wrong with it
-abbrev pub after_line : NetlistView → List Expectation → (number : ℕ) → (line : List ℕ) → Result (List Expectation) ExpectRule
+abbrev pub after_line : NetlistView → List Expectation → (number : ℕ)
+    → (line : List ℕ) → Result (List Expectation) ExpectRule
 after_line net so_far number line =
-    if says_nothing (words_of line) then Ok so_far else with_expected so_far (expected_in net number (form_of (words_of line)))
+    if says_nothing (words_of line) then Ok so_far
+    else with_expected so_far (expected_in net number (form_of (words_of line)))
 
 -- the fault of a problem in the line of this number
 abbrev pub in_line : {A : Type 0} → ℕ → Result A ExpectRule → Result A ExpectFault
@@ -65,12 +71,14 @@ in_line number (Ok a) = Ok a
 in_line number (Err problem) = Err (InLine problem number)
 
 -- what is expected once this line is read too, unless a line before it was bad
-abbrev pub one_more : NetlistView → (number : ℕ) → (line : List ℕ) → Result (List Expectation) ExpectFault → Result (List Expectation) ExpectFault
+abbrev pub one_more : NetlistView → (number : ℕ) → (line : List ℕ)
+    → Result (List Expectation) ExpectFault → Result (List Expectation) ExpectFault
 one_more net number line (Err fault) = Err fault
 one_more net number line (Ok so_far) = in_line number (after_line net so_far number line)
 
 -- what is expected once these lines are read too, or the first that is bad; the first line has this number
-abbrev pub after_lines : NetlistView → (number : ℕ) → List (List ℕ) → Result (List Expectation) ExpectFault → Result (List Expectation) ExpectFault
+abbrev pub after_lines : NetlistView → (number : ℕ) → List (List ℕ)
+    → Result (List Expectation) ExpectFault → Result (List Expectation) ExpectFault
 after_lines net number [] so_far = so_far
 after_lines net number (line ∷ lines) so_far = after_lines net (suc number) lines (one_more net number line so_far)
 

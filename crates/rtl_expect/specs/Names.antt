@@ -1,5 +1,5 @@
--- The full name of a signal within the top: the labels of the instances that lead to it from the top, and its own name, joined by dots. A
--- signal of the top has its own name alone.
+-- The full name of a signal within the top: the labels of the instances that lead to it from the top, and its own name,
+-- joined by dots. A signal of the top has its own name alone.
 use Rattle.std.specs.Prelude.{ℕ, zero, suc, Bool, List, [], ◌++◌, Option, Some, None, bytes_eq, codes}
 use Rattle.rtl_net.specs.Nets.{ScopeView, SignalView, label_at, parent_of}
 use Rattle.rtl_stim_lines.specs.Inputs.{small}
@@ -14,7 +14,8 @@ abbrev pub labels_within : (steps : ℕ) → List ScopeView → (scope : ℕ) �
 labels_within zero scopes k = []
 labels_within (suc steps) scopes k = labels_behind (labels_within steps scopes) (parent_of scopes k) (label_at scopes k)
 
--- The labels from the top to a scope, each before a dot. A parent's number is less than its scope's: as many steps as that lead to the top.
+-- The labels from the top to a scope, each before a dot. A parent's number is less than its scope's: as many steps as
+-- that lead to the top.
 abbrev pub labels : List ScopeView → (scope : ℕ) → List ℕ
 labels scopes k = labels_within k scopes k
 

@@ -14,9 +14,10 @@ abbrev pub all_placed : (so_far : List Expectation) → List Expectation → Lis
 all_placed so_far [] = so_far
 all_placed so_far (e ∷ es) = all_placed (placed e so_far) es
 
--- What a function answered is what is asked: it leaves these expectations where that is Ok. It refuses for want of memory, or with that
--- fault.
-abbrev pub Leads : {B : Type 0} → Result (List Expectation) ExpectFault → (left : List Expectation) → Result B ExpectFault → Type 0
+-- What a function answered is what is asked: it leaves these expectations where that is Ok. It refuses for want of
+-- memory, or with that fault.
+abbrev pub Leads : {B : Type 0} → Result (List Expectation) ExpectFault
+    → (left : List Expectation) → Result B ExpectFault → Type 0
 Leads asked left (Ok b) = asked ≡ Ok left
 Leads asked left (Err fault) = fault ≢ NoMemory → asked ≡ Err fault
 

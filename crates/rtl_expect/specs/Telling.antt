@@ -19,7 +19,8 @@ found_text (Enumeration count) found = decimal (slice_index found 0)
 
 -- `TIME NAME is VALUE`
 abbrev pub found_at_time : NetlistView → (time : ℕ) → SignalView → (found : List ℕ) → List ℕ
-found_at_time net time s found = decimal time ++ codes " " ++ full_name net.scopes s ++ codes " is " ++ found_text s.kind found
+found_at_time net time s found =
+    decimal time ++ codes " " ++ full_name net.scopes s ++ codes " is " ++ found_text s.kind found
 
 -- a number that no signal has is told as nothing
 abbrev pub of_signal_found : NetlistView → (time : ℕ) → Option SignalView → (found : List ℕ) → List ℕ
@@ -29,7 +30,9 @@ of_signal_found net time (Some s) found = found_at_time net time s found
 -- what differs: a value that isn't the one expected, or a time behind the stop
 abbrev pub difference_text : NetlistView → Difference → (found : Option (List ℕ)) → List ℕ
 difference_text net d None = codes "2 AfterStop"
-difference_text net d (Some found) = codes "1 Differs " ++ of_signal_found net d.time (slice_get net.signals d.signal) found
+difference_text net d (Some found) =
+    codes "1 Differs " ++ of_signal_found net d.time (slice_get net.signals d.signal) found
 
 abbrev pub difference_line : NetlistView → Difference → List ℕ
-difference_line net d = codes "rtlsim: expect " ++ difference_text net d d.found ++ codes " line " ++ decimal d.line ++ codes "\n"
+difference_line net d =
+    codes "rtlsim: expect " ++ difference_text net d d.found ++ codes " line " ++ decimal d.line ++ codes "\n"

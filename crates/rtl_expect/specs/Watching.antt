@@ -26,7 +26,8 @@ abbrev pub expected_by : Expectations → List Expectation
 expected_by w = list_view w.list
 
 abbrev pub difference_view : KeptDifference → Difference
-difference_view d = record { line = d.line; time = d.time; signal = d.signal; found = option_map (λ codes. codes.items) d.found }
+difference_view d =
+    record { line = d.line; time = d.time; signal = d.signal; found = option_map (λ codes. codes.items) d.found }
 
 -- ---- order
 
@@ -53,8 +54,8 @@ is_before (Some e) until = nat_lt e.time until
 abbrev pub next_is_before : Expectations → (until : ℕ) → Bool
 next_is_before w until = is_before (slice_get (expected_by w) w.next) until
 
--- Of these expectations those at whose times values stand have been compared, and the first that doesn't hold is kept; at the times of
--- the others nothing stands so far.
+-- Of these expectations those at whose times values stand have been compared, and the first that doesn't hold is kept;
+-- at the times of the others nothing stands so far.
 pub record HasSeen (es : List Expectation) (stands : List Stand) (w : Expectations) : Type 0 where
   pub same : expected_by w ≡ es
   pub compared : List Expectation
@@ -70,7 +71,8 @@ IsToldOf start stands now = IsFresh start → AreInOrder (expected_by start) →
 
 -- ---- reading
 
--- Expectations are those of the text, and nothing has been compared. They are refused for want of memory, or with the text's fault.
+-- Expectations are those of the text, and nothing has been compared. They are refused for want of memory, or with the
+-- text's fault.
 abbrev pub AreRead : NetlistView → (text : List ℕ) → Result Expectations ExpectFault → Type 0
 AreRead net text (Ok w) = (expectations_of net text ≡ Ok (expected_by w)) × IsFresh w × AreInOrder (expected_by w)
 AreRead net text (Err fault) = fault ≢ NoMemory → expectations_of net text ≡ Err fault

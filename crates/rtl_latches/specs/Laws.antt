@@ -8,5 +8,6 @@ use Rattle.rtl_latches.specs.Omissions.{stmts_assign, omission_of}
 -- where an assignment stands in a body, and not on all paths, a place is found
 abbrev pub EachLatchHasAPlace : Type 0
 EachLatchHasAPlace =
-    (these : Target → Bool) (xs : List Statement) → stmts_assign these (statements_of xs) ≡ true → must_assign these (statements_of xs) ≡ false
+    (these : Target → Bool) (xs : List Statement) → stmts_assign these (statements_of xs) ≡ true
+    → must_assign these (statements_of xs) ≡ false
     → IsSome (omission_of these xs)

@@ -1,6 +1,6 @@
--- Where a body leaves out an assignment: the first place in the text at which a path that takes none of it parts from one that
--- does. It's looked for in the first statement that assigns on some path and not on all, and there in the first branch or
--- alternative that doesn't on all.
+-- Where a body leaves out an assignment: the first place in the text at which a path that takes none of it parts from
+-- one that does. It's looked for in the first statement that assigns on some path and not on all, and there in the
+-- first branch or alternative that doesn't on all.
 use Rattle.std.specs.Prelude.{ℕ, ◌+◌, Bool, false, not, ◌&&◌, ◌||◌, if◌then◌else◌, List, [], ◌∷◌, Option, Some, None}
 use Rattle.std.specs.List.{list_any}
 use Rattle.rtl_model.specs.bodies.Assigns.{Target, driver, element, must_assign, stmt_must_assign}
@@ -57,34 +57,41 @@ at_of (o.Alternative at number) = at
 abbrev pub leaves_out : (these : Target → Bool) → Statement → Bool
 leaves_out these x = stmt_assigns these (statement_view x) && not (stmt_must_assign these (statement_view x))
 
--- of a branch or an alternative that doesn't assign on all paths: what is found in it where it assigns on some, and else itself
-abbrev pub itself_or : (these : Target → Bool) → (itself : Omission) → Stmts → (within : Option Omission) → Option Omission
+-- of a branch or an alternative that doesn't assign on all paths: what is found in it where it assigns on some, and
+-- else itself
+abbrev pub itself_or : (these : Target → Bool) → (itself : Omission)
+    → Stmts → (within : Option Omission) → Option Omission
 itself_or these itself xs within = if stmts_assign these xs then within else Some itself
 
 abbrev mutual
-  -- of an if without an else, that no condition holds; else of its first branch, or of a case's first alternative, that doesn't
-  -- assign on all paths. They are counted from 1, and the else and the others are the last.
+  -- of an if without an else, that no condition holds; else of its first branch, or of a case's first alternative, that
+  -- doesn't assign on all paths. They are counted from 1, and the else and the others are the last.
   pub in_statement : (these : Target → Bool) → Statement → Option Omission
   in_statement these s.Null = None
   in_statement these (s.Assign places value) = None
   in_statement these (s.Set elements value) = None
   in_statement these (s.If' at shape branches None') = Some (o.NoElse at)
-  in_statement these (s.If' at shape branches (Some' of_last last)) = in_branches these at (λ number. itself_or these (o.Branch at number) (statements_row last) (in_row these last)) 1 branches
+  in_statement these (s.If' at shape branches (Some' of_last last)) =
+      in_branches these at
+      (λ number. itself_or these (o.Branch at number) (statements_row last) (in_row these last)) 1 branches
   in_statement these (s.Case' at selector shape alternatives of_last last) =
-      in_alternatives these at (λ number. itself_or these (o.Alternative at number) (statements_row last) (in_row these last)) 1 alternatives
+      in_alternatives these at
+      (λ number. itself_or these (o.Alternative at number) (statements_row last) (in_row these last)) 1 alternatives
 
   -- of a sequence, in its first statement that leaves the assignment out
   pub in_row : {n : _} → (these : Target → Bool) → Row_of-Statement n → Option Omission
   in_row these end_of-Statement = None
   in_row these (more_of-Statement x rest) = if leaves_out these x then in_statement these x else in_row these rest
 
-  pub in_branches : {n : _} → (these : Target → Bool) → (at : ℕ) → (last : ℕ → Option Omission) → (number : ℕ) → Row_of-Branch n → Option Omission
+  pub in_branches : {n : _} → (these : Target → Bool) → (at : ℕ)
+      → (last : ℕ → Option Omission) → (number : ℕ) → Row_of-Branch n → Option Omission
   in_branches these at last number end_of-Branch = last number
   in_branches these at last number (more_of-Branch test shape xs rest) =
       if must_assign these (statements_row xs) then in_branches these at last (number + 1) rest
       else itself_or these (o.Branch at number) (statements_row xs) (in_row these xs)
 
-  pub in_alternatives : {n : _} → (these : Target → Bool) → (at : ℕ) → (last : ℕ → Option Omission) → (number : ℕ) → Row_of-Alternative n → Option Omission
+  pub in_alternatives : {n : _} → (these : Target → Bool) → (at : ℕ)
+      → (last : ℕ → Option Omission) → (number : ℕ) → Row_of-Alternative n → Option Omission
   in_alternatives these at last number end_of-Alternative = last number
   in_alternatives these at last number (more_of-Alternative choices shape xs rest) =
       if must_assign these (statements_row xs) then in_alternatives these at last (number + 1) rest
@@ -99,13 +106,15 @@ omission_of these (x ∷ xs) = if leaves_out these x then in_statement these x e
 abbrev pub part_omission : (these : Target → Bool) → (itself : Omission) → List Statement → Option Omission
 part_omission these itself xs = itself_or these itself (statements_of xs) (omission_of these xs)
 
-abbrev pub branches_omission : (these : Target → Bool) → (at : ℕ) → (last : ℕ → Option Omission) → (number : ℕ) → List Branch → Option Omission
+abbrev pub branches_omission : (these : Target → Bool) → (at : ℕ)
+    → (last : ℕ → Option Omission) → (number : ℕ) → List Branch → Option Omission
 branches_omission these at last number [] = last number
 branches_omission these at last number (b ∷ bs) =
     if must_assign these (statements_of b.statements.items) then branches_omission these at last (number + 1) bs
     else part_omission these (o.Branch at number) b.statements.items
 
-abbrev pub alternatives_omission : (these : Target → Bool) → (at : ℕ) → (last : ℕ → Option Omission) → (number : ℕ) → List Alternative → Option Omission
+abbrev pub alternatives_omission : (these : Target → Bool) → (at : ℕ)
+    → (last : ℕ → Option Omission) → (number : ℕ) → List Alternative → Option Omission
 alternatives_omission these at last number [] = last number
 alternatives_omission these at last number (b ∷ bs) =
     if must_assign these (statements_of b.statements.items) then alternatives_omission these at last (number + 1) bs

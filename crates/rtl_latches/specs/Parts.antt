@@ -77,7 +77,8 @@ all_must ts = list_all (λ (t : Told). t.must) ts
 -- of the first that doesn't assign the net on every path, what it leaves out, or itself
 abbrev pub first_open : (itself : ℕ → Omission) → (number : ℕ) → List Told → Option Omission
 first_open itself number [] = None
-first_open itself number (t ∷ ts) = if t.must then first_open itself (number + 1) ts else option_or t.left (Some (itself number))
+first_open itself number (t ∷ ts) =
+    if t.must then first_open itself (number + 1) ts else option_or t.left (Some (itself number))
 
 -- of those that are left, where the parts before assign the net on every path or not
 abbrev pub rest_told : (itself : ℕ → Omission) → (number : ℕ) → (so : Bool) → List Told → Told

@@ -17,8 +17,10 @@ module _ (index : List (List ℕ)) where
   pub record Marks (nets : ℕ → Type 0) (v w : List ℕ) (old new : List Bool) : Type 0 where
     pub as_many : length new ≡ length old
     pub kept : (k : ℕ) → IsTrue (slice_index_or old k false) → IsTrue (slice_index_or new k false)
-    pub readers_marked : (net k : ℕ) → (slice_index v net ≡ slice_index w net → ⊥) → IsReader net k → IsTrue (slice_index_or new k false)
-    pub no_other : (k : ℕ) → IsTrue (slice_index_or new k false) → IsTrue (slice_index_or old k false) ⊎ ((net : ℕ) × nets net × IsReader net k)
+    pub readers_marked : (net k : ℕ) → (slice_index v net ≡ slice_index w net → ⊥)
+        → IsReader net k → IsTrue (slice_index_or new k false)
+    pub no_other : (k : ℕ) → IsTrue (slice_index_or new k false)
+        → IsTrue (slice_index_or old k false) ⊎ ((net : ℕ) × nets net × IsReader net k)
 
   -- all that are marked are readers of these nets
   abbrev pub AllAreReaders : (nets : ℕ → Type 0) → List Bool → Type 0

@@ -7,7 +7,8 @@ use Rattle.rtl_levels.specs.declared.schedule.Schedule.{Schedule}
 -- The schedule has the cuts of this process, whose drivers have these nets, each once.
 pub record AreCutFor (schedule : Schedule) (targets : List ℕ) (number : ℕ) : Type 0 where
   pub there : number < length schedule.cuts.cuts
-  pub cuts : AreCuts schedule.readers.of_net targets (slice_index_or schedule.cuts.cuts number []) (slice_index_or schedule.cuts.numbers number [])
+  pub cuts : AreCuts schedule.readers.of_net targets (slice_index_or schedule.cuts.cuts number [])
+      (slice_index_or schedule.cuts.numbers number [])
   pub once : AreDifferent targets
   pub nets : All (λ (n : ℕ). n < length schedule.readers.of_net) targets
 
@@ -18,4 +19,5 @@ pub record IsPiece (of_net targets : List ℕ) (first end beyond : ℕ) : Type 0
   pub to : beyond ≤ end
   pub within : beyond ≤ length targets
   pub nets : (k : ℕ) → k < beyond - first → slice_index targets (first + k) ≡ slice_index targets first + k
-  pub in_group : (k : ℕ) → k < beyond - first → slice_index of_net (slice_index targets first + k) ≡ slice_index of_net (slice_index targets first)
+  pub in_group : (k : ℕ) → k < beyond - first
+      → slice_index of_net (slice_index targets first + k) ≡ slice_index of_net (slice_index targets first)

@@ -12,7 +12,8 @@ use Rattle.rtl_net_groups.specs.declared.cuts.Cut.{Cut}
 pub record IsOrder (net : Netlist) (order : List ℕ) : Type 0 where
   pub combinational : All (IsCombinational net) order
   pub each : (p : ℕ) → IsCombinational net p → Contains order p
-  pub feeders_first : (j k : ℕ) → j < length order → k < length order → Feeds net (slice_index order j) (slice_index order k) → j < k
+  pub feeders_first : (j k : ℕ) → j < length order → k < length order
+      → Feeds net (slice_index order j) (slice_index order k) → j < k
 
 -- of each rank the nets that its process is sensitive to
 abbrev pub wakes_by_rank : Netlist → (order : List ℕ) → List (List ℕ)

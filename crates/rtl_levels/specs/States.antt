@@ -50,4 +50,5 @@ pub record StateTakesPart (readers : Grouping) (targets : List ℕ) (entries : L
 -- of the combinational processes, in this order, each that isn't marked is settled
 abbrev pub AreOthersSettled : Netlist → (order : List ℕ) → State → Type 0
 AreOthersSettled net order s =
-    (k : ℕ) → k < length order → slice_index_or s.dirty.items k false ≡ false → IsSettled net s.values.items (slice_index order k)
+    (k : ℕ) → k < length order → slice_index_or s.dirty.items k false ≡ false
+    → IsSettled net s.values.items (slice_index order k)

@@ -11,11 +11,13 @@ IsDrivenByMarked net marked n =
 
 -- a combinational process drives n
 abbrev pub IsCombinationallyDriven : Netlist → (n : ℕ) → Type 0
-IsCombinationallyDriven net n = (p : ℕ) × (place : ℕ) × IsCombinational net p × HasPlace net p place × (target net p place ≡ n)
+IsCombinationallyDriven net n =
+    (p : ℕ) × (place : ℕ) × IsCombinational net p × HasPlace net p place × (target net p place ≡ n)
 
 -- Of the marked processes those that still are have run from the values before and v, and left
 -- these entries. The others would leave none.
-pub record HaveRun (net : Netlist) (before v : List ℕ) (marked still : List Bool) (entries : ℕ → List (Option ℕ)) : Type 0 where
+pub record HaveRun (net : Netlist) (before v : List ℕ)
+    (marked still : List Bool) (entries : ℕ → List (Option ℕ)) : Type 0 where
   pub fewer : (p : ℕ) → IsTrue (slice_index_or still p false) → IsTrue (slice_index_or marked p false)
   pub ran : (p : ℕ) → IsTrue (slice_index_or still p false) → entries p ≡ (process net p).effect before v
   pub asleep : (p place : ℕ) → IsTrue (slice_index_or marked p false) → slice_index_or still p false ≡ false
@@ -66,6 +68,8 @@ pub record IsSwept (net : Netlist) (v w : List ℕ) : Type 0 where
 pub record ComesToRest (net : Netlist) (marked : List Bool) (before v w : List ℕ) : Type 0 where
   pub each_net : length w ≡ length v
   pub on_marked : (p place : ℕ) → IsTrue (slice_index_or marked p false) → HasPlace net p place
-      → slice_index w (target net p place) ≡ entry_or (slice_index_or ((process net p).effect before v) place None) (slice_index v (target net p place))
+      → slice_index w (target net p place)
+      ≡ entry_or (slice_index_or ((process net p).effect before v) place None) (slice_index v (target net p place))
   pub settled : (p : ℕ) → IsCombinational net p → IsSettled net w p
-  pub on_others : (n : ℕ) → (IsDrivenByMarked net marked n → ⊥) → (IsCombinationallyDriven net n → ⊥) → slice_index w n ≡ slice_index v n
+  pub on_others : (n : ℕ) → (IsDrivenByMarked net marked n → ⊥)
+      → (IsCombinationallyDriven net n → ⊥) → slice_index w n ≡ slice_index v n

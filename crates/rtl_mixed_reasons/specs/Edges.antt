@@ -35,8 +35,8 @@ abbrev pub level_of : (clock : Option ℕ) → Test → Option Edge
 level_of clock (level plain net v) = level_at clock plain net v
 level_of clock _ = None
 
--- ---- the conditions that `and` joins: how many they are, the first of them that looks for an event, and the first that
--- makes an edge beside an event of this net
+-- ---- the conditions that `and` joins: how many they are, the first of them that looks for an event, and the first
+-- that makes an edge beside an event of this net
 
 abbrev pub is_and : Logic → Bool
 is_and And = true

@@ -153,8 +153,8 @@ gated_edge x =
     option_and_then (λ bs. if list_any is_gated (conditions bs) then Some (plain GatedEdge (at_of x)) else None)
     (if_branches x)
 
--- ---- 2. A second if with an edge: the same one, in two ifs or in two turns of a loop, which start at one byte; or another
--- one, told with the first net that both ifs assign
+-- ---- 2. A second if with an edge: the same one, in two ifs or in two turns of a loop, which start at one byte; or
+-- another one, told with the first net that both ifs assign
 
 abbrev pub same_kind : Edge → Edge → Bool
 same_kind Rising Rising = true
@@ -179,8 +179,8 @@ second_edge p x y i j =
 abbrev pub second_if : Process → (x : Statement) → (of_x : EdgeIf) → Statement → Option Reason
 second_if p x i y = option_map (second_edge p x y i) (edge_if 0 y)
 
--- ---- 3. A reset behind the edge: an if with a reset's test alone, whose branch assigns constants, to a net at least, and to
--- none that the edge's branch doesn't assign too
+-- ---- 3. A reset behind the edge: an if with a reset's test alone, whose branch assigns constants, to a net at least,
+-- and to none that the edge's branch doesn't assign too
 
 abbrev pub edge_branch : (before : ℕ) → Option Branches → Stmts
 edge_branch before None = done
@@ -230,8 +230,8 @@ abbrev pub behind_edge : (at before : ℕ) → Branches → Option Reason
 behind_edge at before bs =
     if nat_lt 1 (length (drop before (conditions bs))) || has_else bs then Some (plain BehindEdge at) else None
 
--- ---- 8. Statements beside the if with the edge, which are before it or behind it: told of the first of them that assigns a
--- net, with the first that it assigns; of the first, where none does
+-- ---- 8. Statements beside the if with the edge, which are before it or behind it: told of the first of them that
+-- assigns a net, with the first that it assigns; of the first, where none does
 
 abbrev pub statements_beside : Process → (number : ℕ) → List Statement
 statements_beside p number = take number p.body.items ++ drop (number + 1) p.body.items
@@ -253,8 +253,8 @@ beside_reasons p i edge =
     ∷ first_in (stands_beside i.at) (statements_beside p i.number)
     ∷ []
 
--- ---- What is left, of the first statement with an edge or `'event` in it: it stands in a condition, which is then no edge,
--- or deeper, under one of any kind or in a case.
+-- ---- What is left, of the first statement with an edge or `'event` in it: it stands in a condition, which is then no
+-- edge, or deeper, under one of any kind or in a case.
 
 abbrev pub inner_events : Branches → List ℕ
 inner_events no_else = []

@@ -1,4 +1,5 @@
--- The simulation of a flat netlist, its acceptance, and the synchronous machine that it amounts to. In order of reading:
+-- The simulation of a flat netlist, its acceptance, and the synchronous machine that it amounts to. In order
+-- of reading:
 pub mod Netlist
 pub mod Cycle
 pub mod Moments

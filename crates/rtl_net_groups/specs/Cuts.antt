@@ -32,10 +32,12 @@ pub record AreCuts (of_net targets : List ℕ) (cuts : List Cut) (numbers : List
   pub each_place : flat_map places_of cuts ≡ range_with_len 0 (length targets)
   pub each_number : length numbers ≡ length targets
   pub numbers_are : (place : ℕ) → place < length targets
-      → (slice_index numbers place < length cuts) × HasPlace (slice_index_or cuts (slice_index numbers place) no_cut) place
+      → (slice_index numbers place < length cuts)
+      × HasPlace (slice_index_or cuts (slice_index numbers place) no_cut) place
 
 -- the cuts of processes, of which `targets` has the nets of their drivers
 pub record AreCutsOf (of_net : List ℕ) (targets : List (List ℕ)) (c : Cutting) : Type 0 where
   pub each_process : length c.cuts ≡ length targets
   pub each_row : length c.numbers ≡ length targets
-  pub each : (p : ℕ) → p < length targets → AreCuts of_net (slice_index_or targets p []) (slice_index_or c.cuts p []) (slice_index_or c.numbers p [])
+  pub each : (p : ℕ) → p < length targets
+      → AreCuts of_net (slice_index_or targets p []) (slice_index_or c.cuts p []) (slice_index_or c.numbers p [])

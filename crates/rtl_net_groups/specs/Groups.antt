@@ -1,5 +1,5 @@
--- Groups of nets. A group is a run of nets, one behind the other, that are elements of one declaration and listed for the
--- same processes: for a simulation cycle, those that are sensitive to them (IEEE 1076-2008, 14.7.5.3).
+-- Groups of nets. A group is a run of nets, one behind the other, that are elements of one declaration and listed for
+-- the same processes: for a simulation cycle, those that are sensitive to them (IEEE 1076-2008, 14.7.5.3).
 use Rattle.std.specs.Prelude.{◌≡◌, ◌↔◌, ℕ, ◌<◌, ◌≤◌, List, [], length, slice_index, slice_index_or, Contains}
 
 pub record Grouping : Type 0 where
@@ -17,7 +17,8 @@ IsListed g p n = Contains (slice_index_or g.listed (slice_index g.of_net n) []) 
 pub record AreRuns (of_net first : List ℕ) : Type 0 where
   pub there : (n : ℕ) → n < length of_net → slice_index of_net n < length first
   pub in_order : (m n : ℕ) → m ≤ n → n < length of_net → slice_index of_net m ≤ slice_index of_net n
-  pub begins : (g : ℕ) → g < length first → (slice_index first g < length of_net) × (slice_index of_net (slice_index first g) ≡ g)
+  pub begins : (g : ℕ) → g < length first
+      → (slice_index first g < length of_net) × (slice_index of_net (slice_index first g) ≡ g)
   pub is_first : (n : ℕ) → n < length of_net → slice_index first (slice_index of_net n) ≤ n
 
 -- two nets are elements of one declaration, and listed for the same processes
@@ -32,7 +33,8 @@ pub record AreGroups (declared : List ℕ) (nets_of : List (List ℕ)) (g : Grou
   pub each_group : length g.listed ≡ length g.first
   pub runs : AreRuns g.of_net g.first
   -- nets of one group are alike, and a process is listed for a net's group just where the net is listed for the process
-  pub alike : (m n : ℕ) → m < length declared → n < length declared → slice_index g.of_net m ≡ slice_index g.of_net n → AreAlike declared nets_of m n
+  pub alike : (m n : ℕ) → m < length declared → n < length declared
+      → slice_index g.of_net m ≡ slice_index g.of_net n → AreAlike declared nets_of m n
   pub listed : (n p : ℕ) → n < length declared → IsListed g p n ↔ Contains (slice_index_or nets_of p []) n
 
 -- these are the nets of the group

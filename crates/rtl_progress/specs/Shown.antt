@@ -1,4 +1,5 @@
--- What is shown of a simulation while it runs: how many hundredths of the time till its stop are simulated, each time that there are more.
+-- What is shown of a simulation while it runs: how many hundredths of the time till its stop are simulated, each time
+-- that there are more.
 use Rattle.std.specs.Prelude.{◌≡◌, ℕ, ◌*◌, ◌/◌, min, max, ◌==◌, nat_lt, List, [], ◌∷◌, ◌++◌, codes, decimal, if◌then◌else◌}
 use Rattle.std.proofs.Common.{refl}
 use Rattle.byte_streams.specs.Written.{SinkState, Goes}
@@ -25,7 +26,8 @@ shown_after stop shown (x ∷ xs) = shown_after stop (max shown (hundredths stop
 -- what is shown while these stand
 abbrev pub shown_text : (stop shown : ℕ) → List Stand → List ℕ
 shown_text stop shown [] = []
-shown_text stop shown (x ∷ xs) = text_of_more shown (hundredths stop x.until) ++ shown_text stop (max shown (hundredths stop x.until)) xs
+shown_text stop shown (x ∷ xs) =
+    text_of_more shown (hundredths stop x.until) ++ shown_text stop (max shown (hundredths stop x.until)) xs
 
 -- the line in which something was shown is ended
 abbrev pub text_of_end : (shown : ℕ) → List ℕ
@@ -36,7 +38,8 @@ abbrev pub whole_text : (stop : ℕ) → List Stand → List ℕ
 whole_text stop stands = shown_text stop 0 stands ++ text_of_end (shown_after stop 0 stands)
 
 -- that went to the sink, and is noted as shown
-pub record HasShown (stop shown : ℕ) (old : SinkState) (stands : List Stand) (new_stop new_shown : ℕ) (new : SinkState) : Type 0 where
+pub record HasShown (stop shown : ℕ) (old : SinkState) (stands : List Stand)
+    (new_stop new_shown : ℕ) (new : SinkState) : Type 0 where
   pub same_stop : new_stop ≡ stop
   pub noted : new_shown ≡ shown_after stop shown stands
   pub text : Goes old new (shown_text stop shown stands)

@@ -50,7 +50,8 @@ impl<G: Sink> Watch for Progress<'_, G> {
         × HasShown start.stop start.shown (G.state start.sink.now) stands now.stop now.shown (G.state now.sink.now) };
 
     ghost stuck = { λ start stands before now time watch. (watch.sink.ghost_name ≡ start.sink.ghost_name)
-        × HasShown start.stop start.shown (G.state start.sink.now) stands watch.stop watch.shown (G.state watch.sink.now) };
+        × HasShown start.stop start.shown (G.state start.sink.now) stands watch.stop watch.shown
+        (G.state watch.sink.now) };
 
     fn stood(&mut self, _values: &[u8], until: u64) {
         let now = hundredths(self.stop, until);

@@ -40,7 +40,8 @@ pub record ClockedKeeps (inputs clocks : List ℕ) (p : Process) (c : Clocking) 
 
 -- it assigns each net that it drives on every syntactic path
 abbrev pub HasNoLatch : Process → Type 0
-HasNoLatch p = (n : ℕ) → is_in n (driven p.drives.items) ≡ true → must_assign (to_net p.drives.items n) (body_of p) ≡ true
+HasNoLatch p =
+    (n : ℕ) → is_in n (driven p.drives.items) ≡ true → must_assign (to_net p.drives.items n) (body_of p) ≡ true
 
 -- it is sensitive to what it reads, and has no latch
 pub record CombinationalKeeps (p : Process) : Type 0 where

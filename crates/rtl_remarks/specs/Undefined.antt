@@ -101,8 +101,10 @@ abbrev mutual
   pub branches_may : List Driver → (kept : Bool) → (n : ℕ) → Branches → Bool
   branches_may drives kept n no_else = false
   branches_may drives kept n (otherwise s) = may_assign drives kept n s
-  branches_may drives kept n (branch t s bs) = (counts kept n t && may_assign drives kept n s) || branches_may drives kept n bs
+  branches_may drives kept n (branch t s bs) =
+      (counts kept n t && may_assign drives kept n s) || branches_may drives kept n bs
 
   pub alternatives_may : List Driver → (kept : Bool) → (n : ℕ) → Alternatives → Bool
   alternatives_may drives kept n (others s) = may_assign drives kept n s
-  alternatives_may drives kept n (alternative choices s alts) = may_assign drives kept n s || alternatives_may drives kept n alts
+  alternatives_may drives kept n (alternative choices s alts) =
+      may_assign drives kept n s || alternatives_may drives kept n alts

@@ -1,5 +1,5 @@
--- What `run_watched` and `eval` answer on a netlist: nothing is written before the checker, the stimulus and the search for a
--- race have passed.
+-- What `run_watched` and `eval` answer on a netlist: nothing is written before the checker, the stimulus and the search
+-- for a race have passed.
 use Rattle.std.specs.Prelude.{◌≡◌, ℕ, ◌⊎◌, List, Result, Err}
 use Rattle.rtl_net.specs.Nets.{NetlistView}
 use Rattle.byte_streams.specs.Written.{SinkState}

@@ -1,5 +1,5 @@
--- The times that a filled agenda gives are the moments of the stimulus, and its changes lead from the inputs at one moment to those
--- at the next.
+-- The times that a filled agenda gives are the moments of the stimulus, and its changes lead from the inputs at one
+-- moment to those at the next.
 use Rattle.std.specs.Prelude.{◌≡◌, ℕ, suc, ◌<◌, ◌≤◌, List, [], ◌∷◌, All, Contains, length, map, slice_index}
 use Rattle.vhdl_values.specs.Scalar.{code_of}
 use Rattle.rtl_model.specs.simulation.Cycle.{with_changes}
@@ -25,12 +25,15 @@ pub record GivesNext (s : StimulusView) (m t : ℕ) (changes : List Change) : Ty
   pub is : slice_index (moments s) (suc m) ≡ t
   -- the changes are of inputs, and give each the value that it has then
   pub of_inputs : All (λ c. Contains (all_nets s.inputs) c.0) changes
-  pub lead : (values : List ℕ) (n : ℕ) → n < length values → Contains (all_nets s.inputs) n → slice_index values n ≡ inputs_at s m n
+  pub lead : (values : List ℕ) (n : ℕ) → n < length values
+      → Contains (all_nets s.inputs) n → slice_index values n ≡ inputs_at s m n
       → with_changes (coded changes) values n ≡ inputs_at s (suc m) n
 
--- Of an agenda that is filled for the moment m: the least time is the next moment, and where no time waits, m is the last.
+-- Of an agenda that is filled for the moment m: the least time is the next moment, and where no time waits, m is
+-- the last.
 pub record FollowsMoment (s : StimulusView) (m : ℕ) (waiting : List (ℕ × List Change)) : Type 0 where
-  pub next : (t : ℕ) (changes : List Change) (rest : List (ℕ × List Change)) → waiting ≡ (t, changes) ∷ rest → GivesNext s m t changes
+  pub next : (t : ℕ) (changes : List Change) (rest : List (ℕ × List Change))
+      → waiting ≡ (t, changes) ∷ rest → GivesNext s m t changes
   pub last : waiting ≡ [] → suc m ≡ length (moments s)
 
 abbrev pub EachMomentFollows : Type 0

@@ -16,12 +16,14 @@ Push = ℕ × Change
 
 -- What waits afterwards is what did before, and what was pushed.
 abbrev pub AddsTo : (old new : List (ℕ × List Change)) → List Push → Type 0
-AddsTo old new pushes = (t : ℕ) (c : Change) → Contains (changes_at new t) c ↔ (Contains (changes_at old t) c ⊎ Contains pushes (t, c))
+AddsTo old new pushes =
+    (t : ℕ) (c : Change) → Contains (changes_at new t) c ↔ (Contains (changes_at old t) c ⊎ Contains pushes (t, c))
 
 -- Where memory is refused: what waited waits still, and what else waits is some of what was to be pushed.
 pub record AddsSome (old new : List (ℕ × List Change)) (pushes : List Push) : Type 0 where
   pub kept : (t : ℕ) (c : Change) → Contains (changes_at old t) c → Contains (changes_at new t) c
-  pub pushed : (t : ℕ) (c : Change) → Contains (changes_at new t) c → Contains (changes_at old t) c ⊎ Contains pushes (t, c)
+  pub pushed : (t : ℕ) (c : Change) → Contains (changes_at new t) c
+      → Contains (changes_at old t) c ⊎ Contains pushes (t, c)
 
 -- all of these were pushed, or where memory was refused some
 abbrev pub HasPushed : {T E : Type 0} → (old new : List (ℕ × List Change)) → List Push → Result T E → Type 0
@@ -49,11 +51,13 @@ gathered f (x ∷ xs) = f x ++ gathered f xs
 
 -- each element's value at a time
 abbrev pub element_pushes : Course → List Element → (t : ℕ) → List Push
-element_pushes course elements t = numbered {Y = Push} (λ place e. (t, (e.net, course_value course place e.start t))) 0 elements
+element_pushes course elements t =
+    numbered {Y = Push} (λ place e. (t, (e.net, course_value course place e.start t))) 0 elements
 
 -- the time after now at which a clock toggles first, if it ever does
 abbrev pub next_time : (first half now : ℕ) → Option ℕ
-next_time first half now = if nat_lt now first then Some first else (if half == 0 then None else Some (now + (half - (now - first) % half)))
+next_time first half now =
+    if nat_lt now first then Some first else (if half == 0 then None else Some (now + (half - (now - first) % half)))
 
 abbrev pub up_to : (stop : ℕ) → Option ℕ → List ℕ
 up_to stop None = []
@@ -69,11 +73,13 @@ due_pushes course elements now stop = gathered (element_pushes course elements) 
 -- ---- of the input at a place
 
 abbrev pub place_pushes : List Input → Schedule → (now place : ℕ) → List Push
-place_pushes inputs schedule now place = due_pushes (course_in schedule place) (input_at inputs place).elements now schedule.stop
+place_pushes inputs schedule now place =
+    due_pushes (course_in schedule place) (input_at inputs place).elements now schedule.stop
 
 -- of an input that is busy now, what comes next
 abbrev pub busy_pushes : List Input → Schedule → (now place : ℕ) → List Push
-busy_pushes inputs schedule now place = if is_busy (course_in schedule place) now then place_pushes inputs schedule now place else []
+busy_pushes inputs schedule now place =
+    if is_busy (course_in schedule place) now then place_pushes inputs schedule now place else []
 
 -- ---- of the changes that were taken
 
@@ -87,7 +93,8 @@ changed_net changes k = (slice_index_or changes k (0, U)).0
 
 -- among so many changes is one of the first net of the input at a place
 abbrev pub IsTaken : List Input → List Change → (count place : ℕ) → Type 0
-IsTaken inputs changes count place = (place < length inputs) × (k : ℕ) × (k < count) × (changed_net changes k ≡ first_net (input_at inputs place))
+IsTaken inputs changes count place =
+    (place < length inputs) × (k : ℕ) × (k < count) × (changed_net changes k ≡ first_net (input_at inputs place))
 
 -- the places of those inputs
 abbrev pub ArePlaces : List Input → List Change → (count : ℕ) → (places : List ℕ) → Type 0

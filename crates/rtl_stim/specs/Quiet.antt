@@ -1,4 +1,5 @@
--- What the search for the first race keeps: the times at which inputs change, and those at which no clock has an edge with them.
+-- What the search for the first race keeps: the times at which inputs change, and those at which no clock has an edge
+-- with them.
 use Rattle.std.specs.Prelude.{◌≡◌, ◌⊎◌, IsTrue, length, take, slice_index, slice_index_or, ℕ, suc, ◌-◌, ◌<◌, ◌≤◌, List, Contains, Option, Some, None, IfSome}
 use Rattle.std.specs.BTreeSet.{BTreeSet, contains}
 use Rattle.std.specs.Ordering.{nat_cmp}
@@ -40,7 +41,8 @@ IsWithin now stop found = IfSome found (λ t. (now < t) × (t ≤ stop))
 
 -- a net has an edge
 abbrev pub HasEdgeAt : StimulusView → (net : ℕ) → Edge → (t : ℕ) → Type 0
-HasEdgeAt s n edge t = IsTrue (has_edge edge (value_at s.inputs s.schedule n (t - 1)) (value_at s.inputs s.schedule n t))
+HasEdgeAt s n edge t =
+    IsTrue (has_edge edge (value_at s.inputs s.schedule n (t - 1)) (value_at s.inputs s.schedule n t))
 
 -- the clock at a place has its edge
 abbrev pub IsActiveAt : StimulusView → (clocks : List (ℕ × Edge)) → (t place : ℕ) → Type 0
@@ -66,7 +68,8 @@ pub record IsRaceHere (s : StimulusView) (clocks : List (ℕ × Edge)) (inputs :
 -- no input changes, or no clock is active
 abbrev pub HasNoneHere : StimulusView → (clocks : List (ℕ × Edge)) → (inputs : List ℕ) → (t : ℕ) → Type 0
 HasNoneHere s clocks inputs t =
-    (k j : ℕ) → k < length clocks → IsActiveAt s clocks t k → j < length inputs → IsChangedAt s clocks t (slice_index inputs j) → ⊥
+    (k j : ℕ) → k < length clocks → IsActiveAt s clocks t k
+    → j < length inputs → IsChangedAt s clocks t (slice_index inputs j) → ⊥
 
 -- ---- the search
 
@@ -79,19 +82,22 @@ abbrev pub IsAmong : BTreeSet ℕ → (t : ℕ) → Type 0
 IsAmong times t = IsTrue (contains nat_cmp times t)
 
 -- to the old times those were added, behind one and up to a last one, at which one of these nets changes
-pub record HasAdded (s : StimulusView) (clocks : List (ℕ × Edge)) (nets : List ℕ) (from last : ℕ) (old new : BTreeSet ℕ) : Type 0 where
+pub record HasAdded (s : StimulusView) (clocks : List (ℕ × Edge))
+    (nets : List ℕ) (from last : ℕ) (old new : BTreeSet ℕ) : Type 0 where
   pub kept : (t : ℕ) → IsAmong old t → IsAmong new t
   pub each : (t : ℕ) → from < t → t ≤ last → Changes s clocks nets t → IsAmong new t
   pub only : (t : ℕ) → IsAmong new t → IsAmong old t ⊎ Changes s clocks nets t
 
 -- these are the times, behind one and up to a last one, at which one of the first inputs changes
-pub record AreChanges (s : StimulusView) (clocks : List (ℕ × Edge)) (places from last : ℕ) (times : BTreeSet ℕ) : Type 0 where
+pub record AreChanges (s : StimulusView) (clocks : List (ℕ × Edge))
+    (places from last : ℕ) (times : BTreeSet ℕ) : Type 0 where
   pub each : (t : ℕ) → from < t → t ≤ last → Changes s clocks (all_nets (take places s.inputs)) t → IsAmong times t
   pub only : (t : ℕ) → IsAmong times t → Changes s clocks (all_nets (take places s.inputs)) t
 
--- The first clocks have no edge at one of these times before another. Where that is not past the last, it is one of them, and some
--- clock has its edge at it.
-pub record HasSearched (s : StimulusView) (clocks : List (ℕ × Edge)) (times : BTreeSet ℕ) (last places past : ℕ) : Type 0 where
+-- The first clocks have no edge at one of these times before another. Where that is not past the last, it is one of
+-- them, and some clock has its edge at it.
+pub record HasSearched (s : StimulusView) (clocks : List (ℕ × Edge))
+    (times : BTreeSet ℕ) (last places past : ℕ) : Type 0 where
   pub some : 0 < past
   pub within : past ≤ suc last
   pub race : past ≤ last → IsAmong times past × ((k : ℕ) × (k < length clocks) × IsActiveAt s clocks past k)

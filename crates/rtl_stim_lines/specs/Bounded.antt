@@ -17,8 +17,10 @@ bounded number = if nat_le number latest_time then time.At number else time.TooL
 
 -- what is kept of a line of this form
 abbrev pub IsKeptAs : Form → KeptForm → Type 0
-IsKeptAs (At time name value) (kept.At time' name' value') = (time' ≡ bounded time) × (name'.now ≡ name) × (value'.now ≡ value)
-IsKeptAs (Clock name first half) (kept.Clock name' first' half') = (name'.now ≡ name) × (first' ≡ bounded first) × (half' ≡ bounded half)
+IsKeptAs (At time name value) (kept.At time' name' value') =
+    (time' ≡ bounded time) × (name'.now ≡ name) × (value'.now ≡ value)
+IsKeptAs (Clock name first half) (kept.Clock name' first' half') =
+    (name'.now ≡ name) × (first' ≡ bounded first) × (half' ≡ bounded half)
 IsKeptAs (Stop time) (kept.Stop time') = time' ≡ bounded time
 IsKeptAs form other = ⊥
 
@@ -39,10 +41,12 @@ after_time (time.At t) next = next t
 after_time time.TooLarge next = Err TimeTooLarge
 
 abbrev pub stop_kept : Said → Time → Result Said StimRule
-stop_kept said time = if is_some said.stop then Err BadLine else after_time time (λ t. Ok (record said { stop = Some t }))
+stop_kept said time =
+    if is_some said.stop then Err BadLine else after_time time (λ t. Ok (record said { stop = Some t }))
 
 abbrev pub after_kept : List Input → Said → KeptForm → Result Said StimRule
-after_kept inputs said (kept.At time name text) = after_time time (λ t. set_input inputs said (input_named inputs name.now) t text.now)
+after_kept inputs said (kept.At time name text) =
+    after_time time (λ t. set_input inputs said (input_named inputs name.now) t text.now)
 after_kept inputs said (kept.Clock name first half) =
     after_time first (λ f. after_time half (λ h. set_clock inputs said (input_named inputs name.now) f h))
 after_kept inputs said (kept.Stop time) = stop_kept said time

@@ -12,7 +12,8 @@ ends_line byte = byte == 10
 abbrev pub without_return : List ℕ → List ℕ
 without_return line = if slice_index_or line (length line - 1) 0 == 13 then take (length line - 1) line else line
 
--- the parts of a text between line feeds, as lines: the last has no line feed behind it, and a return at its end is its own
+-- the parts of a text between line feeds, as lines: the last has no line feed behind it, and a return at its end is
+-- its own
 abbrev pub as_lines : List (List ℕ) → List (List ℕ)
 as_lines [] = []
 as_lines (last ∷ []) = last ∷ []

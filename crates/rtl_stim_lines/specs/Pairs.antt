@@ -1,4 +1,5 @@
--- What names with values say: each sets its input at 0, where the simulation stops. What has no name and value is a bad line.
+-- What names with values say: each sets its input at 0, where the simulation stops. What has no name and value is a
+-- bad line.
 use Rattle.std.specs.Prelude.{ℕ, suc, List, [], ◌∷◌, Option, Some, None, Result, Ok, Err}
 use Rattle.std.specs.Borrow.{Bor}
 use Rattle.fault_rules.specs.declared.stimuli.StimRule.{StimRule}
@@ -24,7 +25,8 @@ one_more_pair inputs number pair (Ok said) = in_line number (after_pair inputs s
 -- what pairs say after what is said so far, or the first that is bad; the first pair has this number
 abbrev pub after_pairs : List Input → (number : ℕ) → List Pair → Result Said StimFault → Result Said StimFault
 after_pairs inputs number [] so_far = so_far
-after_pairs inputs number (pair ∷ pairs) so_far = after_pairs inputs (suc number) pairs (one_more_pair inputs number pair so_far)
+after_pairs inputs number (pair ∷ pairs) so_far =
+    after_pairs inputs (suc number) pairs (one_more_pair inputs number pair so_far)
 
 abbrev pub stopped_at_zero : Result Said StimFault → Result Schedule StimFault
 stopped_at_zero (Err fault) = Err fault

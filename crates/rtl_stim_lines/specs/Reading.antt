@@ -31,7 +31,8 @@ is_too_large time = not (nat_le time latest_time)
 -- An input is set once at a time, and no clock is set.
 abbrev pub after_set : (time : ℕ) → (values : List Nine) → Course → Result Course StimRule
 after_set time values (Ticks first half) = Err ClockAndSet
-after_set time values (Sets sets) = if is_set_at sets time then Err SetTwice else Ok (Sets (insert_entry nat_cmp sets time values))
+after_set time values (Sets sets) =
+    if is_set_at sets time then Err SetTwice else Ok (Sets (insert_entry nat_cmp sets time values))
 
 -- A clock has one line, and is never set.
 abbrev pub after_clock : (first half : ℕ) → Course → Result Course StimRule
@@ -54,7 +55,8 @@ set_values said input time (Some values) = with_course said input (after_set tim
 
 abbrev pub set_input : List Input → Said → Option ℕ → (time : ℕ) → (text : Word) → Result Said StimRule
 set_input inputs said None time text = Err NotAnInput
-set_input inputs said (Some input) time text = set_values said input time (values_for (input_at inputs input).elements text)
+set_input inputs said (Some input) time text =
+    set_values said input time (values_for (input_at inputs input).elements text)
 
 -- ---- `clock`
 
@@ -62,7 +64,8 @@ set_input inputs said (Some input) time text = set_values said input time (value
 abbrev pub set_clock : List Input → Said → Option ℕ → (first half : ℕ) → Result Said StimRule
 set_clock inputs said None first half = Err NotAnInput
 set_clock inputs said (Some input) first half =
-    if (input_at inputs input).is_scalar then with_course said input (after_clock first half (course_at said input)) else Err BadValue
+    if (input_at inputs input).is_scalar then with_course said input (after_clock first half (course_at said input))
+    else Err BadValue
 
 -- ---- `stop`
 
@@ -77,13 +80,16 @@ with_stop said time =
 -- What is said once a line of this form is said too, or what is wrong with it.
 abbrev pub after_form : List Input → Said → Option Form → Result Said StimRule
 after_form inputs said None = Err BadLine
-after_form inputs said (Some (At time name text)) = if is_too_large time then Err TimeTooLarge else set_input inputs said (input_named inputs name) time text
+after_form inputs said (Some (At time name text)) =
+    if is_too_large time then Err TimeTooLarge else set_input inputs said (input_named inputs name) time text
 after_form inputs said (Some (Clock name first half)) =
-    if is_too_large first || is_too_large half then Err TimeTooLarge else set_clock inputs said (input_named inputs name) first half
+    if is_too_large first || is_too_large half then Err TimeTooLarge
+    else set_clock inputs said (input_named inputs name) first half
 after_form inputs said (Some (Stop time)) = with_stop said time
 
 abbrev pub after_line : List Input → Said → (line : List ℕ) → Result Said StimRule
-after_line inputs said line = if says_nothing (words_of line) then Ok said else after_form inputs said (form_of (words_of line))
+after_line inputs said line =
+    if says_nothing (words_of line) then Ok said else after_form inputs said (form_of (words_of line))
 
 -- the fault of a problem in the line of this number
 abbrev pub in_line : {A : Type 0} → ℕ → Result A StimRule → Result A StimFault
@@ -98,7 +104,8 @@ one_more inputs number line (Ok said) = in_line number (after_line inputs said l
 -- What these lines say after what is said so far, or the first that is bad. The first line has this number.
 abbrev pub after_lines : List Input → (number : ℕ) → List (List ℕ) → Result Said StimFault → Result Said StimFault
 after_lines inputs number [] so_far = so_far
-after_lines inputs number (line ∷ lines) so_far = after_lines inputs (suc number) lines (one_more inputs number line so_far)
+after_lines inputs number (line ∷ lines) so_far =
+    after_lines inputs (suc number) lines (one_more inputs number line so_far)
 
 -- ---- the whole
 

@@ -17,11 +17,13 @@ all_nets (input ∷ inputs) = nets_of input ++ all_nets inputs
 
 -- ---- values
 
--- the value at a time of the net among these elements, from a place on, of an input with this course; U where it isn't there
+-- the value at a time of the net among these elements, from a place on, of an input with this course; U where it
+-- isn't there
 abbrev pub element_value : Course → (place : ℕ) → List Element → (net t : ℕ) → Option Nine
 element_value course place [] net t = None
 element_value course place (element ∷ elements) net t =
-    if element.net == net then Some (course_value course place element.start t) else element_value course (suc place) elements net t
+    if element.net == net then Some (course_value course place element.start t)
+    else element_value course (suc place) elements net t
 
 abbrev pub value_or : Option Nine → Nine → Nine
 value_or None other = other
@@ -31,7 +33,8 @@ value_or (Some value) other = value
 abbrev pub value_of : List Input → List Course → (net t : ℕ) → Nine
 value_of [] courses net t = U
 value_of (input ∷ inputs) [] net t = U
-value_of (input ∷ inputs) (course ∷ courses) net t = value_or (element_value course 0 input.elements net t) (value_of inputs courses net t)
+value_of (input ∷ inputs) (course ∷ courses) net t =
+    value_or (element_value course 0 input.elements net t) (value_of inputs courses net t)
 
 abbrev pub value_at : List Input → Schedule → (net t : ℕ) → Nine
 value_at inputs schedule net t = value_of inputs schedule.courses net t

@@ -19,7 +19,8 @@ abbrev pub element_view : KeptElement → Element
 element_view e = record { net = e.net; start = e.start }
 
 abbrev pub named_input : (name : List ℕ) → KeptInput → Input
-named_input name input = record { name = name; is_scalar = input.is_scalar; elements = map element_view input.elements.items }
+named_input name input =
+    record { name = name; is_scalar = input.is_scalar; elements = map element_view input.elements.items }
 
 abbrev pub input_view : Vec ℕ Global × KeptInput → Input
 input_view e = named_input e.0.items e.1
@@ -41,8 +42,8 @@ abbrev pub course_view : KeptCourse → Course
 course_view (kept.Sets sets) = Sets sets.entries
 course_view (kept.Ticks first half) = Ticks first half
 
--- What a function answered is what is expected: it leaves this value where that is Ok. It refuses for want of memory, or with
--- that fault.
+-- What a function answered is what is expected: it leaves this value where that is Ok. It refuses for want of memory,
+-- or with that fault.
 abbrev pub Leads : {A B : Type 0} → Result A StimFault → A → Result B StimFault → Type 0
 Leads expected left (Ok b) = expected ≡ Ok left
 Leads expected left (Err fault) = fault ≢ NoMemory → expected ≡ Err fault

@@ -1,5 +1,5 @@
--- The header of a value change dump (IEEE 1364-2005, 18.2.3): the unit of time, then each scope inside the scope round it,
--- with its names in order of declaration.
+-- The header of a value change dump (IEEE 1364-2005, 18.2.3): the unit of time, then each scope inside the scope round
+-- it, with its names in order of declaration.
 use Rattle.std.specs.Prelude.{ℕ, zero, suc, ◌-◌, ◌==◌, if◌then◌else◌, List, [], ◌++◌, length, Option, Some, None, codes, decimal}
 use Rattle.rtl_net.specs.declared.signal.SignalKind.{SignalKind}
 use Rattle.rtl_net.specs.declared.signal.SignalKind.TheVariants.{Vector}
@@ -16,7 +16,8 @@ bounds _ = []
 -- the declaration of the name number k (18.2.3.7)
 abbrev pub variable_line : (k : ℕ) → SignalView → List ℕ
 variable_line k s =
-    codes "$var wire " ++ decimal (digits s.kind (length s.nets)) ++ codes " " ++ code k ++ codes " " ++ s.name ++ bounds s.kind ++ codes " $end\n"
+    codes "$var wire " ++ decimal (digits s.kind (length s.nets)) ++ codes " "
+    ++ code k ++ codes " " ++ s.name ++ bounds s.kind ++ codes " $end\n"
 
 -- the same, if the name stands in this scope
 abbrev pub variable_line_in : (scope k : ℕ) → SignalView → List ℕ
@@ -51,7 +52,8 @@ closing_before scopes (suc k) = upscopes (suc (depth scopes k) - depth scopes (s
 -- a scope, opened (18.2.3.4), and its names
 abbrev pub scope_text : List ScopeView → List SignalView → (scope : ℕ) → List ℕ
 scope_text scopes signals k =
-    closing_before scopes k ++ (codes "$scope module " ++ label_at scopes k ++ codes " $end\n") ++ numbered (variable_line_in k) 0 signals
+    closing_before scopes k ++ (codes "$scope module " ++ label_at scopes k ++ codes " $end\n")
+    ++ numbered (variable_line_in k) 0 signals
 
 -- the first so many scopes
 abbrev pub scopes_text : List ScopeView → List SignalView → (count : ℕ) → List ℕ

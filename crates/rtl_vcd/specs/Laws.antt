@@ -7,8 +7,8 @@ use Rattle.rtl_vcd.specs.Values.{code, binary_digits, value_change}
 abbrev pub CodesDiffer : Type 0
 CodesDiffer = (j k : ℕ) → code j ≡ code k → j ≡ k
 
--- Examples: the first codes of one and of two characters; how many digits 1, 2, 3, 4, 5 and 256 literals need; a scalar, a
--- vector of one element, and the last of five literals.
+-- Examples: the first codes of one and of two characters; how many digits 1, 2, 3, 4, 5 and 256 literals need; a
+-- scalar, a vector of one element, and the last of five literals.
 pub record PrintAsSaid : Type 0 where
   pub first : code 0 ≡ 33 ∷ []
   pub second : code 1 ≡ 34 ∷ []

@@ -11,8 +11,8 @@ plain value = value / 8 * 8 + value % 4
 abbrev pub PrintsDigit : (value : ℕ) → Type 0
 PrintsDigit value = character value < 50
 
--- Behind the first so many bytes of a room stand the characters of the new values, and it is told whether the old ones print
--- otherwise. What stands behind these characters is anything.
+-- Behind the first so many bytes of a room stand the characters of the new values, and it is told whether the old ones
+-- print otherwise. What stands behind these characters is anything.
 pub record IsPut (room put : List ℕ) (from : ℕ) (old new : List ℕ) (is_other : Bool) : Type 0 where
   pub text : take (from + length new) put ≡ take from room ++ map character new
   pub long : length put ≡ length room

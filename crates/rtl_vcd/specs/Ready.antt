@@ -45,8 +45,8 @@ pub record LiesAmong (nets : ℕ) (r : Run) : Type 0 where
   pub some : 0 < r.count
   pub there : r.first + r.count ≤ nets
 
--- The name number k is this run: its nets stand one behind the other, so many from the first on, and its line has what these
--- print, no more than the characters of the longest vector, between what it begins with and its end.
+-- The name number k is this run: its nets stand one behind the other, so many from the first on, and its line has what
+-- these print, no more than the characters of the longest vector, between what it begins with and its end.
 pub record IsRun (k : ℕ) (s : SignalView) (r : Run) : Type 0 where
   pub nets : s.nets ≡ range_with_len r.first r.count
   pub short : (valuation : List ℕ) → length (elements r valuation) ≤ 64
@@ -59,4 +59,5 @@ IsReady k s r = 0 < r.count → IsRun k s r
 -- each of these names, the first of them being number k, is the run at its place, if that has nets
 pub record AreReady (k : ℕ) (names : List SignalView) (runs : List Run) : Type 0 where
   pub as_many : length runs ≡ length names
-  pub each : (i : ℕ) (s : SignalView) (r : Run) → i < length names → IsReady (k + i) (slice_index_or names i s) (slice_index_or runs i r)
+  pub each : (i : ℕ) (s : SignalView) (r : Run) → i < length names
+      → IsReady (k + i) (slice_index_or names i s) (slice_index_or runs i r)

@@ -24,7 +24,8 @@ time_line time = codes "#" ++ decimal time ++ codes "\n"
 
 -- at 0 every name is printed (18.2.3.9)
 abbrev pub first_text : List SignalView → (valuation : List ℕ) → List ℕ
-first_text signals valuation = time_line 0 ++ codes "$dumpvars\n" ++ numbered (λ k s. printed k s valuation) 0 signals ++ codes "$end\n"
+first_text signals valuation =
+    time_line 0 ++ codes "$dumpvars\n" ++ numbered (λ k s. printed k s valuation) 0 signals ++ codes "$end\n"
 
 -- changes behind their time, and nothing where there are none
 abbrev pub stamped : (time : ℕ) → (changes : List ℕ) → List ℕ

@@ -33,7 +33,8 @@ digits (Enumeration count) elements = binary_digits (count - 1)
 abbrev pub value_change : SignalKind → (code values : List ℕ) → List ℕ
 value_change One code values = map character values ++ code ++ codes "\n"
 value_change (Vector left right) code values = codes "b" ++ map character values ++ codes " " ++ code ++ codes "\n"
-value_change (Enumeration count) code values = codes "b" ++ binary (binary_digits (count - 1)) (slice_index values 0) ++ codes " " ++ code ++ codes "\n"
+value_change (Enumeration count) code values =
+    codes "b" ++ binary (binary_digits (count - 1)) (slice_index values 0) ++ codes " " ++ code ++ codes "\n"
 
 -- texts of these names one after another, the first of them being number k
 abbrev pub numbered : (text : (k : ℕ) → SignalView → List ℕ) → (k : ℕ) → List SignalView → List ℕ

@@ -1,5 +1,5 @@
--- Which words of the command line say which call: the command, and behind it its operands in their order, with its options anywhere
--- between them. `PARTS` is the table of what each command takes.
+-- Which words of the command line say which call: the command, and behind it its operands in their order, with its
+-- options anywhere between them. `PARTS` is the table of what each command takes.
 use Rattle.std.specs.Prelude.{◌≡◌, ℕ, ◌+◌, Bool, true, false, not, ◌&&◌, ◌||◌, ◌==◌, if◌then◌else◌, List, [], ◌∷◌, ◌++◌, Option, Some, None, is_some, option_and_then, option_map, bytes_eq, codes, drop, map, take, length}
 use Rattle.std.specs.Borrow.{Bor}
 use Rattle.clap.specs.Lexer.{name_and_value}
@@ -106,7 +106,8 @@ abbrev pub Onward : Type 0
 Onward = Givens → Option Givens
 
 -- an option's value stands behind `=` in its word, or else it is the next word
-abbrev pub takes : (valued : Option Bool) → (name : Word) → (own : Option Word) → Givens → Onward → (next : Option Givens) → Option Givens
+abbrev pub takes : (valued : Option Bool) → (name : Word) → (own : Option Word)
+    → Givens → Onward → (next : Option Givens) → Option Givens
 takes None name own given onward next = None
 takes (Some false) name None given onward next = onward (with_use given name [])
 takes (Some false) name (Some value) given onward next = None
@@ -121,7 +122,8 @@ module _ (parts : List Row) where
     reads given (word ∷ words) =
         if bytes_eq word dashes then Some (with_operands given words)
         else (if begins_with dashes word then
-        takes (is_valued parts (name_of (behind_dashes word))) (name_of (behind_dashes word)) (own_value (behind_dashes word)) given
+        takes (is_valued parts (name_of (behind_dashes word)))
+        (name_of (behind_dashes word)) (own_value (behind_dashes word)) given
         (λ g. reads g words) (takes_next given (name_of (behind_dashes word)) words)
         else (if is_option word then None else reads (with_operands given (word ∷ [])) words))
 
@@ -133,7 +135,8 @@ module _ (parts : List Row) where
   -- the same of a word that is an option of this text behind its dashes
   abbrev pub takes_option : Givens → (text : Word) → List Word → Option Givens
   takes_option given text words =
-      takes (is_valued parts (name_of text)) (name_of text) (own_value text) given (λ g. reads g words) (takes_next given (name_of text) words)
+      takes (is_valued parts (name_of text)) (name_of text) (own_value text) given
+      (λ g. reads g words) (takes_next given (name_of text) words)
 
 -- ---- options that are given
 
@@ -156,18 +159,22 @@ has uses name = is_some (value uses name)
 -- an option is one of this command, stands once unless it repeats, and not beside the one that excludes it
 abbrev pub may_have : List Used → (command : Word) → Row → Bool
 may_have uses command part =
-    (length part.command.now == 0 || bytes_eq part.command.now command) && ((repeats part.form || count uses part.name.now == 1) && not (has uses part.without.now))
+    (length part.command.now == 0 || bytes_eq part.command.now command)
+    && ((repeats part.form || count uses part.name.now == 1) && not (has uses part.without.now))
 
 -- so does each that is given
 abbrev pub fits : List Used → (command : Word) → List Row → Bool
 fits uses command [] = true
-fits uses command (part ∷ parts) = if has uses part.name.now && not (may_have uses command part) then false else fits uses command parts
+fits uses command (part ∷ parts) =
+    if has uses part.name.now && not (may_have uses command part) then false else fits uses command parts
 
 -- ---- requests
 
 abbrev pub order_of : (name : Option Word) → Option Order
 order_of None = Some Forward
-order_of (Some name) = if bytes_eq name (codes "forward") then Some Forward else (if bytes_eq name (codes "reverse") then Some Reverse else None)
+order_of (Some name) =
+    if bytes_eq name (codes "forward") then Some Forward
+    else (if bytes_eq name (codes "reverse") then Some Reverse else None)
 
 abbrev pub check_of : (dot json : Bool) → Request
 check_of true json = Dot
@@ -184,7 +191,8 @@ request_of command uses =
     if bytes_eq command (codes "eval") then Some Eval
     else (if bytes_eq command (codes "net") then Some Net
     else (if bytes_eq command (codes "check") then Some (check_of (has uses (codes "dot")) (has uses (codes "json")))
-    else (if bytes_eq command (codes "run") then run_of (has uses (codes "levels")) (has uses (codes "event")) (order_of (value uses (codes "order")))
+    else (if bytes_eq command (codes "run")
+    then run_of (has uses (codes "levels")) (has uses (codes "event")) (order_of (value uses (codes "order")))
     else None)))
 
 -- the words behind FILE and TOP: those that set inputs, and the stimulus
@@ -223,7 +231,8 @@ files_beside with (Some name) = name ∷ with
 -- one of those may stand in it, and then no other input
 abbrev pub is_read_once : (with : List Word) → (expected : Option Word) → (operands : List Word) → Bool
 is_read_once with expected operands =
-    let beside = standard_count (files_beside with expected) in beside == 0 || (beside == 1 && standard_count operands == 0)
+    let beside =
+    standard_count (files_beside with expected) in beside == 0 || (beside == 1 && standard_count operands == 0)
 
 -- ---- calls
 
@@ -271,7 +280,8 @@ call_of given file top request apart =
 
 abbrev pub call_from : (command : Word) → Givens → (operands : List Word) → Option CallView
 call_from command given (file ∷ top ∷ rest) =
-    option_and_then (λ request. option_and_then (call_of given file top request) (parted request rest)) (request_of command given.uses)
+    option_and_then (λ request. option_and_then (call_of given file top request) (parted request rest))
+    (request_of command given.uses)
 call_from command given _ = None
 
 -- the call of a command, with what is given behind it
@@ -282,7 +292,8 @@ call_with command given = call_from command given given.operands
 abbrev pub said_by : List Row → List Word → Option CallView
 said_by parts [] = None
 said_by parts (command ∷ words) =
-    option_and_then (λ given. if fits given.uses command parts then call_with command given else None) (reads parts nothing words)
+    option_and_then (λ given. if fits given.uses command parts then call_with command given else None)
+    (reads parts nothing words)
 
 unfoldable pub Says : List Word → Call → Type 0
 Says words call = said_by PARTS words ≡ Some (call_view call)

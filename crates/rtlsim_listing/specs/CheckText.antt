@@ -33,7 +33,8 @@ from_text net None = []
 from_text net (Some p) = codes " from " ++ process_name net p
 
 abbrev pub level_of : NetlistView → (p level : ℕ) → (from : Option ℕ) → List ℕ
-level_of net p level from = codes "level " ++ decimal level ++ codes " " ++ process_name net p ++ from_text net from ++ codes "\n"
+level_of net p level from =
+    codes "level " ++ decimal level ++ codes " " ++ process_name net p ++ from_text net from ++ codes "\n"
 
 -- a process that isn't combinational has no level, and no line
 abbrev pub level_text : NetlistView → (p : ℕ) → (level from : Option ℕ) → List ℕ
@@ -65,7 +66,8 @@ member_text net process = codes " " ++ process_name net process
 -- the name of a variable, with the index of its element at this place where it is a vector
 abbrev pub element_name : (place : ℕ) → Option Variable → List ℕ
 element_name place None = []
-element_name place (Some v) = v.name.items ++ (if nat_lt place (length v.starts.items) then index_suffix v.kind place else [])
+element_name place (Some v) =
+    v.name.items ++ (if nat_lt place (length v.starts.items) then index_suffix v.kind place else [])
 
 abbrev pub variable_of : (variable : ℕ) → Option Process → Option Variable
 variable_of variable None = None
@@ -82,7 +84,8 @@ title_text words = words.layer.now ++ codes " " ++ decimal words.number ++ codes
 abbrev pub subject_text : NetlistView → (circle : List ℕ) → Subject → List ℕ
 subject_text net circle (Sources n first second) =
     codes " net " ++ net_name net n ++ codes " by " ++ source_name net first ++ codes " and " ++ source_name net second
-subject_text net circle (ProcessNet process n) = codes " " ++ process_name net process ++ codes " net " ++ net_name net n
+subject_text net circle (ProcessNet process n) =
+    codes " " ++ process_name net process ++ codes " net " ++ net_name net n
 subject_text net circle (Element process variable place) =
     codes " " ++ process_name net process ++ codes " variable " ++ variable_name net process variable place
 subject_text net circle (Process' process) = codes " " ++ process_name net process
@@ -92,7 +95,8 @@ subject_text net circle _ = []
 
 abbrev pub line_of : NetlistView → Fault → List ℕ
 line_of net fault =
-    title_text (words_of (report_of fault).rule) ++ subject_text net (circle_of fault) (report_of fault).subject ++ codes "\n"
+    title_text (words_of (report_of fault).rule)
+    ++ subject_text net (circle_of fault) (report_of fault).subject ++ codes "\n"
 
 abbrev pub fault_line : NetlistView → CheckFault → List ℕ
 fault_line net fault = line_of net (fault_view fault)

@@ -1,6 +1,7 @@
--- The levels of an accepted netlist as a graph in Graphviz's language: a column for each level, with its combinational processes; the
--- registers in a column of their own before them; and an arrow to each combinational process from each that drives what it is sensitive
--- to, with the signal's name. Names stand between quotes as they are: none has a quote or a backslash in it.
+-- The levels of an accepted netlist as a graph in Graphviz's language: a column for each level, with its combinational
+-- processes; the registers in a column of their own before them; and an arrow to each combinational process from each
+-- that drives what it is sensitive to, with the signal's name. Names stand between quotes as they are: none has a quote
+-- or a backslash in it.
 use Rattle.std.specs.Prelude.{ℕ, zero, suc, ◌+◌, ◌==◌, ◌&&◌, Bool, false, if◌then◌else◌, List, [], ◌∷◌, ◌++◌, length, position, bytes_eq, slice_get, slice_index, slice_index_or, Option, Some, None, codes, decimal}
 use Rattle.rtl_check.specs.declared.checking.Verdict.{Verdict}
 use Rattle.rtl_check.specs.declared.checking.Verdict.TheVariants.{Yes, No}
@@ -36,7 +37,8 @@ without_index (byte ∷ bytes) = if is_index (byte ∷ bytes) then [] else byte 
 
 abbrev pub arrow : NetlistView → (from to n : ℕ) → List ℕ
 arrow net from to n =
-    codes "    \"" ++ process_name net from ++ codes "\" -> \"" ++ process_name net to ++ codes "\" [label=\"" ++ without_index (net_name net n)
+    codes "    \"" ++ process_name net from ++ codes "\" -> \""
+    ++ process_name net to ++ codes "\" [label=\"" ++ without_index (net_name net n)
     ++ codes "\"];\n"
 
 -- the process of a net's first driver; drivers stand before idle ports
@@ -60,7 +62,8 @@ arrow_before net to nets (suc place) = arrow_by net to (slice_index nets place)
 -- by the net at this place, unless it is the same line again
 abbrev pub next_arrow : NetlistView → (to : ℕ) → (nets : List ℕ) → (place : ℕ) → List ℕ
 next_arrow net to nets place =
-    if bytes_eq (arrow_by net to (slice_index nets place)) (arrow_before net to nets place) then [] else arrow_by net to (slice_index nets place)
+    if bytes_eq (arrow_by net to (slice_index nets place)) (arrow_before net to nets place) then []
+    else arrow_by net to (slice_index nets place)
 
 abbrev pub arrows_by : NetlistView → (to : ℕ) → (nets : List ℕ) → List ℕ
 arrows_by net to nets = lines (next_arrow net to nets) (length nets)
@@ -79,7 +82,8 @@ abbrev pub register_text : NetlistView → (p : ℕ) → List ℕ
 register_text net p = codes "    { rank=source; \"" ++ process_name net p ++ codes "\" [peripheries=2]; }\n"
 
 abbrev pub node_text : NetlistView → (p level : ℕ) → List ℕ
-node_text net p level = codes "    { rank=same; \"level " ++ decimal level ++ codes "\"; \"" ++ process_name net p ++ codes "\"; }\n"
+node_text net p level =
+    codes "    { rank=same; \"level " ++ decimal level ++ codes "\"; \"" ++ process_name net p ++ codes "\"; }\n"
 
 -- in the column of its level, with the arrows to it
 abbrev pub combinational_text : NetlistView → (p level : ℕ) → List ℕ
@@ -96,14 +100,17 @@ process_lines net levels p = process_text net p (slice_index_or levels p None)
 -- ---- the graph
 
 abbrev pub next_column : (before : ℕ) → List ℕ
-next_column before = codes "    \"level " ++ decimal before ++ codes "\" -> \"level " ++ decimal (before + 1) ++ codes "\";\n"
+next_column before =
+    codes "    \"level " ++ decimal before ++ codes "\" -> \"level " ++ decimal (before + 1) ++ codes "\";\n"
 
 -- the head of a level's column, behind that of the one before it
 abbrev pub column_text : (before : ℕ) → List ℕ
 column_text before = if before == 0 then codes "    \"level 1\";\n" else next_column before
 
 abbrev pub graph_begin : List ℕ
-graph_begin = codes "digraph levels {\n    rankdir=LR;\n    node [shape=plaintext, fontname=Helvetica, fontsize=11];\n    edge [style=invis];\n"
+graph_begin =
+    codes
+    "digraph levels {\n    rankdir=LR;\n    node [shape=plaintext, fontname=Helvetica, fontsize=11];\n    edge [style=invis];\n"
 
 abbrev pub graph_middle : List ℕ
 graph_middle = codes "    node [shape=box];\n    edge [style=solid, fontname=Helvetica, fontsize=9];\n"
@@ -112,7 +119,8 @@ abbrev pub columns_text : (levels : ℕ) → List ℕ
 columns_text levels = graph_begin ++ lines column_text levels ++ graph_middle
 
 abbrev pub graph_text : NetlistView → (levels : List (Option ℕ)) → List ℕ
-graph_text net levels = columns_text (greatest_level levels) ++ lines (process_lines net levels) (length levels) ++ codes "}\n"
+graph_text net levels =
+    columns_text (greatest_level levels) ++ lines (process_lines net levels) (length levels) ++ codes "}\n"
 
 -- the graph of a netlist that the checker accepts, and the faults of another
 abbrev pub dot_text : NetlistView → Verdict → List ℕ

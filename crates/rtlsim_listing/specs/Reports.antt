@@ -1,4 +1,5 @@
--- What each fault of the checker tells: the rule that is broken, where its first process is declared, and what it is told of.
+-- What each fault of the checker tells: the rule that is broken, where its first process is declared, and what it is
+-- told of.
 use Rattle.std.specs.Prelude.{ℕ, List, [], ◌∷◌, Option, Some, None}
 use Rattle.rtl_model.specs.simulation.Accepted as f
 use Rattle.rtl_model.specs.simulation.Netlist.{Source, Driver, Idle}
@@ -33,7 +34,8 @@ first_of [] = None
 first_of (process ∷ processes) = Some process
 
 abbrev pub report_of : f.Fault → Report
-report_of (f.TwoDrivers net first second) = told rule.TwoDrivers (process_of first) (subject.Sources net (process_of first) (process_of second))
+report_of (f.TwoDrivers net first second) =
+    told rule.TwoDrivers (process_of first) (subject.Sources net (process_of first) (process_of second))
 report_of (f.MixedProcess process) = told rule.Mixed (Some process) (subject.Process process)
 report_of (f.ClockNotInput process net) = at_net rule.ClockNotInput process net
 report_of (f.EdgeNotSensitive process net) = at_net rule.EdgeNotSensitive process net
@@ -41,7 +43,8 @@ report_of (f.ClockAsData process net) = at_net rule.ClockAsData process net
 report_of (f.MissingSensitivity process net) = at_net rule.MissingSensitivity process net
 report_of (f.Latch process net) = at_net rule.Latch process net
 report_of (f.Loop processes) = told rule.Loop (first_of processes) subject.Circle
-report_of (f.StoredVariable process variable place) = told rule.StoredVariable (Some process) (subject.Element process variable place)
+report_of (f.StoredVariable process variable place) =
+    told rule.StoredVariable (Some process) (subject.Element process variable place)
 
 -- the processes of the circle that it is told of
 abbrev pub circle_of : f.Fault → List ℕ

@@ -38,7 +38,8 @@ start_with default [] = default
 start_with default (v ∷ vs) = core_resolve (v ∷ vs)
 
 -- a flat netlist, with the defaults of the nets' own names in place of what they start with
-abbrev pub with_defaults : (types : List ElementType) (inputs defaults : List ℕ) → List IdlePort → List Process → FlatNetlist
+abbrev pub with_defaults : (types : List ElementType) (inputs defaults : List ℕ)
+    → List IdlePort → List Process → FlatNetlist
 with_defaults types inputs defaults idle processes = record {
   types = types;
   start = defaults;

@@ -9,5 +9,7 @@ use Rattle.vhdl_connect.specs.Held.{processes_hold, idle_hold, start_with, with_
 -- a net starts with the resolution of what the drivers of these processes and these idle ports hold at it
 abbrev pub EachNetStartsAsHeld : Type 0
 EachNetStartsAsHeld =
-    (types : List ElementType) (inputs defaults : List ℕ) (idle : List IdlePort) (processes : List Process) (n : ℕ) → n < length defaults
-    → start_of (with_defaults types inputs defaults idle processes) n ≡ start_with (slice_index defaults n) (processes_hold processes n ++ idle_hold idle n)
+    (types : List ElementType) (inputs defaults : List ℕ) (idle : List IdlePort) (processes : List Process) (n : ℕ)
+    → n < length defaults
+    → start_of (with_defaults types inputs defaults idle processes) n
+    ≡ start_with (slice_index defaults n) (processes_hold processes n ++ idle_hold idle n)

@@ -58,9 +58,11 @@ own_starts o = if_own o (map (slice_index o.starts) (range_with_len 0 (size o.ki
 -- new is old with what these objects add, which stand in this place, the first element of them having this number
 pub record Declares (place : InstancePlace) (first : ℕ) (os : List Object) (old new : Made) : Type 0 where
   pub scopes : new.scopes ≡ old.scopes
-  pub signals : map signal_with_byte new.signals.items ≡ map signal_with_byte old.signals.items ++ map shown_with_byte (signals_from place.scope place.nets.now first os)
+  pub signals : map signal_with_byte new.signals.items
+      ≡ map signal_with_byte old.signals.items ++ map shown_with_byte (signals_from place.scope place.nets.now first os)
   pub processes : new.processes ≡ old.processes
   pub kinds : map type_of new.kinds.items ≡ map type_of old.kinds.items ++ flat_map own_types os
   pub defaults : new.defaults.items ≡ old.defaults.items ++ flat_map own_starts os
-  pub elements : map element_view new.elements.items ≡ map element_view old.elements.items ++ statics_from place.is_top place.nets.now first os
+  pub elements : map element_view new.elements.items
+      ≡ map element_view old.elements.items ++ statics_from place.is_top place.nets.now first os
   pub uses : new.uses ≡ old.uses

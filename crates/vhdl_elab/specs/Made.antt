@@ -84,7 +84,8 @@ IsLocated x p = IsOf x.scope x.round.nets (defaults_of x.round.objects) x.proces
 
 pub record IsMade (d : Numbered) (m : Made) : Type 0 where
   pub scopes : map scope_view m.scopes.items ≡ scope_views (map scope_of d.instances)
-  pub signals : map signal_with_byte m.signals.items ≡ map shown_with_byte (flat_map signals_of (enumerate_from 0 d.instances))
+  pub signals : map signal_with_byte m.signals.items
+      ≡ map shown_with_byte (flat_map signals_of (enumerate_from 0 d.instances))
   pub processes : AllZip IsLocated d.processes m.processes.items
   pub kinds : map type_of m.kinds.items ≡ map (λ (e : wiring.Element). e.type) (own_elements d)
   pub defaults : m.defaults.items ≡ map (λ (e : wiring.Element). e.start) (own_elements d)

@@ -19,14 +19,17 @@ parts_in (instance objects turns parts) = parts
 
 -- what stands in an instance does this with the elements of its objects, in order
 abbrev pub uses_within : Instance → List Use
-uses_within i = map (uses.use_of (driven_in (parts_in i)) (read_in (parts_in i))) (range_with_len 0 (elements_count (objects_of i)))
+uses_within i =
+    map (uses.use_of (driven_in (parts_in i)) (read_in (parts_in i))) (range_with_len 0 (elements_count (objects_of i)))
 
 -- new is old with an instance in this place, without what stands in it
 pub record AddsPlaced (place : InstancePlace) (scope : Scope) (i : Instance) (old new : Made) : Type 0 where
   pub scopes : new.scopes.items ≡ old.scopes.items ++ scope ∷ []
-  pub signals : map signal_with_byte new.signals.items ≡ map signal_with_byte old.signals.items ++ map shown_with_byte (signals_from place.scope place.nets.now 0 (objects_of i))
+  pub signals : map signal_with_byte new.signals.items ≡ map signal_with_byte old.signals.items
+      ++ map shown_with_byte (signals_from place.scope place.nets.now 0 (objects_of i))
   pub processes : new.processes ≡ old.processes
   pub kinds : map type_of new.kinds.items ≡ map type_of old.kinds.items ++ flat_map own_types (objects_of i)
   pub defaults : new.defaults.items ≡ old.defaults.items ++ flat_map own_starts (objects_of i)
-  pub elements : map element_view new.elements.items ≡ map element_view old.elements.items ++ statics_from place.is_top place.nets.now 0 (objects_of i)
+  pub elements : map element_view new.elements.items
+      ≡ map element_view old.elements.items ++ statics_from place.is_top place.nets.now 0 (objects_of i)
   pub uses : new.uses.items ≡ old.uses.items ++ uses_within i

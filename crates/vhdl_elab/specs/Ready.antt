@@ -1,4 +1,5 @@
--- Trees whose processes have their drivers in order and assign what they drive, and whose generates' labels are joined by dots.
+-- Trees whose processes have their drivers in order and assign what they drive, and whose generates' labels are joined
+-- by dots.
 use Rattle.std.specs.Prelude.{⊤, Contains}
 use Rattle.vhdl_expand_rules.specs.Tree.{Process, Instance, instance, Parts, no_parts, process, inner}
 use Rattle.vhdl_expand_rules.specs.laws.Trees.{Assigns}

@@ -21,4 +21,5 @@ shown_with_byte s = record { at = kept s.at; signal = signal_shown s }
 
 -- the signals of the parts of a netlist have the bytes at which these are declared
 abbrev pub AreDeclaredAt : List names.Signal → Parts → Type 0
-AreDeclaredAt signals parts = map (λ (s : Signal). s.at) parts.signals.items ≡ map (λ (s : names.Signal). kept s.at) signals
+AreDeclaredAt signals parts =
+    map (λ (s : Signal). s.at) parts.signals.items ≡ map (λ (s : names.Signal). kept s.at) signals

@@ -22,12 +22,14 @@ pub record IsWires (m : Made) (w : Wires) : Type 0 where
   pub held : IsHeld m table
   pub idle : w.idle.items ≡ idle_in (used m)
   pub inputs : w.inputs.items ≡ inputs_in m.elements.items
-  pub starts : w.starts.items ≡ map (λ n. start_with (slice_index m.defaults.items n) (items_at table n)) (range_with_len 0 (length m.defaults.items))
+  pub starts : w.starts.items ≡ map (λ n. start_with (slice_index m.defaults.items n) (items_at table n))
+      (range_with_len 0 (length m.defaults.items))
   pub resolved : first_at is_two_unresolved (used m) ≡ None
   pub unread : first_at (is_read_of_shared table) (used m) ≡ None
 
 -- with this problem, at this byte
 pub data IsRefused (m : Made) (told : Told) : Type 0 where
   two_unresolved : told.0 ≡ TwoUnresolved → first_at is_two_unresolved (used m) ≡ Some told.1 → IsRefused m told
-  read_of_shared : told.0 ≡ ReadOfShared → first_at is_two_unresolved (used m) ≡ None → (table : List (SmallVec ℕ)) → IsHeld m table
+  read_of_shared : told.0 ≡ ReadOfShared → first_at is_two_unresolved (used m) ≡ None
+      → (table : List (SmallVec ℕ)) → IsHeld m table
       → first_at (is_read_of_shared table) (used m) ≡ Some told.1 → IsRefused m told

@@ -39,7 +39,8 @@ fn instance(
     ensures nets { OnOk result (length made.new.kinds.items ≡
         length made.old.kinds.items + instance_nets (instance_view from.old)) }
     ensures made { (d : Numbered) (path : List ℕ) → IsMade d made.old
-        → OnOk result (IsMade (with_instance (above_at above.now path) label.items (instance_view from.old) d) made.new) }
+        → OnOk result
+        (IsMade (with_instance (above_at above.now path) label.items (instance_view from.old) d) made.new) }
 {
     let nets = element_nets(alloc, above.nets, made.kinds.len(), &from.objects)?;
     let defaults = defaults_of(alloc, &from.objects)?;

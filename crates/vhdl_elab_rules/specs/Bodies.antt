@@ -1,5 +1,5 @@
--- The body of a process in the flat netlist: where the expanded body has an element, a net stands, and where it assigns an
--- element, the place of that element's driver (IEEE 1076-2008, 14.7.2).
+-- The body of a process in the flat netlist: where the expanded body has an element, a net stands, and where it assigns
+-- an element, the place of that element's driver (IEEE 1076-2008, 14.7.2).
 use Rattle.std.specs.Prelude.{ℕ, suc, ◌==◌, if◌then◌else◌, List, [], ◌∷◌, map, slice_index}
 use Rattle.rtl_model.specs.bodies.Body.{Expr, signal, variable, constant, inverse, filled, binary, counted}
 use Rattle.rtl_model.specs.bodies.Body.{Value, elements, position, position_of, position_in}
@@ -69,4 +69,5 @@ module _ (nets drives : List ℕ) where
 
     pub connected_alternatives : Alternatives → Alternatives
     connected_alternatives (others s) = others (connected_body s)
-    connected_alternatives (alternative choices s alts) = alternative choices (connected_body s) (connected_alternatives alts)
+    connected_alternatives (alternative choices s alts) =
+        alternative choices (connected_body s) (connected_alternatives alts)

@@ -1,6 +1,6 @@
--- Elaboration of a design (IEEE 1076-2008, clause 14): its units and the name of its top are expanded, the instances, nets
--- and processes are numbered, and the netlist is wired. It is refused where an expansion is, and where the design as a whole
--- breaks a rule.
+-- Elaboration of a design (IEEE 1076-2008, clause 14): its units and the name of its top are expanded, the instances,
+-- nets and processes are numbered, and the netlist is wired. It is refused where an expansion is, and where the design
+-- as a whole breaks a rule.
 use Rattle.std.specs.Prelude.{ℕ, not, List, map, flat_map, Ok}
 use Rattle.std.specs.List.{enumerate_from}
 use Rattle.rtl_model.specs.nets.FlatNetlist.{FlatNetlist}
@@ -39,7 +39,9 @@ abbrev pub resolves : Numbered → Elab (Unit {0})
 resolves d = unless TwoUnresolved (first_at is_two_unresolved (elements d)) (not (has_two_unresolved d))
 
 abbrev pub shares_unread : Numbered → Elab (Unit {0})
-shares_unread d = unless ReadOfShared (first_at (is_read_of_shared (flat_net d)) (elements d)) (not (has_read_of_shared d (flat_net d)))
+shares_unread d =
+    unless ReadOfShared (first_at (is_read_of_shared (flat_net d)) (elements d))
+    (not (has_read_of_shared d (flat_net d)))
 
 -- the netlist of a design, none of whose rules is broken; where its limits end, `MayRefuse` says
 unfoldable pub netlist_of : Design → Elab Elaborated

@@ -1,5 +1,5 @@
--- What is refused of a design as a whole: two sources of an unresolved element, an out port with several sources that is
--- read, and more parts than the limits (IEEE 1076-2008, 6.4.2.3, 4.6, 6.5.6.3).
+-- What is refused of a design as a whole: two sources of an unresolved element, an out port with several sources that
+-- is read, and more parts than the limits (IEEE 1076-2008, 6.4.2.3, 4.6, 6.5.6.3).
 use Rattle.std.specs.Prelude.{ℕ, ◌+◌, Bool, not, ◌&&◌, nat_le, List, length, map, sum, find, flat_map, Option, Some, None}
 use Rattle.std.specs.List.{list_any}
 use Rattle.rtl_model.specs.bodies.Body.{Stmt, null_of, assign, set, if_of, case_of, Stmts, done, step}
@@ -67,7 +67,8 @@ abbrev mutual
 
 -- the turns of all generates and loops
 abbrev pub turns_count : Numbered → ℕ
-turns_count d = sum (map (λ (p : Placed). p.turns) d.instances) + sum (map (λ (x : Located). x.process.turns) d.processes)
+turns_count d =
+    sum (map (λ (p : Placed). p.turns) d.instances) + sum (map (λ (x : Located). x.process.turns) d.processes)
 
 abbrev pub variable_elements_count : Located → ℕ
 variable_elements_count x = sum (map (λ (v : Variable). length v.starts) x.process.variables)
@@ -94,7 +95,8 @@ counts d = record {
 abbrev pub is_within : (counts most : Counts) → Bool
 is_within counts most =
     nat_le counts.processes most.processes && (nat_le counts.instances most.instances && (nat_le counts.nets most.nets
-    && (nat_le counts.turns most.turns && (nat_le counts.statements most.statements && nat_le counts.variable_elements most.variable_elements))))
+    && (nat_le counts.turns most.turns
+    && (nat_le counts.statements most.statements && nat_le counts.variable_elements most.variable_elements))))
 
 -- what a whole design may have; its instances are the scopes of its netlist
 abbrev pub limits : Counts

@@ -16,5 +16,6 @@ pub record IsNamedAlike (x : Elaborated) (net : NetlistView) : Type 0 where
 
 abbrev pub EachHasItsNames : Type 0
 EachHasItsNames =
-    (units : Units) (top : List ℕ) (x : Elaborated) (net : NetlistView) → IsTrue (are_sound units) → elaborated_net units top ≡ Ok x
+    (units : Units) (top : List ℕ) (x : Elaborated) (net : NetlistView)
+    → IsTrue (are_sound units) → elaborated_net units top ≡ Ok x
     → Shows x net → IsNamedAlike x net

@@ -1,4 +1,5 @@
--- Names beside a flat netlist (IEEE 1076-2008, 16.2.5): instances with their labels, signals with their nets, and processes.
+-- Names beside a flat netlist (IEEE 1076-2008, 16.2.5): instances with their labels, signals with their nets,
+-- and processes.
 -- A path is the top's name and the labels below it, joined by dots.
 use Rattle.std.specs.Prelude.{ℕ, ◌+◌, ◌-◌, Bool, true, false, List, [], ◌∷◌, ◌++◌, map, filter, flat_map, slice_range, decimal, codes, Option, Some}
 use Rattle.std.specs.Prelude.{None, is_none}

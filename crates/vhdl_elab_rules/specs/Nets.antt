@@ -8,8 +8,10 @@ use Rattle.vhdl_names_rules.specs.sound.Named.{are_named}
 use Rattle.vhdl_elab_rules.specs.Elaboration.{Elaborated, elaborated_net}
 use Rattle.vhdl_elab_rules.specs.Shown.{Shows}
 
--- A netlist that shows what is elaborated from sound and named units, and whose processes list what their bodies read, is one in the sense of rtl_net.
+-- A netlist that shows what is elaborated from sound and named units, and whose processes list what their bodies read,
+-- is one in the sense of rtl_net.
 abbrev pub EachElaboratedIsNet : Type 0
 EachElaboratedIsNet =
-    (units : Units) (top : List ℕ) (x : Elaborated) (net : NetlistView) → IsTrue (are_sound units) → IsTrue (are_named units)
+    (units : Units) (top : List ℕ) (x : Elaborated) (net : NetlistView)
+    → IsTrue (are_sound units) → IsTrue (are_named units)
     → elaborated_net units top ≡ Ok x → Shows x net → All ReadsOfBody net.processes → IsNet net

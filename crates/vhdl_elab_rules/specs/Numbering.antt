@@ -11,8 +11,8 @@ use Rattle.vhdl_expand_rules.specs.Expansion.{Design}
 
 -- ---- nets of elements
 
--- The nets of an object's elements: the actual's in the instance above, whose elements have these nets, or else its own,
--- of which this is the first.
+-- The nets of an object's elements: the actual's in the instance above, whose elements have these nets, or else its
+-- own, of which this is the first.
 abbrev pub object_nets : (above : List ℕ) → (first : ℕ) → Object → List ℕ
 object_nets above first o = by o.actual
   where
@@ -71,8 +71,9 @@ read_in (inner label i rest) = actuals_of input (objects_of i) ++ read_in rest
 
 -- ---- instances and processes in order
 
--- An instance in its place: the number of the one that it stands in; the labels of the generates round it and its own; its
--- path, which is the labels from the top on; its objects, the nets of their elements, and what is driven and read in it.
+-- An instance in its place: the number of the one that it stands in; the labels of the generates round it and its own;
+-- its path, which is the labels from the top on; its objects, the nets of their elements, and what is driven and read
+-- in it.
 pub record Placed : Type 0 where
   pub parent : Option ℕ
   pub label : List ℕ
@@ -124,7 +125,8 @@ placed_instance above label first (instance objects turns parts) = record {
 }
 
 abbrev pub with_process : (scope : ℕ) → Placed → Process → Numbered → Numbered
-with_process scope round p d = record d { processes = d.processes ++ record { scope = scope; round = round; process = p } ∷ [] }
+with_process scope round p d =
+    record d { processes = d.processes ++ record { scope = scope; round = round; process = p } ∷ [] }
 
 abbrev pub with_placed : Placed → Numbered → Numbered
 with_placed p d = record d { instances = d.instances ++ p ∷ []; nets = d.nets + own_sizes p.objects }
@@ -140,7 +142,8 @@ abbrev mutual
   pub with_parts : (number : ℕ) → Placed → Parts → Numbered → Numbered
   with_parts number round no_parts d = d
   with_parts number round (process p rest) d = with_parts number round rest (with_process number round p d)
-  with_parts number round (inner label i rest) d = with_parts number round rest (with_instance (above_parts number round) label i d)
+  with_parts number round (inner label i rest) d =
+      with_parts number round rest (with_instance (above_parts number round) label i d)
 
 -- a design, whose top stands in no instance
 unfoldable pub numbered_design : Design → Numbered

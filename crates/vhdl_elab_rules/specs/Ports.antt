@@ -1,5 +1,5 @@
--- The ports of the top of an elaborated netlist have names of their own (IEEE 1076-2008, 12.1), and the elements of its in ports
--- are the inputs, so that a stimulus can speak of them.
+-- The ports of the top of an elaborated netlist have names of their own (IEEE 1076-2008, 12.1), and the elements of its
+-- in ports are the inputs, so that a stimulus can speak of them.
 use Rattle.std.specs.Prelude.{◌≡◌, ℕ, Bool, List, map, Ok, IsTrue}
 use Rattle.std.specs.List.{list_all}
 use Rattle.rtl_net.specs.Nets.{NetlistView}
@@ -20,5 +20,6 @@ ports_are_distinct units = list_all entity_ports_are_distinct units
 
 abbrev pub EachHasOwnPorts : Type 0
 EachHasOwnPorts =
-    (units : Units) (top : List ℕ) (x : Elaborated) (net : NetlistView) → IsTrue (are_sound units) → IsTrue (ports_are_distinct units)
+    (units : Units) (top : List ℕ) (x : Elaborated) (net : NetlistView)
+    → IsTrue (are_sound units) → IsTrue (ports_are_distinct units)
     → elaborated_net units top ≡ Ok x → Shows x net → HasOwnPorts net

@@ -1,5 +1,5 @@
--- In a tree of named units the labels of generates before a process are joined by dots, with one behind them where there
--- are any: so a netlist keeps them without the last dot.
+-- In a tree of named units the labels of generates before a process are joined by dots, with one behind them where
+-- there are any: so a netlist keeps them without the last dot.
 use Rattle.std.specs.Prelude.{◌≡◌, ℕ, ⊤, List, Ok, IsTrue}
 use Rattle.rtl_net.specs.Names.{generates_prefix}
 use Rattle.vhdl_names_rules.specs.units.Units.{Units}
@@ -21,4 +21,6 @@ abbrev mutual
   PartsAreDotted (inner label i rest) = InstanceIsDotted i × PartsAreDotted rest
 
 abbrev pub EachTreeIsDotted : Type 0
-EachTreeIsDotted = (units : Units) (top : List ℕ) (design : Design) → IsTrue (are_named units) → expanded_design units top ≡ Ok design → InstanceIsDotted design.top
+EachTreeIsDotted =
+    (units : Units) (top : List ℕ) (design : Design) → IsTrue (are_named units)
+    → expanded_design units top ≡ Ok design → InstanceIsDotted design.top

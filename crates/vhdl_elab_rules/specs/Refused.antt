@@ -17,10 +17,12 @@ HasInterface units top = IsOk (item_or NoTop 0 (entity_named units top) >>= λ u
 
 -- a rule is broken before the instances are connected, that of the limits among them
 abbrev pub IsNotExpanded : Units → (top : List ℕ) → Type 0
-IsNotExpanded units top = IsErr (expanded_design units top >>= λ design. unless TooMany 0 (is_within_limits (counts (numbered_design design))))
+IsNotExpanded units top =
+    IsErr
+    (expanded_design units top >>= λ design. unless TooMany 0 (is_within_limits (counts (numbered_design design))))
 
--- Budgets are charged while a design grows, so that its growth may be cut off before the first broken rule is come to: behind the interface
--- of the top, before the instances are connected, and at a byte of the units.
+-- Budgets are charged while a design grows, so that its growth may be cut off before the first broken rule is come to:
+-- behind the interface of the top, before the instances are connected, and at a byte of the units.
 pub record IsCutOff (units : Units) (top : List ℕ) (at : ℕ) : Type 0 where
   pub begun : HasInterface units top
   pub refused : IsNotExpanded units top

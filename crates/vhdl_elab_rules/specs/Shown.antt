@@ -1,5 +1,5 @@
--- What an elaborated netlist and a `Net` of the code have in common: a flat netlist, and beside it scopes, signals, and of
--- processes their bytes, their names and those of their variables. The one shows the other where these are the same.
+-- What an elaborated netlist and a `Net` of the code have in common: a flat netlist, and beside it scopes, signals, and
+-- of processes their bytes, their names and those of their variables. The one shows the other where these are the same.
 use Rattle.std.specs.Prelude.{◌≡◌, ℕ, List, map, Option, option_map, Ok}
 use Rattle.rtl_model.specs.nets.FlatNetlist.{FlatNetlist}
 use Rattle.rtl_net.specs.declared.process.Variable.{Variable}

@@ -1,4 +1,5 @@
--- The flat netlist of a design whose instances, nets and processes are numbered (IEEE 1076-2008, 6.4.2.3, 14.7.2, 14.7.3).
+-- The flat netlist of a design whose instances, nets and processes are numbered (IEEE 1076-2008, 6.4.2.3,
+-- 14.7.2, 14.7.3).
 use Rattle.std.specs.Prelude.{ℕ, ◌+◌, Bool, true, false, not, ◌&&◌, ◌==◌, List, [], ◌∷◌, ◌++◌, map, filter, flat_map, count_by, slice_index, is_none}
 use Rattle.std.specs.List.{range_with_len}
 use Rattle.rtl_model.specs.bodies.Types.{ElementType}
@@ -72,12 +73,14 @@ is_top p = is_none p.parent
 -- the nets of the top's in ports
 abbrev pub inputs_of : Numbered → List ℕ
 inputs_of d =
-    map (λ (e : Element). e.net) (filter (λ (e : Element). is_input e.role) (flat_map elements_of (filter is_top d.instances)))
+    map (λ (e : Element). e.net)
+    (filter (λ (e : Element). is_input e.role) (flat_map elements_of (filter is_top d.instances)))
 
 -- an out port's element without a source in its instance, which is below the top
 abbrev pub idle_elements : Numbered → List Element
 idle_elements d =
-    filter (λ (e : Element). is_output e.role && e.sources == 0) (flat_map elements_of (filter (λ p. not (is_top p)) d.instances))
+    filter (λ (e : Element). is_output e.role && e.sources == 0)
+    (flat_map elements_of (filter (λ p. not (is_top p)) d.instances))
 
 -- what the idle out ports of this net hold
 abbrev pub idle_values : Numbered → (n : ℕ) → List ℕ

@@ -29,10 +29,12 @@ pub record Associated : Type 0 where
 
 -- so many ports are associated
 abbrev pub associated_to : ℕ → List tree.Object → Associated
-associated_to count objects = record { done = map object_view (take count objects); left = map object_view (drop count objects) }
+associated_to count objects =
+    record { done = map object_view (take count objects); left = map object_view (drop count objects) }
 
 -- one more, where there is one, of an instance whose label starts at this byte
-abbrev pub next_associated : (above : Site) → (at : ℕ) → List (Option SignalPart) → Associated → u.Port → Elab Associated
+abbrev pub next_associated : (above : Site) → (at : ℕ)
+    → List (Option SignalPart) → Associated → u.Port → Elab Associated
 next_associated above at actuals s p = by s.left
   where
     by : List Object → Elab Associated
@@ -42,7 +44,8 @@ next_associated above at actuals s p = by s.left
       Ok (record { done = s.done ++ x ∷ []; left = os })
 
 -- an instance behind whose ports nothing is declared yet
-abbrev pub associated : (above : Site) → (at : ℕ) → List u.Port → List (Option SignalPart) → InstanceObjects → Elab InstanceObjects
+abbrev pub associated : (above : Site) → (at : ℕ) → List u.Port
+    → List (Option SignalPart) → InstanceObjects → Elab InstanceObjects
 associated above at ps actuals d = do
   os ← associations above at ps actuals d.objects
   Ok (record d { objects = os })

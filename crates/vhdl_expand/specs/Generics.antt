@@ -24,5 +24,7 @@ abbrev pub generics_alone : List ℤ → Integers
 generics_alone values = record no_integers { generics = values }
 
 -- further generics behind those with these values, whose actuals stand behind as many
-abbrev pub further_generics : (above : Integers) → (actuals : List (Option u.Static)) → List ℤ → List Generic → Elab Integers
-further_generics above actuals values gs = definition.generics above (generics_alone values) (drop (length values) actuals) gs
+abbrev pub further_generics : (above : Integers)
+    → (actuals : List (Option u.Static)) → List ℤ → List Generic → Elab Integers
+further_generics above actuals values gs =
+    definition.generics above (generics_alone values) (drop (length values) actuals) gs

@@ -8,7 +8,9 @@ use Rattle.vhdl_elab_rules.specs.Limits.{statements_count}
 use Rattle.vhdl_expand_tree.specs.Costs.{no_costs}
 use Rattle.vhdl_expand.specs.Unrolled.{statements_costs}
 
--- where a body is expanded, its loops have so many turns, and it costs these and as many statements as the expanded body has
+-- where a body is expanded, its loops have so many turns, and it costs these and as many statements as the expanded
+-- body has
 abbrev pub CountedAsUnrolled : Type 0
 CountedAsUnrolled = (at : Site) (body : u.Statements) (x : bodies.Stmts) → statements at body ≡ Ok x
-    → (n : ℕ) × ((statements_turns at body ≡ Ok n) × (statements_costs at.integers body ≡ Ok (record no_costs { turns = n; statements = statements_count x })))
+    → (n : ℕ) × ((statements_turns at body ≡ Ok n)
+    × (statements_costs at.integers body ≡ Ok (record no_costs { turns = n; statements = statements_count x })))

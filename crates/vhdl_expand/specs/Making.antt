@@ -1,4 +1,5 @@
--- The parts of an instance and the turns of its generates, as they are made together, one concurrent statement after another.
+-- The parts of an instance and the turns of its generates, as they are made together, one concurrent statement
+-- after another.
 use Rattle.std.specs.Prelude.{ℕ, ◌+◌, ◌≤◌, List, ◌++◌, Ok}
 use Rattle.vhdl_names_rules.specs.units.Units as u
 use Rattle.vhdl_names_rules.specs.units.Units.{Units}
@@ -63,16 +64,19 @@ module _ (units : Units) (levels : ℕ) where
     Ok (made_instance (here.prefix ++ x.label) i)
 
   abbrev pub concurrent : Spot → u.Concurrent → Elab Made
-  concurrent here x = together (definition.concurrent units (instance_of units levels) here x) (definition.concurrent_turns here x)
+  concurrent here x =
+      together (definition.concurrent units (instance_of units levels) here x) (definition.concurrent_turns here x)
 
   abbrev pub concurrents : Spot → u.Concurrents → Elab Made
-  concurrents here xs = together (definition.concurrents units (instance_of units levels) here xs) (definition.concurrents_turns here xs)
+  concurrents here xs =
+      together (definition.concurrents units (instance_of units levels) here xs) (definition.concurrents_turns here xs)
 
 abbrev pub nothing_yet : Counts → Progress
 nothing_yet left = record { made = record { parts = no_parts; turns = 0 }; left = left }
 
 abbrev pub progress_view : code.TreeProgress → Progress
-progress_view p = record { made = record { parts = parts_of p.parts.items; turns = p.turns }; left = budget_view p.left }
+progress_view p =
+    record { made = record { parts = parts_of p.parts.items; turns = p.turns }; left = budget_view p.left }
 
 -- the turns that it has, and those that may still be made, fit a word together
 abbrev pub TurnsFit : code.TreeProgress → Type 0

@@ -19,11 +19,20 @@ shape_of here at form default = do
   Ok (kind, vs)
 
 abbrev pub shaped : ObjectKind × List ℕ → Role → u.Object → Object
-shaped shape role o = record { at = o.at; name = o.name; role = role; kind = shape.0; is_resolved = o.is_resolved; starts = shape.1; actual = None }
+shaped shape role o = record {
+  at = o.at;
+  name = o.name;
+  role = role;
+  kind = shape.0;
+  is_resolved = o.is_resolved;
+  starts = shape.1;
+  actual = None;
+}
 
 -- where generics with these values are declared, and nothing else
 abbrev pub of_generics : List ℤ → InstanceObjects
-of_generics values = record { site = record no_site { integers = record no_integers { generics = values } }; objects = [] }
+of_generics values =
+    record { site = record no_site { integers = record no_integers { generics = values } }; objects = [] }
 
 abbrev pub with_object : InstanceObjects → Object → InstanceObjects
 with_object d o = by o.role
@@ -42,4 +51,10 @@ next_object role d o = do
 -- the object of this name among those of a declaration
 abbrev pub named_object : Objects → Ident → u.Object
 named_object objects name =
-    record { at = name.at; name = name.text; form = form_view objects.form; is_resolved = objects.is_resolved; default = option_map fixed_view objects.default }
+    record {
+      at = name.at;
+      name = name.text;
+      form = form_view objects.form;
+      is_resolved = objects.is_resolved;
+      default = option_map fixed_view objects.default;
+    }

@@ -16,7 +16,13 @@ use Rattle.vhdl_expand.specs.Unrolled.{statements_costs}
 
 -- the object of this name among those of a declaration
 abbrev pub named_object : Objects → Ident → u.Object
-named_object o name = record { at = name.at; name = name.text; form = form_view o.form; is_resolved = o.is_resolved; default = option_map fixed_view o.default }
+named_object o name = record {
+  at = name.at;
+  name = name.text;
+  form = form_view o.form;
+  is_resolved = o.is_resolved;
+  default = option_map fixed_view o.default;
+}
 
 -- how many turns these costs have, and what is left of a budget when they are paid
 abbrev pub turns_paid : (budget : Counts) → Elab Counts → Elab (ℕ × Counts)
@@ -34,4 +40,16 @@ process_steps budget here p = do
   on ← sensitivity here.site p.sensitivity p.body
   turned ← turns_paid unbodied (statements_costs here.site.integers p.body)
   body ← statements (with_variables here.site vs) p.body
-  Ok (record { at = p.at; prefix = here.prefix; label = p.label; drives = ds; sensitivity = on; variables = vs; body = body; turns = turned.0 }, turned.1)
+  Ok (
+    record {
+      at = p.at;
+      prefix = here.prefix;
+      label = p.label;
+      drives = ds;
+      sensitivity = on;
+      variables = vs;
+      body = body;
+      turns = turned.0;
+    },
+    turned.1,
+  )

@@ -9,4 +9,5 @@ abbrev pub within : definition.Spot → List ℤ → List ℕ → definition.Spo
 within at values prefix = record { site = within_generates at.site values; prefix = prefix }
 
 abbrev pub spot_view : Spot → definition.Spot
-spot_view s = record { site = within_generates (declared_view s.declared.now).site s.generates.now; prefix = s.prefix.now }
+spot_view s =
+    record { site = within_generates (declared_view s.declared.now).site s.generates.now; prefix = s.prefix.now }

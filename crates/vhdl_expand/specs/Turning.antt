@@ -7,4 +7,5 @@ use Rattle.vhdl_expand_rules.specs.Integers.{Integers, turns}
 
 -- what is refused of its range by itself is told, before any budget
 abbrev pub TellsTurns : {X : Type 0} → Integers → (at : ℕ) → Range → Result X ElabFault → Type 0
-TellsTurns here at r result = (told : Told) → turns here at r ≡ Err told → IsErrAnd result (λ fault. fault_told fault ≡ told)
+TellsTurns here at r result =
+    (told : Told) → turns here at r ≡ Err told → IsErrAnd result (λ fault. fault_told fault ≡ told)

@@ -1,5 +1,5 @@
--- What a body costs when its loops are unrolled (IEEE 1076-2008, 10.10): each assignment, null, if and case is a statement, and a
--- loop is its turns and the statements of each.
+-- What a body costs when its loops are unrolled (IEEE 1076-2008, 10.10): each assignment, null, if and case is a
+-- statement, and a loop is its turns and the statements of each.
 use Rattle.std.specs.Prelude.{ℕ, List, [], ◌∷◌, ◌++◌, length, ℤ, Ok}
 use Rattle.vhdl_names_rules.specs.units.Statements as u
 use Rattle.vhdl_names_rules.specs.units.Bytes.{statements_bytes}

@@ -145,7 +145,8 @@ impl Walk<'_> {
         requires among { IsAmong (units_of self.now) (entity_view unit.now) }
         ensures { Charges (at ∷ (map (λ o. o.at) (declared_view declared).objects ++ units_bytes (units_of self.now)))
             (λ i. (instance_view i, budget_view left.new)) (charged (budget_view left.old) instance_costs
-            (instance_of (units_of self.now) self.now.levels at (entity_view unit.now) (declared_view declared))) result }
+            (instance_of (units_of self.now) self.now.levels at (entity_view unit.now) (declared_view declared)))
+            result }
     {
         if self.levels == 0 {
             return Err(ElabProblem::TooDeep.at(at));

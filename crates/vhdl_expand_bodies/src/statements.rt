@@ -219,7 +219,8 @@ impl Site<'_> {
     ) -> Result<Vec<Alternative>, ElabFault>
         requires { IsSite self.now }
         ensures { Expands alternatives_view
-            (each (steps.alternative (site_view self.now) at width.len) (map analysed.alternative_view list.now)) result }
+            (each (steps.alternative (site_view self.now) at width.len) (map analysed.alternative_view list.now))
+            result }
     {
         let mut alternatives = Vec::new(alloc);
         for item in list {

@@ -15,7 +15,9 @@ abbrev pub statement_names : Sought → Statement → List u.SignalPart
 statement_names sought x = definition.statement_names sought (statement_view x)
 
 abbrev pub branch_names : Sought → Branch → List u.SignalPart
-branch_names sought b = definition.read_ones sought (definition.test_names (test_view b.condition)) ++ flat_map (statement_names sought) b.statements.items
+branch_names sought b =
+    definition.read_ones sought (definition.test_names (test_view b.condition))
+    ++ flat_map (statement_names sought) b.statements.items
 
 abbrev pub last_names : Sought → Option (Vec Statement Global) → List u.SignalPart
 last_names sought None = []

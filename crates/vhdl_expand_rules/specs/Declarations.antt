@@ -27,8 +27,8 @@ abbrev pub rest_of : {A : Type 0} → List A → List A
 rest_of [] = []
 rest_of (x ∷ xs) = xs
 
--- A generic has the value of its actual, in the instance above, else of its default, which may name the generics before it. What is
--- wrong with either is told where the generic is declared.
+-- A generic has the value of its actual, in the instance above, else of its default, which may name the generics before
+-- it. What is wrong with either is told where the generic is declared.
 abbrev pub generic : (above own : Integers) → Option Static → Generic → Elab ℤ
 generic above own (Some actual) g = integer_of g.type above g.at actual
 generic above own None g = do
@@ -80,7 +80,15 @@ unfoldable pub object : Site → Role → u.Object → Elab Object
 object here role o = do
   kind ← kind_of here.integers o.at o.form
   vs ← starts here o.at kind o.default
-  Ok (record { at = o.at; name = o.name; role = role; kind = kind; is_resolved = o.is_resolved; starts = vs; actual = None })
+  Ok (record {
+    at = o.at;
+    name = o.name;
+    role = role;
+    kind = kind;
+    is_resolved = o.is_resolved;
+    starts = vs;
+    actual = None;
+  })
 
 abbrev pub role_of : Mode → Role
 role_of In = input
@@ -95,7 +103,8 @@ abbrev pub with_port : InstanceObjects → Object → InstanceObjects
 with_port d o = record { site = record d.site { ports = d.site.ports ++ o.kind ∷ [] }; objects = d.objects ++ o ∷ [] }
 
 abbrev pub with_signal : InstanceObjects → Object → InstanceObjects
-with_signal d o = record { site = record d.site { signals = d.site.signals ++ o.kind ∷ [] }; objects = d.objects ++ o ∷ [] }
+with_signal d o =
+    record { site = record d.site { signals = d.site.signals ++ o.kind ∷ [] }; objects = d.objects ++ o ∷ [] }
 
 unfoldable pub ports : InstanceObjects → List Port → Elab InstanceObjects
 ports d [] = Ok d
@@ -158,7 +167,8 @@ association above at p None o = do
   unless Unassociated at (not (is_input o.role) || is_some p.object.default)
   Ok o
 
-unfoldable pub associations : (above : Site) → (at : ℕ) → List Port → List (Option SignalPart) → List Object → Elab (List Object)
+unfoldable pub associations : (above : Site) → (at : ℕ) → List Port
+    → List (Option SignalPart) → List Object → Elab (List Object)
 associations above at (p ∷ ps) actuals (o ∷ os) = do
   x ← association above at p (first_of actuals) o
   xs ← associations above at ps (rest_of actuals) os

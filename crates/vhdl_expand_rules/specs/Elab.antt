@@ -1,5 +1,6 @@
--- What elaboration computes, or why it refuses: by the first broken rule, in the order in which the definitions come to them, with the byte
--- of the source at which it is told. A definition that is given a byte tells there what has no byte of its own.
+-- What elaboration computes, or why it refuses: by the first broken rule, in the order in which the definitions come to
+-- them, with the byte of the source at which it is told. A definition that is given a byte tells there what has no byte
+-- of its own.
 use Rattle.std.specs.Prelude.{◌≡◌, ◌≢◌, ◌==◌, ℕ, Bool, if◌then◌else◌, List, [], ◌∷◌, Option, Some, None, Result, Ok, Err, IsErr, Contains}
 use Rattle.vhdl_expand_rules.specs.declared.fault.ElabFault.{ElabFault}
 use Rattle.vhdl_expand_rules.specs.declared.fault.ElabFault.TheVariants.{At, NoMemory}
@@ -26,15 +27,15 @@ p >> q = p >>= (λ _. q)
 abbrev pub refused : {A : Type 0} → ElabProblem → (at : ℕ) → Elab A
 refused problem at = Err (problem, at)
 
--- What a fault tells. Want of memory is none of a design's: NoTop stands for it, which no expression, kind or charge has, so that calls
--- which take no memory can't tell it; and of those that do no contract asks it.
+-- What a fault tells. Want of memory is none of a design's: NoTop stands for it, which no expression, kind or charge
+-- has, so that calls which take no memory can't tell it; and of those that do no contract asks it.
 abbrev pub fault_told : ElabFault → Told
 fault_told (At problem at) = (problem, at)
 fault_told NoMemory = (NoTop, 0)
 
--- Budgets are charged while a design grows, and their own rule comes behind those of the whole design. So TooMany may be told of what
--- breaks another rule first, at one of these bytes, wherever the budget ends; every other problem is that of the first broken rule, at its
--- byte.
+-- Budgets are charged while a design grows, and their own rule comes behind those of the whole design. So TooMany may
+-- be told of what breaks another rule first, at one of these bytes, wherever the budget ends; every other problem is
+-- that of the first broken rule, at its byte.
 pub record MayTell {A : Type 0} (bytes : List ℕ) (given : Elab A) (told : Told) : Type 0 where
   pub refused : IsErr given
   pub first : told.0 ≢ TooMany → given ≡ Err told

@@ -80,7 +80,8 @@ abbrev pub joined_parts : List Parts → Parts
 joined_parts [] = no_parts
 joined_parts (ps ∷ rest) = followed_by ps (joined_parts rest)
 
--- The parameters are the units, and what an instance of a unit is: by the byte of its label, with what is known of it, and its ports.
+-- The parameters are the units, and what an instance of a unit is: by the byte of its label, with what is known of it,
+-- and its ports.
 module _ (units : Units) (instance_of : (at : ℕ) → Entity → InstanceObjects → Elab Instance) where
   -- an instance that stands here (11.7)
   unfoldable pub instance : Spot → u.Instance → Elab Instance

@@ -113,8 +113,8 @@ converse_of Le = Ge
 converse_of Gt = Lt
 converse_of Ge = Le
 
--- One element and a character literal. Of the forms `s = '1'`, `s = ('1')` with `(s) = '1'`, `'1' = s` and `('1') = s` the first alone
--- is plain: it makes an edge together with `s'event`. The literal of the second is an enclosed one.
+-- One element and a character literal. Of the forms `s = '1'`, `s = ('1')` with `(s) = '1'`, `'1' = s` and `('1') = s`
+-- the first alone is plain: it makes an edge together with `s'event`. The literal of the second is an enclosed one.
 abbrev pub level_test : (plain : Bool) → (es : List ℕ) → Nine → bodies.Test
 level_test plain (e ∷ []) x = bodies.level plain e x
 level_test plain es x = bodies.equal (bodies.elements (bodies.signal es)) (bodies.elements (bodies.constant (x ∷ [])))
@@ -126,9 +126,11 @@ place_level here plain p x = do
 
 abbrev pub alike : Site → (at : ℕ) → Value → Value → Elab bodies.Test
 alike here at (u.Value.elements (u.of_signal p)) (u.Value.elements (u.character x)) = place_level here true p x
-alike here at (u.Value.elements (u.of_signal p)) (u.Value.elements (u.enclosed_character x)) = place_level here false p x
+alike here at (u.Value.elements (u.of_signal p)) (u.Value.elements (u.enclosed_character x)) =
+    place_level here false p x
 alike here at (u.Value.elements (u.character x)) (u.Value.elements (u.of_signal p)) = place_level here false p x
-alike here at (u.Value.elements (u.enclosed_character x)) (u.Value.elements (u.of_signal p)) = place_level here false p x
+alike here at (u.Value.elements (u.enclosed_character x)) (u.Value.elements (u.of_signal p)) =
+    place_level here false p x
 alike here at v w = do
   d ← value here at v
   e ← value here at w

@@ -1,6 +1,6 @@
 -- The longest static prefixes of the names in a text, before its loops are unrolled: a process has a driver for each
--- element of those of its targets, and `process (all)` is sensitive to those of the names that it reads (IEEE 1076-2008,
--- 8.1, 14.7.2, 11.3).
+-- element of those of its targets, and `process (all)` is sensitive to those of the names that it reads (IEEE
+-- 1076-2008, 8.1, 14.7.2, 11.3).
 use Rattle.std.specs.Prelude.{ℕ, Bool, true, ◌&&◌, ◌==◌, if◌then◌else◌, List, [], ◌∷◌, ◌++◌, filter, Ok}
 use Rattle.std.specs.List.{list_any, range_with_len}
 use Rattle.vhdl_names_rules.specs.units.Expressions as u
@@ -34,8 +34,8 @@ vector_names (u.integer_with at op n x) = vector_names x
 vector_names (u.counted at op x n) = vector_names x
 vector_names _ = []
 
--- The whole of a signal of an enumeration, whose byte the units don't have: it is there in units that names have passed, so that nothing
--- is told at it.
+-- The whole of a signal of an enumeration, whose byte the units don't have: it is there in units that names have
+-- passed, so that nothing is told at it.
 abbrev pub whole_of : u.Signal → SignalPart
 whole_of x = record { at = 0; signal = x; part = u.whole }
 
@@ -86,7 +86,8 @@ abbrev mutual
   pub branches_names : Sought → s.Branches → List SignalPart
   branches_names sought s.no_else = []
   branches_names sought (s.otherwise body) = body_names sought body
-  branches_names sought (s.branch t body bs) = read_ones sought (test_names t) ++ (body_names sought body ++ branches_names sought bs)
+  branches_names sought (s.branch t body bs) =
+      read_ones sought (test_names t) ++ (body_names sought body ++ branches_names sought bs)
 
   pub alternatives_names : Sought → s.Alternatives → List SignalPart
   alternatives_names sought (s.others body) = body_names sought body

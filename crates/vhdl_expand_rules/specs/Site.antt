@@ -54,7 +54,8 @@ part_elements here at from kinds k part = do
 -- of a signal's or port's name
 unfoldable pub signal_elements : Site → (at : ℕ) → Signal → Part → Elab (List ℕ)
 signal_elements here at (u.port k) part = part_elements here.integers at 0 here.ports k part
-signal_elements here at (u.Signal.signal k) part = part_elements here.integers at (elements_count here.ports) here.signals k part
+signal_elements here at (u.Signal.signal k) part =
+    part_elements here.integers at (elements_count here.ports) here.signals k part
 
 abbrev pub place_elements : Site → SignalPart → Elab (List ℕ)
 place_elements here p = signal_elements here p.at p.signal p.part

@@ -119,4 +119,5 @@ unfoldable mutual
 
   pub alternatives_turns : Site → u.Alternatives → Elab ℕ
   alternatives_turns here (u.others s) = statements_turns here s
-  alternatives_turns here (u.alternative choices s alts) = added (statements_turns here s) (alternatives_turns here alts)
+  alternatives_turns here (u.alternative choices s alts) =
+      added (statements_turns here s) (alternatives_turns here alts)

@@ -1,7 +1,7 @@
 -- The tree of instances: a design in which every static value is computed, generates have become their turns, and loops
--- are unrolled. Nothing in it speaks of nets: names stand for the elements of the declarations of the instance that they
--- stand in, numbered from 0 in order of declaration, ports before signals, and from the left (IEEE 1076-2008, 14.2 to
--- 14.5).
+-- are unrolled. Nothing in it speaks of nets: names stand for the elements of the declarations of the instance that
+-- they stand in, numbered from 0 in order of declaration, ports before signals, and from the left (IEEE 1076-2008, 14.2
+-- to 14.5).
 use Rattle.std.specs.Prelude.{ℕ, ⊤, Bool, List, Option}
 use Rattle.rtl_model.specs.bodies.Body.{Stmts}
 use Rattle.vhdl_expand_rules.specs.Kinds.{ObjectKind}
@@ -13,8 +13,8 @@ pub data Role : Type 0 where
   output : Role
   internal : Role
 
--- A port or a signal with the byte at which it is declared, and what each of its elements starts with. An associated port has the elements
--- of the actual, in the instance above; any other object has none there.
+-- A port or a signal with the byte at which it is declared, and what each of its elements starts with. An associated
+-- port has the elements of the actual, in the instance above; any other object has none there.
 pub record Object : Type 0 where
   pub at : ℕ
   pub name : List ℕ

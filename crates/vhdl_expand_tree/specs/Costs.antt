@@ -95,8 +95,8 @@ spent at budget costs = do
   unless TooMany at (is_within costs budget)
   Ok (less budget costs)
 
--- what is given and then costs so much: with what is left of the budget, where that suffices. Of a call that charges on its way, no one
--- says where (`MayTell`).
+-- what is given and then costs so much: with what is left of the budget, where that suffices. Of a call that charges on
+-- its way, no one says where (`MayTell`).
 abbrev pub charged : {Y : Type 0} → (budget : Counts) → (Y → Counts) → Elab Y → Elab (Y × Counts)
 charged budget costs given = do
   y ← given

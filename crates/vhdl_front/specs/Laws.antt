@@ -37,4 +37,5 @@ EachNetHasOwnPorts = (source top : List ℕ) (net : NetlistView) → IsNetOf sou
 
 -- What elaboration refuses of a source it tells at a byte of the source, and of an empty one at its end.
 abbrev pub EachRefusalLiesInItsSource : Type 0
-EachRefusalLiesInItsSource = (source top : List ℕ) (problem : ElabProblem) (at : ℕ) → HasNoDesign source top problem at → at ≤ length source
+EachRefusalLiesInItsSource =
+    (source top : List ℕ) (problem : ElabProblem) (at : ℕ) → HasNoDesign source top problem at → at ≤ length source

@@ -21,8 +21,8 @@ pub record HasDesign (source top : List ℕ) (design : Elaborated) : Type 0 wher
   pub analysed : HasUnits source units
   pub is : elaborated_net units top ≡ Ok design
 
--- The netlist shows the source's design: its nets, sources, starts and bodies, the bytes at which its processes start, its scopes and
--- signals are the design's, and so are the names of its nets and processes.
+-- The netlist shows the source's design: its nets, sources, starts and bodies, the bytes at which its processes start,
+-- its scopes and signals are the design's, and so are the names of its nets and processes.
 pub record IsNetOf (source top : List ℕ) (net : NetlistView) : Type 0 where
   pub design : Elaborated
   pub has : HasDesign source top design

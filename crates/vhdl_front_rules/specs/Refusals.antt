@@ -17,22 +17,23 @@ use Rattle.vhdl_front_rules.specs.Sources.{IsFileOf, HasSyntaxFault}
 use Rattle.vhdl_front_rules.specs.declared.fault.SourceFault.{SourceFault}
 use Rattle.vhdl_front_rules.specs.declared.fault.SourceFault.TheVariants.{Lex, Syntax, Name, Elab, NoMemory}
 
--- the source's one tree is a file that isn't well typed: the first rule that it breaks, as it is read, bears this problem, and is told at
--- this byte
+-- the source's one tree is a file that isn't well typed: the first rule that it breaks, as it is read, bears this
+-- problem, and is told at this byte
 pub record HasNoUnits (source : List ℕ) (problem : NameProblem) (at : ℕ) : Type 0 where
   pub file : File
   pub read : IsFileOf source file
   pub ill_typed : units_of file ≡ None
   pub broken : breaks.file file ≡ Some (problem, at)
 
--- The source's units have no design with this top, and this problem may be told at this byte: that of the first broken rule, or TooMany
--- where the growth of the design may be cut off before.
+-- The source's units have no design with this top, and this problem may be told at this byte: that of the first broken
+-- rule, or TooMany where the growth of the design may be cut off before.
 pub record HasNoDesign (source top : List ℕ) (problem : ElabProblem) (at : ℕ) : Type 0 where
   pub units : Units
   pub analysed : HasUnits source units
   pub refused : MayRefuse units top (problem, at)
 
--- A layer's want of memory is told as NoMemory alone. No definition says whether TooDeep or Unexpected is told of a source that has both.
+-- A layer's want of memory is told as NoMemory alone. No definition says whether TooDeep or Unexpected is told of a
+-- source that has both.
 abbrev pub Refuses : (source top : List ℕ) → SourceFault → Type 0
 Refuses source top (Lex lex.NoMemory) = ⊥
 Refuses source top (Lex fault) = HasFault fault source

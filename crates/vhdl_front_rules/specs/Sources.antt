@@ -25,8 +25,9 @@ pub record IsFileOf (source : List ℕ) (file : File) : Type 0 where
   pub only_file : (other : File) → IsFile other → SpellsTokens source tokens other → other ≡ file
   pub shallow : IsShallow most_open (lexemes source tokens)
 
--- No well-formed tree spells the source's one list of tokens, or the tokens open more levels than the limit. Unexpected is told
--- of the first token with which no file goes on, and EndOfFile at the end of a source all of whose tokens begin a file.
+-- No well-formed tree spells the source's one list of tokens, or the tokens open more levels than the limit. Unexpected
+-- is told of the first token with which no file goes on, and EndOfFile at the end of a source all of whose tokens begin
+-- a file.
 pub record HasSyntaxFault (fault : SyntaxFault) (source : List ℕ) : Type 0 where
   pub tokens : List Token
   pub cut : Cuts None 0 source tokens

@@ -1,6 +1,6 @@
--- Which bytes are taken out with a fault that stands at a byte: the innermost statement that has it, or the declaration, up to its `;`. A
--- process is taken out whole for what stands in its head, its variables too. What the rest may stand on stays: context clauses, entities,
--- interfaces, components, types, and the choices of a case.
+-- Which bytes are taken out with a fault that stands at a byte: the innermost statement that has it, or the
+-- declaration, up to its `;`. A process is taken out whole for what stands in its head, its variables too. What the
+-- rest may stand on stays: context clauses, entities, interfaces, components, types, and the choices of a case.
 use Rattle.std.specs.Prelude.{ℕ, Bool, ◌+◌, ◌-◌, ◌==◌, ◌&&◌, nat_le, nat_lt, if◌then◌else◌, List, [], ◌∷◌, Option, Some, None}
 use Rattle.vhdl_lexer.specs.Kinds.{is_end, is_semicolon, opens, is_boundary, is_left, is_right, may_go}
 use Rattle.vhdl_lexer.specs.declared.extent.Extent.{Extent}
@@ -19,13 +19,14 @@ depth_behind depth last kind = if is_left last kind then depth + 1 else (if is_r
 abbrev pub begins_behind : (depth : ℕ) → (last kind : TokenKind) → Bool
 begins_behind depth last kind = (depth == 0) && is_boundary last kind
 
--- The tokens from where the innermost statement begins that has the byte: behind the last boundary before the byte. `here`: from where the
--- one begins that is being read.
+-- The tokens from where the innermost statement begins that has the byte: behind the last boundary before the byte.
+-- `here`: from where the one begins that is being read.
 abbrev pub beginning : (at depth : ℕ) → (last : TokenKind) → (here left : List Token) → List Token
 beginning at depth last here [] = here
 beginning at depth last here (t ∷ ts) =
     if nat_le at t.start then here
-    else beginning at (depth_behind depth last t.kind) t.kind (if begins_behind (depth_behind depth last t.kind) last t.kind then ts else here) ts
+    else beginning at (depth_behind depth last t.kind) t.kind
+    (if begins_behind (depth_behind depth last t.kind) last t.kind then ts else here) ts
 
 -- ---- where it ends
 

@@ -59,7 +59,8 @@ IsOpenComment text = (body : List ℕ) × (text ≡ slash ∷ star ∷ body) × 
 abbrev pub IsOpenString : List ℕ → Type 0
 IsOpenString text =
     ((begins quote text ≡ true) × ((body rest : List ℕ) → IsClosedString text body rest → ⊥))
-    ⊎ ((class : ByteClass) × (opened_class text ≡ Some class) × ((body rest : List ℕ) → IsClosedBitString class text body rest → ⊥))
+    ⊎ ((class : ByteClass) × (opened_class text ≡ Some class)
+    × ((body rest : List ℕ) → IsClosedBitString class text body rest → ⊥))
 
 abbrev pub BeginsWord : List ℕ → Type 0
 BeginsWord [] = ⊥
@@ -74,7 +75,8 @@ IsBadIdentifier text = BeginsWord text × (opened_class text ≡ None) × Absent
 abbrev pub IsBadNumber : List ℕ → Type 0
 IsBadNumber text =
     ((begins_digit text ≡ true) × Absent IsInteger text)
-    ⊎ ((class : ByteClass) × (body : List ℕ) × (rest : List ℕ) × IsClosedBitString class text body rest × (is_joined class body ≡ false))
+    ⊎ ((class : ByteClass) × (body : List ℕ) × (rest : List ℕ)
+    × IsClosedBitString class text body rest × (is_joined class body ≡ false))
 
 -- what stands at the front of the text, where the fault is one of a token
 abbrev pub Faulty : LexFault → List ℕ → Type 0

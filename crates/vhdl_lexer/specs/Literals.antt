@@ -35,7 +35,8 @@ goes_on_number (b ∷ text) = is_word_byte b || b == hash || b == point && begin
 
 abbrev pub IsInteger : TokenKind → List ℕ → List ℕ → Type 0
 IsInteger kind slice rest =
-    (is_joined Decimal slice ≡ true) × (goes_on_number rest ≡ false) × (integer_of slice ≤ greatest_integer) × (kind ≡ k.Integer)
+    (is_joined Decimal slice ≡ true) × (goes_on_number rest ≡ false)
+    × (integer_of slice ≤ greatest_integer) × (kind ≡ k.Integer)
 
 -- ---- characters
 
@@ -70,7 +71,8 @@ abbrev mutual
 
 -- a quotation mark opens the text, and the next that is none of a pair stands on its line: body is between them
 abbrev pub IsClosedString : List ℕ → List ℕ → List ℕ → Type 0
-IsClosedString text body rest = (text ≡ quote ∷ (body ++ quote ∷ rest)) × (is_quoted body ≡ true) × (begins quote rest ≡ false)
+IsClosedString text body rest =
+    (text ≡ quote ∷ (body ++ quote ∷ rest)) × (is_quoted body ≡ true) × (begins quote rest ≡ false)
 
 abbrev pub IsString : TokenKind → List ℕ → List ℕ → Type 0
 IsString kind slice rest =
@@ -86,7 +88,8 @@ is_unquoted text = list_all (λ b. not (ends_line b) && not (b == quote)) text
 -- a base specifier and a quotation mark open the text, and the next one stands on its line: body is between them
 abbrev pub IsClosedBitString : ByteClass → List ℕ → List ℕ → List ℕ → Type 0
 IsClosedBitString class text body rest =
-    (base : ℕ) × (text ≡ base ∷ quote ∷ (body ++ quote ∷ rest)) × (base_class base ≡ Some class) × (is_unquoted body ≡ true)
+    (base : ℕ) × (text ≡ base ∷ quote ∷ (body ++ quote ∷ rest))
+    × (base_class base ≡ Some class) × (is_unquoted body ≡ true)
 
 abbrev pub IsBitString : TokenKind → List ℕ → Type 0
 IsBitString kind slice =

@@ -74,7 +74,9 @@ abbrev pub words_of : ℕ → List Word
 words_of letter = filter (has_letter (to_ascii_lowercase letter)) reserved_words
 
 unfoldable pub word : ℕ → List ℕ → Found
-word at text = if is_identifier (take (run text) text) then Ok (word_kind (take (run text) text), run text) else Err (BadIdentifier at)
+word at text =
+    if is_identifier (take (run text) text) then Ok (word_kind (take (run text) text), run text)
+    else Err (BadIdentifier at)
 
 -- the number that the text writes is read
 abbrev pub fits : List ℕ → Bool
@@ -82,14 +84,16 @@ fits text = nat_le (integer_of text) greatest_integer
 
 unfoldable pub number : ℕ → List ℕ → Found
 number at text =
-    if is_joined Decimal (take (run text) text) && not (goes_on_number (drop (run text) text)) && fits (take (run text) text)
+    if is_joined Decimal (take (run text) text)
+    && not (goes_on_number (drop (run text) text)) && fits (take (run text) text)
     then Ok (k.Integer, run text) else Err (BadNumber at)
 
 -- the text from the closing quotation mark of a string on, if there is one on the line
 abbrev mutual
   pub from_quote : List ℕ → Option (List ℕ)
   from_quote [] = None
-  from_quote (b ∷ text) = if b == quote then from_pair (b ∷ text) text else (if ends_line b then None else from_quote text)
+  from_quote (b ∷ text) =
+      if b == quote then from_pair (b ∷ text) text else (if ends_line b then None else from_quote text)
 
   pub from_pair : List ℕ → List ℕ → Option (List ℕ)
   from_pair marks [] = Some marks
@@ -98,7 +102,8 @@ abbrev mutual
 -- the text from the line's first quotation mark on, if there is one
 abbrev pub from_first_quote : List ℕ → Option (List ℕ)
 from_first_quote [] = None
-from_first_quote (b ∷ text) = if b == quote then Some (b ∷ text) else (if ends_line b then None else from_first_quote text)
+from_first_quote (b ∷ text) =
+    if b == quote then Some (b ∷ text) else (if ends_line b then None else from_first_quote text)
 
 -- how many bytes stand before the end of a text
 abbrev pub before : List ℕ → List ℕ → ℕ
@@ -143,7 +148,8 @@ longer b [] = None
 longer b (c ∷ after) = pair b c
 
 unfoldable pub mark : ℕ → ℕ → List ℕ → Found
-mark at b after = if b == slash && begins star after then Err (OpenComment at) else two (longer b after) (one at (single b))
+mark at b after =
+    if b == slash && begins star after then Err (OpenComment at) else two (longer b after) (one at (single b))
 
 unfoldable pub front : ℕ → Option TokenKind → List ℕ → Found
 front at last [] = Err (BadByte at)

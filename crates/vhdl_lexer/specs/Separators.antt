@@ -27,7 +27,8 @@ IsLineComment piece rest = (body : List ℕ) × (piece ≡ dash ∷ dash ∷ bod
 
 -- a delimited comment: `/*` and all up to the next `*/`
 abbrev pub IsDelimitedComment : List ℕ → Type 0
-IsDelimitedComment piece = (body : List ℕ) × (piece ≡ slash ∷ star ∷ (body ++ star ∷ slash ∷ [])) × (has_close body ≡ false)
+IsDelimitedComment piece =
+    (body : List ℕ) × (piece ≡ slash ∷ star ∷ (body ++ star ∷ slash ∷ [])) × (has_close body ≡ false)
 
 abbrev pub IsSeparation : List ℕ → List ℕ → Type 0
 IsSeparation piece rest = IsSpace piece ⊎ (IsLineComment piece rest ⊎ IsDelimitedComment piece)
@@ -35,7 +36,8 @@ IsSeparation piece rest = IsSpace piece ⊎ (IsLineComment piece rest ⊎ IsDeli
 -- the text is these pieces, each a separator or a comment, and then ahead
 abbrev pub LeadsTo : List (List ℕ) → List ℕ → List ℕ → Type 0
 LeadsTo [] text ahead = text ≡ ahead
-LeadsTo (piece ∷ pieces) text ahead = (after : List ℕ) × (text ≡ piece ++ after) × IsSeparation piece after × LeadsTo pieces after ahead
+LeadsTo (piece ∷ pieces) text ahead =
+    (after : List ℕ) × (text ≡ piece ++ after) × IsSeparation piece after × LeadsTo pieces after ahead
 
 -- a comment opens here, be it closed or not
 abbrev pub opens_comment : List ℕ → Bool

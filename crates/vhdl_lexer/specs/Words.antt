@@ -154,4 +154,6 @@ opened_class (b ∷ text) = if begins quote text then base_class b else None
 
 -- the longest word, where rest follows; the base specifier of a bit string is none
 abbrev pub IsWord : TokenKind → List ℕ → List ℕ → Type 0
-IsWord kind slice rest = (is_identifier slice ≡ true) × Stops is_word_byte rest × (opened_class (slice ++ rest) ≡ None) × (kind ≡ word_kind slice)
+IsWord kind slice rest =
+    (is_identifier slice ≡ true) × Stops is_word_byte rest
+    × (opened_class (slice ++ rest) ≡ None) × (kind ≡ word_kind slice)

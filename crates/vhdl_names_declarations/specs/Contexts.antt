@@ -21,4 +21,7 @@ abbrev pub packages_used : p.Context → List Selected → Option p.Context
 packages_used before ss = do
   rule Undeclared before.has_ieee
   rule LeftOut (list_all (λ s. p.is_logic s || p.is_numbers s) ss)
-  Some (record before { has_logic = before.has_logic || list_any p.is_logic ss; has_numbers = before.has_numbers || list_any p.is_numbers ss })
+  Some (record before {
+    has_logic = before.has_logic || list_any p.is_logic ss;
+    has_numbers = before.has_numbers || list_any p.is_numbers ss;
+  })

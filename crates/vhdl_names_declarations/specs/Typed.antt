@@ -14,11 +14,13 @@ use Rattle.vhdl_names_rules.specs.Subtypes.{Subtype, subtype, as_integer_type, f
 -- generics' type and default
 abbrev pub typed_generic : Sight → t.Generic → Option (IntegerType × Option Static)
 typed_generic sight g =
-    meaning sight g.mark.text >>= λ mark. as_integer_type mark >>= λ type. if_any (static sight) g.default >>= λ default. Some (type, default)
+    meaning sight g.mark.text >>= λ mark. as_integer_type mark
+    >>= λ type. if_any (static sight) g.default >>= λ default. Some (type, default)
 
 -- objects' type and default
 abbrev pub typed_object : Sight → t.Subtype → Option t.Value → Option (Subtype × Option Fixed)
-typed_object sight s v = subtype sight s >>= λ type. if_any (fixed_value sight type.type) v >>= λ default. Some (type, default)
+typed_object sight s v =
+    subtype sight s >>= λ type. if_any (fixed_value sight type.type) v >>= λ default. Some (type, default)
 
 -- ports' type, kind and default
 abbrev pub typed_port : Sight → t.Port → Option (Subtype × ElementKind × Option Fixed)

@@ -1,6 +1,6 @@
--- What is taken out of a source with a fault of names or types: the statement or declaration in which the fault stands. A name that isn't
--- declared, isn't visible or is left out is at fault wherever it stands, so with it each statement goes in which it stands, up to the next
--- architecture; but for a formal, which is at fault in its instance alone.
+-- What is taken out of a source with a fault of names or types: the statement or declaration in which the fault stands.
+-- A name that isn't declared, isn't visible or is left out is at fault wherever it stands, so with it each statement
+-- goes in which it stands, up to the next architecture; but for a formal, which is at fault in its instance alone.
 use Rattle.std.specs.Prelude.{ℕ, ◌&&◌, nat_le, not, Bool, true, false, if◌then◌else◌, List, [], ◌∷◌, Option, Some, None}
 use Rattle.vhdl_lexer.specs.Extents.{statement_at, blanked}
 use Rattle.vhdl_lexer.specs.declared.extent.Extent.{Extent}
@@ -15,7 +15,8 @@ use Rattle.vhdl_names_rules.specs.declared.fault.NameProblem.TheVariants as prob
 
 -- ---- the statement of the fault
 
--- What is taken out with a fault; nothing with a name that is declared twice, since nobody knows which of its declarations is meant.
+-- What is taken out with a fault; nothing with a name that is declared twice, since nobody knows which of its
+-- declarations is meant.
 abbrev pub extent_of : List Token → NameFault → Option Extent
 extent_of tokens (names.At problem.Twice at) = None
 extent_of tokens (names.At problem at) = statement_at tokens at
@@ -23,8 +24,8 @@ extent_of tokens names.NoMemory = None
 
 -- ---- the other statements with the name
 
--- A name has this problem wherever it stands, that is the second of these tokens. What is left out where a value begins is the value's form,
--- and not the name.
+-- A name has this problem wherever it stands, that is the second of these tokens. What is left out where a value begins
+-- is the value's form, and not the name.
 abbrev pub is_unknown : List Token → NameProblem → Bool
 is_unknown around problem.Undeclared = true
 is_unknown around problem.NotVisible = true
@@ -68,7 +69,8 @@ is_everywhere tokens problem at =
 -- what is taken out beside the statement of the fault
 abbrev pub others_of : (source : List ℕ) → List Token → NameFault → List Extent
 others_of source tokens (names.At problem at) =
-    if is_everywhere tokens problem at then statements_of tokens (with_name source (name_at source tokens at) at tokens) else []
+    if is_everywhere tokens problem at then statements_of tokens (with_name source (name_at source tokens at) at tokens)
+    else []
 others_of source tokens names.NoMemory = []
 
 -- ---- what is left

@@ -17,7 +17,8 @@ one_association formals k behind taken a =
     unless WrongKind (association_place a) (not behind || is_named a)
     ▸ lacking WrongKind (association_place a) (formal_at formals k a.formal)
     ▸ where_given (formal_at formals k a.formal) (λ n.
-    unless Undeclared (association_place a) (is_among n formals) ▸ unless Twice (association_place a) (not (is_among n taken)))
+    unless Undeclared (association_place a) (is_among n formals)
+    ▸ unless Twice (association_place a) (not (is_among n taken)))
 
 -- the entity of a number, which is named at this byte, and whose architecture may be named
 abbrev pub with_architecture : List Seen → Option Ident → ℕ → ℕ → Broken

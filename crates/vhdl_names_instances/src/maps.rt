@@ -111,7 +111,8 @@ fn one_port(
         (λ p. broken.port_actual sight.now (formal p) (tree.view e.now)))) }
     ensures fits { (all : List Formal) → names_view formals.now.ports ≡ map (λ f. f.name) all
         → formals.now.port_types.items ≡ map type_of all
-        → IfOk result (λ _. steps.fits_if_any sight.now (steps.port_named all index name.now) (tree.view e.now) ≡ true) }
+        → IfOk result
+        (λ _. steps.fits_if_any sight.now (steps.port_named all index name.now) (tree.view e.now) ≡ true) }
 {
     match port_named(formals, index, name) {
         None => Ok(()),

@@ -15,4 +15,5 @@ same_link a b = same_kind (kind_of a.operator) (kind_of b.operator) && same_expr
 abbrev pub same_chain : Chain → Chain → Bool
 same_chain a b =
     same_expr (view (out-Chain a).first) (view (out-Chain b).first)
-    && (same_link (out-Chain a).second (out-Chain b).second && same_each same_link (out-Chain a).rest.items (out-Chain b).rest.items)
+    && (same_link (out-Chain a).second (out-Chain b).second
+    && same_each same_link (out-Chain a).rest.items (out-Chain b).rest.items)

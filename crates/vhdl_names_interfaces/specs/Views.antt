@@ -25,7 +25,11 @@ entity_view e = record {
   at = e.tree.now.name.at;
   name = e.tree.now.name.text.items;
   context = context_view e.context;
-  interface = record { declared = region_view e.region; generics = all_generics_view e.generics; ports = all_ports_view e.ports };
+  interface = record {
+    declared = region_view e.region;
+    generics = all_generics_view e.generics;
+    ports = all_ports_view e.ports;
+  };
   generic_text = tree.option_generics_view e.tree.now.generics;
   port_text = tree.option_ports_view e.tree.now.ports;
   architecture = option_map (λ i. i.now.text.items) e.architecture;
@@ -45,7 +49,15 @@ one_more es e = rule Twice (not (is_among e.name (map (λ d. d.name) es))) >>= �
 
 -- an entity of this interface
 abbrev pub entity_of : Context → Interface → Entity → Option Name → EntityView
-entity_of c i e a = record { at = e.name.at; name = e.name.text; context = c; interface = i; generic_text = e.generics; port_text = e.ports; architecture = a }
+entity_of c i e a = record {
+  at = e.name.at;
+  name = e.name.text;
+  context = c;
+  interface = i;
+  generic_text = e.generics;
+  port_text = e.ports;
+  architecture = a;
+}
 
 -- where its interface is given
 abbrev pub behind_interface : Context → Entity → Option Name → Option Interface → Option EntityView

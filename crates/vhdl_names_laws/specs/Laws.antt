@@ -1,4 +1,5 @@
--- What names give is sound: what elaboration may take for granted of units that a file has. And it has units just where it breaks no rule.
+-- What names give is sound: what elaboration may take for granted of units that a file has. And it has units just where
+-- it breaks no rule.
 use Rattle.std.specs.Prelude.{◌≡◌, ℕ, ◌<◌, All, Bool, List, [], length, map, Some, None, IsTrue, IfSome, Contains}
 use Rattle.std.specs.List.{list_all}
 use Rattle.vhdl_lexer.specs.declared.token.Token.{Token}
@@ -40,7 +41,8 @@ abbrev pub StatementsFit : Type 0
 StatementsFit = (i : Inside) (counts : Counts) (sight : Sight) → IsInside i counts sight
     → (ys : t.Statements) (xs : s.Statements) → statements sight ys ≡ Some xs → IsTrue (statements_fit i xs)
 
--- The units of a file that the parser gives are sound: each numbers what it names, and each value has the shape of its type.
+-- The units of a file that the parser gives are sound: each numbers what it names, and each value has the shape of
+-- its type.
 abbrev pub UnitsAreSound : Type 0
 UnitsAreSound = (f : File) (units : Units) → IsFile f → units_of f ≡ Some units → IsTrue (are_sound units)
 
@@ -57,14 +59,17 @@ UnitsAreNamed = (f : File) (units : Units) → HasWords f → units_of f ≡ Som
 
 -- and no two ports of an entity have one name, whatever the case of its letters.
 abbrev pub small_ports_are_distinct : Units → Bool
-small_ports_are_distinct units = list_all (λ (x : u.Entity). are_distinct (map (λ (p : u.Port). small p.object.name) x.ports)) units
+small_ports_are_distinct units =
+    list_all (λ (x : u.Entity). are_distinct (map (λ (p : u.Port). small p.object.name) x.ports)) units
 
 abbrev pub SmallPortsAreDistinct : Type 0
-SmallPortsAreDistinct = (f : File) (units : Units) → HasWords f → units_of f ≡ Some units → IsTrue (small_ports_are_distinct units)
+SmallPortsAreDistinct =
+    (f : File) (units : Units) → HasWords f → units_of f ≡ Some units → IsTrue (small_ports_are_distinct units)
 
 -- In a file that the tokens of a text spell each identifier is a word.
 abbrev pub SpelledFilesHaveWords : Type 0
-SpelledFilesHaveWords = (source : List ℕ) (tokens : List Token) (f : File) → Cuts None 0 source tokens → AreWithin source tokens
+SpelledFilesHaveWords =
+    (source : List ℕ) (tokens : List Token) (f : File) → Cuts None 0 source tokens → AreWithin source tokens
     → Spells (spell_file f) (lexemes source tokens) [] → HasWords f
 
 -- A component is the text of the entity of its name.
@@ -86,14 +91,19 @@ FaultsStandAtTokens = (f : File) → IsFile f → IfSome (broken.file f) (λ tol
 
 -- and lies in the text whose tokens the file spells.
 abbrev pub FaultsLieInTheText : Type 0
-FaultsLieInTheText = (source : List ℕ) (tokens : List Token) (f : File) → Cuts None 0 source tokens → Spells (spell_file f) (lexemes source tokens) [] → IsFile f
+FaultsLieInTheText =
+    (source : List ℕ) (tokens : List Token) (f : File) → Cuts None 0 source tokens
+    → Spells (spell_file f) (lexemes source tokens) [] → IsFile f
     → IfSome (broken.file f) (λ told. told.1 < length source)
 
 -- Each byte of the units of a file is one at which a token of the file starts,
 abbrev pub UnitsStandAtTokens : Type 0
-UnitsStandAtTokens = (f : File) (units : Units) → units_of f ≡ Some units → All (Contains (bytes_of f)) (units_bytes units)
+UnitsStandAtTokens =
+    (f : File) (units : Units) → units_of f ≡ Some units → All (Contains (bytes_of f)) (units_bytes units)
 
 -- and lies in the text whose tokens the file spells.
 abbrev pub UnitsLieInTheText : Type 0
-UnitsLieInTheText = (source : List ℕ) (tokens : List Token) (f : File) (units : Units) → Cuts None 0 source tokens → Spells (spell_file f) (lexemes source tokens) []
+UnitsLieInTheText =
+    (source : List ℕ) (tokens : List Token) (f : File) (units : Units)
+    → Cuts None 0 source tokens → Spells (spell_file f) (lexemes source tokens) []
     → units_of f ≡ Some units → All (λ at. at < length source) (units_bytes units)

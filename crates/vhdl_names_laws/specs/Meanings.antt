@@ -56,7 +56,8 @@ abbrev pub IsLiteralOf : Inside → ElementKind → Option (List Nine) → Type 
 IsLiteralOf i kind None = Unit {0}
 IsLiteralOf i kind (Some values) = IsTrue (fixed_fits i (kind_shape kind) (u.Fixed.literal values))
 
--- An object's number is below the count of its class, and the object of that number is of the type; an enumeration has literals.
+-- An object's number is below the count of its class, and the object of that number is of the type; an enumeration
+-- has literals.
 abbrev pub MeaningFits : Inside → Counts → Meaning → Type 0
 MeaningFits i counts (visibility.generic k) = IsTrue (nat_lt k i.generics)
 MeaningFits i counts (visibility.integer_constant k) = IsTrue (nat_lt k i.integers)
@@ -65,10 +66,12 @@ MeaningFits i counts (visibility.loop_parameter k) = IsTrue (nat_lt k i.loops)
 MeaningFits i counts (visibility.port k mode kind) = IsPort i.ports k mode kind
 MeaningFits i counts (visibility.signal k type) = IsForm counts type (slice_get i.signals k)
 MeaningFits i counts (visibility.variable k type) = IsForm counts type (slice_get i.variables k)
-MeaningFits i counts (visibility.constant k kind values) = IsForm counts (Elements kind) (slice_get i.constants k) × IsLiteralOf i kind values
+MeaningFits i counts (visibility.constant k kind values) =
+    IsForm counts (Elements kind) (slice_get i.constants k) × IsLiteralOf i kind values
 MeaningFits i counts (visibility.literal e count p) = IsTrue (nat_lt p count) × (slice_get counts e ≡ Some count)
 MeaningFits i counts (visibility.vector_type kind is_resolved) = kind_shape kind ≡ vector
-MeaningFits i counts (visibility.enumeration_type e count) = IsTrue (nat_lt 0 count && nat_le count 256) × (slice_get counts e ≡ Some count)
+MeaningFits i counts (visibility.enumeration_type e count) =
+    IsTrue (nat_lt 0 count && nat_le count 256) × (slice_get counts e ≡ Some count)
 MeaningFits i counts _ = Unit {0}
 
 abbrev pub AllFit : Inside → Counts → List Declared → Type 0

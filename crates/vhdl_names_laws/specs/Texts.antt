@@ -1,4 +1,5 @@
--- What a component repeats of its entity (IEEE 1076-2008, 6.8 and 4.10): the same text, token for token apart from case.
+-- What a component repeats of its entity (IEEE 1076-2008, 6.8 and 4.10): the same text, token for token apart
+-- from case.
 use Rattle.std.specs.Prelude.{◌≡◌, ℕ, List, map, Some}
 use Rattle.std.specs.Char.{to_ascii_lowercase}
 use Rattle.vhdl_tree.specs.Tree as t

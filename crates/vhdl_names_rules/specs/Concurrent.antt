@@ -17,10 +17,17 @@ use Rattle.vhdl_names_rules.specs.Statements.{SignalName, signal, target, statem
 abbrev pub label_of : Option Ident → Option Name
 label_of = option_map (λ l. l.text)
 
--- a concurrent assignment is a process that is sensitive to what it reads, and starts where the assignment does behind its label (11.6)
+-- a concurrent assignment is a process that is sensitive to what it reads, and starts where the assignment does behind
+-- its label (11.6)
 abbrev pub assigning : (at : ℕ) → Option Ident → s.Statement → u.Concurrent
 assigning at label statement =
-    u.process (record { at = at; label = label_of label; variables = []; sensitivity = u.as_read; body = s.step statement s.done })
+    u.process (record {
+      at = at;
+      label = label_of label;
+      variables = [];
+      sensitivity = u.as_read;
+      body = s.step statement s.done;
+    })
 
 -- ---- conditional and selected assignments (11.6)
 
@@ -108,7 +115,8 @@ sight_within sight (t.for_each n r) = within_generate sight n
 sight_within sight (t.if_holds e) = sight
 
 abbrev pub generated : Sight → Name → (at : ℕ) → t.Scheme → u.Concurrents → Option u.Concurrent
-generated sight label at (t.for_each n r) body = option_map (λ range. u.generate_for at label range body) (static_range sight r)
+generated sight label at (t.for_each n r) body =
+    option_map (λ range. u.generate_for at label range body) (static_range sight r)
 generated sight label at (t.if_holds e) body =
     option_map (λ test. u.generate_if at label test body) (typed sight e >>= as_static_test)
 

@@ -1,5 +1,5 @@
--- Declarations of objects and types (IEEE 1076-2008, clauses 5 and 6): generics, ports, constants, signals, variables and
--- enumerations. Each gives what it declares, and what is analysed of it, with the declarations before it in sight.
+-- Declarations of objects and types (IEEE 1076-2008, clauses 5 and 6): generics, ports, constants, signals, variables
+-- and enumerations. Each gives what it declares, and what is analysed of it, with the declarations before it in sight.
 use Rattle.std.specs.Prelude.{ℕ, suc, Bool, nat_le, List, [], ◌∷◌, map, length, Option, Some, None, is_none, unwrap_or}
 use Rattle.vhdl_tree.specs.declared.declaration.Mode.{Mode}
 use Rattle.vhdl_tree.specs.declared.declaration.Mode.TheVariants.{In}
@@ -21,15 +21,16 @@ use Rattle.vhdl_names_rules.specs.Subtypes.{subtype, as_integer_type, fixed_valu
 -- ---- one declaration after another
 
 -- each declaration has those before it in sight
-abbrev pub in_order : {A B : Type 0} → (Sight → List Declared → Sight) → (Sight → A → Option (Declares B)) → Sight → List A → Option (Declares B)
+abbrev pub in_order : {A B : Type 0} → (Sight → List Declared → Sight)
+    → (Sight → A → Option (Declares B)) → Sight → List A → Option (Declares B)
 in_order with_more declares sight [] = Some (record { declared = []; analysed = [] })
 in_order with_more declares sight (d ∷ ds) = do
   x ← declares sight d
   xs ← in_order with_more declares (with_more sight x.declared) ds
   Some (followed_by x xs)
 
--- Within the declaration of a signal, constant or variable its name hides outer ones, and means nothing yet (12.3). In an interface
--- list a name is there, and hides, from the end of its declaration on.
+-- Within the declaration of a signal, constant or variable its name hides outer ones, and means nothing yet (12.3). In
+-- an interface list a name is there, and hides, from the end of its declaration on.
 abbrev pub within : Sight → List Ident → Sight
 within sight ns = with_declared sight (all_declared visibility.unfinished (names_of ns))
 
@@ -119,7 +120,9 @@ other_constants sight d = do
   kind ← as_kind s.type
   value ← fixed_value (within sight d.names) s.type d.value
   Some (record {
-    declared = declared_as visibility.is_constant (λ k. visibility.constant k kind (declaring_literal value)) sight.region d.names;
+    declared =
+        declared_as visibility.is_constant
+        (λ k. visibility.constant k kind (declaring_literal value)) sight.region d.names;
     analysed = for_each (λ n. u.Declaration.constant n.at s.form value) d.names;
   })
 

@@ -1,5 +1,5 @@
--- The types of expressions (IEEE 1076-2008, clause 9): what an expression is, given the declarations in sight; None where a rule
--- is broken. No rule comes before another.
+-- The types of expressions (IEEE 1076-2008, clause 9): what an expression is, given the declarations in sight; None
+-- where a rule is broken. No rule comes before another.
 use Rattle.std.specs.Prelude.{ℕ, ◌==◌, Bool, true, false, List, [], ◌∷◌, Option, Some, None, option_map}
 use Rattle.vhdl_tree.specs.declared.operator.Sign.{Sign}
 use Rattle.vhdl_tree.specs.declared.operator.Sign.TheVariants.{Plus, Minus}
@@ -47,7 +47,8 @@ unfoldable mutual
   -- literals (9.3.2)
   typed sight (t.integer at text) = option_map (λ n. integer (u.number n)) (number_of text)
   typed sight (t.character at c) = option_map (λ v. elements Element (u.character v)) (nine_of c)
-  typed sight (t.string at text) = option_map (λ vs. elements OpenVector (u.Vector.literal at vs)) (values_of_string text)
+  typed sight (t.string at text) =
+      option_map (λ vs. elements OpenVector (u.Vector.literal at vs)) (values_of_string text)
   typed sight (t.bits at text) = option_map (λ vs. elements OpenVector (u.Vector.literal at vs)) (values_of_bits text)
   -- names (8), conversions and calls (9.3.4, 9.3.6)
   typed sight (t.named n suffix attribute) = do

@@ -70,8 +70,8 @@ declaration entities sight (t.component c) = component entities sight c
 abbrev pub labelled : List Name → List Declared
 labelled ns = all_declared visibility.label ns
 
--- An architecture has its entity's context, and its own. Its declarations and the labels of its statements are one region with
--- the entity's generics and ports, in which each name is declared once.
+-- An architecture has its entity's context, and its own. Its declarations and the labels of its statements are one
+-- region with the entity's generics and ports, in which each name is declared once.
 unfoldable pub architecture : List EntityView → EntityView → List ContextItem → t.Architecture → Option u.Architecture
 architecture entities e items a = do
   c ← context e.context items
@@ -88,10 +88,16 @@ architecture entities e items a = do
 unfoldable pub unit : List EntityView → List DesignUnit → EntityView → Option u.Entity
 unit entities ds e = do
   a ← if_any (λ p. architecture entities e p.0 p.1) (architecture_of e.name ds)
-  Some (record { at = e.at; name = e.name; generics = e.interface.generics; ports = e.interface.ports; architecture = a })
+  Some (record {
+    at = e.at;
+    name = e.name;
+    generics = e.interface.generics;
+    ports = e.interface.ports;
+    architecture = a;
+  })
 
--- No two entities have one name, no entity has two architectures, and each architecture stands after its entity; instances may
--- be of any entity of the file.
+-- No two entities have one name, no entity has two architectures, and each architecture stands after its entity;
+-- instances may be of any entity of the file.
 unfoldable pub units_of : File → Option Units
 units_of f = do
   rule Twice (are_distinct (entity_names f.units))

@@ -69,7 +69,8 @@ entity_named entities n = find (λ e. bytes_eq n e.1.name) (enumerate_from 0 ent
 
 -- ---- components (6.8)
 
--- A component is the text of the entity of its name. It is a region of its own, and its words mean the same where it stands.
+-- A component is the text of the entity of its name. It is a region of its own, and its words mean the same where
+-- it stands.
 unfoldable pub component : List EntityView → Sight → t.Component → Option (Declares u.Declaration)
 component entities sight c = do
   e ← entity_named entities c.name.text

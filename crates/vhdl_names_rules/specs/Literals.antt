@@ -59,4 +59,5 @@ values_by (Some class) digits = Some (flat_map (λ b. bits_of class (digit_value
 -- the values of a bit string (15.8): its digits, underscores counting for nothing
 abbrev pub values_of_bits : List ℕ → Option (List Nine)
 values_of_bits [] = None
-values_of_bits (base ∷ text) = values_by (base_class base) (filter (λ b. not (b == underscore)) (quoted text)) >>= at_least_one
+values_of_bits (base ∷ text) =
+    values_by (base_class base) (filter (λ b. not (b == underscore)) (quoted text)) >>= at_least_one

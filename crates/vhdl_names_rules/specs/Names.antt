@@ -1,5 +1,5 @@
--- What names in expressions are (IEEE 1076-2008, clause 8): objects with their indexed and slice names, conversions and calls of
--- the packages' functions (9.3.4, 9.3.6), and the attribute 'event (16.2.4).
+-- What names in expressions are (IEEE 1076-2008, clause 8): objects with their indexed and slice names, conversions and
+-- calls of the packages' functions (9.3.4, 9.3.6), and the attribute 'event (16.2.4).
 use Rattle.std.specs.Prelude.{ℕ, Bool, true, false, ◌&&◌, if◌then◌else◌, List, [], ◌∷◌, Option, Some, None, option_map, bytes_eq, codes}
 use Rattle.vhdl_values.specs.declared.kinds.Edge.{Edge}
 use Rattle.vhdl_tree.specs.Tree.{Ident}
@@ -113,7 +113,8 @@ denoted at (visibility.generate_parameter k) s = if_plain s (integer (u.generate
 denoted at (visibility.loop_parameter k) s = if_plain s (integer (u.loop_parameter k))
 denoted at (visibility.port k mode kind) s = read_signal at (u.port k) kind s
 denoted at (visibility.signal k (Elements kind)) s = read_signal at (u.Signal.signal k) kind s
-denoted at (visibility.signal k (Enumeration e count)) s = if_plain s (enumerated e count (u.state_of (u.Signal.signal k)))
+denoted at (visibility.signal k (Enumeration e count)) s =
+    if_plain s (enumerated e count (u.state_of (u.Signal.signal k)))
 denoted at (visibility.variable k (Elements kind)) s = read_by (u.of_variable at k) kind s
 denoted at (visibility.variable k (Enumeration e count)) s = if_plain s (enumerated e count (u.state_of_variable k))
 denoted at (visibility.constant k kind values) s = read_by (u.of_constant at k) kind s

@@ -23,13 +23,15 @@ std_logic_1164 =
     declare (codes "std_logic") (element_type true) ∷ declare (codes "std_ulogic") (element_type false)
     ∷ declare (codes "std_logic_vector") (vector_type LogicVector true)
     ∷ declare (codes "std_ulogic_vector") (vector_type LogicVector false)
-    ∷ declare (codes "rising_edge") (function (EdgeCall Rising)) ∷ declare (codes "falling_edge") (function (EdgeCall Falling)) ∷ []
+    ∷ declare (codes "rising_edge") (function (EdgeCall Rising))
+    ∷ declare (codes "falling_edge") (function (EdgeCall Falling)) ∷ []
 
 -- package numeric_std of library ieee (16.8); its operators stand in the rules of expressions
 abbrev pub numeric_std : List Declared
 numeric_std =
     declare (codes "unsigned") (vector_type Unsigned true) ∷ declare (codes "resize") (function (ByCount Resize))
-    ∷ declare (codes "shift_left") (function (ByCount ShiftLeft)) ∷ declare (codes "shift_right") (function (ByCount ShiftRight))
+    ∷ declare (codes "shift_left") (function (ByCount ShiftLeft))
+    ∷ declare (codes "shift_right") (function (ByCount ShiftRight))
     ∷ declare (codes "to_unsigned") (function ToUnsigned) ∷ []
 
 -- ---- context clauses
@@ -56,8 +58,8 @@ is_logic s = is_ieee s.library && bytes_eq s.name.text (codes "std_logic_1164")
 abbrev pub is_numbers : Selected → Bool
 is_numbers s = is_ieee s.library && bytes_eq s.name.text (codes "numeric_std")
 
--- What a list of context items brings, after a context that goes before: the libraries that clauses name are there, and a use
--- clause names one of the two packages, after a library clause for ieee.
+-- What a list of context items brings, after a context that goes before: the libraries that clauses name are there, and
+-- a use clause names one of the two packages, after a library clause for ieee.
 abbrev pub context : Context → List ContextItem → Option Context
 context before [] = Some before
 context before (library ns ∷ rest) = do
@@ -66,7 +68,10 @@ context before (library ns ∷ rest) = do
 context before (uses ss ∷ rest) = do
   rule Undeclared before.has_ieee
   rule LeftOut (list_all (λ s. is_logic s || is_numbers s) ss)
-  context (record before { has_logic = before.has_logic || list_any is_logic ss; has_numbers = before.has_numbers || list_any is_numbers ss }) rest
+  context (record before {
+    has_logic = before.has_logic || list_any is_logic ss;
+    has_numbers = before.has_numbers || list_any is_numbers ss;
+  }) rest
 
 -- the packages' declarations that are in sight
 abbrev pub visible : Context → List Declared
@@ -74,4 +79,12 @@ visible c = (if c.has_numbers then numeric_std else []) ++ ((if c.has_logic then
 
 -- where nothing is declared yet
 abbrev pub sight_of : Context → List Declared → Sight
-sight_of c region = record { loops = []; variables = []; generates = []; region = region; enclosing = []; packages = visible c; numbers = c.has_numbers }
+sight_of c region = record {
+  loops = [];
+  variables = [];
+  generates = [];
+  region = region;
+  enclosing = [];
+  packages = visible c;
+  numbers = c.has_numbers;
+}

@@ -1,5 +1,5 @@
--- Rules that are kept or broken, each with the problem that is told where it is broken: what rests on several rules is there where each
--- of them is kept.
+-- Rules that are kept or broken, each with the problem that is told where it is broken: what rests on several rules is
+-- there where each of them is kept.
 pub use Rattle.std.specs.Bool.{then_some}
 use Rattle.std.specs.Prelude.{Bool, true, false, List, [], ◌∷◌, Option, Some, None}
 use Rattle.vhdl_names_rules.specs.declared.fault.NameProblem.{NameProblem}

@@ -1,5 +1,5 @@
--- Whether two interfaces are the same text, token for token apart from case (IEEE 1076-2008, 6.8 and 4.10): the same trees, in
--- which places don't count, and letters are small ones. A tree keeps every optional word.
+-- Whether two interfaces are the same text, token for token apart from case (IEEE 1076-2008, 6.8 and 4.10): the same
+-- trees, in which places don't count, and letters are small ones. A tree keeps every optional word.
 use Rattle.std.specs.Prelude.{ℕ, ◌==◌, Bool, true, false, ◌&&◌, List, [], ◌∷◌, map, Option, Some, None, bytes_eq}
 use Rattle.std.specs.Char.{to_ascii_lowercase}
 use Rattle.vhdl_tree.specs.Lexeme.{same_kind}
@@ -67,7 +67,9 @@ same_value (t.others at a) (t.others at' b) = same_expr a b
 same_value _ _ = false
 
 abbrev pub same_range : Range → Range → Bool
-same_range a b = same_expr a.left b.left && same_kind (direction_kind a.direction) (direction_kind b.direction) && same_expr a.right b.right
+same_range a b =
+    same_expr a.left b.left && same_kind (direction_kind a.direction) (direction_kind b.direction)
+    && same_expr a.right b.right
 
 -- ---- interfaces
 

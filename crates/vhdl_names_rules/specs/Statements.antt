@@ -29,8 +29,10 @@ abbrev pub named_part : (at : ℕ) → Signal → Option Mode → Part × Object
 named_part at x mode p = record { place = place_of at x p.0; mode = mode; type = p.1 }
 
 abbrev pub as_signal : (at : ℕ) → Meaning → Suffix → Option SignalName
-as_signal at (visibility.port k mode kind) suffix = option_map (named_part at (u.port k) (Some mode)) (part_of (Elements kind) suffix)
-as_signal at (visibility.signal k type) suffix = option_map (named_part at (u.Signal.signal k) None) (part_of type suffix)
+as_signal at (visibility.port k mode kind) suffix =
+    option_map (named_part at (u.port k) (Some mode)) (part_of (Elements kind) suffix)
+as_signal at (visibility.signal k type) suffix =
+    option_map (named_part at (u.Signal.signal k) None) (part_of type suffix)
 as_signal at _ suffix = None
 
 -- the signal that a name is

@@ -31,7 +31,8 @@ pub record Subtype : Type 0 where
 -- a vector type needs a range, and no other type takes one (5.3.2)
 abbrev pub marked : Meaning → Option Range → Option Subtype
 marked (visibility.element_type r) None = Some (record { type = Elements Element; form = u.element; is_resolved = r })
-marked (visibility.vector_type k r) (Some range) = Some (record { type = Elements k; form = u.vector range; is_resolved = r })
+marked (visibility.vector_type k r) (Some range) =
+    Some (record { type = Elements k; form = u.vector range; is_resolved = r })
 marked (visibility.enumeration_type e count) None =
     Some (record { type = Enumeration e count; form = u.enumeration count; is_resolved = false })
 marked _ _ = None
@@ -71,7 +72,8 @@ named_value _ _ = None
 
 -- to_unsigned of two static integers
 abbrev pub encoded_value : ObjectType → Meaning → List Typed → Option Fixed
-encoded_value (Elements Unsigned) (visibility.function ToUnsigned) (integer n ∷ integer size ∷ []) = Some (u.Fixed.encoded n size)
+encoded_value (Elements Unsigned) (visibility.function ToUnsigned) (integer n ∷ integer size ∷ []) =
+    Some (u.Fixed.encoded n size)
 encoded_value _ _ _ = None
 
 abbrev pub literal_value : ObjectType → Expr → Option Fixed

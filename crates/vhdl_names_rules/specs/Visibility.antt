@@ -126,8 +126,8 @@ with_declared s ds = record s { region = s.region ++ ds }
 abbrev pub with_variables : Sight → List Declared → Sight
 with_variables s ds = record s { variables = s.variables ++ ds }
 
--- Declarations one after another: the scope of each goes on to the end of the region (12.2), and within itself it hides outer
--- names without being visible (12.3). What each declares, and what is analysed of it.
+-- Declarations one after another: the scope of each goes on to the end of the region (12.2), and within itself it hides
+-- outer names without being visible (12.3). What each declares, and what is analysed of it.
 pub record Declares (A : Type 0) : Type 0 where
   pub declared : List Declared
   pub analysed : List A

@@ -34,10 +34,12 @@ found numbers are_numbers p = do
   rule NotVisible numbers
   given_that TypeMismatch are_numbers p
 
--- the numbers that operands are, as integers and unsigned ones; all but two integers need the operators of numeric_std in sight
+-- the numbers that operands are, as integers and unsigned ones; all but two integers need the operators of numeric_std
+-- in sight
 abbrev pub numbers_of : (numbers : Bool) → Typed → Typed → Option (Typed × Typed)
 numbers_of numbers (integer s) (integer t) = Some (integer s, integer t)
-numbers_of numbers (elements j x) (elements k y) = found numbers (are_numbers j k) (elements Unsigned x, elements Unsigned y)
+numbers_of numbers (elements j x) (elements k y) =
+    found numbers (are_numbers j k) (elements Unsigned x, elements Unsigned y)
 numbers_of numbers (elements j x) (integer t) = found numbers (is_number j) (elements Unsigned x, integer t)
 numbers_of numbers (integer s) (elements k y) = found numbers (is_number k) (integer s, elements Unsigned y)
 numbers_of numbers _ _ = None

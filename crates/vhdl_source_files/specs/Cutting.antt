@@ -1,5 +1,5 @@
--- A long line of a source, shown round the byte at which a fault is told: of what stands before the byte and of what stands from it on
--- at most 100 bytes each.
+-- A long line of a source, shown round the byte at which a fault is told: of what stands before the byte and of what
+-- stands from it on at most 100 bytes each.
 use Rattle.std.specs.Prelude.{ℕ, ◌+◌, ◌-◌, nat_lt, ◌&&◌, Bool, if◌then◌else◌, List, ◌++◌, length, take, drop, codes}
 use Rattle.vhdl_source_files.specs.declared.cutting.CutLine.{CutLine}
 
@@ -8,7 +8,8 @@ abbrev pub is_long : (before after : List ℕ) → Bool
 is_long before after = nat_lt 200 (length before + length after)
 
 abbrev pub cut_before : (long : Bool) → (before : List ℕ) → List ℕ
-cut_before long before = if long && nat_lt 100 (length before) then codes ".." ++ drop (length before - 98) before else before
+cut_before long before =
+    if long && nat_lt 100 (length before) then codes ".." ++ drop (length before - 98) before else before
 
 abbrev pub cut_after : (long : Bool) → (after : List ℕ) → List ℕ
 cut_after long after = if long && nat_lt 100 (length after) then take 98 after ++ codes ".." else after

@@ -67,4 +67,5 @@ byte_at text at = take 1 (drop at text)
 
 -- the place has the byte of its file, or is the end of its file, behind which a line feed or the end of all stands
 abbrev pub Holds : (text : List ℕ) → (at : ℕ) → Spot → Type 0
-Holds text at s = (byte_at s.file.text s.at ≡ byte_at text at) ⊎ ((s.at ≡ length s.file.text) × (byte_at text at ≡ line_feed ∷ []))
+Holds text at s =
+    (byte_at s.file.text s.at ≡ byte_at text at) ⊎ ((s.at ≡ length s.file.text) × (byte_at text at ≡ line_feed ∷ []))

@@ -20,4 +20,5 @@ pub record IsPlaced (files : List FileView) (at : ℕ) (s : Spot) : Type 0 where
 
 -- The same at the end of that text: it is that of the last file.
 abbrev pub EachByteIsPlacedInItsFile : Type 0
-EachByteIsPlacedInItsFile = (files : List FileView) (at : ℕ) → files ≢ [] → at ≤ length (joined files) → IsPlaced files at (spot_in files at)
+EachByteIsPlacedInItsFile =
+    (files : List FileView) (at : ℕ) → files ≢ [] → at ≤ length (joined files) → IsPlaced files at (spot_in files at)

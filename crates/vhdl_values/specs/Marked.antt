@@ -30,4 +30,5 @@ IsMarkedBy words vs = IsMarked vs words.ones words.zeros words.unset
 -- of words that mark two vectors of one length, the words that mark an operator's results
 abbrev pub Combines : Logic → Stripped → Stripped → Stripped → Type 0
 Combines kind left right words =
-    (vs ws : List Nine) → IsMarkedBy left vs → IsMarkedBy right ws → length vs ≡ length ws → IsMarkedBy words (logic_of_all kind vs ws)
+    (vs ws : List Nine) → IsMarkedBy left vs → IsMarkedBy right ws
+    → length vs ≡ length ws → IsMarkedBy words (logic_of_all kind vs ws)

@@ -92,10 +92,12 @@ plane_of-values_at : (j w len a b c d : ℕ) → ((k : ℕ) → bit_at (code_at 
 unfolding values_at marks
 plane_of-values_at j w zero a b c d same codes = omega arith
 plane_of-values_at j w (suc k) a b c d same codes =
-    let here : code_of (value_of_code (code_at a b c d k)) ≡ code_at a b c d k = code_of-value_of_code _ (codes k (omega arith)) in
+    let here : code_of (value_of_code (code_at a b c d k)) ≡ code_at a b c d k =
+    code_of-value_of_code _ (codes k (omega arith)) in
     let digit : bit (has_bit j (value_of_code (code_at a b c d k))) ≡ bit_at w k =
     ap (λ n. bit (bit_at n j == 1)) here ∙ ap (λ n. bit (n == 1)) (same k) ∙ bit-test (bit_at w k) (bit_at-lt w k) in
-    let rest : plane_of j (values_at k a b c d) ≡ w % 2 ^ k = plane_of-values_at j w k a b c d same (λ i lt. codes i (omega arith)) in
+    let rest : plane_of j (values_at k a b c d) ≡ w % 2 ^ k =
+    plane_of-values_at j w k a b c d same (λ i lt. codes i (omega arith)) in
     let one : 1 + k ≡ suc k = omega arith in
     let whole : w % 2 ^ suc k ≡ bit_at w k * 2 ^ k + w % 2 ^ k = ap (λ n. w % 2 ^ n) (sym one) ∙ mod-pow-add w 1 k in
     ap (λ n. n * 2 ^ length (values_at k a b c d) + plane_of j (values_at k a b c d)) digit
@@ -104,13 +106,17 @@ plane_of-values_at j w (suc k) a b c d same codes =
     ∙ sym whole
 
 pub plane_of-first : (len a b c d : ℕ) → IsPlanes len a b c d → plane_of 0 (values_at len a b c d) ≡ a
-plane_of-first len a b c d h = plane_of-values_at 0 a len a b c d (λ k. (bit-code a b c d k).0) h.codes ∙ mod-eq_of_lt h.first
+plane_of-first len a b c d h =
+    plane_of-values_at 0 a len a b c d (λ k. (bit-code a b c d k).0) h.codes ∙ mod-eq_of_lt h.first
 
 pub plane_of-second : (len a b c d : ℕ) → IsPlanes len a b c d → plane_of 1 (values_at len a b c d) ≡ b
-plane_of-second len a b c d h = plane_of-values_at 1 b len a b c d (λ k. (bit-code a b c d k).1) h.codes ∙ mod-eq_of_lt h.second
+plane_of-second len a b c d h =
+    plane_of-values_at 1 b len a b c d (λ k. (bit-code a b c d k).1) h.codes ∙ mod-eq_of_lt h.second
 
 pub plane_of-third : (len a b c d : ℕ) → IsPlanes len a b c d → plane_of 2 (values_at len a b c d) ≡ c
-plane_of-third len a b c d h = plane_of-values_at 2 c len a b c d (λ k. (bit-code a b c d k).2) h.codes ∙ mod-eq_of_lt h.third
+plane_of-third len a b c d h =
+    plane_of-values_at 2 c len a b c d (λ k. (bit-code a b c d k).2) h.codes ∙ mod-eq_of_lt h.third
 
 pub plane_of-fourth : (len a b c d : ℕ) → IsPlanes len a b c d → plane_of 3 (values_at len a b c d) ≡ d
-plane_of-fourth len a b c d h = plane_of-values_at 3 d len a b c d (λ k. (bit-code a b c d k).3) h.codes ∙ mod-eq_of_lt h.fourth
+plane_of-fourth len a b c d h =
+    plane_of-values_at 3 d len a b c d (λ k. (bit-code a b c d k).3) h.codes ∙ mod-eq_of_lt h.fourth

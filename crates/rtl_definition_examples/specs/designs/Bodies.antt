@@ -27,7 +27,9 @@ use Rattle.rtl_definition_examples.specs.designs.Refusals.{minus, of}
 
 -- a : in, w : in (1 downto 0), with elements 0, 1 and 2; and a variable x of one element
 abbrev pub site : Site
-site = record no_site { ports = one ∷ k.vector (record { left = 1; direction = Downto; right = 0 }) ∷ []; variables = one ∷ [] }
+site =
+    record no_site
+    { ports = one ∷ k.vector (record { left = 1; direction = Downto; right = 0 }) ∷ []; variables = one ∷ [] }
 
 abbrev pub a : Value
 a = e.elements (e.of_signal (port 0 e.whole))
@@ -47,9 +49,11 @@ pub record ConditionsBecomeTests : Type 0 where
   pub enclosed : test site (e.alike 35 a is_enclosed_one) ≡ Ok (bodies.level false 0 One)
   pub turned : test site (e.alike 35 is_one a) ≡ Ok (bodies.level false 0 One)
   -- w(0) = '1'
-  pub indexed : test site (e.alike 35 (e.elements (e.of_signal (port 1 (at (number 0))))) is_one) ≡ Ok (bodies.level true 2 One)
+  pub indexed : test site (e.alike 35 (e.elements (e.of_signal (port 1 (at (number 0))))) is_one)
+      ≡ Ok (bodies.level true 2 One)
   -- w(1 downto 1) = "1", x = '1', a /= '1'
-  pub slice : test site (e.alike 35 (e.elements (e.of_signal (port 1 (e.slice (downto 1 1))))) (e.elements (e.Vector.literal 31 (One ∷ []))))
+  pub slice : test site (e.alike 35 (e.elements (e.of_signal (port 1 (e.slice (downto 1 1)))))
+      (e.elements (e.Vector.literal 31 (One ∷ []))))
       ≡ Ok (bodies.equal (bodies.elements (bodies.signal (1 ∷ []))) (bodies.elements (bodies.constant (One ∷ []))))
   pub of_variable : test site (e.alike 35 (e.elements (e.of_variable 34 0 e.whole)) is_one)
       ≡ Ok (bodies.equal (bodies.elements (bodies.variable (0 ∷ []))) (bodies.elements (bodies.constant (One ∷ []))))
@@ -59,25 +63,31 @@ pub record ConditionsBecomeTests : Type 0 where
   pub edge : test site (e.Test.both And (e.event (port 0 e.whole)) (e.alike 35 a is_one))
       ≡ Ok (bodies.combined And (bodies.event 0) (bodies.level true 0 One))
   -- 1 < w, 1 = 2, w = "111" of other lengths
-  pub integer_first : test site (e.compared_with 35 Lt (number 1) w) ≡ Ok (bodies.compared_to Gt (bodies.signal (1 ∷ 2 ∷ [])) 1)
+  pub integer_first : test site (e.compared_with 35 Lt (number 1) w)
+      ≡ Ok (bodies.compared_to Gt (bodies.signal (1 ∷ 2 ∷ [])) 1)
   pub decided : test site (e.Test.fixed (e.StaticTest.compared 35 Eq (number 1) (number 2))) ≡ Ok (bodies.decided false)
   pub lengths_differ : test site (e.alike 35 (e.elements w) (e.elements (e.Vector.literal 31 (One ∷ One ∷ One ∷ []))))
-      ≡ Ok (bodies.equal (bodies.elements (bodies.signal (1 ∷ 2 ∷ []))) (bodies.elements (bodies.constant (One ∷ One ∷ One ∷ []))))
+      ≡ Ok (bodies.equal (bodies.elements (bodies.signal (1 ∷ 2 ∷ [])))
+      (bodies.elements (bodies.constant (One ∷ One ∷ One ∷ []))))
 
 pub record ConditionsAreTold : Type 0 where
   -- w < -1, -1 = w, and 1 < 2147483648: at the relation
   pub compared : test site (e.compared_to 35 Lt w (minus 1)) ≡ Err (StaticError, 35)
   pub compared_first : test site (e.compared_with 35 Eq (minus 1) w) ≡ Err (StaticError, 35)
-  pub over_integers : test site (e.Test.fixed (e.StaticTest.compared 35 Lt (number 1) (number 2147483648))) ≡ Err (StaticError, 35)
+  pub over_integers : test site (e.Test.fixed (e.StaticTest.compared 35 Lt (number 1) (number 2147483648)))
+      ≡ Err (StaticError, 35)
   -- 1 / 0 = 1, at the operator, and w(2) = '1', at the name
-  pub within : test site (e.Test.fixed (e.StaticTest.compared 35 Eq (of arithmetic.Divide (number 1) (number 0)) (number 1))) ≡ Err (StaticError, 5)
+  pub within : test site (e.Test.fixed
+      (e.StaticTest.compared 35 Eq (of arithmetic.Divide (number 1) (number 0)) (number 1))) ≡ Err (StaticError, 5)
   pub outside : test site (e.alike 35 (e.elements (e.of_signal (port 1 (at (number 2))))) is_one) ≡ Err (Index, 34)
   -- (w and "111") = "11", at the operator
-  pub lengths : test site (e.alike 35 (e.elements (e.Vector.binary 32 (v.Logical And) w (e.Vector.literal 31 (One ∷ One ∷ One ∷ []))))
+  pub lengths : test site
+      (e.alike 35 (e.elements (e.Vector.binary 32 (v.Logical And) w (e.Vector.literal 31 (One ∷ One ∷ One ∷ []))))
       (e.elements (e.Vector.literal 36 (One ∷ One ∷ []))))
       ≡ Err (Length 2 3, 32)
   -- the left side first: w(2) = w(3)
-  pub left_first : test site (e.alike 35 (e.elements (e.of_signal (port 1 (at (number 2))))) (e.elements (e.of_signal (from 37 (port 1 (at (number 3)))))))
+  pub left_first : test site (e.alike 35 (e.elements (e.of_signal (port 1 (at (number 2)))))
+      (e.elements (e.of_signal (from 37 (port 1 (at (number 3)))))))
       ≡ Err (Index, 34)
 
 pub record NumbersBecomeConstants : Type 0 where
@@ -95,10 +105,13 @@ pub record NumbersBecomeConstants : Type 0 where
   pub no_number : vector site (e.Vector.encoded 33 (minus 1) (number 3)) ≡ Err (StaticError, 33)
   pub too_wide : vector site (e.counted 33 Resize w (number 65)) ≡ Err (TooWide, 33)
   -- resize(w(2), 65), at the name
-  pub operand_first : vector site (e.counted 33 Resize (e.of_signal (port 1 (at (number 2)))) (number 65)) ≡ Err (Index, 34)
+  pub operand_first : vector site (e.counted 33 Resize (e.of_signal (port 1 (at (number 2)))) (number 65))
+      ≡ Err (Index, 34)
   -- w and "111", and 63 elements & w, at the operator
-  pub lengths : vector site (e.Vector.binary 32 (v.Logical And) w (e.Vector.literal 31 (One ∷ One ∷ One ∷ []))) ≡ Err (Length 2 3, 32)
-  pub joined_too_wide : vector site (e.Vector.binary 32 v.Concatenate (e.Vector.literal 31 (replicate 63 One)) w) ≡ Err (TooWide, 32)
+  pub lengths : vector site (e.Vector.binary 32 (v.Logical And) w (e.Vector.literal 31 (One ∷ One ∷ One ∷ [])))
+      ≡ Err (Length 2 3, 32)
+  pub joined_too_wide : vector site (e.Vector.binary 32 v.Concatenate (e.Vector.literal 31 (replicate 63 One)) w)
+      ≡ Err (TooWide, 32)
   -- a literal of 65 elements; and x(0) of a variable that is no vector
   pub literal_too_wide : vector site (e.Vector.literal 31 (replicate 65 One)) ≡ Err (TooWide, 31)
   pub of_variable : vector site (e.of_variable 38 0 (at (number 0))) ≡ Err (Index, 38)
@@ -123,13 +136,15 @@ later_default = record (entity (codes "g") (wide_output ∷ []) [] []) {
 abbrev pub nothing_computed : Entity
 nothing_computed = entity (codes "f") [] []
     (u.generate_if 54 (codes "g") (e.StaticTest.compared 35 Eq (number 0) (number 1))
-    (u.concurrent (u.generate_for 55 (codes "h") (record { left = number 0; direction = Downto; right = of arithmetic.Divide (number 1) (number 0) })
+    (u.concurrent (u.generate_for 55 (codes "h")
+    (record { left = number 0; direction = Downto; right = of arithmetic.Divide (number 1) (number 0) })
     u.no_concurrents) u.no_concurrents) ∷ [])
 
 -- y : out := '1', which is the actual of k's out port (whose default is '0'), and of a process
 abbrev pub two_sources : Entity
 two_sources = entity (codes "t")
-    (input 10 (codes "a") u.element ∷ record { mode = Out; object = object 11 (codes "y") u.element (Some (u.Fixed.literal (One ∷ []))) } ∷ []) []
+    (input 10 (codes "a") u.element
+    ∷ record { mode = Out; object = object 11 (codes "y") u.element (Some (u.Fixed.literal (One ∷ []))) } ∷ []) []
     (instance 0 (Some (from 41 (port 0 e.whole)) ∷ Some (from 42 (port 1 e.whole)) ∷ [])
     ∷ assignment (port 1 e.whole) a ∷ [])
 

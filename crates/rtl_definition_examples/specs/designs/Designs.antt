@@ -25,7 +25,8 @@ counter = entity (codes "cnt")
     (u.signal (object 20 (codes "q") (u.vector (downto 1 0)) (Some (u.Fixed.literal (Zero ∷ Zero ∷ [])))) ∷ [])
     (process (u.listed (port 0 e.whole ∷ []))
     (s.if_of 53 (s.branch (e.edge Rising (port 0 e.whole))
-    (s.step (assigned (signal 0 e.whole) (e.elements (e.with_integer 32 Add (e.of_signal (signal 0 e.whole)) (number 1)))) s.done)
+    (s.step (assigned (signal 0 e.whole)
+    (e.elements (e.with_integer 32 Add (e.of_signal (signal 0 e.whole)) (number 1)))) s.done)
     s.no_else) ∷ [])
     ∷ assignment (port 1 e.whole) (read (signal 0 e.whole)) ∷ [])
 
@@ -42,7 +43,8 @@ pub record CounterHasItsNet : Type 0 where
     wakes = 0 ∷ [];
     variables = [];
     body = bodies.step (bodies.if_of (bodies.branch (bodies.rising 0)
-        (bodies.step (bodies.assign (0 ∷ 1 ∷ []) (bodies.elements (bodies.binary bodies.plus (bodies.signal (3 ∷ 4 ∷ [])) (bodies.constant (Zero ∷ One ∷ []))))) bodies.done)
+        (bodies.step (bodies.assign (0 ∷ 1 ∷ []) (bodies.elements
+        (bodies.binary bodies.plus (bodies.signal (3 ∷ 4 ∷ [])) (bodies.constant (Zero ∷ One ∷ []))))) bodies.done)
         bodies.no_else)) bodies.done;
   } ∷ record {
     drivers = record { net = 1; start = 0 } ∷ record { net = 2; start = 0 } ∷ [];
@@ -61,9 +63,12 @@ inverter = entity (codes "inv") (input 12 (codes "a") u.element ∷ output 13 (c
 -- x : in, z : out, both (1 downto 0);
 -- g: for i in 0 to 1 generate u: entity work.inv port map (a => x(i), y => z(i)); end generate;
 abbrev pub two_inverters : Entity
-two_inverters = entity (codes "t") (input 10 (codes "x") (u.vector (downto 1 0)) ∷ output 11 (codes "z") (u.vector (downto 1 0)) ∷ []) []
+two_inverters =
+    entity (codes "t")
+    (input 10 (codes "x") (u.vector (downto 1 0)) ∷ output 11 (codes "z") (u.vector (downto 1 0)) ∷ []) []
     (u.generate_for 54 (codes "g") (to 0 1) (u.concurrent
-    (instance 0 (Some (from 41 (port 0 (at (e.generate_parameter 0)))) ∷ Some (from 42 (port 1 (at (e.generate_parameter 0)))) ∷ []))
+    (instance 0 (Some (from 41 (port 0 (at (e.generate_parameter 0))))
+    ∷ Some (from 42 (port 1 (at (e.generate_parameter 0)))) ∷ []))
     u.no_concurrents) ∷ [])
 
 pub record InvertersAreJoined : Type 0 where
@@ -82,7 +87,8 @@ pub record InvertersAreJoined : Type 0 where
 -- a : in, z : out := '0', with no statement; and an instance of it
 abbrev pub no_statement : Entity
 no_statement = entity (codes "k")
-    (input 12 (codes "a") u.element ∷ record { mode = Out; object = object 13 (codes "z") u.element (Some (u.Fixed.literal (Zero ∷ []))) } ∷ []) [] []
+    (input 12 (codes "a") u.element
+    ∷ record { mode = Out; object = object 13 (codes "z") u.element (Some (u.Fixed.literal (Zero ∷ []))) } ∷ []) [] []
 
 abbrev pub around_idle : Entity
 around_idle = entity (codes "t") (input 10 (codes "a") u.element ∷ output 11 (codes "y") u.element ∷ []) []
@@ -101,20 +107,27 @@ pub record IdlePortsHoldTheirDefaults : Type 0 where
 
 -- a : in; signal v (3 downto 0); process (a) begin for i in 0 to 1 loop v(i) <= a; end loop; end process;
 abbrev pub loop_drives : Entity
-loop_drives = entity (codes "lt") (input 10 (codes "a") u.element ∷ []) (declared 20 (codes "v") (u.vector (downto 3 0)) ∷ [])
+loop_drives =
+    entity (codes "lt") (input 10 (codes "a") u.element ∷ []) (declared 20 (codes "v") (u.vector (downto 3 0)) ∷ [])
     (process (u.listed (port 0 e.whole ∷ []))
-    (s.for_of 51 (to 0 1) (s.step (assigned (signal 0 (at (e.loop_parameter 0))) (read (port 0 e.whole))) s.done) ∷ []) ∷ [])
+    (s.for_of 51 (to 0 1) (s.step (assigned (signal 0 (at (e.loop_parameter 0))) (read (port 0 e.whole))) s.done) ∷ [])
+    ∷ [])
 
--- a : in (3 downto 0), y : out (1 downto 0); process (all) begin for i in 0 to 1 loop y(i) <= a(i); end loop; end process;
+-- a : in (3 downto 0), y : out (1 downto 0); process (all) begin for i in 0 to 1 loop y(i) <= a(i); end loop;
+-- end process;
 abbrev pub loop_reads : Entity
-loop_reads = entity (codes "lp") (input 10 (codes "a") (u.vector (downto 3 0)) ∷ output 11 (codes "y") (u.vector (downto 1 0)) ∷ []) []
+loop_reads =
+    entity (codes "lp")
+    (input 10 (codes "a") (u.vector (downto 3 0)) ∷ output 11 (codes "y") (u.vector (downto 1 0)) ∷ []) []
     (process u.every (s.for_of 51 (to 0 1)
     (s.step (assigned (port 1 (at (e.loop_parameter 0))) (read (port 0 (at (e.loop_parameter 0))))) s.done) ∷ []) ∷ [])
 
 pub record LoopsAreUnrolled : Type 0 where
   -- all of v is driven, and v(0) and v(1), which stand last, are assigned
   pub drives : Of (elaborated_net (loop_drives ∷ []) (codes "lt")) (λ x. x.flat.processes ≡ record {
-    drivers = record { net = 1; start = 0 } ∷ record { net = 2; start = 0 } ∷ record { net = 3; start = 0 } ∷ record { net = 4; start = 0 } ∷ [];
+    drivers =
+        record { net = 1; start = 0 } ∷ record { net = 2; start = 0 }
+        ∷ record { net = 3; start = 0 } ∷ record { net = 4; start = 0 } ∷ [];
     wakes = 0 ∷ [];
     variables = [];
     body = bodies.step (bodies.assign (3 ∷ []) (bodies.elements (bodies.signal (0 ∷ []))))

@@ -1,7 +1,8 @@
--- Words for small designs: units as names and types leave them. Each thing that has a byte stands at one of its own kind: an entity at 1, the
--- generics of it at 6 and 7, its ports from 10 on, its signals from 20 on, a process at 50, a loop at 51, a case at 52, an if at 53, a generate at
--- 54, variables from 60 on; and within a statement its target at 30, a literal at 31, an operator at 32, a call at 33, a name that is read at 34,
--- a relation at 35, an instance's label at 40 and its actuals from 41 on. Static integers have their sign at 3 and their operator at 5.
+-- Words for small designs: units as names and types leave them. Each thing that has a byte stands at one of its own
+-- kind: an entity at 1, the generics of it at 6 and 7, its ports from 10 on, its signals from 20 on, a process at 50, a
+-- loop at 51, a case at 52, an if at 53, a generate at 54, variables from 60 on; and within a statement its target at
+-- 30, a literal at 31, an operator at 32, a call at 33, a name that is read at 34, a relation at 35, an instance's
+-- label at 40 and its actuals from 41 on. Static integers have their sign at 3 and their operator at 5.
 use Rattle.std.specs.Prelude.{ℕ, true, List, [], ◌∷◌, Option, Some, None, Ok, Err, codes}
 use Rattle.vhdl_values.specs.declared.scalar.Nine.{Nine}
 use Rattle.vhdl_tree.specs.declared.declaration.Mode.TheVariants.{In, Out}
@@ -59,7 +60,9 @@ process on body = u.process (record { at = 50; label = None; variables = []; sen
 
 -- target <= value;
 abbrev pub assignment : SignalPart → Value → Concurrent
-assignment p v = u.process (record { at = 30; label = None; variables = []; sensitivity = u.as_read; body = s.step (assigned p v) s.done })
+assignment p v =
+    u.process
+    (record { at = 30; label = None; variables = []; sensitivity = u.as_read; body = s.step (assigned p v) s.done })
 
 -- an instance u of the unit of this number, with these actuals
 abbrev pub instance : ℕ → List (Option SignalPart) → Concurrent
@@ -106,7 +109,13 @@ pub record Shown : Type 0 where
 abbrev pub shown : Elab Elaborated → Elab Shown
 shown elaboration = do
   x ← elaboration
-  Ok (record { starts = x.flat.start; inputs = x.flat.inputs; idle = x.flat.idle; nets = x.net_names; processes = x.process_names })
+  Ok (record {
+    starts = x.flat.start;
+    inputs = x.flat.inputs;
+    idle = x.flat.idle;
+    nets = x.net_names;
+    processes = x.process_names;
+  })
 
 -- a fact of a design that is elaborated, which is false of one that isn't
 abbrev pub Of : Elab Elaborated → (Elaborated → Type 0) → Type 0

@@ -35,7 +35,13 @@ abbrev pub signals_of : List (List ℕ) → t.Subtype → t.Signals
 signals_of ns type = record { names = words ns; subtype = type; default = None }
 
 abbrev pub generics_of : List ℕ → t.Generic
-generics_of mark = record { constant_word = false; names = words (codes "w" ∷ codes "x" ∷ []); in_word = false; mark = word mark; default = None }
+generics_of mark = record {
+  constant_word = false;
+  names = words (codes "w" ∷ codes "x" ∷ []);
+  in_word = false;
+  mark = word mark;
+  default = None;
+}
 
 abbrev pub constants_of : t.Subtype → t.Value → t.Constants
 constants_of type value = record { names = words (codes "w" ∷ codes "x" ∷ []); subtype = type; value = value }
@@ -43,25 +49,38 @@ constants_of type value = record { names = words (codes "w" ∷ codes "x" ∷ []
 pub record DeclarationsDeclare : Type 0 where
   -- a, b : std_logic, which are inputs
   pub ports : port empty_sight (ports_of (codes "a" ∷ codes "b" ∷ []) (plain_type (codes "std_logic"))) ≡ Some (record {
-    declared = declare (codes "a") (visibility.port 0 In Element) ∷ declare (codes "b") (visibility.port 1 In Element) ∷ [];
-    analysed = record { mode = In; object = object_of 10 (codes "a") } ∷ record { mode = In; object = object_of 11 (codes "b") } ∷ [];
+    declared =
+        declare (codes "a") (visibility.port 0 In Element) ∷ declare (codes "b") (visibility.port 1 In Element) ∷ [];
+    analysed =
+        record { mode = In; object = object_of 10 (codes "a") }
+        ∷ record { mode = In; object = object_of 11 (codes "b") } ∷ [];
   })
   -- w, x : natural, which are generics, and constants with the value 1
   pub generics : generic empty_sight (generics_of (codes "natural")) ≡ Some (record {
     declared = declare (codes "w") (visibility.generic 0) ∷ declare (codes "x") (visibility.generic 1) ∷ [];
-    analysed = record { at = 10; type = Natural; default = None } ∷ record { at = 11; type = Natural; default = None } ∷ [];
+    analysed =
+        record { at = 10; type = Natural; default = None } ∷ record { at = 11; type = Natural; default = None } ∷ [];
   })
-  pub integers : constants empty_sight (constants_of (plain_type (codes "natural")) (t.single (number (codes "1")))) ≡ Some (record {
-    declared = declare (codes "w") (visibility.integer_constant 0) ∷ declare (codes "x") (visibility.integer_constant 1) ∷ [];
-    analysed = u'.Declaration.integer 10 Natural (u.number 1) ∷ u'.Declaration.integer 11 Natural (u.number 1) ∷ [];
-  })
+  pub integers : constants empty_sight (constants_of (plain_type (codes "natural")) (t.single (number (codes "1"))))
+      ≡ Some (record {
+        declared =
+            declare (codes "w") (visibility.integer_constant 0)
+            ∷ declare (codes "x") (visibility.integer_constant 1) ∷ [];
+        analysed = u'.Declaration.integer 10 Natural (u.number 1) ∷ u'.Declaration.integer 11 Natural (u.number 1) ∷ [];
+      })
   -- w, x : std_logic with the value '1'
-  pub elements : constants empty_sight (constants_of (plain_type (codes "std_logic")) (t.single (character 49))) ≡ Some (record {
-    declared = declare (codes "w") (visibility.constant 0 Element (Some (One ∷ []))) ∷ declare (codes "x") (visibility.constant 1 Element (Some (One ∷ []))) ∷ [];
-    analysed = u'.Declaration.constant 10 u'.element (u'.Fixed.literal (One ∷ [])) ∷ u'.Declaration.constant 11 u'.element (u'.Fixed.literal (One ∷ [])) ∷ [];
-  })
+  pub elements : constants empty_sight (constants_of (plain_type (codes "std_logic")) (t.single (character 49)))
+      ≡ Some (record {
+        declared =
+            declare (codes "w") (visibility.constant 0 Element (Some (One ∷ [])))
+            ∷ declare (codes "x") (visibility.constant 1 Element (Some (One ∷ []))) ∷ [];
+        analysed =
+            u'.Declaration.constant 10 u'.element (u'.Fixed.literal (One ∷ []))
+            ∷ u'.Declaration.constant 11 u'.element (u'.Fixed.literal (One ∷ [])) ∷ [];
+      })
   -- a, a : std_logic
-  pub twice : interface empty_sight None (Some (ports_of (codes "a" ∷ codes "a" ∷ []) (plain_type (codes "std_logic")) ∷ [])) ≡ None
+  pub twice : interface empty_sight None
+      (Some (ports_of (codes "a" ∷ codes "a" ∷ []) (plain_type (codes "std_logic")) ∷ [])) ≡ None
   -- a port of an enumeration, of type integer, and of a vector type without a range
   pub enumerated_port : port sight (ports_of (codes "p" ∷ []) (plain_type (codes "colour"))) ≡ None
   pub integer_port : port empty_sight (ports_of (codes "p" ∷ []) (plain_type (codes "integer"))) ≡ None
@@ -77,11 +96,14 @@ pub record DeclarationsDeclare : Type 0 where
 
 pub record ValuesAreFixed : Type 0 where
   pub a_character : fixed_value sight (Elements Element) (t.single (character 49)) ≡ Some (u'.Fixed.literal (One ∷ []))
-  pub a_string : fixed_value sight (Elements Unsigned) (t.single (string (codes "01"))) ≡ Some (u'.Fixed.literal (Zero ∷ One ∷ []))
-  pub a_filling : fixed_value sight (Elements LogicVector) (t.Value.others 0 (character 48)) ≡ Some (u'.Fixed.filled Zero)
+  pub a_string : fixed_value sight (Elements Unsigned) (t.single (string (codes "01")))
+      ≡ Some (u'.Fixed.literal (Zero ∷ One ∷ []))
+  pub a_filling : fixed_value sight (Elements LogicVector) (t.Value.others 0 (character 48))
+      ≡ Some (u'.Fixed.filled Zero)
   pub a_literal : fixed_value sight (Enumeration 0 2) (t.single (name (codes "green"))) ≡ Some (u'.Fixed.position 1)
   pub a_constant : fixed_value sight (Elements Element) (t.single (name (codes "one"))) ≡ Some (u'.Fixed.constant 0)
-  pub an_encoding : fixed_value sight (Elements Unsigned) (t.single (with_two (codes "to_unsigned") (name (codes "k")) (number (codes "4"))))
+  pub an_encoding : fixed_value sight (Elements Unsigned)
+      (t.single (with_two (codes "to_unsigned") (name (codes "k")) (number (codes "4"))))
       ≡ Some (u'.Fixed.encoded (u.Static.constant 0) (u.number 4))
   -- a signal's name, a literal in parentheses, and not '1'
   pub a_signal : fixed_value sight (Elements Element) (t.single (name (codes "a"))) ≡ None
@@ -108,7 +130,8 @@ pub record ChoicesCover : Type 0 where
   -- '0' and '1' alone leave seven values
   pub without_others : of_element (on (character 48) ∷ on (character 49) ∷ []) ≡ None
   -- each literal of an enumeration, and not each
-  pub all_literals : of_colour (on (name (codes "red")) ∷ on (name (codes "green")) ∷ []) ≡ Some ((s.position 0 ∷ []) ∷ (s.position 1 ∷ []) ∷ [])
+  pub all_literals : of_colour (on (name (codes "red")) ∷ on (name (codes "green")) ∷ [])
+      ≡ Some ((s.position 0 ∷ []) ∷ (s.position 1 ∷ []) ∷ [])
   pub one_literal : of_colour (on (name (codes "red")) ∷ []) ≡ None
   -- '1' beside the constant that is '1'
   pub twice : of_element (on (character 49) ∷ on (name (codes "one")) ∷ on_others ∷ []) ≡ None

@@ -21,7 +21,13 @@ abbrev pub with_logic : List ContextItem
 with_logic = t.library (words (codes "ieee" ∷ [])) ∷ t.uses (of_ieee (codes "std_logic_1164") ∷ []) ∷ []
 
 abbrev pub port_of : Mode → List ℕ → t.Port
-port_of mode n = record { signal_word = false; names = words (n ∷ []); mode = Some mode; subtype = plain_type (codes "std_logic"); default = None }
+port_of mode n = record {
+  signal_word = false;
+  names = words (n ∷ []);
+  mode = Some mode;
+  subtype = plain_type (codes "std_logic");
+  default = None;
+}
 
 -- port (a : in std_logic; y : out std_logic);
 abbrev pub two_ports : Option (List t.Port)
@@ -30,7 +36,9 @@ two_ports = Some (port_of In (codes "a") ∷ port_of Out (codes "y") ∷ [])
 abbrev pub entity_with : Option (List t.Port) → List ℕ → DesignUnit
 entity_with ports n = record {
   context = with_logic;
-  unit = t.LibraryUnit.entity (record { at = 26; name = word n; generics = None; ports = ports; end_word = false; end_name = None });
+  unit =
+      t.LibraryUnit.entity
+      (record { at = 26; name = word n; generics = None; ports = ports; end_word = false; end_name = None });
 }
 
 abbrev pub entity : List ℕ → DesignUnit
@@ -39,7 +47,15 @@ entity = entity_with two_ports
 abbrev pub architecture_with : List ContextItem → List t.Declaration → (of : List ℕ) → List t.Concurrent → DesignUnit
 architecture_with items ds n cs = record {
   context = items;
-  unit = t.architecture (record { at = 27; name = word (codes "rtl"); entity = word n; declarations = ds; statements = cs; end_word = false; end_name = None });
+  unit = t.architecture (record {
+    at = 27;
+    name = word (codes "rtl");
+    entity = word n;
+    declarations = ds;
+    statements = cs;
+    end_word = false;
+    end_name = None;
+  });
 }
 
 abbrev pub architecture : (of : List ℕ) → List t.Concurrent → DesignUnit
@@ -50,8 +66,18 @@ file units = record { units = units }
 
 -- label : y <= a;
 abbrev pub y_from_a : Option (List ℕ) → t.Concurrent
-y_from_a None = t.assignment (record { label = None; target = target (codes "y"); branches = []; otherwise = Some (t.single (name (codes "a"))) })
-y_from_a (Some l) = t.assignment (record { label = Some (word l); target = target (codes "y"); branches = []; otherwise = Some (t.single (name (codes "a"))) })
+y_from_a None = t.assignment (record {
+  label = None;
+  target = target (codes "y");
+  branches = [];
+  otherwise = Some (t.single (name (codes "a")));
+})
+y_from_a (Some l) = t.assignment (record {
+  label = Some (word l);
+  target = target (codes "y");
+  branches = [];
+  otherwise = Some (t.single (name (codes "a")));
+})
 
 abbrev pub e : List ℕ
 e = codes "e"
@@ -68,24 +94,29 @@ analysed n = record {
   at = 1;
   name = n;
   generics = [];
-  ports = record { mode = In; object = port_object (codes "a") } ∷ record { mode = Out; object = port_object (codes "y") } ∷ [];
+  ports =
+      record { mode = In; object = port_object (codes "a") }
+      ∷ record { mode = Out; object = port_object (codes "y") } ∷ [];
   architecture = None;
 }
 
 abbrev pub analysed_with : List ℕ → u'.Concurrent → u'.Entity
-analysed_with n c = record (analysed n) { architecture = Some (record { declarations = []; statements = u'.concurrent c u'.no_concurrents }) }
+analysed_with n c =
+    record (analysed n)
+    { architecture = Some (record { declarations = []; statements = u'.concurrent c u'.no_concurrents }) }
 
 -- ---- units
 
 pub record UnitsAreOnce : Type 0 where
   -- entity e with its architecture y <= a;
-  pub buffer : units_of (file (entity e ∷ architecture e (y_from_a None ∷ []) ∷ [])) ≡ Some (analysed_with e (u'.process (record {
-    at = 6;
-    label = None;
-    variables = [];
-    sensitivity = u'.as_read;
-    body = s.step (s.assign (whole_port 6 1) (s.single (u.elements (u.of_signal (whole_port 1 0))))) s.done;
-  })) ∷ [])
+  pub buffer : units_of (file (entity e ∷ architecture e (y_from_a None ∷ []) ∷ []))
+      ≡ Some (analysed_with e (u'.process (record {
+        at = 6;
+        label = None;
+        variables = [];
+        sensitivity = u'.as_read;
+        body = s.step (s.assign (whole_port 6 1) (s.single (u.elements (u.of_signal (whole_port 1 0))))) s.done;
+      })) ∷ [])
   pub empty : units_of (file []) ≡ Some []
   -- an entity twice, a second architecture, an architecture before its entity, and one of no entity
   pub entity_twice : units_of (file (entity e ∷ entity e ∷ [])) ≡ None
@@ -94,7 +125,8 @@ pub record UnitsAreOnce : Type 0 where
   pub no_entity : units_of (file (architecture e [] ∷ [])) ≡ None
   -- the label a, which is a port's name; a label twice
   pub label_of_port : units_of (file (entity e ∷ architecture e (y_from_a (Some (codes "a")) ∷ []) ∷ [])) ≡ None
-  pub label_twice : units_of (file (entity e ∷ architecture e (y_from_a (Some (codes "l")) ∷ y_from_a (Some (codes "l")) ∷ []) ∷ [])) ≡ None
+  pub label_twice : units_of
+      (file (entity e ∷ architecture e (y_from_a (Some (codes "l")) ∷ y_from_a (Some (codes "l")) ∷ []) ∷ [])) ≡ None
 
 -- ---- instances
 
@@ -119,15 +151,18 @@ abbrev pub with_instance : List t.Declaration → t.Instantiated → List t.Asso
 with_instance ds unit as' = file (entity k ∷ entity e ∷ architecture_with [] ds e (instance_of unit as' ∷ []) ∷ [])
 
 abbrev pub component_with : Option (List t.Port) → t.Declaration
-component_with ports = t.component (record { name = word k; is_word = false; generics = None; ports = ports; end_name = None })
+component_with ports =
+    t.component (record { name = word k; is_word = false; generics = None; ports = ports; end_name = None })
 
 abbrev pub is_accepted : File → Bool
 is_accepted f = is_some (units_of f)
 
 pub record FormalsAreAssociated : Type 0 where
   -- u : entity work.k port map (a, y => y)
-  pub mixed : is_accepted (with_instance [] work_k (actual_named (codes "a") ∷ for_formal (codes "y") (name (codes "y")) ∷ [])) ≡ true
-  pub placed : units_of (with_instance [] work_k (actual_named (codes "a") ∷ for_formal (codes "y") (name (codes "y")) ∷ []))
+  pub mixed : is_accepted
+      (with_instance [] work_k (actual_named (codes "a") ∷ for_formal (codes "y") (name (codes "y")) ∷ [])) ≡ true
+  pub placed : units_of
+      (with_instance [] work_k (actual_named (codes "a") ∷ for_formal (codes "y") (name (codes "y")) ∷ []))
       ≡ Some (analysed k ∷ analysed_with e (u'.instance (record {
         at = 28;
         label = codes "u";
@@ -136,19 +171,26 @@ pub record FormalsAreAssociated : Type 0 where
         ports = Some (whole_port 1 0) ∷ Some (whole_port 1 1) ∷ [];
       })) ∷ [])
   -- y => y and then a by its position; a twice; an unknown formal; one actual too many
-  pub named_first : is_accepted (with_instance [] work_k (for_formal (codes "y") (name (codes "y")) ∷ actual_named (codes "a") ∷ [])) ≡ false
-  pub twice : is_accepted (with_instance [] work_k (actual_named (codes "a") ∷ for_formal (codes "a") (name (codes "a")) ∷ [])) ≡ false
+  pub named_first : is_accepted
+      (with_instance [] work_k (for_formal (codes "y") (name (codes "y")) ∷ actual_named (codes "a") ∷ [])) ≡ false
+  pub twice : is_accepted
+      (with_instance [] work_k (actual_named (codes "a") ∷ for_formal (codes "a") (name (codes "a")) ∷ [])) ≡ false
   pub unknown : is_accepted (with_instance [] work_k (for_formal (codes "b") (name (codes "a")) ∷ [])) ≡ false
-  pub too_many : is_accepted (with_instance [] work_k (actual_named (codes "a") ∷ actual_named (codes "y") ∷ actual_named (codes "a") ∷ [])) ≡ false
+  pub too_many : is_accepted (with_instance [] work_k
+      (actual_named (codes "a") ∷ actual_named (codes "y") ∷ actual_named (codes "a") ∷ [])) ≡ false
   -- y => a, an out port on an input; a => (a); a => '1'
   pub out_on_input : is_accepted (with_instance [] work_k (for_formal (codes "y") (name (codes "a")) ∷ [])) ≡ false
-  pub enclosed_actual : is_accepted (with_instance [] work_k (for_formal (codes "a") (enclosed (name (codes "a"))) ∷ [])) ≡ false
+  pub enclosed_actual : is_accepted
+      (with_instance [] work_k (for_formal (codes "a") (enclosed (name (codes "a"))) ∷ [])) ≡ false
   pub expression : is_accepted (with_instance [] work_k (for_formal (codes "a") (character 49) ∷ [])) ≡ false
   -- a component that is its entity's text, one that isn't, and none
-  pub of_component : is_accepted (with_instance (component_with two_ports ∷ []) (t.component_unit false (word k)) (actual_named (codes "a") ∷ []))
+  pub of_component : is_accepted
+      (with_instance (component_with two_ports ∷ []) (t.component_unit false (word k)) (actual_named (codes "a") ∷ []))
       ≡ true
-  pub other_component : is_accepted (with_instance (component_with (Some (port_of In (codes "a") ∷ [])) ∷ []) work_k []) ≡ false
-  pub no_component : is_accepted (with_instance [] (t.component_unit false (word k)) (actual_named (codes "a") ∷ [])) ≡ false
+  pub other_component : is_accepted (with_instance (component_with (Some (port_of In (codes "a") ∷ [])) ∷ []) work_k [])
+      ≡ false
+  pub no_component : is_accepted (with_instance [] (t.component_unit false (word k)) (actual_named (codes "a") ∷ []))
+      ≡ false
 
 -- ---- context clauses
 
@@ -163,4 +205,5 @@ pub record ContextsBringNames : Type 0 where
       ≡ false
   -- a library and a package that aren't offered
   pub other_library : is_accepted (with_items (t.library (words (codes "other" ∷ [])) ∷ with_logic)) ≡ false
-  pub other_package : is_accepted (with_items (with_logic ++ t.uses (of_ieee (codes "std_logic_arith") ∷ []) ∷ [])) ≡ false
+  pub other_package : is_accepted (with_items (with_logic ++ t.uses (of_ieee (codes "std_logic_arith") ∷ []) ∷ []))
+      ≡ false

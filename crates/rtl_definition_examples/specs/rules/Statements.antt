@@ -24,7 +24,8 @@ named_a = name (codes "a")
 
 pub record TargetsAreSignals : Type 0 where
   -- y <= a, and a <= y, which assigns an input
-  pub output : statement sight None (t.assigned (target (codes "y")) (t.single named_a)) ≡ Some (s.assign at_y (s.single (u.elements a)))
+  pub output : statement sight None (t.assigned (target (codes "y")) (t.single named_a))
+      ≡ Some (s.assign at_y (s.single (u.elements a)))
   pub input : statement sight None (t.assigned (target (codes "a")) (t.single (name (codes "y")))) ≡ None
   -- y := a, of a signal; one <= a, of a constant
   pub signal_as_variable : statement sight None (t.variable_assigned (target (codes "y")) (t.single named_a)) ≡ None
@@ -46,7 +47,8 @@ labelled x = record { label = Some (word (codes "l")); statement = x }
 
 -- process sensitivity variables begin statements end process;
 abbrev pub process_of : t.Sensitivity → List t.Variables → List t.Sequential → t.Process
-process_of on vs xs = record { at = 20; sensitivity = on; is_word = false; variables = vs; statements = xs; end_label = None }
+process_of on vs xs =
+    record { at = 20; sensitivity = on; is_word = false; variables = vs; statements = xs; end_label = None }
 
 -- variable a : std_logic, which hides the port
 abbrev pub variable_a : t.Variables
@@ -62,13 +64,16 @@ abbrev pub null : t.Statement
 null = t.Statement.null_of 0
 
 pub record ProcessesAreRegions : Type 0 where
-  -- process (a) variable a : std_logic; begin a := '1'; y <= a; end process;  the list means the port, the statements the variable
+  -- process (a) variable a : std_logic; begin a := '1'; y <= a; end process;  the list means the port, the statements
+  -- the variable
   pub hiding : process sight None (process_of on_a (variable_a ∷ []) through_variable) ≡ Some (record {
     at = 20;
     label = None;
     variables = record { at = 10; name = codes "a"; form = u'.element; is_resolved = true; default = None } ∷ [];
     sensitivity = u'.listed (record { at = 6; signal = u.port 0; part = u.whole } ∷ []);
-    body = s.step (s.set 6 0 u.whole (s.single (u.elements (u.character One)))) (s.step (s.assign at_y (s.single (u.elements (u.of_variable 1 0 u.whole)))) s.done);
+    body =
+        s.step (s.set 6 0 u.whole (s.single (u.elements (u.character One))))
+        (s.step (s.assign at_y (s.single (u.elements (u.of_variable 1 0 u.whole)))) s.done);
   })
   -- without the variable, and with it twice
   pub no_variable : process sight None (process_of on_a [] through_variable) ≡ None
@@ -98,7 +103,12 @@ element_of_v i = u.of_signal (record { at = 2; signal = u.port 1; part = u.Part.
 
 -- y <= v(i), alone
 abbrev pub assigning : t.Concurrent
-assigning = t.assignment (record { label = None; target = target (codes "y"); branches = []; otherwise = Some (y_from_v (word (codes "i"))) })
+assigning = t.assignment (record {
+  label = None;
+  target = target (codes "y");
+  branches = [];
+  otherwise = Some (y_from_v (word (codes "i")));
+})
 
 -- g : scheme generate y <= v(i); end generate;
 abbrev pub generate : t.Scheme → t.Concurrent
@@ -126,12 +136,14 @@ pub record TurnsHaveParameters : Type 0 where
   pub for_loop : statement sight None loop_over_v ≡ Some (s.for_of 21 zero_to_three (y_is_element (u.loop_parameter 0)))
   -- g : for i in 0 to 3 generate y <= v(i); end generate;
   pub generate_for : concurrent [] sight (generate (t.for_each (word (codes "i")) to_three))
-      ≡ Some (u'.generate_for 22 (codes "g") zero_to_three (u'.concurrent (reading 6 (y_is_element (u.generate_parameter 0))) u'.no_concurrents))
+      ≡ Some (u'.generate_for 22 (codes "g") zero_to_three
+      (u'.concurrent (reading 6 (y_is_element (u.generate_parameter 0))) u'.no_concurrents))
   -- with another parameter i isn't declared
   pub undeclared : concurrent [] sight (generate (t.for_each (word (codes "j")) to_three)) ≡ None
   -- g : if k = 2 generate, and with a signal in the condition
   pub static_condition : concurrent [] sight (empty_if (binary o.Equal (name (codes "k")) (number (codes "2"))))
-      ≡ Some (u'.generate_if 22 (codes "g") (u.StaticTest.compared 5 Eq (u.Static.constant 0) (u.number 2)) u'.no_concurrents)
+      ≡ Some
+      (u'.generate_if 22 (codes "g") (u.StaticTest.compared 5 Eq (u.Static.constant 0) (u.number 2)) u'.no_concurrents)
   pub signal_condition : concurrent [] sight (empty_if (binary o.Equal named_a (character 49))) ≡ None
 
 -- ---- conditional assignments
@@ -168,9 +180,11 @@ y_is_a = s.step (s.assign at_y (s.single (u.elements a))) s.done
 
 pub record ConditionsBecomeIfs : Type 0 where
   -- y <= a when a; leaves the driver alone where a doesn't hold
-  pub without_else : assignment sight (y_when named_a) ≡ Some (reading 6 (s.step (s.if_of 6 (s.branch (u.holds a) y_is_a s.no_else)) s.done))
+  pub without_else : assignment sight (y_when named_a)
+      ≡ Some (reading 6 (s.step (s.if_of 6 (s.branch (u.holds a) y_is_a s.no_else)) s.done))
   -- with a select y <= a when others;
-  pub selecting : selected sight None y_selected ≡ Some (reading 23 (s.step (s.case_of 23 (u.elements a) (s.others y_is_a)) s.done))
+  pub selecting : selected sight None y_selected
+      ≡ Some (reading 23 (s.step (s.case_of 23 (u.elements a) (s.others y_is_a)) s.done))
   -- if a then y <= a; end if; and case a is when others => y <= a; end case;
   pub sequential_if : statement sight None if_a ≡ Some (s.if_of 24 (s.branch (u.holds a) y_is_a s.no_else))
   pub sequential_case : statement sight None case_a ≡ Some (s.case_of 25 (u.elements a) (s.others y_is_a))

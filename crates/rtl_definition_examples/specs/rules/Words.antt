@@ -1,6 +1,6 @@
--- Words to write small trees with. Each kind of thing that units have the byte of stands at one of its own: a name in an expression at 1, one
--- with parentheses behind it at 2, a number at 3, a string at 4, an operator at 5, a target or a name of a list at 6, what is declared at 10, 11
--- and so on, a process at 20 and other statements behind it.
+-- Words to write small trees with. Each kind of thing that units have the byte of stands at one of its own: a name in
+-- an expression at 1, one with parentheses behind it at 2, a number at 3, a string at 4, an operator at 5, a target or
+-- a name of a list at 6, what is declared at 10, 11 and so on, a process at 20 and other statements behind it.
 use Rattle.std.specs.Prelude.{ℕ, suc, true, false, List, [], ◌∷◌, ◌++◌, Some, None, codes}
 use Rattle.vhdl_values.specs.declared.scalar.Nine.TheVariants.{One}
 use Rattle.vhdl_tree.specs.declared.operator.Operator.{Operator}
@@ -74,7 +74,10 @@ abbrev pub plain_type : List ℕ → t.Subtype
 plain_type mark = record { mark = word mark; range = None }
 
 abbrev pub of_four : List ℕ → t.Subtype
-of_four mark = record { mark = word mark; range = Some (record { left = number (codes "3"); direction = Downto; right = number (codes "0") }) }
+of_four mark = record {
+  mark = word mark;
+  range = Some (record { left = number (codes "3"); direction = Downto; right = number (codes "0") });
+}
 
 -- ---- what names mean where the examples stand
 
@@ -85,14 +88,16 @@ both_packages = record { has_ieee = true; has_logic = true; has_numbers = true }
 abbrev pub logic_alone : Context
 logic_alone = record { has_ieee = true; has_logic = true; has_numbers = false }
 
--- in ports a, v and n, out port y; signal q of an enumeration (red, green); a constant one declared by '1'; an integer k
+-- in ports a, v and n, out port y; signal q of an enumeration (red, green); a constant one declared by '1'; an
+-- integer k
 abbrev pub region : List Declared
 region =
     declare (codes "a") (visibility.port 0 In Element) ∷ declare (codes "v") (visibility.port 1 In LogicVector)
     ∷ declare (codes "n") (visibility.port 2 In Unsigned) ∷ declare (codes "y") (visibility.port 3 Out Element)
     ∷ declare (codes "colour") (visibility.enumeration_type 0 2) ∷ declare (codes "red") (visibility.literal 0 2 0)
     ∷ declare (codes "green") (visibility.literal 0 2 1) ∷ declare (codes "q") (visibility.signal 0 (Enumeration 0 2))
-    ∷ declare (codes "one") (visibility.constant 0 Element (Some (One ∷ []))) ∷ declare (codes "k") (visibility.integer_constant 0) ∷ []
+    ∷ declare (codes "one") (visibility.constant 0 Element (Some (One ∷ [])))
+    ∷ declare (codes "k") (visibility.integer_constant 0) ∷ []
 
 abbrev pub sight : Sight
 sight = sight_of both_packages region

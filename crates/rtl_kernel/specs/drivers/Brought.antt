@@ -57,9 +57,11 @@ pub record IsDriver (targets : List ℕ) (place net : ℕ) : Type 0 where
 
 -- net n: its group is noted, and one of these drivers is its; or it has kept its value, and so have
 -- these drivers of it; or it is alone and has its driver's value
-pub data IsBrought {D : Type 0} (drives : D → (net : ℕ) → Type 0) (before after : D → ℕ) (old new : NotedNets) (n : ℕ) : Type 0 where
+pub data IsBrought {D : Type 0} (drives : D → (net : ℕ) → Type 0)
+    (before after : D → ℕ) (old new : NotedNets) (n : ℕ) : Type 0 where
   is_noted : (d : D) → drives d n → Contains new.noted (group_of old.values n) → IsBrought drives before after old new n
-  has_kept : slice_index new.values.current n ≡ slice_index old.values.current n → ((d : D) → drives d n → after d ≡ before d)
+  has_kept : slice_index new.values.current n ≡ slice_index old.values.current n
+      → ((d : D) → drives d n → after d ≡ before d)
       → IsBrought drives before after old new n
   has_value : (d : D) → drives d n → IsAlone (flat old.net) n → slice_index new.values.current n ≡ after d
       → IsBrought drives before after old new n
@@ -73,14 +75,16 @@ pub record Stay (old new : NotedNets) : Type 0 where
   pub noted_stay : (g : ℕ) → Contains old.noted g → Contains new.noted g
 
 -- new values of all these drivers are brought to their nets
-pub record AreBrought {D : Type 0} (drives : D → (net : ℕ) → Type 0) (before after : D → ℕ) (old new : NotedNets) : Type 0 where
+pub record AreBrought {D : Type 0} (drives : D → (net : ℕ) → Type 0)
+    (before after : D → ℕ) (old new : NotedNets) : Type 0 where
   pub stay : Stay old new
   pub each : (n : ℕ) → IsBrought drives before after old new n
 
 -- those of one process, whose drivers have these nets
 abbrev pub Brings : (targets before after : List ℕ) → (old new : NotedNets) → Type 0
 Brings targets before after old new =
-    AreBrought (λ place net. IsDriver targets place net) (λ place. slice_index before place) (λ place. slice_index after place) old new
+    AreBrought (λ place net. IsDriver targets place net)
+    (λ place. slice_index before place) (λ place. slice_index after place) old new
 
 -- those of all processes
 abbrev pub IsDriverOf : List Process → (driver : ℕ × ℕ) → (net : ℕ) → Type 0

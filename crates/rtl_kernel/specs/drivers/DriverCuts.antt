@@ -13,7 +13,8 @@ pub record IsCutThere (net : NetlistView) (groups : Grouping) (cut : Cut) : Type
   pub in_group : (k : ℕ) → k < cut.len → slice_index groups.of_net (cut.net + k) ≡ cut.group
 
 -- the nets of these drivers are there, and these are their cuts
-pub record AreCutsThere (net : NetlistView) (groups : Grouping) (targets : List ℕ) (cuts : List Cut) (numbers : List ℕ) : Type 0 where
+pub record AreCutsThere (net : NetlistView) (groups : Grouping)
+    (targets : List ℕ) (cuts : List Cut) (numbers : List ℕ) : Type 0 where
   pub there : All (λ n. n < length net.types) targets
   pub are_cuts : AreCuts groups.of_net targets cuts numbers
 
@@ -21,4 +22,5 @@ pub record AreCutsThere (net : NetlistView) (groups : Grouping) (targets : List 
 pub record AreDriverCuts (net : NetlistView) (groups : Grouping) (c : Cutting) : Type 0 where
   pub each_process : length c.cuts ≡ length net.processes
   pub each : (p : ℕ) → p < length net.processes
-      → AreCutsThere net groups (targets_of net.processes p) (slice_index_or c.cuts p []) (slice_index_or c.numbers p [])
+      → AreCutsThere net groups (targets_of net.processes p)
+      (slice_index_or c.cuts p []) (slice_index_or c.numbers p [])

@@ -11,7 +11,8 @@ use Rattle.rtl_kernel.specs.values.TwoValues.{group_of}
 -- were
 pub record AreResolved (net : Netlist) (drivers : List (List ℕ)) (is_one : ℕ → Type 0) (old new : List ℕ) : Type 0 where
   pub as_many : length new ≡ length old
-  pub resolved : (n : ℕ) → n < length old → is_one n → slice_index new n ≡ net_value net drivers (sources_of net n) (slice_index old n)
+  pub resolved : (n : ℕ) → n < length old → is_one n
+      → slice_index new n ≡ net_value net drivers (sources_of net n) (slice_index old n)
   pub others : (n : ℕ) → n < length old → (is_one n → ⊥) → slice_index new n ≡ slice_index old n
 
 -- the nets of the groups that were noted are resolved

@@ -23,7 +23,9 @@ abbrev pub elements_of : Process → List ℕ
 elements_of p = element_starts (map variable_view p.variables.items)
 
 -- the outcomes of these processes before any run, with the room that these bodies want
-pub record AreFresh {E : Type 0} (most : E → ℕ) (processes : List Process) (bodies : List E) (outcomes : List Outcome) : Type 0 where
+pub record AreFresh {E : Type 0} (most : E → ℕ) (processes : List Process)
+    (bodies : List E) (outcomes : List Outcome) : Type 0 where
   pub entries : pending_of outcomes ≡ map no_entries processes
   pub starts : map (λ (o : Outcome). o.starts) outcomes ≡ map elements_of processes
-  pub room : (k : ℕ) (e : E) → k < length outcomes → k < length bodies → most (slice_index_or bodies k e) ≤ (slice_index_or outcomes k no_outcome).room
+  pub room : (k : ℕ) (e : E) → k < length outcomes → k < length bodies
+      → most (slice_index_or bodies k e) ≤ (slice_index_or outcomes k no_outcome).room

@@ -11,6 +11,7 @@ transactions_of d = record { drivers = rows d.drivers.items; outcomes = d.outcom
 pub record AreTracked (t : Transactions) (active : Numbers) : Type 0 where
   pub as_many : length t.drivers ≡ length t.outcomes
   pub bound : active.bound ≡ length t.outcomes
-  pub each_driver : (p : ℕ) → length (slice_index_or t.drivers p []) ≡ length (slice_index_or (pending_of t.outcomes) p [])
+  pub each_driver : (p : ℕ)
+      → length (slice_index_or t.drivers p []) ≡ length (slice_index_or (pending_of t.outcomes) p [])
   pub all_active : (p : ℕ) → IsActive (pending_of t.outcomes) p → Contains active.members p
   pub no_other : (p : ℕ) → Contains active.members p → IsActive (pending_of t.outcomes) p

@@ -22,9 +22,12 @@ pub record IsUpdating (active : List ℕ) (index : ℕ) (old : Transactions) (ol
   pub each_outcome : length new.outcomes ≡ length old.outcomes
   pub each_row : length new.drivers ≡ length old.drivers
   pub outcomes_stay : map without_entries new.outcomes ≡ map without_entries old.outcomes
-  pub each_entry : (p : ℕ) → length (slice_index_or (pending_of new.outcomes) p []) ≡ length (slice_index_or (pending_of old.outcomes) p [])
+  pub each_entry : (p : ℕ)
+      → length (slice_index_or (pending_of new.outcomes) p []) ≡ length (slice_index_or (pending_of old.outcomes) p [])
   pub each_value : (p : ℕ) → length (slice_index_or new.drivers p []) ≡ length (slice_index_or old.drivers p [])
-  pub driven_stay : (p : ℕ) → driver_values (slice_index_or (pending_of new.outcomes) p []) (slice_index_or new.drivers p [])
+  pub driven_stay : (p : ℕ)
+      → driver_values (slice_index_or (pending_of new.outcomes) p []) (slice_index_or new.drivers p [])
       ≡ driver_values (slice_index_or (pending_of old.outcomes) p []) (slice_index_or old.drivers p [])
-  pub left : (p : ℕ) → IsActive (pending_of new.outcomes) p → (k : ℕ) × (index ≤ k) × (k < length active) × (slice_index active k ≡ p)
+  pub left : (p : ℕ) → IsActive (pending_of new.outcomes) p
+      → (k : ℕ) × (index ≤ k) × (k < length active) × (slice_index active k ≡ p)
   pub brings : BringsAll old_nets.net.processes old.drivers new.drivers old_nets new_nets

@@ -32,16 +32,19 @@ state_of values transactions to_run = record {
 }
 
 -- the k-th of these runs the body of the k-th process
-pub record RunBodies {E : Type 0} (process : E → FlatProcess) (types : E → List ElementType) (net : FlatNetlist) (bodies : List E) : Type 0 where
+pub record RunBodies {E : Type 0} (process : E → FlatProcess)
+    (types : E → List ElementType) (net : FlatNetlist) (bodies : List E) : Type 0 where
   pub as_many : length bodies ≡ length net.processes
   pub each : (p : ℕ) (e : E) → p < length bodies → process (slice_index_or bodies p e) ≡ process_at net p
   pub among : (p : ℕ) (e : E) → p < length bodies → types (slice_index_or bodies p e) ≡ net.types
 
 -- each outcome is of its process, and has the room that its body's run wants
-pub record HaveRoom {E : Type 0} (most : E → ℕ) (net : FlatNetlist) (bodies : List E) (outcomes : List Outcome) : Type 0 where
+pub record HaveRoom {E : Type 0} (most : E → ℕ) (net : FlatNetlist)
+    (bodies : List E) (outcomes : List Outcome) : Type 0 where
   pub as_many : length outcomes ≡ length net.processes
   pub own : (p : ℕ) → p < length outcomes → IsOf (process_at net p) (slice_index_or outcomes p no_outcome)
-  pub room : (p : ℕ) (e : E) → p < length bodies → most (slice_index_or bodies p e) ≤ (slice_index_or outcomes p no_outcome).room
+  pub room : (p : ℕ) (e : E) → p < length bodies
+      → most (slice_index_or bodies p e) ≤ (slice_index_or outcomes p no_outcome).room
 
 -- The state is one of this netlist: its values are in range, and its drivers' rows and its processes are the netlist's.
 pub record IsSound (net : FlatNetlist) (s : State) : Type 0 where
@@ -72,7 +75,8 @@ abbrev pub standing_of : Parts → Standing
 standing_of k = record { groups = k.nets.values.groups; cuts = k.cuts; awaited = k.awaited; await_it = k.await_it }
 
 -- it is of this netlist
-pub record AreOfNet {E : Type 0} (process : E → FlatProcess) (types : E → List ElementType) (bodies : List E) (net : NetlistView)
+pub record AreOfNet {E : Type 0} (process : E → FlatProcess)
+    (types : E → List ElementType) (bodies : List E) (net : NetlistView)
     (s : Standing) : Type 0 where
   pub in_range : IsInRange (flat net)
   pub connected : IsConnected (flat net)
@@ -82,7 +86,8 @@ pub record AreOfNet {E : Type 0} (process : E → FlatProcess) (types : E → Li
   pub awaits : AwaitFirst (core net) s.awaited s.await_it
 
 -- what a kernel keeps is of its netlist, and fits together
-pub record IsKernel {E : Type 0} (process : E → FlatProcess) (types : E → List ElementType) (most : E → ℕ) (bodies : List E)
+pub record IsKernel {E : Type 0} (process : E → FlatProcess)
+    (types : E → List ElementType) (most : E → ℕ) (bodies : List E)
     (k : Parts) : Type 0 where
   pub of_net : AreOfNet process types bodies k.nets.net (standing_of k)
   pub room : HaveRoom most (flat k.nets.net) bodies k.drivers.outcomes

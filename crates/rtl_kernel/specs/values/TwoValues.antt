@@ -15,7 +15,8 @@ group_of v n = slice_index v.groups.of_net n
 
 -- a net of this group has an event
 abbrev pub HasEventIn : TwoValues → (group : ℕ) → Type 0
-HasEventIn v group = (n : ℕ) × (group_of v n ≡ group) × (n < length v.groups.of_net) × (has_event v.before v.current n ≡ true)
+HasEventIn v group =
+    (n : ℕ) × (group_of v n ≡ group) × (n < length v.groups.of_net) × (has_event v.before v.current n ≡ true)
 
 -- among the nets of these groups is each that has an event
 pub record CoverEvents (v : TwoValues) (groups : List ℕ) : Type 0 where

@@ -42,8 +42,10 @@ pub record IsListing (marks : Vec Bool Global) (places : Vec ℕ Global) : Type 
   pub reserved : length marks.items ≤ vec_capacity places
 
 -- the same of the nets of these groups alone
-pub record AreWokenBy (changed : List ℕ) (groups : Grouping) (before current : List ℕ) (waiting : List Bool) : Type 0 where
-  pub all_wait : (n p : ℕ) → n < length groups.of_net → Contains changed (slice_index groups.of_net n) → IsTrue (has_event before current n)
+pub record AreWokenBy (changed : List ℕ) (groups : Grouping)
+    (before current : List ℕ) (waiting : List Bool) : Type 0 where
+  pub all_wait : (n p : ℕ) → n < length groups.of_net
+      → Contains changed (slice_index groups.of_net n) → IsTrue (has_event before current n)
       → Contains (slice_index_or (wakers_of groups) n []) p → IsTrue (slice_index_or waiting p false)
   pub no_other : (p : ℕ) → IsTrue (slice_index_or waiting p false)
       → (n : ℕ) × IsTrue (has_event before current n) × Contains (slice_index_or (wakers_of groups) n []) p

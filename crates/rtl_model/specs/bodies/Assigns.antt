@@ -41,4 +41,5 @@ abbrev mutual
   -- a case, all of whose alternatives do
   pub alternatives_must_assign : (these : Target → Bool) → Alternatives → Bool
   alternatives_must_assign these (others s) = must_assign these s
-  alternatives_must_assign these (alternative choices s alts) = must_assign these s && alternatives_must_assign these alts
+  alternatives_must_assign these (alternative choices s alts) =
+      must_assign these s && alternatives_must_assign these alts

@@ -1,5 +1,5 @@
--- When a body fits its process and the nets: each net, place and element is there and has the type that is wanted of it,
--- and each length is one that a vector can have, and the one that is wanted of it.
+-- When a body fits its process and the nets: each net, place and element is there and has the type that is wanted of
+-- it, and each length is one that a vector can have, and the one that is wanted of it.
 use Rattle.std.specs.Prelude.{◌≡◌, ℕ, ◌+◌, ◌<◌, ◌≤◌, max, ⊤, All, List, length, slice_get, Some}
 use Rattle.vhdl_values.specs.Shifts.{counted_length, IsCount}
 use Rattle.rtl_model.specs.bodies.Body.{Operator, logical, joined, plus, minus, times, Expr, signal, variable, constant}
@@ -60,7 +60,8 @@ module _ (scope : Scope) where
   FitsExpr (constant values) = IsWidth (length values)
   FitsExpr (inverse e) = FitsExpr e
   FitsExpr (filled len e) = IsWidth len × FitsExpr e × (width e ≡ 1)
-  FitsExpr (binary op d e) = IsWidth (operated_width op (width d) (width e)) × FitsExpr d × FitsExpr e × FitsOperands op (width d) (width e)
+  FitsExpr (binary op d e) =
+      IsWidth (operated_width op (width d) (width e)) × FitsExpr d × FitsExpr e × FitsOperands op (width d) (width e)
   FitsExpr (counted op count e) = IsCount op count × FitsExpr e
 
   -- the value's elements are of this type, or it is one of this enumeration's
@@ -120,4 +121,5 @@ module _ (scope : Scope) where
 
     pub FitsAlternatives : ElementType → (len : ℕ) → Alternatives → Type 0
     FitsAlternatives t len (others s) = Fits s
-    FitsAlternatives t len (alternative choices s alts) = All (FitsChoice t len) choices × Fits s × FitsAlternatives t len alts
+    FitsAlternatives t len (alternative choices s alts) =
+        All (FitsChoice t len) choices × Fits s × FitsAlternatives t len alts

@@ -26,9 +26,11 @@ pub data IsEdgeTest (t : Test) (clock : ℕ) (edge : Edge) : Type 0 where
   rising_call : t ≡ rising clock → edge ≡ Rising → IsEdgeTest t clock edge
   falling_call : t ≡ falling clock → edge ≡ Falling → IsEdgeTest t clock edge
   -- `s'event and s = '1'`, and the same with '0'
-  event_and_level : (v : Nine) → t ≡ combined And (event clock) (level true clock v) → edge_to v ≡ Some edge → IsEdgeTest t clock edge
+  event_and_level : (v : Nine) → t ≡ combined And (event clock) (level true clock v)
+      → edge_to v ≡ Some edge → IsEdgeTest t clock edge
   -- `s = '1' and s'event`
-  level_and_event : (v : Nine) → t ≡ combined And (level true clock v) (event clock) → edge_to v ≡ Some edge → IsEdgeTest t clock edge
+  level_and_event : (v : Nine) → t ≡ combined And (level true clock v) (event clock)
+      → edge_to v ≡ Some edge → IsEdgeTest t clock edge
 
 pub record EdgeTest : Type 0 where
   pub clock : ℕ
@@ -90,8 +92,8 @@ pub record Clocking : Type 0 where
   pub branch : Stmts
   pub reset : Option ResetPart
 
--- the body is one if, with no elsif and no else, whose condition is one edge test and whose branch has no edge test and no
--- `'event`
+-- the body is one if, with no elsif and no else, whose condition is one edge test and whose branch has no edge test and
+-- no `'event`
 pub record IsClockedAlone (body : Stmts) (c : Clocking) : Type 0 where
   pub test : Test
   pub is : body ≡ step (if_of (branch test c.branch no_else)) done
@@ -116,8 +118,10 @@ abbrev pub clocking_of : (constants no_event : Bool) → Option EdgeTest → Stm
 clocking_of true true (Some e) s reset = Some (record { test = e; branch = s; reset = reset })
 clocking_of _ _ _ s reset = None
 
-abbrev pub with_reset : Option ResetTest → (constants no_event : Bool) → Option EdgeTest → (of_reset of_edge : Stmts) → Option Clocking
-with_reset (Some r) constants no_event e a s = clocking_of constants no_event e s (Some (record { test = r; branch = a }))
+abbrev pub with_reset : Option ResetTest → (constants no_event : Bool)
+    → Option EdgeTest → (of_reset of_edge : Stmts) → Option Clocking
+with_reset (Some r) constants no_event e a s =
+    clocking_of constants no_event e s (Some (record { test = r; branch = a }))
 with_reset None constants no_event e a s = None
 
 abbrev pub clocking : (inputs : List ℕ) → Stmts → Option Clocking

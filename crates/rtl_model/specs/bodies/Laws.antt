@@ -27,17 +27,20 @@ EachRunAssigns =
     (body : Stmts) (these : ℕ → Bool) (seen : Seen) → IsTrue (must_assign (of_drivers these) body)
     → (place : ℕ) × IsTrue (these place) × IsSome (effect seen body place)
 
--- Two runs see the same: now of the nets that the body reads, before of those whose events it looks at, and of the elements
--- that it reads where it hasn't assigned them.
+-- Two runs see the same: now of the nets that the body reads, before of those whose events it looks at, and of the
+-- elements that it reads where it hasn't assigned them.
 pub record SeesAlike (body : Stmts) (seen other : Seen) : Type 0 where
   pub now : AgreeOn (reads body) seen.now other.now
   pub before : AgreeOn (events body) seen.before other.before
   pub as_many : length seen.variables ≡ length other.variables
-  pub variables : (e : ℕ) → IsTrue (stores_element e body) → slice_index seen.variables e ≡ slice_index other.variables e
+  pub variables : (e : ℕ) → IsTrue (stores_element e body)
+      → slice_index seen.variables e ≡ slice_index other.variables e
 
 -- What a run does depends on this alone.
 abbrev pub LooksAtReads : Type 0
-LooksAtReads = (body : Stmts) (seen other : Seen) → SeesAlike body seen other → (place : ℕ) → effect seen body place ≡ effect other body place
+LooksAtReads =
+    (body : Stmts) (seen other : Seen) → SeesAlike body seen other
+    → (place : ℕ) → effect seen body place ≡ effect other body place
 
 -- So a body that stores no element does the same whatever values its variables had before the run.
 abbrev pub NothingIsKept : Type 0
@@ -62,10 +65,11 @@ CaseTakesABranch = (seen : Seen) (value : List ℕ) (alts : Alternatives) → Ta
 
 -- ---- sequences
 
--- What a sequence assigns is what its later part assigns, which sees the variables as its earlier part left them, and else
--- what its earlier part does.
+-- What a sequence assigns is what its later part assigns, which sees the variables as its earlier part left them, and
+-- else what its earlier part does.
 pub record LaterReplaces (earlier later : Stmts) (seen : Seen) : Type 0 where
-  pub effect_is : (place : ℕ) → effect seen (followed_by earlier later) place ≡ or_else (effect (after seen earlier) later place) (effect seen earlier place)
+  pub effect_is : (place : ℕ) → effect seen (followed_by earlier later) place
+      ≡ or_else (effect (after seen earlier) later place) (effect seen earlier place)
   pub variables_are : variables_after seen (followed_by earlier later) ≡ variables_after (after seen earlier) later
 
 abbrev pub EachLaterReplaces : Type 0
@@ -75,8 +79,10 @@ EachLaterReplaces = (earlier later : Stmts) (seen : Seen) → LaterReplaces earl
 pub record AddsUp (s t : Stmts) : Type 0 where
   pub reads_both : reads (followed_by s t) ≡ reads s ++ reads t
   pub events_of_both : events (followed_by s t) ≡ events s ++ events t
-  pub assigns_either : (these : Target → Bool) → must_assign these (followed_by s t) ≡ must_assign these s || must_assign these t
-  pub stores_either : (e : ℕ) → stores_element e (followed_by s t) ≡ stores_element e s || (not (must_assign (is_element e) s) && stores_element e t)
+  pub assigns_either : (these : Target → Bool)
+      → must_assign these (followed_by s t) ≡ must_assign these s || must_assign these t
+  pub stores_either : (e : ℕ) → stores_element e (followed_by s t)
+      ≡ stores_element e s || (not (must_assign (is_element e) s) && stores_element e t)
   pub fits : (scope : Scope) → Fits scope (followed_by s t) ↔ (Fits scope s × Fits scope t)
 
 abbrev pub SequencesAddUp : Type 0
@@ -94,11 +100,15 @@ pub record LeavesTell : Type 0 where
 
 -- ---- clocked bodies
 
--- Tests are edge tests and reset tests, and bodies clocked, just where they are as said; and what is clocked has an event.
+-- Tests are edge tests and reset tests, and bodies clocked, just where they are as said; and what is clocked has
+-- an event.
 pub record KindsAreAsSaid (inputs : List ℕ) : Type 0 where
-  pub edge_tests : (t : Test) (clock : ℕ) (edge : Edge) → edge_test t ≡ Some (record { clock = clock; edge = edge }) ↔ IsEdgeTest t clock edge
-  pub reset_tests : (t : Test) (net value : ℕ) → reset_test inputs t ≡ Some (record { net = net; value = value }) ↔ IsResetTest inputs t net value
-  pub clocked : (body : Stmts) (c : Clocking) → clocking inputs body ≡ Some c ↔ (IsClockedAlone body c ⊎ IsClockedWithReset inputs body c)
+  pub edge_tests : (t : Test) (clock : ℕ) (edge : Edge)
+      → edge_test t ≡ Some (record { clock = clock; edge = edge }) ↔ IsEdgeTest t clock edge
+  pub reset_tests : (t : Test) (net value : ℕ)
+      → reset_test inputs t ≡ Some (record { net = net; value = value }) ↔ IsResetTest inputs t net value
+  pub clocked : (body : Stmts) (c : Clocking)
+      → clocking inputs body ≡ Some c ↔ (IsClockedAlone body c ⊎ IsClockedWithReset inputs body c)
   pub has_event : (body : Stmts) (c : Clocking) → clocking inputs body ≡ Some c → events body ≡ [] → ⊥
 
 abbrev pub EachKindIsAsSaid : Type 0
@@ -113,25 +123,29 @@ abbrev pub entry_of_reset : Seen → Option ResetPart → (place : ℕ) → Opti
 entry_of_reset seen None place = None
 entry_of_reset seen (Some reset) place = effect seen reset.branch place
 
--- A clocked body does what its reset's branch does where its reset holds, else at its edge what its branch does, and else
--- nothing at all.
+-- A clocked body does what its reset's branch does where its reset holds, else at its edge what its branch does, and
+-- else nothing at all.
 abbrev pub FollowsItsEdge : Type 0
 FollowsItsEdge =
     (inputs : List ℕ) (body : Stmts) (c : Clocking) → clocking inputs body ≡ Some c → (seen : Seen) (place : ℕ)
     → effect seen body place
-    ≡ clocked_entry (reset_holds seen c.reset) (edge_at seen c.test.edge c.test.clock) (entry_of_reset seen c.reset place) (effect seen c.branch place)
+    ≡ clocked_entry (reset_holds seen c.reset) (edge_at seen c.test.edge c.test.clock)
+    (entry_of_reset seen c.reset place) (effect seen c.branch place)
 
 -- A reset's branch reads no net.
 abbrev pub ResetsReadNothing : Type 0
 ResetsReadNothing =
-    (inputs : List ℕ) (body : Stmts) (c : Clocking) (reset : ResetPart) → clocking inputs body ≡ Some c → c.reset ≡ Some reset
+    (inputs : List ℕ) (body : Stmts) (c : Clocking) (reset : ResetPart)
+    → clocking inputs body ≡ Some c → c.reset ≡ Some reset
     → (reads reset.branch ≡ []) × (events reset.branch ≡ [])
 
 -- ---- bodies that fit
 
 -- The value of an expression that fits is as long as its width, which a vector can have.
 abbrev pub HasItsWidth : Type 0
-HasItsWidth = (scope : Scope) (e : Expr) (seen : Seen) → FitsExpr scope e → (length (elements_of seen e) ≡ width e) × IsWidth (width e)
+HasItsWidth =
+    (scope : Scope) (e : Expr) (seen : Seen) → FitsExpr scope e
+    → (length (elements_of seen e) ≡ width e) × IsWidth (width e)
 
 -- whether it is one of elements of the nine values
 abbrev pub is_of_elements : Value → Bool
@@ -143,14 +157,17 @@ abbrev pub IsChoice : List ℕ → Alternatives → Type 0
 IsChoice choice (others s) = ⊥
 IsChoice choice (alternative choices s alts) = Contains choices choice ⊎ IsChoice choice alts
 
--- The parts of a body that fits look nothing up that isn't there, and compare and assign what is as long as it should be.
+-- The parts of a body that fits look nothing up that isn't there, and compare and assign what is as long as it
+-- should be.
 pub record PartsAreSafe (scope : Scope) (seen : Seen) : Type 0 where
   pub condition_is_one : (e : Expr) → FitsTest scope (condition e) → length (elements_of seen e) ≡ 1
   pub filler_is_one : (len : ℕ) (e : Expr) → FitsExpr scope (filled len e) → length (elements_of seen e) ≡ 1
   pub equals_are_of_one_type : (v w : Value) → FitsTest scope (equal v w) → is_of_elements v ≡ is_of_elements w
   pub unequals_are_of_one_type : (v w : Value) → FitsTest scope (unequal v w) → is_of_elements v ≡ is_of_elements w
-  pub choices_fit : (v : Value) (alts : Alternatives) (choice : List ℕ) → FitsStmt scope (case_of v alts) → IsChoice choice alts
-      → (length choice ≡ length (value_of seen v)) × ((t : ElementType) × FitsAs scope t v × All (λ n. n < limit_of t) choice)
+  pub choices_fit : (v : Value) (alts : Alternatives) (choice : List ℕ)
+      → FitsStmt scope (case_of v alts) → IsChoice choice alts
+      → (length choice ≡ length (value_of seen v))
+      × ((t : ElementType) × FitsAs scope t v × All (λ n. n < limit_of t) choice)
   pub places_fit : (places : List ℕ) (v : Value) → FitsStmt scope (assign places v)
       → (length places ≡ length (value_of seen v)) × All (λ place. place < length scope.targets) places
   pub elements_fit : (es : List ℕ) (v : Value) → FitsStmt scope (set es v)
@@ -173,12 +190,15 @@ pub record SeesTypes (scope : Scope) (seen : Seen) : Type 0 where
   pub nets : KeepsTypes scope.nets seen.now
   pub variables : KeepsTypes scope.variables seen.variables
 
--- Each entry of a body that fits is that of a driver, and one of the values of its net, and the variables keep their types,
--- where what is seen keeps the types.
+-- Each entry of a body that fits is that of a driver, and one of the values of its net, and the variables keep their
+-- types, where what is seen keeps the types.
 pub record RunKeepsTypes (scope : Scope) (body : Stmts) (seen : Seen) : Type 0 where
   pub entries : (place value : ℕ) → effect seen body place ≡ Some value
-      → (net : ℕ) × (t : ElementType) × (slice_get scope.targets place ≡ Some net) × HasType scope.nets t net × (value < limit_of t)
+      → (net : ℕ) × (t : ElementType) × (slice_get scope.targets place ≡ Some net)
+      × HasType scope.nets t net × (value < limit_of t)
   pub variables : KeepsTypes scope.variables (variables_after seen body)
 
 abbrev pub EntriesKeepTypes : Type 0
-EntriesKeepTypes = (scope : Scope) (body : Stmts) (seen : Seen) → Fits scope body → SeesTypes scope seen → RunKeepsTypes scope body seen
+EntriesKeepTypes =
+    (scope : Scope) (body : Stmts) (seen : Seen) → Fits scope body
+    → SeesTypes scope seen → RunKeepsTypes scope body seen

@@ -1,4 +1,5 @@
--- What a flat netlist is to a simulation: bodies as their effects, values resolved by std_logic_1164's table, and its edges.
+-- What a flat netlist is to a simulation: bodies as their effects, values resolved by std_logic_1164's table, and
+-- its edges.
 use Rattle.std.specs.Prelude.{ℕ, zero, suc, ◌+◌, Bool, false, ◌&&◌, ◌==◌, nat_lt, if◌then◌else◌, List, [], ◌∷◌, length, map, slice_index, Option, Some, None}
 use Rattle.std.specs.List.{range_with_len}
 use Rattle.vhdl_values.specs.Scalar.{code_of, value_of_code}
@@ -45,7 +46,8 @@ acting_branch None = done
 abbrev pub drives_net : (targets : List ℕ) → (net place : ℕ) → Bool
 drives_net nets net place = nat_lt place (length nets) && slice_index nets place == net
 
--- the number of the element at this place of this variable, if there is one: elements are numbered through the variables
+-- the number of the element at this place of this variable, if there is one: elements are numbered through
+-- the variables
 abbrev pub raised_by : ℕ → Option ℕ → Option ℕ
 raised_by n None = None
 raised_by n (Some e) = Some (n + e)

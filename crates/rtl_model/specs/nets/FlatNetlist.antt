@@ -1,5 +1,5 @@
--- A flat netlist: what a design is after elaboration (IEEE 1076-2008, 14.2 to 14.4), as plain data. Nets, processes and the
--- drivers of a process are numbered from 0 by their places in these lists.
+-- A flat netlist: what a design is after elaboration (IEEE 1076-2008, 14.2 to 14.4), as plain data. Nets, processes and
+-- the drivers of a process are numbered from 0 by their places in these lists.
 use Rattle.std.specs.Prelude.{◌≡◌, ℕ, suc, ◌<◌, ◌==◌, if◌then◌else◌, All, List, [], ◌∷◌, ◌++◌, length, map, replicate, slice_index_or}
 use Rattle.std.specs.List.Sorted.{IsStrictlyIncreasing}
 use Rattle.rtl_model.specs.bodies.Body.{Stmts, done}
@@ -71,7 +71,8 @@ scope_of types p = record { nets = types; variables = element_types p.variables;
 -- of the drivers of process p with these nets, the first at this place, those whose net is n
 abbrev pub drivers_of : (n p place : ℕ) → (nets : List ℕ) → List Source
 drivers_of n p place [] = []
-drivers_of n p place (net ∷ nets) = if net == n then Driver p place ∷ drivers_of n p (suc place) nets else drivers_of n p (suc place) nets
+drivers_of n p place (net ∷ nets) =
+    if net == n then Driver p place ∷ drivers_of n p (suc place) nets else drivers_of n p (suc place) nets
 
 -- the same of all drivers of these processes, the first of which is p
 abbrev pub all_drivers_of : (n p : ℕ) → List FlatProcess → List Source
@@ -102,15 +103,16 @@ pub record ProcessInRange (types : List ElementType) (p : FlatProcess) : Type 0 
   pub variables : All VariableInRange p.variables
   pub body : Fits (scope_of types p) p.body
 
--- The invariant of a flat netlist: every net, place, element and value is in range, and every length is one that a vector can
--- have.
+-- The invariant of a flat netlist: every net, place, element and value is in range, and every length is one that a
+-- vector can have.
 pub record IsInRange (net : FlatNetlist) : Type 0 where
   pub types_fit : All IsByte net.types
   pub each_starts : length net.start ≡ length net.types
   pub each_has_idle : length net.idle ≡ length net.types
   pub starts : KeepsTypes net.types net.start
   -- an idle port holds a value of its net's type
-  pub idle : (n : ℕ) (t : ElementType) → HasType net.types t n → All (λ v. v < limit_of t) (slice_index_or net.idle n [])
+  pub idle : (n : ℕ) (t : ElementType) → HasType net.types t n
+      → All (λ v. v < limit_of t) (slice_index_or net.idle n [])
   -- in order, each once; ports are no enumerations
   pub inputs_rise : IsStrictlyIncreasing net.inputs
   pub inputs : All (HasType net.types nine_valued) net.inputs

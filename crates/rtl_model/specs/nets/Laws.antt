@@ -1,5 +1,6 @@
--- What the laws of simulation ask of a netlist, of each flat one: of its values and bodies always, of its wiring where it is
--- connected. So whoever makes a flat netlist owes facts about its wiring alone; and then the laws hold of it as they stand.
+-- What the laws of simulation ask of a netlist, of each flat one: of its values and bodies always, of its wiring where
+-- it is connected. So whoever makes a flat netlist owes facts about its wiring alone; and then the laws hold of it as
+-- they stand.
 use Rattle.std.specs.Prelude.{◌≡◌, ◌≢◌, ◌↔◌, ℕ, ◌<◌, ◌≤◌, false, All, List, [], length, Option, Some, None, IsTrue}
 use Rattle.rtl_model.specs.bodies.Effect.{effect_of}
 use Rattle.rtl_model.specs.bodies.Reads.{reads, events}
@@ -27,11 +28,12 @@ EachHasValues = (net : FlatNetlist) → HasValues (core_netlist net)
 abbrev pub EachHasBodies : Type 0
 EachHasBodies = (net : FlatNetlist) → HasBodies (core_netlist net)
 
--- A process is combinational where no edge test and no `'event` stands in its body, clocked where the body is one of a clocked
--- process, and else mixed.
+-- A process is combinational where no edge test and no `'event` stands in its body, clocked where the body is one of a
+-- clocked process, and else mixed.
 pub record KindIsOfBody (inputs : List ℕ) (p : FlatProcess) : Type 0 where
   pub combinational : (core_process inputs p).kind ≡ Combinational ↔ (events p.body ≡ [])
-  pub clocked : ((clock : ℕ) × (edge : Edge) × (reset : Option Reset) × ((core_process inputs p).kind ≡ Clocked clock edge reset))
+  pub clocked : ((clock : ℕ) × (edge : Edge) × (reset : Option Reset)
+      × ((core_process inputs p).kind ≡ Clocked clock edge reset))
       ↔ ((c : Clocking) × (clocking inputs p.body ≡ Some c))
   pub mixed : (core_process inputs p).kind ≡ Mixed ↔ ((clocking inputs p.body ≡ None) × (events p.body ≢ []))
 
@@ -44,7 +46,8 @@ abbrev pub EachForgets : Type 0
 EachForgets =
     (inputs : List ℕ) (p : FlatProcess) → ((variable place : ℕ) → (core_process inputs p).stores variable place ≡ false)
     → (before now values : List ℕ) → length values ≡ length (element_starts p.variables)
-    → effect_of (length p.drivers) p.body (record { before = before; now = now; variables = values }) ≡ (core_process inputs p).effect before now
+    → effect_of (length p.drivers) p.body (record { before = before; now = now; variables = values })
+    ≡ (core_process inputs p).effect before now
 
 -- ---- of those in range and connected
 
@@ -55,7 +58,8 @@ pub record IsThere (net : FlatNetlist) (p : FlatProcess) : Type 0 where
   pub elements : (e : ℕ) → IsTrue (stores_element e p.body) → e < length (element_starts p.variables)
 
 abbrev pub InRangeIsSafe : Type 0
-InRangeIsSafe = (net : FlatNetlist) → IsInRange net → (p : ℕ) → p < length net.processes → IsThere net (process_at net p)
+InRangeIsSafe =
+    (net : FlatNetlist) → IsInRange net → (p : ℕ) → p < length net.processes → IsThere net (process_at net p)
 
 abbrev pub EachKeepsRange : Type 0
 EachKeepsRange = (net : FlatNetlist) → IsInRange net → KeepsRange (core_netlist net)
@@ -106,4 +110,5 @@ EachSimulatesTheMachine = (net : FlatNetlist) → IsSound net → (stimulus : �
 abbrev pub EachHasOneSolution : Type 0
 EachHasOneSolution =
     (net : FlatNetlist) → IsSound net → (inputs registers : ℕ → ℕ)
-    → (v : List ℕ) × Solves (core_netlist net) inputs registers v × ((w : List ℕ) → Solves (core_netlist net) inputs registers w → w ≡ v)
+    → (v : List ℕ) × Solves (core_netlist net) inputs registers v
+    × ((w : List ℕ) → Solves (core_netlist net) inputs registers w → w ≡ v)

@@ -59,11 +59,15 @@ IsFault net (ClockNotInput p n) = IsClockOf net p n × (IsInput net n → ⊥)
 -- p isn't sensitive to its clock, or its reset, n
 IsFault net (EdgeNotSensitive p n) = (IsClockOf net p n ⊎ IsResetOf net p n) × (Contains (process net p).wakes n → ⊥)
 -- n is a clock, of p or of another process, and the branch of the clocked process p reads it, or it is p's reset
-IsFault net (ClockAsData p n) = IsClock net n × (((clock : ℕ) × IsClockOf net p clock × Contains (process net p).acting_reads n) ⊎ IsResetOf net p n)
+IsFault net (ClockAsData p n) =
+    IsClock net n
+    × (((clock : ℕ) × IsClockOf net p clock × Contains (process net p).acting_reads n) ⊎ IsResetOf net p n)
 -- the combinational process p reads n and isn't sensitive to it
-IsFault net (MissingSensitivity p n) = IsCombinational net p × Contains (process net p).reads n × (Contains (process net p).wakes n → ⊥)
+IsFault net (MissingSensitivity p n) =
+    IsCombinational net p × Contains (process net p).reads n × (Contains (process net p).wakes n → ⊥)
 -- the combinational process p drives n and doesn't assign it on every syntactic path
-IsFault net (Latch p n) = IsCombinational net p × Contains (process net p).drives n × ((process net p).assigns n ≡ false)
+IsFault net (Latch p n) =
+    IsCombinational net p × Contains (process net p).drives n × ((process net p).assigns n ≡ false)
 -- these processes are a loop
 IsFault net (Loop ps) = IsLoop net ps
 -- p reads the element at this place of this variable where it hasn't assigned it on every syntactic path

@@ -1,6 +1,6 @@
--- The steps of a simulation cycle (IEEE 1076-2008, 14.7.5.2 and 14.7.5.3): Update gives active drivers and the nets their
--- new values and resumes processes, Inputs does so for new values of the top's in ports, and Run executes one resumed
--- process.
+-- The steps of a simulation cycle (IEEE 1076-2008, 14.7.5.2 and 14.7.5.3): Update gives active drivers and the nets
+-- their new values and resumes processes, Inputs does so for new values of the top's in ports, and Run executes one
+-- resumed process.
 use Rattle.std.specs.Prelude.{ℕ, Bool, true, false, not, List, [], ◌∷◌, length}
 use Rattle.std.specs.Prelude.{slice_index, slice_index_or, slice_set, map, Option, Some, None, IsTrue, ◌==◌, if◌then◌else◌}
 use Rattle.std.specs.List.{list_any}
@@ -64,11 +64,13 @@ net_value net drivers [] old = old
 net_value net drivers (source ∷ more) old = net.resolve (map (source_value drivers) (source ∷ more))
 
 abbrev pub net_values : Netlist → List (List ℕ) → (old : List ℕ) → List ℕ
-net_values net drivers old = table (length net.start) (λ n. net_value net drivers (sources_of net n) (slice_index old n))
+net_values net drivers old =
+    table (length net.start) (λ n. net_value net drivers (sources_of net n) (slice_index old n))
 
 -- the inputs have the values given, all other nets those of old
 abbrev pub with_inputs : Netlist → (inputs : ℕ → ℕ) → (old : List ℕ) → List ℕ
-with_inputs net inputs old = table (length net.start) (λ n. if list_any (λ m. m == n) net.inputs then inputs n else slice_index old n)
+with_inputs net inputs old =
+    table (length net.start) (λ n. if list_any (λ m. m == n) net.inputs then inputs n else slice_index old n)
 
 -- ---- the steps
 
@@ -93,14 +95,26 @@ abbrev pub after_update : Netlist → State → State
 after_update net s =
     let drivers' = all_driver_values s.pending s.drivers in
     let now' = net_values net drivers' s.now in
-    record { before = s.now; now = now'; drivers = drivers'; pending = none_pending s.pending; waiting = resumed_processes net s.now now' }
+    record {
+      before = s.now;
+      now = now';
+      drivers = drivers';
+      pending = none_pending s.pending;
+      waiting = resumed_processes net s.now now';
+    }
 
 -- the step Inputs of a quiet state: as Update, with new values of the inputs in place of the drivers'. It leaves the
 -- transactions as they are, since there are none.
 abbrev pub after_inputs : Netlist → (inputs : ℕ → ℕ) → State → State
 after_inputs net inputs s =
     let now' = with_inputs net inputs s.now in
-    record { before = s.now; now = now'; drivers = s.drivers; pending = s.pending; waiting = resumed_processes net s.now now' }
+    record {
+      before = s.now;
+      now = now';
+      drivers = s.drivers;
+      pending = s.pending;
+      waiting = resumed_processes net s.now now';
+    }
 
 -- the values that a list of changes gives nets, the last change of a net counting, and those of old elsewhere
 abbrev pub with_changes : (changes : List (ℕ × ℕ)) → (old : List ℕ) → (net : ℕ) → ℕ

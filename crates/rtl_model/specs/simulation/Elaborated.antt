@@ -1,4 +1,5 @@
--- What holds of every netlist that was elaborated: of its wiring, of the nine values' resolution and edges, and of its bodies.
+-- What holds of every netlist that was elaborated: of its wiring, of the nine values' resolution and edges, and of
+-- its bodies.
 use Rattle.std.specs.Prelude.{◌≡◌, ℕ, ◌<◌, false, List, [], ◌∷◌, length, slice_index, slice_index_or, map, None, IsSome, IsTrue, Contains}
 use Rattle.rtl_model.specs.basics.Valuations.{AgreeOn, clocked_entry}
 use Rattle.rtl_model.specs.simulation.Netlist.{Netlist, Source, Driver, Reset, Edge, process, sources_of, target}
@@ -11,8 +12,10 @@ pub record IsWired (net : Netlist) : Type 0 where
   pub inputs_are_nets : (n : ℕ) → IsInput net n → n < length net.start
   -- nothing inside the top drives its in ports
   pub inputs_have_no_source : (n : ℕ) → IsInput net n → sources_of net n ≡ []
-  pub sources_are_drivers : (n p place : ℕ) → Contains (sources_of net n) (Driver p place) → HasPlace net p place × (target net p place ≡ n)
-  pub drivers_are_sources : (p place : ℕ) → HasPlace net p place → Contains (sources_of net (target net p place)) (Driver p place)
+  pub sources_are_drivers : (n p place : ℕ) → Contains (sources_of net n) (Driver p place)
+      → HasPlace net p place × (target net p place ≡ n)
+  pub drivers_are_sources : (p place : ℕ) → HasPlace net p place
+      → Contains (sources_of net (target net p place)) (Driver p place)
   pub each_driver_starts : (p : ℕ) → length (process net p).starts ≡ length (process net p).drives
   -- a net with sources starts with their resolution (14.7.5.2)
   pub nets_start : (n : ℕ) (source : Source) → Contains (sources_of net n) source → slice_index net.start n
@@ -30,18 +33,23 @@ IsOnlyPlace net p place = (other : ℕ) → HasPlace net p other → target net 
 -- what bodies do
 pub record HasBodies (net : Netlist) : Type 0 where
   -- a combinational body has an entry for what it assigns on every path,
-  pub assigned : (p place : ℕ) (before now : List ℕ) → IsCombinational net p → HasPlace net p place → IsOnlyPlace net p place
-      → IsTrue ((process net p).assigns (target net p place)) → IsSome (slice_index_or ((process net p).effect before now) place None)
+  pub assigned : (p place : ℕ) (before now : List ℕ) → IsCombinational net p
+      → HasPlace net p place → IsOnlyPlace net p place
+      → IsTrue ((process net p).assigns (target net p place))
+      → IsSome (slice_index_or ((process net p).effect before now) place None)
   -- and looks at what it reads and at nothing else;
-  pub effect_reads : (p : ℕ) (before now before' now' : List ℕ) → IsCombinational net p → AgreeOn (process net p).reads now now'
+  pub effect_reads : (p : ℕ) (before now before' now' : List ℕ)
+      → IsCombinational net p → AgreeOn (process net p).reads now now'
       → (process net p).effect before now ≡ (process net p).effect before' now'
   -- the branch under an edge likewise;
-  pub branch_reads : (p clock : ℕ) (edge : Edge) (v w : List ℕ) → IsClockedBy net p clock edge → AgreeOn (process net p).acting_reads v w
+  pub branch_reads : (p clock : ℕ) (edge : Edge) (v w : List ℕ)
+      → IsClockedBy net p clock edge → AgreeOn (process net p).acting_reads v w
       → (process net p).acting_effect v ≡ (process net p).acting_effect w
   -- and a clocked body acts by its reset where that holds, else by its branch at its edge, and else not at all
   pub clocked_acts : (p clock place : ℕ) (edge : Edge) (before now : List ℕ) → IsClockedBy net p clock edge
       → slice_index_or ((process net p).effect before now) place None
-      ≡ clocked_entry (resets (reset_of net p) (slice_index now)) (net.edge edge (slice_index before clock) (slice_index now clock))
+      ≡ clocked_entry (resets (reset_of net p) (slice_index now))
+      (net.edge edge (slice_index before clock) (slice_index now clock))
       (reset_entry (reset_of net p) place) (slice_index_or ((process net p).acting_effect now) place None)
   -- a body with a test of another net in a reset's place is mixed
   pub reset_is_input : (p : ℕ) (reset : Reset) → HasReset net p reset → IsInput net reset.net

@@ -22,7 +22,8 @@ OrderIsFree = (net : Netlist) (s t u : State) → HasRun net s t → HasRun net 
 -- Whole simulations agree, whatever their orders: a moment has one state after its first cycle, and settles in one way.
 abbrev pub EveryOrderIsOne : Type 0
 EveryOrderIsOne =
-    (net : Netlist) (stimulus : ℕ → ℕ → ℕ) (m : ℕ) → ((s t : State) → Begun net stimulus m s → Begun net stimulus m t → s ≡ t)
+    (net : Netlist) (stimulus : ℕ → ℕ → ℕ) (m : ℕ)
+    → ((s t : State) → Begun net stimulus m s → Begun net stimulus m t → s ≡ t)
     × ((k j : ℕ) (t u : State) → HasSettled net stimulus m k t → HasSettled net stimulus m j u → (k ≡ j) × (t ≡ u))
 
 -- each net with sources has the resolution of their values
@@ -31,14 +32,16 @@ IsConsistent net s =
     (n : ℕ) (source : Source) → n < length net.start → Contains (sources_of net n) source
     → slice_index s.now n ≡ net.resolve (map (source_value s.drivers) (sources_of net n))
 
--- A simulation begins consistent, and its steps keep it so; hence a net none of whose drivers is active keeps its value.
+-- A simulation begins consistent, and its steps keep it so; hence a net none of whose drivers is active keeps
+-- its value.
 pub record StaysConsistent (net : Netlist) : Type 0 where
   pub starts : (inputs : ℕ → ℕ) → IsConsistent net (start_state net inputs)
   pub updates : (s : State) → IsConsistent net (after_update net s)
   pub gives : (inputs : ℕ → ℕ) (s : State) → IsConsistent net s → IsConsistent net (after_inputs net inputs s)
   pub runs : (p : ℕ) (s : State) → IsConsistent net s → IsConsistent net (after_run net p s)
   pub keeps : (s : State) (n : ℕ) → IsConsistent net s → n < length net.start
-      → ((p place : ℕ) → Contains (sources_of net n) (Driver p place) → slice_index_or (slice_index_or s.pending p []) place None ≡ None)
+      → ((p place : ℕ) → Contains (sources_of net n) (Driver p place)
+      → slice_index_or (slice_index_or s.pending p []) place None ≡ None)
       → slice_index (after_update net s).now n ≡ slice_index s.now n
 
 abbrev pub EachStaysConsistent : Type 0
@@ -50,7 +53,9 @@ pub record InputsAlone (net : Netlist) (inputs other : ℕ → ℕ) : Type 0 whe
   pub gives : (s : State) → after_inputs net inputs s ≡ after_inputs net other s
 
 abbrev pub EachTakesInputsAlone : Type 0
-EachTakesInputsAlone = (net : Netlist) (inputs other : ℕ → ℕ) → ((n : ℕ) → IsInput net n → inputs n ≡ other n) → InputsAlone net inputs other
+EachTakesInputsAlone =
+    (net : Netlist) (inputs other : ℕ → ℕ)
+    → ((n : ℕ) → IsInput net n → inputs n ≡ other n) → InputsAlone net inputs other
 
 -- Throughout a moment the inputs have the stimulus's values.
 pub record InputsHold (net : Netlist) (stimulus : ℕ → ℕ → ℕ) (m n : ℕ) : Type 0 where
@@ -58,13 +63,15 @@ pub record InputsHold (net : Netlist) (stimulus : ℕ → ℕ → ℕ) (m n : �
   pub settled : (k : ℕ) (t : State) → HasSettled net stimulus m k t → slice_index t.now n ≡ stimulus m n
 
 abbrev pub EachInputHolds : Type 0
-EachInputHolds = (net : Netlist) → IsWired net → (stimulus : ℕ → ℕ → ℕ) (m n : ℕ) → IsInput net n → InputsHold net stimulus m n
+EachInputHolds =
+    (net : Netlist) → IsWired net → (stimulus : ℕ → ℕ → ℕ) (m n : ℕ) → IsInput net n → InputsHold net stimulus m n
 
 -- A net that no change names keeps its value, and one that a change names, and no later one, has that change's.
 pub record ChangesAreMade (changes : List (ℕ × ℕ)) (old : List ℕ) : Type 0 where
   pub kept : (n : ℕ) → ((value : ℕ) → Contains changes (n, value) → ⊥) → with_changes changes old n ≡ slice_index old n
   pub last : (n value : ℕ) → n < length old → with_changes (changes ++ ((n, value) ∷ [])) old n ≡ value
-  pub others : (n m value : ℕ) → (n ≡ m → ⊥) → with_changes (changes ++ ((m, value) ∷ [])) old n ≡ with_changes changes old n
+  pub others : (n m value : ℕ) → (n ≡ m → ⊥)
+      → with_changes (changes ++ ((m, value) ∷ [])) old n ≡ with_changes changes old n
 
 abbrev pub EachChangeIsMade : Type 0
 EachChangeIsMade = (changes : List (ℕ × ℕ)) (old : List ℕ) → ChangesAreMade changes old
@@ -77,10 +84,14 @@ IsBusyBefore net s k = (j : ℕ) (t : State) → j < k → HasDeltas net j s t �
 pub record OneRunShows (net : Netlist) (s : State) : Type 0 where
   pub one_state : (k : ℕ) (t u : State) → HasDeltas net k s t → HasDeltas net k s u → t ≡ u
   pub none_yet : HasDeltas net 0 s s × IsBusyBefore net s 0
-  pub one_more : (k : ℕ) (order : List ℕ) (t u : State) → HasDeltas net k s t → Delta net order t u → HasDeltas net (suc k) s u
-  pub still_busy : (k : ℕ) (t : State) → IsBusyBefore net s k → HasDeltas net k s t → is_quiet t ≡ false → IsBusyBefore net s (suc k)
-  pub settles_by : (k : ℕ) (t : State) → HasNoneToRun s → IsBusyBefore net s k → HasDeltas net k s t → IsTrue (is_quiet t) → SettlesIn net s k
-  pub unsettled_by : (limit : ℕ) (t : State) → HasNoneToRun s → IsBusyBefore net s limit → HasDeltas net limit s t → is_quiet t ≡ false
+  pub one_more : (k : ℕ) (order : List ℕ) (t u : State)
+      → HasDeltas net k s t → Delta net order t u → HasDeltas net (suc k) s u
+  pub still_busy : (k : ℕ) (t : State) → IsBusyBefore net s k
+      → HasDeltas net k s t → is_quiet t ≡ false → IsBusyBefore net s (suc k)
+  pub settles_by : (k : ℕ) (t : State) → HasNoneToRun s → IsBusyBefore net s k
+      → HasDeltas net k s t → IsTrue (is_quiet t) → SettlesIn net s k
+  pub unsettled_by : (limit : ℕ) (t : State) → HasNoneToRun s
+      → IsBusyBefore net s limit → HasDeltas net limit s t → is_quiet t ≡ false
       → IsUnsettled net s limit t
 
 abbrev pub EachRunShows : Type 0
@@ -104,18 +115,22 @@ AgreeUpTo net stimulus other m = (j n : ℕ) → j ≤ m → IsInput net n → s
 pub record DependsOnPast (net : Netlist) (stimulus other : ℕ → ℕ → ℕ) (m : ℕ) : Type 0 where
   pub begins : (s : State) → Begun net stimulus m s → Begun net other m s
   pub settles : (k : ℕ) (t : State) → HasSettled net stimulus m k t → HasSettled net other m k t
-  pub machine : IsElaborated net → IsAccepted net → (v w : ℕ → List ℕ) → IsMachineRun net stimulus v → IsMachineRun net other w → v m ≡ w m
+  pub machine : IsElaborated net → IsAccepted net → (v w : ℕ → List ℕ)
+      → IsMachineRun net stimulus v → IsMachineRun net other w → v m ≡ w m
   pub races : IsAccepted net → HasNoRace net stimulus m → HasNoRace net other m
 
 abbrev pub EachDependsOnPast : Type 0
-EachDependsOnPast = (net : Netlist) (stimulus other : ℕ → ℕ → ℕ) (m : ℕ) → AgreeUpTo net stimulus other m → DependsOnPast net stimulus other m
+EachDependsOnPast =
+    (net : Netlist) (stimulus other : ℕ → ℕ → ℕ) (m : ℕ)
+    → AgreeUpTo net stimulus other m → DependsOnPast net stimulus other m
 
--- Past the last of its times a stimulus changes nothing: no race is there, and its values are in range where those at its
--- times are.
+-- Past the last of its times a stimulus changes nothing: no race is there, and its values are in range where those at
+-- its times are.
 pub record EndsAtLast (net : Netlist) (times : List ℕ) (value : (time n : ℕ) → ℕ) : Type 0 where
   pub is_at : (m : ℕ) → m < length times → at_moments times value m ≡ value (slice_index times m)
   pub stays : (m : ℕ) → length times ≤ suc m → at_moments times value (suc m) ≡ at_moments times value m
-  pub no_race : HasNoRace net (at_moments times value) (pred (length times)) → (last : ℕ) → HasNoRace net (at_moments times value) last
+  pub no_race : HasNoRace net (at_moments times value) (pred (length times))
+      → (last : ℕ) → HasNoRace net (at_moments times value) last
   pub in_range : 1 ≤ length times → ((k : ℕ) → k < length times → AreInputs net (value (slice_index times k)))
       → (m : ℕ) → AreInputs net (at_moments times value m)
 
@@ -124,7 +139,8 @@ EachEndsAtLast = (net : Netlist) (times : List ℕ) (value : (time n : ℕ) → 
 
 -- Races are what a report's clocks show, and the earliest has one name.
 pub record ClocksShowRaces (net : Netlist) (clocks : List (ℕ × Edge)) : Type 0 where
-  pub same : (before now : ℕ → ℕ) → IsRace net before now ↔ ((input clock : ℕ) × IsRaceOf net clocks before now input clock)
+  pub same : (before now : ℕ → ℕ)
+      → IsRace net before now ↔ ((input clock : ℕ) × IsRaceOf net clocks before now input clock)
   pub one_first : (stimulus : ℕ → ℕ → ℕ) (m input clock m' input' clock' : ℕ)
       → IsFirstRace net clocks stimulus m input clock → IsFirstRace net clocks stimulus m' input' clock'
       → (m ≡ m') × (input ≡ input') × (clock ≡ clock')
@@ -134,7 +150,8 @@ EachClockShowsRaces = (net : Netlist) (clocks : List (ℕ × Edge)) → AreClock
 
 -- A netlist has one list of faults, unless it has loops alone; and one at all only where it isn't accepted.
 pub record FaultsAreListed (net : Netlist) : Type 0 where
-  pub one_of : (among : Fault → Bool) (faults other : List Fault) → AreFaultsOf net among faults → AreFaultsOf net among other → faults ≡ other
+  pub one_of : (among : Fault → Bool) (faults other : List Fault)
+      → AreFaultsOf net among faults → AreFaultsOf net among other → faults ≡ other
   pub one_list : (faults other : List Fault) → AreFaults net faults → AreFaults net other
       → (faults ≡ other) ⊎ (IsOneLoop net faults × IsOneLoop net other)
   pub none_if_accepted : (faults : List Fault) → AreFaults net faults → IsAccepted net → ⊥
@@ -148,7 +165,8 @@ EachFaultIsListed = (net : Netlist) → FaultsAreListed net
 pub record StepsKeepRange (net : Netlist) : Type 0 where
   pub starts : (inputs : ℕ → ℕ) → AreInputs net inputs → StateInRange net (start_state net inputs)
   pub updates : (s : State) → StateInRange net s → StateInRange net (after_update net s)
-  pub gives : (inputs : ℕ → ℕ) (s : State) → AreInputs net inputs → StateInRange net s → StateInRange net (after_inputs net inputs s)
+  pub gives : (inputs : ℕ → ℕ) (s : State) → AreInputs net inputs
+      → StateInRange net s → StateInRange net (after_inputs net inputs s)
   pub runs : (p : ℕ) (s : State) → StateInRange net s → StateInRange net (after_run net p s)
 
 -- So whatever a netlist settles in, accepted or not, has values of the nets' types, where the stimulus has.
@@ -156,11 +174,13 @@ abbrev pub StatesInRange : Type 0
 StatesInRange =
     (net : Netlist) → IsWired net → KeepsRange net → SourcesKeepRange net
     → StepsKeepRange net
-    × ((stimulus : ℕ → ℕ → ℕ) → ((m : ℕ) → AreInputs net (stimulus m)) → (m k : ℕ) (t : State) → HasSettled net stimulus m k t → StateInRange net t)
+    × ((stimulus : ℕ → ℕ → ℕ) → ((m : ℕ) → AreInputs net (stimulus m))
+    → (m k : ℕ) (t : State) → HasSettled net stimulus m k t → StateInRange net t)
 
 -- without a loop each combinational process has a level
 abbrev pub LevelsExist : Type 0
-LevelsExist = (net : Netlist) → HasNoLoop net → (levels : List (Option ℕ)) × (greatest : ℕ) × AreLevels net levels greatest
+LevelsExist =
+    (net : Netlist) → HasNoLoop net → (levels : List (Option ℕ)) × (greatest : ℕ) × AreLevels net levels greatest
 
 -- What shows levels gives each process its level, no rising numbering is lower anywhere, and there is no loop.
 abbrev pub LevelsAreShown : Type 0
@@ -172,13 +192,16 @@ LevelsAreShown =
 
 -- What is a report is shown by local facts, and what they show is a report.
 abbrev pub ReportsAreShown : Type 0
-ReportsAreShown = (net : Netlist) (levels from : List (Option ℕ)) (clocks : List (ℕ × Edge)) (most : ℕ) → IsReport net levels from clocks most
+ReportsAreShown =
+    (net : Netlist) (levels from : List (Option ℕ)) (clocks : List (ℕ × Edge)) (most : ℕ)
+    → IsReport net levels from clocks most
     ↔ ShowReport net levels from clocks most
 
 -- In a report each level is reached by following `from` down to level 1.
 abbrev pub ReportsLeadDown : Type 0
 ReportsLeadDown =
-    (net : Netlist) (levels from : List (Option ℕ)) (clocks : List (ℕ × Edge)) (most : ℕ) → IsReport net levels from clocks most
+    (net : Netlist) (levels from : List (Option ℕ)) (clocks : List (ℕ × Edge)) (most : ℕ)
+    → IsReport net levels from clocks most
     → (q level : ℕ) → IsCombinational net q → slice_index_or levels q None ≡ Some level → LeadsDown net from q level
 
 -- ---- of an accepted netlist
@@ -186,8 +209,10 @@ ReportsLeadDown =
 -- an accepted netlist has no more than one report
 abbrev pub OneReport : Type 0
 OneReport =
-    (net : Netlist) → IsAccepted net → (levels levels' from from' : List (Option ℕ)) (clocks clocks' : List (ℕ × Edge)) (most most' : ℕ)
-    → IsReport net levels from clocks most → IsReport net levels' from' clocks' most' → (levels ≡ levels') × (from ≡ from') × (clocks ≡ clocks')
+    (net : Netlist) → IsAccepted net
+    → (levels levels' from from' : List (Option ℕ)) (clocks clocks' : List (ℕ × Edge)) (most most' : ℕ)
+    → IsReport net levels from clocks most → IsReport net levels' from' clocks' most'
+    → (levels ≡ levels') × (from ≡ from') × (clocks ≡ clocks')
     × (most ≡ most')
 
 -- for given inputs and registers one valuation solves, and no other
@@ -199,7 +224,8 @@ OneSolution =
 -- where the inputs and registers have values of their types, so has every net in the solution
 abbrev pub SolutionsInRange : Type 0
 SolutionsInRange =
-    (net : Netlist) → IsElaborated net → IsAccepted net → KeepsRange net → (inputs registers : ℕ → ℕ) → AreInputs net inputs → AreRegisters net registers
+    (net : Netlist) → IsElaborated net → IsAccepted net → KeepsRange net
+    → (inputs registers : ℕ → ℕ) → AreInputs net inputs → AreRegisters net registers
     → (v : List ℕ) → Solves net inputs registers v → IsValuation net v
 
 -- under each stimulus the synchronous machine has one run
@@ -211,13 +237,15 @@ OneMachineRun =
 -- its valuations are in range where the stimulus is
 abbrev pub RunsInRange : Type 0
 RunsInRange =
-    (net : Netlist) → IsElaborated net → IsAccepted net → KeepsRange net → (stimulus : ℕ → ℕ → ℕ) → ((m : ℕ) → AreInputs net (stimulus m))
+    (net : Netlist) → IsElaborated net → IsAccepted net → KeepsRange net
+    → (stimulus : ℕ → ℕ → ℕ) → ((m : ℕ) → AreInputs net (stimulus m))
     → (v : ℕ → List ℕ) → IsMachineRun net stimulus v → (m : ℕ) → IsValuation net (v m)
 
 -- each moment is reached, and settles
 abbrev pub EachMomentComes : Type 0
 EachMomentComes =
-    (net : Netlist) → IsElaborated net → IsAccepted net → (stimulus : ℕ → ℕ → ℕ) (m : ℕ) → (k : ℕ) × (t : State) × HasSettled net stimulus m k t
+    (net : Netlist) → IsElaborated net → IsAccepted net → (stimulus : ℕ → ℕ → ℕ) (m : ℕ)
+    → (k : ℕ) × (t : State) × HasSettled net stimulus m k t
 
 -- no process has a reset
 abbrev pub HasNoReset : Netlist → Type 0
@@ -227,16 +255,19 @@ HasNoReset net = (p : ℕ) (reset : Reset) → HasReset net p reset → ⊥
 -- nothing is reset.
 abbrev pub SettlesInBound : Type 0
 SettlesInBound =
-    (net : Netlist) (levels : List (Option ℕ)) (greatest : ℕ) → IsElaborated net → IsAccepted net → AreLevels net levels greatest
+    (net : Netlist) (levels : List (Option ℕ)) (greatest : ℕ)
+    → IsElaborated net → IsAccepted net → AreLevels net levels greatest
     → (stimulus : ℕ → ℕ → ℕ) (m : ℕ) (s : State) → Begun net stimulus m s
     → (k : ℕ) × SettlesIn net s k × (k ≤ bound net greatest) × (m ≡ 0 → HasNoReset net → k ≤ greatest)
 
 -- So there is one greatest number of delta cycles of the moments up to a last one, and it is within the bound.
 abbrev pub OneGreatestCount : Type 0
 OneGreatestCount =
-    (net : Netlist) (levels : List (Option ℕ)) (greatest : ℕ) → IsElaborated net → IsAccepted net → AreLevels net levels greatest
+    (net : Netlist) (levels : List (Option ℕ)) (greatest : ℕ)
+    → IsElaborated net → IsAccepted net → AreLevels net levels greatest
     → (stimulus : ℕ → ℕ → ℕ) (last : ℕ)
-    → (most : ℕ) × IsMost net stimulus last most × (most ≤ bound net greatest) × ((other : ℕ) → IsMost net stimulus last other → other ≡ most)
+    → (most : ℕ) × IsMost net stimulus last most × (most ≤ bound net greatest)
+    × ((other : ℕ) → IsMost net stimulus last other → other ≡ most)
 
 -- Where no moment up to m has a race, what has settled at m is the valuation of the machine's run.
 abbrev pub IsTheMachine : Type 0

@@ -20,7 +20,8 @@ pub record IsLevel (net : Netlist) (p level : ℕ) : Type 0 where
 -- the level of each combinational process, and none for a clocked one; greatest is the greatest of them, 0 without any
 pub record AreLevels (net : Netlist) (levels : List (Option ℕ)) (greatest : ℕ) : Type 0 where
   pub each_process : length levels ≡ length net.processes
-  pub combinational : (p : ℕ) → IsCombinational net p → (level : ℕ) × (slice_index_or levels p None ≡ Some level) × IsLevel net p level
+  pub combinational : (p : ℕ) → IsCombinational net p
+      → (level : ℕ) × (slice_index_or levels p None ≡ Some level) × IsLevel net p level
   pub clocked : (p clock : ℕ) (edge : Edge) → IsClockedBy net p clock edge → slice_index_or levels p None ≡ None
   pub none_above : (p level : ℕ) → slice_index_or levels p None ≡ Some level → level ≤ greatest
   pub met : greatest ≢ 0 → (p : ℕ) × (slice_index_or levels p None ≡ Some greatest)
@@ -41,7 +42,9 @@ is_driver (Idle v) = false
 
 -- some process with a reset is sensitive to a net that a process drives
 abbrev pub has_late_reset : Netlist → Bool
-has_late_reset net = list_any (λ p. is_some (kind_reset p.kind) && list_any (λ n. list_any is_driver (sources_of net n)) p.wakes) net.processes
+has_late_reset net =
+    list_any
+    (λ p. is_some (kind_reset p.kind) && list_any (λ n. list_any is_driver (sources_of net n)) p.wakes) net.processes
 
 -- The bound on a moment's delta cycles: the greatest level; one more where a process is clocked, since registers change
 -- in the first delta cycle; and one more where a process with a reset may be resumed in a delta cycle, since while its
@@ -54,9 +57,11 @@ bound net greatest = greatest + (if has_clocked net then 1 else 0) + (if has_lat
 -- Local facts: each level is 1 or more and rises along every sensitivity, and one above 1 is one more than its from's.
 pub record ShowLevels (net : Netlist) (levels from : List (Option ℕ)) : Type 0 where
   pub each : (p : ℕ) → IsCombinational net p → (below : ℕ) × (slice_index_or levels p None ≡ Some (suc below))
-  pub rises : (p q a b : ℕ) → Feeds net p q → slice_index_or levels p None ≡ Some a → slice_index_or levels q None ≡ Some b → a < b
+  pub rises : (p q a b : ℕ) → Feeds net p q → slice_index_or levels p None ≡ Some a
+      → slice_index_or levels q None ≡ Some b → a < b
   pub from_below : (q below : ℕ) → IsCombinational net q → slice_index_or levels q None ≡ Some (suc (suc below))
-      → (p : ℕ) × (slice_index_or from q None ≡ Some p) × Feeds net p q × (slice_index_or levels p None ≡ Some (suc below))
+      → (p : ℕ) × (slice_index_or from q None ≡ Some p) × Feeds net p q
+      × (slice_index_or levels p None ≡ Some (suc below))
 
 -- a numbering from 1 that rises along every sensitivity between combinational processes
 pub record Rises (net : Netlist) (number : ℕ → ℕ) : Type 0 where

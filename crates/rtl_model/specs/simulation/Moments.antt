@@ -47,8 +47,9 @@ pub record IsUnsettled (net : Netlist) (s : State) (limit : ℕ) (t : State) : T
   pub never : (k : ℕ) → k ≤ limit → SettlesIn net s k → ⊥
   pub leads : HasDeltas net limit s t
 
--- A stimulus gives each input's value at each moment, the first being 0. s is a state in which the simulation may be, by
--- some orders, after the first cycle of the moment m: at 0 the run of initialization, later the cycle of the new inputs.
+-- A stimulus gives each input's value at each moment, the first being 0. s is a state in which the simulation may be,
+-- by some orders, after the first cycle of the moment m: at 0 the run of initialization, later the cycle of the
+-- new inputs.
 abbrev pub Begun : Netlist → (stimulus : ℕ → ℕ → ℕ) → (m : ℕ) → State → Type 0
 Begun net stimulus zero s = HasRun net (start_state net (stimulus 0)) s
 Begun net stimulus (suc m) s =

@@ -1,6 +1,6 @@
 -- What a netlist is to a simulation: its processes, where each net's value comes from, and how values are resolved and
--- compared (IEEE 1076-2008, 14.7.2 and 14.7.3). Nets, processes and values are numbers: a net and a process by its place
--- in the elaborated design, a value by its place in its type. A valuation is the list of all nets' values.
+-- compared (IEEE 1076-2008, 14.7.2 and 14.7.3). Nets, processes and values are numbers: a net and a process by its
+-- place in the elaborated design, a value by its place in its type. A valuation is the list of all nets' values.
 use Rattle.std.specs.Prelude.{false, ◌≡◌, ℕ, ◌<◌, Bool, List, [], length, slice_index, slice_index_or, map, Option, Some, None, IsTrue, ◌==◌}
 use Rattle.std.specs.List.{list_any, range_with_len}
 -- the edge tests: `rising_edge`, `falling_edge`, and an event to exactly '1' or '0'
@@ -28,8 +28,8 @@ pub record Process : Type 0 where
   pub starts : List ℕ
   -- its sensitivity: the nets whose events resume it
   pub wakes : List ℕ
-  -- the nets that its body reads, and of a clocked process those that the branch under its edge reads: in any order, and
-  -- perhaps several times
+  -- the nets that its body reads, and of a clocked process those that the branch under its edge reads: in any order,
+  -- and perhaps several times
   pub reads : List ℕ
   pub acting_reads : List ℕ
   pub kind : ProcessKind

@@ -49,6 +49,7 @@ module _ (net : Netlist) (clocks : List (ℕ × Edge)) (before now : ℕ → ℕ
     pub lowest_clock : (n : ℕ) → n < clock → IsActive n → ⊥
 
 -- The earliest race: the moment suc m has one, with these names, and none up to m has.
-pub record IsFirstRace (net : Netlist) (clocks : List (ℕ × Edge)) (stimulus : ℕ → ℕ → ℕ) (m input clock : ℕ) : Type 0 where
+pub record IsFirstRace (net : Netlist) (clocks : List (ℕ × Edge))
+    (stimulus : ℕ → ℕ → ℕ) (m input clock : ℕ) : Type 0 where
   pub race : IsLowestRace net clocks (stimulus m) (stimulus (suc m)) input clock
   pub earliest : HasNoRace net stimulus m

@@ -29,7 +29,8 @@ pub record AreClocks (net : Netlist) (clocks : List (ℕ × Edge)) : Type 0 wher
   pub rise : RisesBy clock_key clocks
 
 -- what a report says beside levels and their froms
-pub record ReportRest (net : Netlist) (from : List (Option ℕ)) (clocks : List (ℕ × Edge)) (most greatest : ℕ) : Type 0 where
+pub record ReportRest (net : Netlist) (from : List (Option ℕ))
+    (clocks : List (ℕ × Edge)) (most greatest : ℕ) : Type 0 where
   pub bound_is : most ≡ bound net greatest
   pub each_from : length from ≡ length net.processes
   pub from_clocked : (p clock : ℕ) (edge : Edge) → IsClockedBy net p clock edge → slice_index_or from p None ≡ None
@@ -46,18 +47,21 @@ pub record IsReport (net : Netlist) (levels from : List (Option ℕ)) (clocks : 
 abbrev pub LeadsDown : Netlist → (from : List (Option ℕ)) → (q : ℕ) → (many : ℕ) → Type 0
 LeadsDown net from q zero = ⊥
 LeadsDown net from q (suc zero) = IsCombinational net q × (slice_index_or from q None ≡ None)
-LeadsDown net from q (suc (suc n)) = (p : ℕ) × (slice_index_or from q None ≡ Some p) × Feeds net p q × LeadsDown net from p (suc n)
+LeadsDown net from q (suc (suc n)) =
+    (p : ℕ) × (slice_index_or from q None ≡ Some p) × Feeds net p q × LeadsDown net from p (suc n)
 
--- The same by local facts, which speak of no chain: the levels are shown; at level 1 there is no from, and no process below
--- a from would do.
-pub record ShowReport (net : Netlist) (levels from : List (Option ℕ)) (clocks : List (ℕ × Edge)) (most : ℕ) : Type 0 where
+-- The same by local facts, which speak of no chain: the levels are shown; at level 1 there is no from, and no process
+-- below a from would do.
+pub record ShowReport (net : Netlist) (levels from : List (Option ℕ))
+    (clocks : List (ℕ × Edge)) (most : ℕ) : Type 0 where
   pub greatest : ℕ
   pub shown : ShowLevels net levels from
   pub each_process : length levels ≡ length net.processes
   pub clocked : (p clock : ℕ) (edge : Edge) → IsClockedBy net p clock edge → slice_index_or levels p None ≡ None
   pub none_above : (p level : ℕ) → slice_index_or levels p None ≡ Some level → level ≤ greatest
   pub met : greatest ≢ 0 → (p : ℕ) × (slice_index_or levels p None ≡ Some greatest)
-  pub from_first : (q : ℕ) → IsCombinational net q → slice_index_or levels q None ≡ Some 1 → slice_index_or from q None ≡ None
+  pub from_first : (q : ℕ) → IsCombinational net q
+      → slice_index_or levels q None ≡ Some 1 → slice_index_or from q None ≡ None
   pub from_lowest : (q p below r : ℕ) → IsCombinational net q → slice_index_or levels q None ≡ Some (suc below)
       → slice_index_or from q None ≡ Some p → r < p → slice_index_or levels r None ≡ Some below → Feeds net r q → ⊥
   pub rest : ReportRest net from clocks most greatest

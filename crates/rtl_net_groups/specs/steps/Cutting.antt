@@ -9,7 +9,8 @@ pub record IsRun (of_net targets : List ℕ) (place len : ℕ) : Type 0 where
   pub some : 0 < len
   pub there : place + len ≤ length targets
   pub nets : (k : ℕ) → k < len → slice_index targets (place + k) ≡ slice_index targets place + k
-  pub in_group : (k : ℕ) → k < len → slice_index of_net (slice_index targets place + k) ≡ slice_index of_net (slice_index targets place)
+  pub in_group : (k : ℕ) → k < len
+      → slice_index of_net (slice_index targets place + k) ≡ slice_index of_net (slice_index targets place)
 
 pub record AreCutsTo (of_net targets : List ℕ) (end : ℕ) (cuts : List Cut) (numbers : List ℕ) : Type 0 where
   pub within : end ≤ length targets
@@ -17,4 +18,5 @@ pub record AreCutsTo (of_net targets : List ℕ) (end : ℕ) (cuts : List Cut) (
   pub each_place : flat_map places_of cuts ≡ range_with_len 0 end
   pub each_number : length numbers ≡ end
   pub numbers_are : (place : ℕ) → place < end
-      → (slice_index numbers place < length cuts) × HasPlace (slice_index_or cuts (slice_index numbers place) no_cut) place
+      → (slice_index numbers place < length cuts)
+      × HasPlace (slice_index_or cuts (slice_index numbers place) no_cut) place

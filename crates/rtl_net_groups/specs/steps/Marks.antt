@@ -21,7 +21,8 @@ AreListedAlike begins nets = (n : ℕ) → IsUnmarked begins (n + 1) → Contain
 
 -- a net that isn't marked is of the declaration of the one before it
 abbrev pub AreDeclaredAlike : (begins : List Bool) → (declared : List ℕ) → Type 0
-AreDeclaredAlike begins declared = (n : ℕ) → IsUnmarked begins (n + 1) → slice_index declared n ≡ slice_index declared (n + 1)
+AreDeclaredAlike begins declared =
+    (n : ℕ) → IsUnmarked begins (n + 1) → slice_index declared n ≡ slice_index declared (n + 1)
 
 -- a net that isn't marked is like the one before it
 abbrev pub AreMarkedApart : (begins : List Bool) → (declared : List ℕ) → (nets_of : List (List ℕ)) → Type 0
@@ -34,4 +35,5 @@ after nets (suc k) = slice_index nets k + 1
 
 -- the net at this place follows the one before it, or it is marked, and what follows that one is, too
 abbrev pub IsTold : List Bool → (nets : List ℕ) → (place : ℕ) → Type 0
-IsTold begins nets k = (slice_index nets k ≡ after nets k) ⊎ (IsMarked begins (after nets k) × IsMarked begins (slice_index nets k))
+IsTold begins nets k =
+    (slice_index nets k ≡ after nets k) ⊎ (IsMarked begins (after nets k) × IsMarked begins (slice_index nets k))

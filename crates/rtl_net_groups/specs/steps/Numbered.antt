@@ -8,4 +8,5 @@ pub record IsNumbered (begins : List Bool) (of_net first : List ℕ) : Type 0 wh
   -- the last net is in the last group
   pub last : (n : ℕ) → n + 1 ≡ length of_net → slice_index of_net n + 1 ≡ length first
   -- a net that is in the group of the one before it isn't marked
-  pub same : (n : ℕ) → n + 1 < length of_net → slice_index of_net (n + 1) ≡ slice_index of_net n → IsUnmarked begins (n + 1)
+  pub same : (n : ℕ) → n + 1 < length of_net
+      → slice_index of_net (n + 1) ≡ slice_index of_net n → IsUnmarked begins (n + 1)

@@ -1,5 +1,5 @@
--- A body that fits its instance's elements is connected to one that fits the flat netlist: nets have the types of the elements
--- that they stand for, and drivers are there for what is assigned (IEEE 1076-2008, 14.7.2).
+-- A body that fits its instance's elements is connected to one that fits the flat netlist: nets have the types of the
+-- elements that they stand for, and drivers are there for what is assigned (IEEE 1076-2008, 14.7.2).
 use Rattle.std.specs.Prelude.{ℕ, List, map, slice_index, Contains}
 use Rattle.rtl_model.specs.bodies.Body.{Stmts}
 use Rattle.rtl_model.specs.bodies.Types.{ElementType, HasType}
@@ -10,11 +10,13 @@ use Rattle.vhdl_elab_rules.specs.Bodies.{connected_body}
 
 -- the net of each element has the element's type
 abbrev pub AreNetsOf : (types : List ElementType) → List Object → (nets : List ℕ) → Type 0
-AreNetsOf types os nets = (e : ℕ) (t : ElementType) → HasType (object_types os) t e → HasType types t (slice_index nets e)
+AreNetsOf types os nets =
+    (e : ℕ) (t : ElementType) → HasType (object_types os) t e → HasType types t (slice_index nets e)
 
 -- the body stands among nets of these types, and drives these elements
 abbrev pub connected_scope : List ElementType → List Object → List Variable → (nets drives : List ℕ) → Scope
-connected_scope types os vs nets drives = record (body_scope os vs) { nets = types; targets = map (slice_index nets) drives }
+connected_scope types os vs nets drives =
+    record (body_scope os vs) { nets = types; targets = map (slice_index nets) drives }
 
 abbrev pub EachBodyIsConnected : Type 0
 EachBodyIsConnected =

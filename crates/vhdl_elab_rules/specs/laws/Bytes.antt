@@ -6,4 +6,5 @@ use Rattle.vhdl_expand_rules.specs.Elab.{Told}
 use Rattle.vhdl_elab_rules.specs.Refused.{MayRefuse}
 
 abbrev pub EachRefusalStandsInUnits : Type 0
-EachRefusalStandsInUnits = (units : Units) (top : List ℕ) (told : Told) → MayRefuse units top told → Contains (0 ∷ units_bytes units) told.1
+EachRefusalStandsInUnits =
+    (units : Units) (top : List ℕ) (told : Told) → MayRefuse units top told → Contains (0 ∷ units_bytes units) told.1

@@ -1,5 +1,5 @@
--- The parts of a netlist that is elaborated from named units have names and labels, and a process stands in a scope that is there
--- (IEEE 1076-2008, 16.2.5).
+-- The parts of a netlist that is elaborated from named units have names and labels, and a process stands in a scope
+-- that is there (IEEE 1076-2008, 16.2.5).
 use Rattle.std.specs.Prelude.{◌≡◌, ◌≢◌, ℕ, ◌<◌, All, List, [], length, Ok, IsTrue, IfSome}
 use Rattle.vhdl_names_rules.specs.units.Units.{Units}
 use Rattle.vhdl_names_rules.specs.sound.Named.{are_named}
@@ -18,4 +18,6 @@ pub record HasNames (x : Elaborated) : Type 0 where
   pub processes : All (ProcessHasName (length x.scopes)) x.processes
 
 abbrev pub EachHasNames : Type 0
-EachHasNames = (units : Units) (top : List ℕ) (x : Elaborated) → IsTrue (are_named units) → elaborated_net units top ≡ Ok x → HasNames x
+EachHasNames =
+    (units : Units) (top : List ℕ) (x : Elaborated)
+    → IsTrue (are_named units) → elaborated_net units top ≡ Ok x → HasNames x

@@ -20,21 +20,27 @@ IsInstance d k p = slice_get d.instances k ≡ Some p
 
 -- the nets of the name of an instance's j-th port or signal, from the left
 abbrev pub nets_of_name : Placed → (j : ℕ) → Object → List ℕ
-nets_of_name p j o = slice_range p.nets (objects_count (take j p.objects)) (objects_count (take j p.objects) + size o.kind)
+nets_of_name p j o =
+    slice_range p.nets (objects_count (take j p.objects)) (objects_count (take j p.objects) + size o.kind)
 
 pub record NetsAreAsSaid (d : Numbered) : Type 0 where
-  -- The k-th element that has a net of its own has the net k. So each net is the own net of one declaration's element and
-  -- of no other, and the own nets of instances follow each other in order of the text.
+  -- The k-th element that has a net of its own has the net k. So each net is the own net of one declaration's element
+  -- and of no other, and the own nets of instances follow each other in order of the text.
   pub own_nets : map (λ (e : Element). e.net) (own_elements d) ≡ range_with_len 0 d.nets
   -- an instance stands in one before it
   pub goes_up : (k m : ℕ) (child : Placed) → IsInstance d k child → child.parent ≡ Some m → m < k
-  -- An associated port's elements are the actual's elements in the instance above, whatever its mode, and no nets besides.
+  -- An associated port's elements are the actual's elements in the instance above, whatever its mode, and no
+  -- nets besides.
   pub ports_are_actuals : (k m j : ℕ) (child above : Placed) (o : Object) (es : List ℕ)
-      → IsInstance d k child → child.parent ≡ Some m → IsInstance d m above → slice_get child.objects j ≡ Some o → o.actual ≡ Some es
+      → IsInstance d k child → child.parent ≡ Some m → IsInstance d m above
+      → slice_get child.objects j ≡ Some o → o.actual ≡ Some es
       → nets_of_name child j o ≡ map (slice_index above.nets) es
   -- a signal, and a port that is open or not associated, has nets of its own, one after another
-  pub others_are_own : (k j : ℕ) (p : Placed) (o : Object) → IsInstance d k p → slice_get p.objects j ≡ Some o → o.actual ≡ None
+  pub others_are_own : (k j : ℕ) (p : Placed) (o : Object)
+      → IsInstance d k p → slice_get p.objects j ≡ Some o → o.actual ≡ None
       → (first : ℕ) × (nets_of_name p j o ≡ range_with_len first (size o.kind))
 
 abbrev pub EachNetIsAsSaid : Type 0
-EachNetIsAsSaid = (units : Units) (top : List ℕ) (design : Design) → expanded_design units top ≡ Ok design → NetsAreAsSaid (numbered_design design)
+EachNetIsAsSaid =
+    (units : Units) (top : List ℕ) (design : Design)
+    → expanded_design units top ≡ Ok design → NetsAreAsSaid (numbered_design design)

@@ -1,5 +1,5 @@
--- Each element of an instance has a net of its own type, and the processes of an elaborated netlist are in range: their drivers
--- and variables start with values of their types, and their bodies fit (IEEE 1076-2008, 14.7.2, 14.7.3).
+-- Each element of an instance has a net of its own type, and the processes of an elaborated netlist are in range: their
+-- drivers and variables start with values of their types, and their bodies fit (IEEE 1076-2008, 14.7.2, 14.7.3).
 use Rattle.std.specs.Prelude.{◌≡◌, ℕ, All, List, Ok, IsTrue}
 use Rattle.rtl_model.specs.bodies.Types.{ElementType, IsByte}
 use Rattle.rtl_model.specs.nets.FlatNetlist.{ProcessInRange}
@@ -20,4 +20,5 @@ pub record ProcessesFit (d : Numbered) : Type 0 where
 
 abbrev pub EachProcessFits : Type 0
 EachProcessFits =
-    (units : Units) (top : List ℕ) (design : Design) → IsTrue (are_sound units) → expanded_design units top ≡ Ok design → ProcessesFit (numbered_design design)
+    (units : Units) (top : List ℕ) (design : Design) → IsTrue (are_sound units)
+    → expanded_design units top ≡ Ok design → ProcessesFit (numbered_design design)

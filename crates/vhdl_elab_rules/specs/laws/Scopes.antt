@@ -1,5 +1,5 @@
--- Instances stand in order of the text, as a netlist's scopes do: the top first, and each other one in the one before it or in
--- one round that (IEEE 1076-2008, 14.2).
+-- Instances stand in order of the text, as a netlist's scopes do: the top first, and each other one in the one before
+-- it or in one round that (IEEE 1076-2008, 14.2).
 use Rattle.std.specs.Prelude.{◌≡◌, ℕ, suc, ◌<◌, List, length, map, None, Ok}
 use Rattle.rtl_net.specs.Nets.{ScopeView, parent_of}
 use Rattle.rtl_net.specs.Elaborated.{FollowsInText}
@@ -17,4 +17,6 @@ pub record StandInText (scopes : List ScopeView) : Type 0 where
   pub others : (k : ℕ) → suc k < length scopes → FollowsInText scopes k
 
 abbrev pub EachScopeFollows : Type 0
-EachScopeFollows = (units : Units) (top : List ℕ) (x : Elaborated) → elaborated_net units top ≡ Ok x → StandInText (scope_views x.scopes)
+EachScopeFollows =
+    (units : Units) (top : List ℕ) (x : Elaborated)
+    → elaborated_net units top ≡ Ok x → StandInText (scope_views x.scopes)

@@ -20,4 +20,6 @@ pub record HasShape (d : Numbered) : Type 0 where
   pub wakes : All (WakesRise d.nets) (flat_net d).processes
 
 abbrev pub EachHasShape : Type 0
-EachHasShape = (units : Units) (top : List ℕ) (design : Design) → expanded_design units top ≡ Ok design → HasShape (numbered_design design)
+EachHasShape =
+    (units : Units) (top : List ℕ) (design : Design)
+    → expanded_design units top ≡ Ok design → HasShape (numbered_design design)

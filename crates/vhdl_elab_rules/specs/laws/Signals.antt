@@ -1,5 +1,5 @@
--- The signals and variables of an elaborated netlist: each signal has as many nets as its kind has elements, and these are of its
--- elements' type; each variable starts with as many values.
+-- The signals and variables of an elaborated netlist: each signal has as many nets as its kind has elements, and these
+-- are of its elements' type; each variable starts with as many values.
 use Rattle.std.specs.Prelude.{◌≡◌, ℕ, ◌<◌, All, List, length, Ok, IsTrue}
 use Rattle.std.specs.List.{AllZip}
 use Rattle.rtl_model.specs.bodies.Types.{ElementType, HasType}

@@ -1,6 +1,6 @@
--- What the laws of flat netlists ask of a netlist holds of every netlist that is elaborated from sound units: each value, net, place and
--- length is in range, nothing inside drives the top's in ports, nets start with the resolution of their sources, and several
--- sources meet at nets of the nine values alone (IEEE 1076-2008, 14.7).
+-- What the laws of flat netlists ask of a netlist holds of every netlist that is elaborated from sound units: each
+-- value, net, place and length is in range, nothing inside drives the top's in ports, nets start with the resolution of
+-- their sources, and several sources meet at nets of the nine values alone (IEEE 1076-2008, 14.7).
 use Rattle.std.specs.Prelude.{◌≡◌, ℕ, ◌≤◌, List, length, Ok, IsTrue}
 use Rattle.rtl_model.specs.nets.FlatNetlist.{IsInRange}
 use Rattle.rtl_model.specs.nets.Wiring.{IsConnected}
@@ -21,4 +21,5 @@ pub record IsWithinLimits (x : Elaborated) : Type 0 where
   pub scopes : length x.scopes ≤ most_scopes
 
 abbrev pub EachNetIsWithinLimits : Type 0
-EachNetIsWithinLimits = (units : Units) (top : List ℕ) (x : Elaborated) → elaborated_net units top ≡ Ok x → IsWithinLimits x
+EachNetIsWithinLimits =
+    (units : Units) (top : List ℕ) (x : Elaborated) → elaborated_net units top ≡ Ok x → IsWithinLimits x

@@ -1,5 +1,5 @@
--- The sources of a net (IEEE 1076-2008, 14.7.2, 14.7.3.2): its drivers are those that drive it, each listed once; its idle
--- ports are those out ports without a source whose net it is.
+-- The sources of a net (IEEE 1076-2008, 14.7.2, 14.7.3.2): its drivers are those that drive it, each listed once; its
+-- idle ports are those out ports without a source whose net it is.
 use Rattle.std.specs.Prelude.{◌≡◌, ℕ, ◌<◌, ◌==◌, Bool, false, ◌&&◌, [], map, filter, count_by, slice_get, slice_index_or, Some, Contains}
 use Rattle.rtl_model.specs.nets.FlatNetlist.{FlatNetlist, process_at, targets, flat_sources}
 use Rattle.rtl_model.specs.simulation.Netlist.{Source, Driver, Idle}
@@ -29,4 +29,5 @@ EachSourceIsListed = (net : FlatNetlist) → SourcesAreListed net
 abbrev pub EachIdlePortIsListed : Type 0
 EachIdlePortIsListed =
     (d : Numbered) (n : ℕ) → n < d.nets
-    → slice_index_or (flat_net d).idle n [] ≡ map (λ (e : Element). e.start) (filter (λ (e : Element). e.net == n) (idle_elements d))
+    → slice_index_or (flat_net d).idle n []
+    ≡ map (λ (e : Element). e.start) (filter (λ (e : Element). e.net == n) (idle_elements d))

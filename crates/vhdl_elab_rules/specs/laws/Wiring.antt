@@ -1,5 +1,6 @@
--- The wiring of a netlist of sound units: idle ports hold values of their nets' types, the top's in ports are elements of the nine
--- values that nothing inside drives, and a net with sources starts with their resolution (IEEE 1076-2008, 14.7.3, 14.7.5.2).
+-- The wiring of a netlist of sound units: idle ports hold values of their nets' types, the top's in ports are elements
+-- of the nine values that nothing inside drives, and a net with sources starts with their resolution (IEEE 1076-2008,
+-- 14.7.3, 14.7.5.2).
 use Rattle.std.specs.Prelude.{◌≡◌, ℕ, ◌<◌, All, List, [], map, slice_index, slice_index_or, Contains, Ok, IsTrue}
 use Rattle.std.specs.List.Sorted.{IsStrictlyIncreasing}
 use Rattle.rtl_model.specs.bodies.Types.{ElementType, nine_valued, limit_of, HasType}
@@ -14,7 +15,8 @@ use Rattle.vhdl_elab_rules.specs.Numbering.{numbered_design}
 use Rattle.vhdl_elab_rules.specs.Wiring.{flat_net}
 
 pub record IsWired (net : FlatNetlist) : Type 0 where
-  pub idle : (n : ℕ) (t : ElementType) → HasType net.types t n → All (λ v. v < limit_of t) (slice_index_or net.idle n [])
+  pub idle : (n : ℕ) (t : ElementType) → HasType net.types t n
+      → All (λ v. v < limit_of t) (slice_index_or net.idle n [])
   pub inputs_rise : IsStrictlyIncreasing net.inputs
   pub inputs : All (HasType net.types nine_valued) net.inputs
   pub inputs_have_no_source : (n : ℕ) → Contains net.inputs n → flat_sources net n ≡ []

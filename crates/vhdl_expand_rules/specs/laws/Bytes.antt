@@ -12,13 +12,16 @@ use Rattle.vhdl_expand_rules.specs.Expansion.{Spot, process, expanded_design}
 -- Of a body at a byte of the body,
 abbrev pub EachBodyIsToldAtItsBytes : Type 0
 EachBodyIsToldAtItsBytes =
-    (here : Site) (body : Statements) (told : Told) → statements here body ≡ Err told → Contains (0 ∷ statements_bytes body) told.1
+    (here : Site) (body : Statements) (told : Told)
+    → statements here body ≡ Err told → Contains (0 ∷ statements_bytes body) told.1
 
 -- of a process at a byte of the process,
 abbrev pub EachProcessIsToldAtItsBytes : Type 0
-EachProcessIsToldAtItsBytes = (here : Spot) (p : u.Process) (told : Told) → process here p ≡ Err told → Contains (0 ∷ process_bytes p) told.1
+EachProcessIsToldAtItsBytes =
+    (here : Spot) (p : u.Process) (told : Told) → process here p ≡ Err told → Contains (0 ∷ process_bytes p) told.1
 
 -- and of a design at a byte of its units.
 abbrev pub EachDesignIsToldAtBytesOfUnits : Type 0
 EachDesignIsToldAtBytesOfUnits =
-    (units : Units) (top : List ℕ) (told : Told) → expanded_design units top ≡ Err told → Contains (0 ∷ units_bytes units) told.1
+    (units : Units) (top : List ℕ) (told : Told)
+    → expanded_design units top ≡ Err told → Contains (0 ∷ units_bytes units) told.1

@@ -1,5 +1,5 @@
--- An expression that stands soundly in a unit is expanded to one that fits: each element is there and of the type that is
--- wanted, and each length is one that a vector can have, and the one that is wanted (IEEE 1076-2008, clause 9).
+-- An expression that stands soundly in a unit is expanded to one that fits: each element is there and of the type that
+-- is wanted, and each length is one that a vector can have, and the one that is wanted (IEEE 1076-2008, clause 9).
 use Rattle.std.specs.Prelude.{◌≡◌, ℕ, true, List, length, All, Some, Ok}
 use Rattle.rtl_model.specs.bodies.Types.{ElementType, nine_valued, enumeration, HasType}
 use Rattle.rtl_model.specs.bodies.Body as bodies
@@ -28,7 +28,8 @@ pub record IsName (here : Site) (s : Shape) (es : List ℕ) : Type 0 where
 
 abbrev pub EachNameFits : Type 0
 EachNameFits =
-    (i : Inside) (here : Site) (p : SignalPart) (s : Shape) (es : List ℕ) → IsSite i here → place_shape i p ≡ Some s → place_elements here p ≡ Ok es
+    (i : Inside) (here : Site) (p : SignalPart) (s : Shape) (es : List ℕ)
+    → IsSite i here → place_shape i p ≡ Some s → place_elements here p ≡ Ok es
     → IsName here s es
 
 pub record IsVector (here : Site) (s : Shape) (e : bodies.Expr) : Type 0 where
@@ -38,7 +39,8 @@ pub record IsVector (here : Site) (s : Shape) (e : bodies.Expr) : Type 0 where
 
 abbrev pub EachVectorFits : Type 0
 EachVectorFits =
-    (i : Inside) (here : Site) (v : Vector) (s : Shape) (e : bodies.Expr) → IsSite i here → vector_shape i v ≡ Some s → x.vector here v ≡ Ok e
+    (i : Inside) (here : Site) (v : Vector) (s : Shape) (e : bodies.Expr)
+    → IsSite i here → vector_shape i v ≡ Some s → x.vector here v ≡ Ok e
     → IsVector here s e
 
 pub record IsValue (here : Site) (s : Shape) (v : bodies.Value) : Type 0 where
@@ -48,9 +50,11 @@ pub record IsValue (here : Site) (s : Shape) (v : bodies.Value) : Type 0 where
 -- where a value of this shape is asked for
 abbrev pub EachValueFits : Type 0
 EachValueFits =
-    (i : Inside) (here : Site) (at : ℕ) (v : Value) (s : Shape) (e : bodies.Value) → IsSite i here → value_fits i s v ≡ true → x.value here at v ≡ Ok e
+    (i : Inside) (here : Site) (at : ℕ) (v : Value) (s : Shape) (e : bodies.Value)
+    → IsSite i here → value_fits i s v ≡ true → x.value here at v ≡ Ok e
     → IsValue here s e
 
 abbrev pub EachTestFits : Type 0
 EachTestFits =
-    (i : Inside) (here : Site) (t : Test) (c : bodies.Test) → IsSite i here → test_fits i t ≡ true → x.test here t ≡ Ok c → FitsTest (scope_at here) c
+    (i : Inside) (here : Site) (t : Test) (c : bodies.Test) → IsSite i here
+    → test_fits i t ≡ true → x.test here t ≡ Ok c → FitsTest (scope_at here) c

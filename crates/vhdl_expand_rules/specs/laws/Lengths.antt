@@ -1,5 +1,5 @@
--- What holds of every expanded tree: each object starts with as many values as it has elements, and an associated port is
--- as long as its actual.
+-- What holds of every expanded tree: each object starts with as many values as it has elements, and an associated port
+-- is as long as its actual.
 use Rattle.std.specs.Prelude.{◌≡◌, ℕ, All, List, length, Some, Ok}
 use Rattle.vhdl_names_rules.specs.units.Units.{Units}
 use Rattle.vhdl_expand_rules.specs.Kinds.{size}
@@ -17,4 +17,5 @@ abbrev pub PartsFit : Parts → Type 0
 PartsFit ps = EachInner (All ObjectFits) ps
 
 abbrev pub EachDesignFits : Type 0
-EachDesignFits = (units : Units) (top : List ℕ) (design : Design) → expanded_design units top ≡ Ok design → InstanceFits design.top
+EachDesignFits =
+    (units : Units) (top : List ℕ) (design : Design) → expanded_design units top ≡ Ok design → InstanceFits design.top

@@ -31,7 +31,8 @@ abbrev pub kinds_types : List ObjectKind → List ElementType
 kinds_types [] = []
 kinds_types (k ∷ ks) = replicate (size k) (element_type k) ++ kinds_types ks
 
--- In an expanded body an element of a port or signal stands where a flat netlist's body has a net, and each is its own target.
+-- In an expanded body an element of a port or signal stands where a flat netlist's body has a net, and each is its
+-- own target.
 abbrev pub scope_at : Site → Scope
 scope_at here = record {
   nets = kinds_types here.ports ++ kinds_types here.signals;

@@ -11,5 +11,6 @@ use Rattle.vhdl_expand_rules.specs.laws.Sites.{IsSite, scope_at}
 
 abbrev pub EachBodyFits : Type 0
 EachBodyFits =
-    (i : Inside) (here : Site) (s : Statements) (body : bodies.Stmts) → IsSite i here → statements_fit i s ≡ true → statements here s ≡ Ok body
+    (i : Inside) (here : Site) (s : Statements) (body : bodies.Stmts)
+    → IsSite i here → statements_fit i s ≡ true → statements here s ≡ Ok body
     → Fits (scope_at here) body

@@ -1,6 +1,6 @@
--- A tree that is expanded from sound units: its objects have kinds and values of their types, an associated port's actual is
--- of its type and, of an out port, driven in the instance above, where no in port is; and the body of a process fits and
--- assigns nothing but what the process drives (IEEE 1076-2008, 6.5.6.3, 14.7.2).
+-- A tree that is expanded from sound units: its objects have kinds and values of their types, an associated port's
+-- actual is of its type and, of an out port, driven in the instance above, where no in port is; and the body of a
+-- process fits and assigns nothing but what the process drives (IEEE 1076-2008, 6.5.6.3, 14.7.2).
 use Rattle.std.specs.Prelude.{◌≡◌, ℕ, ◌<◌, ◌≤◌, ⊤, Bool, true, false, All, List, [], ◌∷◌, ◌++◌, length, map, replicate, slice_get, Some, None, Ok, IsTrue, Contains}
 use Rattle.std.specs.List.{range_with_len}
 use Rattle.std.specs.List.Sorted.{IsStrictlyIncreasing}
@@ -117,4 +117,6 @@ pub record DesignIsSound (design : Design) : Type 0 where
   pub not_joined : All (λ (o : Object). o.actual ≡ None) (objects_of design.top)
 
 abbrev pub EachTreeIsSound : Type 0
-EachTreeIsSound = (units : Units) (top : List ℕ) (design : Design) → IsTrue (are_sound units) → expanded_design units top ≡ Ok design → DesignIsSound design
+EachTreeIsSound =
+    (units : Units) (top : List ℕ) (design : Design) → IsTrue (are_sound units)
+    → expanded_design units top ≡ Ok design → DesignIsSound design

@@ -10,7 +10,8 @@ use Rattle.vhdl_expand_rules.specs.Integers as definition
 use Rattle.vhdl_expand_rules.specs.Integers.{checked_integer, are_opposite, integer_operation, integer, decision}
 
 abbrev pub integers_view : Integers → definition.Integers
-integers_view x = record { generics = x.generics.now; constants = x.constants.now; generates = x.generates.now; loops = x.loops.now }
+integers_view x =
+    record { generics = x.generics.now; constants = x.constants.now; generates = x.generates.now; loops = x.loops.now }
 
 -- what is returned is what is computed, and it is refused just where that is, with the same problem at the same byte
 abbrev pub Computes : {X : Type 0} → Elab X → Result X ElabFault → Type 0

@@ -23,7 +23,8 @@ one_taken formals k behind taken a = do
 
 abbrev pub taking : List Name → ℕ → Bool → List Name → List Association → Option (List Name)
 taking formals k behind taken [] = Some taken
-taking formals k behind taken (a ∷ as') = one_taken formals k behind taken a >>= λ ns. taking formals (suc k) (is_named a) ns as'
+taking formals k behind taken (a ∷ as') =
+    one_taken formals k behind taken a >>= λ ns. taking formals (suc k) (is_named a) ns as'
 
 abbrev pub all_taken : List Name → List Association → Option (List Name)
 all_taken formals as' = taking formals 0 false [] as'

@@ -4,18 +4,20 @@ use Rattle.vhdl_tree.specs.Tree.{Ident, Expr, Association}
 use Rattle.vhdl_names_rules.specs.Visibility.{Name}
 use Rattle.vhdl_names_rules.specs.Instances.{expression_of, associated}
 
--- The association at a place, with this formal part, is for the formal of this name: for the one that it names, or without a
--- name for the one of its place.
+-- The association at a place, with this formal part, is for the formal of this name: for the one that it names, or
+-- without a name for the one of its place.
 abbrev pub IsFor : List Name → ℕ → Option Ident → Name → Type 0
 IsFor formals k (Some i) n = i.text ≡ n
 IsFor formals k None n = slice_get formals k ≡ Some n
 
-pub record AreForFormals (formals : List Name) (associations : List Association) (actuals : List (Option Expr)) : Type 0 where
+pub record AreForFormals (formals : List Name) (associations : List Association)
+    (actuals : List (Option Expr)) : Type 0 where
   -- each association is for a formal of the list,
   pub each_for_one : (k : ℕ) (a : Association) → slice_get associations k ≡ Some a
       → (i : ℕ) × (n : Name) × (slice_get formals i ≡ Some n) × IsFor formals k a.formal n
   -- and no two are for the same.
-  pub once : (j k : ℕ) (a b : Association) (n : Name) → slice_get associations j ≡ Some a → slice_get associations k ≡ Some b
+  pub once : (j k : ℕ) (a b : Association) (n : Name)
+      → slice_get associations j ≡ Some a → slice_get associations k ≡ Some b
       → IsFor formals j a.formal n → IsFor formals k b.formal n → j ≡ k
   -- There is an entry for each formal, in the formals' order:
   pub as_many : length actuals ≡ length formals

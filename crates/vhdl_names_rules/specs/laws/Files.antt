@@ -23,7 +23,8 @@ pub record StandInOrder (f : File) (units : Units) : Type 0 where
   -- no two architectures are of one entity;
   pub one_architecture : StandOnce (described_names f.units)
   -- and before each architecture stands its entity.
-  pub entity_first : (k : ℕ) (d : DesignUnit) (a : t.Architecture) → slice_get f.units k ≡ Some d → d.unit ≡ t.LibraryUnit.architecture a
+  pub entity_first : (k : ℕ) (d : DesignUnit) (a : t.Architecture)
+      → slice_get f.units k ≡ Some d → d.unit ≡ t.LibraryUnit.architecture a
       → (j : ℕ) × (j < k) × IsEntityAt f j a.entity.text
 
 abbrev pub EntitiesStandInOrder : Type 0

@@ -15,7 +15,9 @@ use Rattle.vhdl_names_rules.specs.laws.Once.{StandOnce}
 
 -- the names of generics and ports as they stand
 abbrev pub interface_names : Option (List t.Generic) → Option (List t.Port) → List Name
-interface_names gs ps = flat_map (λ (g : t.Generic). names_of g.names) (all_of gs) ++ flat_map (λ (p : t.Port). names_of p.names) (all_of ps)
+interface_names gs ps =
+    flat_map (λ (g : t.Generic). names_of g.names) (all_of gs)
+    ++ flat_map (λ (p : t.Port). names_of p.names) (all_of ps)
 
 -- An interface declares the names that stand in it, each once.
 abbrev pub InterfaceNamesStandOnce : Type 0
@@ -35,23 +37,28 @@ abbrev pub ArchitectureNamesStandOnce : Type 0
 ArchitectureNamesStandOnce =
     (entities : List EntityView) (e : EntityView) (items : List ContextItem) (a : t.Architecture) (x : u.Architecture)
     → architecture entities e items a ≡ Some x
-    → StandOnce (declared_names e.interface.declared ++ (flat_map names_in a.declarations ++ concurrent_labels (t.concurrents_of a.statements)))
+    → StandOnce (declared_names e.interface.declared
+    ++ (flat_map names_in a.declarations ++ concurrent_labels (t.concurrents_of a.statements)))
 
 -- Nor among a process's variables, nor among the labels inside it.
 abbrev pub ProcessNamesStandOnce : Type 0
-ProcessNamesStandOnce = (sight : Sight) (label : Option Ident) (p : t.Process) (x : u.Process) → process sight label p ≡ Some x
-    → StandOnce (flat_map (λ (v : t.Variables). names_of v.names) p.variables) × StandOnce (statement_labels (t.statements_of p.statements))
+ProcessNamesStandOnce =
+    (sight : Sight) (label : Option Ident) (p : t.Process) (x : u.Process) → process sight label p ≡ Some x
+    → StandOnce (flat_map (λ (v : t.Variables). names_of v.names) p.variables)
+    × StandOnce (statement_labels (t.statements_of p.statements))
 
 -- Nor among the labels of a generate's statements.
 abbrev pub GenerateLabelsStandOnce : Type 0
 GenerateLabelsStandOnce =
-    (entities : List EntityView) (sight : Sight) (label : Ident) (at : ℕ) (scheme : t.Scheme) (word : Bool) (cs : t.Concurrents) (end : Option Ident)
-    (x : u.Concurrent) → concurrent entities sight (t.generated label at scheme word cs end) ≡ Some x → StandOnce (concurrent_labels cs)
+    (entities : List EntityView) (sight : Sight) (label : Ident) (at : ℕ)
+    (scheme : t.Scheme) (word : Bool) (cs : t.Concurrents) (end : Option Ident)
+    (x : u.Concurrent) → concurrent entities sight (t.generated label at scheme word cs end) ≡ Some x
+    → StandOnce (concurrent_labels cs)
 
 -- ---- meanings
 
--- A name means what the one declaration of it in a region is, where no region within that one declares it, whatever the regions
--- outside declare.
+-- A name means what the one declaration of it in a region is, where no region within that one declares it, whatever the
+-- regions outside declare.
 abbrev pub InnermostIsMeant : Type 0
 InnermostIsMeant = (sight : Sight) (inner region outer : List Declared) (n : Name) (k : ℕ) (d : Declared)
     → in_sight sight ≡ inner ++ (region ++ outer)

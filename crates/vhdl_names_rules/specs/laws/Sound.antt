@@ -1,4 +1,5 @@
--- Laws of what elaboration may take for granted: what instances name and associate is there, and no in port is assigned.
+-- Laws of what elaboration may take for granted: what instances name and associate is there, and no in port
+-- is assigned.
 use Rattle.std.specs.Prelude.{◌≡◌, ℕ, ◌⊎◌, List, length, slice_get, Option, Some}
 use Rattle.vhdl_tree.specs.declared.declaration.Mode.TheVariants.{Out}
 use Rattle.vhdl_tree.specs.Tree as t
@@ -30,12 +31,16 @@ TargetsAreDriven = (sight : Sight) (n : t.Name) (x : SignalName) → target sigh
 
 -- Nor is the actual of an out port.
 abbrev pub ActualsAreDriven : Type 0
-ActualsAreDriven = (sight : Sight) (f : Formal) (n : t.Name) (actual : Expr) (p : SignalPart) → f.mode ≡ Out → as_name actual ≡ Some n
+ActualsAreDriven =
+    (sight : Sight) (f : Formal) (n : t.Name) (actual : Expr) (p : SignalPart) → f.mode ≡ Out → as_name actual ≡ Some n
     → port_actual sight f actual ≡ Some p → IsDriven (meaning sight n.identifier.text) p.signal
 
 -- An instance is of a unit of the file, and has an entry for each of its generics and ports.
 abbrev pub InstancesFitUnits : Type 0
-InstancesFitUnits = (f : File) (units : Units) (entities : List EntityView) (sight : Sight) (label : Ident) (i : t.Instance) (x : u.Instance)
-    → units_of f ≡ Some units → each (viewed f.units) (entities_of f.units) ≡ Some entities → instance entities sight label i ≡ Some x
+InstancesFitUnits =
+    (f : File) (units : Units) (entities : List EntityView)
+    (sight : Sight) (label : Ident) (i : t.Instance) (x : u.Instance)
+    → units_of f ≡ Some units → each (viewed f.units) (entities_of f.units) ≡ Some entities
+    → instance entities sight label i ≡ Some x
     → (unit : u.Entity) × (slice_get units x.unit ≡ Some unit)
     × (length x.generics ≡ length unit.generics) × (length x.ports ≡ length unit.ports)

@@ -1,5 +1,5 @@
--- The first rule that a construct breaks, as it is read: the problem that the rule bears, and the byte at which it is told. A rule is
--- looked at where what it is about is given, whatever else is broken.
+-- The first rule that a construct breaks, as it is read: the problem that the rule bears, and the byte at which it is
+-- told. A rule is looked at where what it is about is given, whatever else is broken.
 use Rattle.std.specs.Prelude.{◌≡◌, ℕ, Bool, true, false, if◌then◌else◌, nat_le, List, [], ◌∷◌, Option, Some, None}
 use Rattle.vhdl_names_rules.specs.declared.fault.NameFault.{NameFault}
 use Rattle.vhdl_names_rules.specs.declared.fault.NameFault.TheVariants.{At, NoMemory}

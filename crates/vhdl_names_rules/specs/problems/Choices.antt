@@ -1,4 +1,5 @@
--- Which rule the choices of one alternative of a case statement or a selected assignment break first (IEEE 1076-2008, 10.9 and 11.6).
+-- Which rule the choices of one alternative of a case statement or a selected assignment break first (IEEE 1076-2008,
+-- 10.9 and 11.6).
 use Rattle.std.specs.Prelude.{List, [], ◌∷◌, Some, None}
 use Rattle.vhdl_tree.specs.Tree as t
 use Rattle.vhdl_tree.specs.Tree.{Expr}
@@ -28,7 +29,8 @@ choice_problem _ = LeftOut
 -- a name has nothing behind it
 abbrev pub chosen : Sight → ObjectType → Expr → Broken
 chosen sight type (t.named n t.plain None) =
-    meaning sight n ▸ where_given (visibility.meaning sight n.text) (λ d. lacking (choice_problem d) n.at (named_choice type d))
+    meaning sight n
+    ▸ where_given (visibility.meaning sight n.text) (λ d. lacking (choice_problem d) n.at (named_choice type d))
 chosen sight type (t.named n suffix a) = meaning sight n ▸ refused LeftOut n.at
 chosen sight type e = literal type e
 
@@ -45,4 +47,5 @@ choices sight type cs = any_of (choice sight type) cs
 
 -- elements of the nine values or an enumeration
 abbrev pub selected_by : Sight → Expr → Broken
-selected_by sight e = typed sight e ▸ where_given (expressions.typed sight e) (λ x. lacking TypeMismatch (start e) (selector x))
+selected_by sight e =
+    typed sight e ▸ where_given (expressions.typed sight e) (λ x. lacking TypeMismatch (start e) (selector x))

@@ -1,4 +1,5 @@
--- Which rules the choices of a whole case statement or selected assignment break, as they stand (IEEE 1076-2008, 10.9 and 11.6).
+-- Which rules the choices of a whole case statement or selected assignment break, as they stand (IEEE 1076-2008, 10.9
+-- and 11.6).
 use Rattle.std.specs.Prelude.{ℕ, Bool, true, false, not, ◌||◌, List, [], ◌∷◌, ◌++◌, flat_map, filter_map}
 use Rattle.std.specs.List.{list_any}
 use Rattle.vhdl_tree.specs.Tree as t
@@ -22,7 +23,8 @@ stands sight type before x = list_any (same_choice x) (filter_map (are.choice si
 -- a choice by itself, which none before it is
 abbrev pub once : Sight → ObjectType → List t.Choice → t.Choice → Broken
 once sight type before c =
-    choice sight type c ▸ where_given (are.choice sight type c) (λ x. unless ChoiceTwice (choice_place c) (not (stands sight type before x)))
+    choice sight type c ▸ where_given (are.choice sight type c)
+    (λ x. unless ChoiceTwice (choice_place c) (not (stands sight type before x)))
 
 abbrev pub each_once : Sight → ObjectType → List t.Choice → List t.Choice → Broken
 each_once sight type before [] = nothing
@@ -41,7 +43,8 @@ is_empty (x ∷ xs) = false
 
 abbrev pub in_place : Sight → ObjectType → List t.Choice → List (List t.Choice) → Broken
 in_place sight type before [] = nothing
-in_place sight type before (cs ∷ rest) = alternative_in_place sight type before (is_empty rest) cs ▸ in_place sight type (before ++ cs) rest
+in_place sight type before (cs ∷ rest) =
+    alternative_in_place sight type before (is_empty rest) cs ▸ in_place sight type (before ++ cs) rest
 
 -- others or each literal has to stand there, and an alternative: that is known at the end
 abbrev pub complete : Sight → ObjectType → ℕ → List (List t.Choice) → Broken
@@ -51,7 +54,8 @@ complete sight type at alternatives =
 
 -- the choices stand among what the alternatives are and do; the word at this byte begins all
 abbrev pub covered : Sight → ObjectType → ℕ → List (List t.Choice) → Broken → Broken
-covered sight type at alternatives broken = earlier (in_place sight type [] alternatives) broken ▸ complete sight type at alternatives
+covered sight type at alternatives broken =
+    earlier (in_place sight type [] alternatives) broken ▸ complete sight type at alternatives
 
 -- there is an alternative
 abbrev pub any_alternative : {A : Type 0} → ℕ → List A → Broken

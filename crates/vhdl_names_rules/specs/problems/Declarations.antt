@@ -56,10 +56,12 @@ context before (uses ss ∷ rest) =
 -- ---- one declaration after another
 
 -- declarations that are given have those behind them in sight of them
-abbrev pub in_order : {A B : Type 0} → (Sight → List Declared → Sight) → (Sight → A → Option (Declares B)) → (Sight → A → Broken) → Sight → List A → Broken
+abbrev pub in_order : {A B : Type 0} → (Sight → List Declared → Sight)
+    → (Sight → A → Option (Declares B)) → (Sight → A → Broken) → Sight → List A → Broken
 in_order with_more declares broken sight [] = nothing
 in_order with_more declares broken sight (d ∷ ds) =
-    broken sight d ▸ where_given (declares sight d) (λ x. in_order with_more declares broken (with_more sight x.declared) ds)
+    broken sight d
+    ▸ where_given (declares sight d) (λ x. in_order with_more declares broken (with_more sight x.declared) ds)
 
 -- ---- generics and ports
 
@@ -89,7 +91,8 @@ nine_valued mark s = lacking LeftOut mark.at (as_kind s.type)
 abbrev pub typed_port : Sight → t.Port → Broken
 typed_port sight p =
     subtype sight p.subtype
-    ▸ where_given (subtypes.subtype sight p.subtype) (λ s. nine_valued p.subtype.mark s ▸ of_any (fixed_value sight s.type) p.default)
+    ▸ where_given (subtypes.subtype sight p.subtype)
+    (λ s. nine_valued p.subtype.mark s ▸ of_any (fixed_value sight s.type) p.default)
 
 abbrev pub port : Sight → t.Port → Broken
 port sight p = standing_twice sight.region p.names ▸ typed_port sight p
@@ -118,7 +121,8 @@ integer_constants inner d = unless LeftOut d.subtype.mark.at (is_none d.subtype.
 abbrev pub other_constants : Sight → t.Constants → Broken
 other_constants inner d =
     subtype inner d.subtype
-    ▸ where_given (subtypes.subtype inner d.subtype) (λ s. nine_valued d.subtype.mark s ▸ fixed_value inner s.type d.value)
+    ▸ where_given (subtypes.subtype inner d.subtype)
+    (λ s. nine_valued d.subtype.mark s ▸ fixed_value inner s.type d.value)
 
 abbrev pub constants_by : Sight → t.Constants → Option IntegerType → Broken
 constants_by inner d (Some type) = integer_constants inner d

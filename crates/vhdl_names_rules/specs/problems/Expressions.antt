@@ -1,5 +1,5 @@
--- Which rule an expression breaks first (IEEE 1076-2008, clauses 8 and 9), with the declarations in sight: its operands are read one
--- behind the other, and then what is asked of its operator or name.
+-- Which rule an expression breaks first (IEEE 1076-2008, clauses 8 and 9), with the declarations in sight: its operands
+-- are read one behind the other, and then what is asked of its operator or name.
 use Rattle.std.specs.Prelude.{ℕ, Bool, true, false, if◌then◌else◌, Option, Some, None, bytes_eq, codes}
 use Rattle.vhdl_tree.specs.Tree as t
 use Rattle.vhdl_tree.specs.Tree.{Expr, Exprs, Ident}
@@ -58,7 +58,8 @@ of_no_value d _ a = nothing
 
 -- a name of this meaning at this byte, with what follows it
 abbrev pub with_suffix : ℕ → Option Ident → Meaning → Suffix → Broken
-with_suffix at a d s = of_no_value d s a ▸ lacking (name_problem d s) at (denoted at d s) ▸ where_given (denoted at d s) (attributed at a)
+with_suffix at a d s =
+    of_no_value d s a ▸ lacking (name_problem d s) at (denoted at d s) ▸ where_given (denoted at d s) (attributed at a)
 
 -- what a name is, by its meaning and what stands in its parentheses
 abbrev pub named : Sight → Ident → Option Suffix → Option Ident → Broken
@@ -76,9 +77,11 @@ unfoldable mutual
   typed sight (t.character at c) = lacking TypeMismatch at (nine_of c)
   typed sight (t.string at text) = lacking (string_problem text) at (values_of_string text)
   typed sight (t.bits at text) = lacking LeftOut at (values_of_bits text)
-  typed sight (t.named n suffix a) = meaning sight n ▸ typed_suffix sight suffix ▸ named sight n (are.typed_suffix sight suffix) a
+  typed sight (t.named n suffix a) =
+      meaning sight n ▸ typed_suffix sight suffix ▸ named sight n (are.typed_suffix sight suffix) a
   typed sight (t.parens at e) = typed sight e
-  typed sight (t.negation at e) = typed sight e ▸ where_given (are.typed sight e) (λ x. lacking TypeMismatch at (inverse x))
+  typed sight (t.negation at e) =
+      typed sight e ▸ where_given (are.typed sight e) (λ x. lacking TypeMismatch at (inverse x))
   typed sight (t.signed sign at e) = typed sight e ▸ integer_wanted at (are.typed sight e)
   typed sight (t.binary begins op at d e) =
       typed sight d ▸ typed sight e
@@ -89,7 +92,8 @@ unfoldable mutual
   typed_suffix sight t.plain = nothing
   typed_suffix sight (t.arguments es) = typed_each sight es
   typed_suffix sight (t.sliced d direction e) =
-      (typed sight d ▸ integer_wanted (start d) (are.typed sight d)) ▸ (typed sight e ▸ integer_wanted (start e) (are.typed sight e))
+      (typed sight d ▸ integer_wanted (start d) (are.typed sight d))
+      ▸ (typed sight e ▸ integer_wanted (start e) (are.typed sight e))
 
   pub typed_each : Sight → Exprs → Broken
   typed_each sight t.no_exprs = nothing
@@ -109,7 +113,8 @@ abbrev pub condition : Sight → Expr → Broken
 condition sight e = typed sight e ▸ where_given (are.typed sight e) (λ x. lacking TypeMismatch (start e) (as_test x))
 
 abbrev pub static_condition : Sight → Expr → Broken
-static_condition sight e = typed sight e ▸ where_given (are.typed sight e) (λ x. lacking TypeMismatch (start e) (as_static_test x))
+static_condition sight e =
+    typed sight e ▸ where_given (are.typed sight e) (λ x. lacking TypeMismatch (start e) (as_static_test x))
 
 abbrev pub is_vector_type : ObjectType → Bool
 is_vector_type (Elements k) = is_vector k
@@ -117,7 +122,9 @@ is_vector_type (Enumeration e count) = false
 
 -- what is given to a target of this type; (others => e) is told at its parenthesis where the target is no vector
 abbrev pub value_given : Sight → ObjectType → t.Value → Broken
-value_given sight type (t.single e) = typed sight e ▸ where_given (are.typed sight e) (λ x. lacking TypeMismatch (start e) (as_value type x))
+value_given sight type (t.single e) =
+    typed sight e ▸ where_given (are.typed sight e) (λ x. lacking TypeMismatch (start e) (as_value type x))
 value_given sight type (t.others at e) =
     typed sight e
-    ▸ where_given (are.typed sight e) (λ x. unless TypeMismatch at (is_vector_type type) ▸ lacking TypeMismatch (start e) (as_filled type x))
+    ▸ where_given (are.typed sight e)
+    (λ x. unless TypeMismatch at (is_vector_type type) ▸ lacking TypeMismatch (start e) (as_filled type x))

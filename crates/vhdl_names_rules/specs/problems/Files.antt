@@ -31,7 +31,9 @@ declaration entities sight (t.component c) = component entities sight c
 -- the labels of statements in a region, of names that stand twice the first alone
 abbrev pub with_labels : List Declared → List Name → List Declared
 with_labels region [] = region
-with_labels region (l ∷ ls) = if is_among l (declared_names region) then with_labels region ls else with_labels (region ++ (declare l visibility.label ∷ [])) ls
+with_labels region (l ∷ ls) =
+    if is_among l (declared_names region) then with_labels region ls
+    else with_labels (region ++ (declare l visibility.label ∷ [])) ls
 
 -- of a label that stands twice and a fault of the statements, which have all of the region in sight, the earlier one
 abbrev pub body : List EntityView → Sight → t.Concurrents → Broken
@@ -42,8 +44,10 @@ body entities sight cs =
 -- the declarations, and the statements behind them
 abbrev pub architecture_in : List EntityView → EntityView → Context → t.Architecture → Broken
 architecture_in entities e c a =
-    in_order with_declared (are.declaration entities) (declaration entities) (sight_of c e.interface.declared) a.declarations
-    ▸ where_given (declarations.in_order with_declared (are.declaration entities) (sight_of c e.interface.declared) a.declarations)
+    in_order with_declared (are.declaration entities)
+    (declaration entities) (sight_of c e.interface.declared) a.declarations
+    ▸ where_given
+    (declarations.in_order with_declared (are.declaration entities) (sight_of c e.interface.declared) a.declarations)
     (λ ds. body entities (sight_of c (e.interface.declared ++ ds.declared)) (t.concurrents_of a.statements))
 
 abbrev pub architecture : List EntityView → EntityView → List ContextItem → t.Architecture → Broken
@@ -104,16 +108,20 @@ names before (d ∷ ds) = name_of_unit before d.unit ▸ names (before ++ (d ∷
 
 -- the architectures that stand after their entities
 abbrev pub placed_architectures : List DesignUnit → List (List ContextItem × t.Architecture)
-placed_architectures ds = flat_map (λ d. if stands_after ds d then architectures_of (d.1 ∷ []) else []) (enumerate_from 0 ds)
+placed_architectures ds =
+    flat_map (λ d. if stands_after ds d then architectures_of (d.1 ∷ []) else []) (enumerate_from 0 ds)
 
 -- an entity, seen with the name of such an architecture
 abbrev pub seen : List DesignUnit → List ContextItem × t.Entity → Option EntityView
-seen ds e = interfaces.entity e.0 e.1 (option_map (λ a. a.1.name.text) (find (λ a. bytes_eq e.1.name.text a.1.entity.text) (placed_architectures ds)))
+seen ds e =
+    interfaces.entity e.0 e.1
+    (option_map (λ a. a.1.name.text) (find (λ a. bytes_eq e.1.name.text a.1.entity.text) (placed_architectures ds)))
 
 -- entities behind others, of one name the first alone
 abbrev pub with_entities : List EntityView → List EntityView → List EntityView
 with_entities es [] = es
-with_entities es (d ∷ ds) = if is_among d.name (map (λ e. e.name) es) then with_entities es ds else with_entities (es ++ (d ∷ [])) ds
+with_entities es (d ∷ ds) =
+    if is_among d.name (map (λ e. e.name) es) then with_entities es ds else with_entities (es ++ (d ∷ [])) ds
 
 -- the entities that are given
 abbrev pub entities_given : List DesignUnit → List EntityView
@@ -125,8 +133,8 @@ entities_given ds = with_entities [] (filter_map (seen ds) (entities_of ds))
 abbrev pub is_hidden : List Name → List EntityView → Name → Bool
 is_hidden ns entities n = is_among n ns && not (is_among n (map (λ e. e.name) entities))
 
--- an architecture of a file with entities of these names, of which these are given; of one whose own entity isn't given the context
--- items alone, whatever the entity's context has
+-- an architecture of a file with entities of these names, of which these are given; of one whose own entity isn't given
+-- the context items alone, whatever the entity's context has
 abbrev pub described : List Name → List EntityView → List ContextItem × t.Architecture → Broken
 described ns entities (items, a) = by (entity_named entities a.entity.text)
   where

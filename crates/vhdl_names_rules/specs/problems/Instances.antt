@@ -50,13 +50,15 @@ names_value (Some d) suffix = is_value d suffix
 -- the name of a signal; that of a value is an expression, and left out
 abbrev pub actual_signal : Sight → t.Name → Broken
 actual_signal sight n =
-    if names_value (visibility.meaning sight n.identifier.text) n.suffix then named sight n ▸ refused LeftOut n.identifier.at else signal sight n
+    if names_value (visibility.meaning sight n.identifier.text) n.suffix
+    then named sight n ▸ refused LeftOut n.identifier.at else signal sight n
 
 -- an expression that is no name is left out too
 abbrev pub port_actual : Sight → Formal → Expr → Broken
 port_actual sight f e = lacking LeftOut (start e) (as_name e) ▸ where_given (as_name e) (λ n.
     actual_signal sight n
-    ▸ where_given (statements.signal sight n) (λ x. unless TypeMismatch n.identifier.at (is_kind f.kind x.type) ▸ unless WriteOfIn n.identifier.at (may_join f.mode x.mode)))
+    ▸ where_given (statements.signal sight n) (λ x. unless TypeMismatch n.identifier.at (is_kind f.kind x.type)
+    ▸ unless WriteOfIn n.identifier.at (may_join f.mode x.mode)))
 
 -- the ports of a name
 abbrev pub ports_named : List Formal → Name → List Formal
@@ -65,8 +67,8 @@ ports_named fs n = filter (λ f. bytes_eq n f.name) fs
 -- ---- maps of these formals, with what an actual of one breaks
 
 module _ (formals : List Name) (actual : Name → Expr → Broken) where
-  -- an association, where these formals are left from its place on: which formal it is for, and then its actual. It may stand behind one
-  -- that names its formal, and those before it are for the formals that are taken.
+  -- an association, where these formals are left from its place on: which formal it is for, and then its actual. It may
+  -- stand behind one that names its formal, and those before it are for the formals that are taken.
   abbrev pub association : (left : List Name) → (is_behind_named : Bool) → (taken : List Name) → Association → Broken
   association left is_behind_named taken a =
       unless WrongKind (association_place a) (not is_behind_named || is_named a)
@@ -76,7 +78,8 @@ module _ (formals : List Name) (actual : Name → Expr → Broken) where
       ▸ unless Twice (association_place a) (not (is_among n taken))
       ▸ of_any (actual n) (expression_of a.actual))
 
-  abbrev pub associations : (left : List Name) → (is_behind_named : Bool) → (taken : List Name) → List Association → Broken
+  abbrev pub associations : (left : List Name) → (is_behind_named : Bool)
+      → (taken : List Name) → List Association → Broken
   associations left is_behind_named taken [] = nothing
   associations left is_behind_named taken (a ∷ as') =
       association left is_behind_named taken a
@@ -89,7 +92,8 @@ abbrev pub generic_map : Sight → List Name → List Association → Broken
 generic_map sight formals as' = associated formals (λ n e. static sight e) as'
 
 abbrev pub port_map : Sight → List Formal → List Association → Broken
-port_map sight fs as' = associated (map (λ f. f.name) fs) (λ n e. any_of (λ f. port_actual sight f e) (ports_named fs n)) as'
+port_map sight fs as' =
+    associated (map (λ f. f.name) fs) (λ n e. any_of (λ f. port_actual sight f e) (ports_named fs n)) as'
 
 -- ---- instances
 
@@ -102,4 +106,5 @@ maps sight e i =
 abbrev pub instance : List EntityView → Sight → Ident → t.Instance → Broken
 instance entities sight label i =
     instantiated entities sight i.unit
-    ▸ where_given (are.instantiated entities sight i.unit) (λ k. lacking Undeclared label.at (slice_get entities k) ▸ of_any (λ e. maps sight e i) (slice_get entities k))
+    ▸ where_given (are.instantiated entities sight i.unit)
+    (λ k. lacking Undeclared label.at (slice_get entities k) ▸ of_any (λ e. maps sight e i) (slice_get entities k))

@@ -23,7 +23,8 @@ ports sight ps = in_order with_declared declarations.port port sight ps
 abbrev pub interface : Sight → Option (List t.Generic) → Option (List t.Port) → Broken
 interface sight gs ps =
     generics sight (all_of gs)
-    ▸ where_given (declarations.in_order with_declared declarations.generic sight (all_of gs)) (λ g. ports (with_declared sight g.declared) (all_of ps))
+    ▸ where_given (declarations.in_order with_declared declarations.generic sight (all_of gs))
+    (λ g. ports (with_declared sight g.declared) (all_of ps))
 
 abbrev pub entity : List ContextItem → t.Entity → Broken
 entity items e =
@@ -33,7 +34,8 @@ entity items e =
 
 -- a component is the text of the entity of its name
 abbrev pub same_text : t.Component → ℕ × EntityView → Broken
-same_text c e = unless WrongKind c.name.at (same_generics c.generics e.1.generic_text && same_ports c.ports e.1.port_text)
+same_text c e =
+    unless WrongKind c.name.at (same_generics c.generics e.1.generic_text && same_ports c.ports e.1.port_text)
 
 -- a component is a region of its own
 abbrev pub component : List EntityView → Sight → t.Component → Broken

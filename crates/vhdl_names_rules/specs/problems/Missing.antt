@@ -13,7 +13,8 @@ is_named (d ∷ ds) n = bytes_eq n d || is_named ds n
 abbrev pub offered : List Name
 offered = map (λ d. d.name) (std_logic_1164 ++ numeric_std)
 
--- what it leaves out of them, and of package standard (16.3), as far as it is told as that: any other name is Undeclared
+-- what it leaves out of them, and of package standard (16.3), as far as it is told as that: any other name
+-- is Undeclared
 abbrev pub left_out : List Name
 left_out =
     codes "bit"

@@ -1,5 +1,5 @@
--- Which problem a literal, an operator, an edge or a name bears where the rules don't give what it is (IEEE 1076-2008, clauses 8, 9 and
--- 15; numeric_std, 16.8).
+-- Which problem a literal, an operator, an edge or a name bears where the rules don't give what it is (IEEE 1076-2008,
+-- clauses 8, 9 and 15; numeric_std, 16.8).
 use Rattle.std.specs.Prelude.{ℕ, Bool, true, false, ◌&&◌, ◌||◌, not, if◌then◌else◌, List, [], ◌∷◌}
 use Rattle.vhdl_tree.specs.declared.operator.Operator.{Operator}
 use Rattle.vhdl_tree.specs.declared.operator.Operator.TheVariants as o
@@ -44,7 +44,9 @@ arithmetic_problem x y = if is_numeric x && is_numeric y then NotVisible else Ty
 
 -- < <= > >=: likewise
 abbrev pub order_problem : Typed → Typed → NameProblem
-order_problem x y = if is_numeric x && is_numeric y then NotVisible else if is_unordered x || is_unordered y then LeftOut else TypeMismatch
+order_problem x y =
+    if is_numeric x && is_numeric y then NotVisible
+    else if is_unordered x || is_unordered y then LeftOut else TypeMismatch
 
 -- why an operator isn't offered for these operands
 abbrev pub operator_problem : Operator → Typed → Typed → NameProblem
@@ -59,7 +61,8 @@ operator_problem _ = λ x y. TypeMismatch
 
 -- ---- edges
 
--- an integer, a variable or a constant is of another kind than a signal; anything else is no signal of one element by a static name
+-- an integer, a variable or a constant is of another kind than a signal; anything else is no signal of one element by a
+-- static name
 abbrev pub edge_problem : Typed → NameProblem
 edge_problem (integer s) = WrongKind
 edge_problem (elements Element (u.of_variable at k p)) = WrongKind
@@ -68,8 +71,8 @@ edge_problem _ = TypeMismatch
 
 -- ---- names
 
--- a name within its own declaration isn't declared yet; a type of anything but vectors, a component or a label has no value; an edge
--- call is told by what it is of; all else doesn't take what follows its name
+-- a name within its own declaration isn't declared yet; a type of anything but vectors, a component or a label has no
+-- value; an edge call is told by what it is of; all else doesn't take what follows its name
 abbrev pub name_problem : Meaning → Suffix → NameProblem
 name_problem visibility.unfinished s = Undeclared
 name_problem (visibility.integer_type w) s = WrongKind

@@ -33,10 +33,12 @@ abbrev pub signal : Sight → t.Name → Broken
 signal sight n =
     named sight n
     ▸ where_given (visibility.meaning sight n.identifier.text)
-    (λ d. where_given (expressions.typed_suffix sight n.suffix) (λ s. lacking (signal_problem d) n.identifier.at (as_signal n.identifier.at d s)))
+    (λ d. where_given (expressions.typed_suffix sight n.suffix)
+    (λ s. lacking (signal_problem d) n.identifier.at (as_signal n.identifier.at d s)))
 
 abbrev pub target : Sight → t.Name → Broken
-target sight n = signal sight n ▸ where_given (are.signal sight n) (λ x. unless WriteOfIn n.identifier.at (not (is_input x.mode)))
+target sight n =
+    signal sight n ▸ where_given (are.signal sight n) (λ x. unless WriteOfIn n.identifier.at (not (is_input x.mode)))
 
 abbrev pub variable_problem : Meaning → NameProblem
 variable_problem (visibility.variable k type) = TypeMismatch
@@ -47,7 +49,8 @@ abbrev pub variable : Sight → t.Name → Broken
 variable sight n =
     named sight n
     ▸ where_given (visibility.meaning sight n.identifier.text)
-    (λ d. where_given (expressions.typed_suffix sight n.suffix) (λ s. lacking (variable_problem d) n.identifier.at (as_variable n.identifier.at d s)))
+    (λ d. where_given (expressions.typed_suffix sight n.suffix)
+    (λ s. lacking (variable_problem d) n.identifier.at (as_variable n.identifier.at d s)))
 
 -- ---- statements
 
@@ -75,7 +78,8 @@ unfoldable mutual
   statement sight label (t.case_of at e alts end) =
       by_selector sight e (λ type. covered sight type at (choice_lists alts) (alternatives sight type alts))
       ▸ end_label label end ▸ any_alternative at (choice_lists alts)
-  statement sight label (t.for_of at n r body end) = static_range sight r ▸ statements (within_loop sight n) body ▸ end_label label end
+  statement sight label (t.for_of at n r body end) =
+      static_range sight r ▸ statements (within_loop sight n) body ▸ end_label label end
 
   pub statements : Sight → t.Statements → Broken
   statements sight t.done = nothing
@@ -91,4 +95,5 @@ unfoldable mutual
 
   pub alternatives : Sight → ObjectType → t.Alternatives → Broken
   alternatives sight type t.no_alternatives = nothing
-  alternatives sight type (t.alternative cs body more) = choices sight type cs ▸ statements sight body ▸ alternatives sight type more
+  alternatives sight type (t.alternative cs body more) =
+      choices sight type cs ▸ statements sight body ▸ alternatives sight type more

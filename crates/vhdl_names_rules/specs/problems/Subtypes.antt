@@ -1,4 +1,5 @@
--- Which rule a subtype indication breaks first (IEEE 1076-2008, 6.3), and the value of a constant that is no integer, or of a default.
+-- Which rule a subtype indication breaks first (IEEE 1076-2008, 6.3), and the value of a constant that is no integer,
+-- or of a default.
 use Rattle.std.specs.Prelude.{Bool, true, false, Option, Some, None}
 use Rattle.vhdl_tree.specs.Tree as t
 use Rattle.vhdl_tree.specs.Tree.{Expr}
@@ -55,7 +56,8 @@ is_element_type _ = false
 -- a character for one element, a string or a bit string for a vector; any other form is left out
 abbrev pub literal : ObjectType → Expr → Broken
 literal type (t.character at c) = unless TypeMismatch at (is_element_type type) ▸ lacking TypeMismatch at (nine_of c)
-literal type (t.string at text) = unless TypeMismatch at (is_vector_type type) ▸ lacking (string_problem text) at (values_of_string text)
+literal type (t.string at text) =
+    unless TypeMismatch at (is_vector_type type) ▸ lacking (string_problem text) at (values_of_string text)
 literal type (t.bits at text) = unless TypeMismatch at (is_vector_type type) ▸ lacking LeftOut at (values_of_bits text)
 literal type e = refused LeftOut (start e)
 
@@ -102,4 +104,5 @@ is_character _ = false
 abbrev pub fixed_value : Sight → ObjectType → t.Value → Broken
 fixed_value sight type (t.single e) = fixed sight type e
 fixed_value sight type (t.others at e) =
-    unless LeftOut (start e) (is_character e) ▸ unless TypeMismatch at (is_vector_type type) ▸ lacking TypeMismatch (start e) (filled_value type e)
+    unless LeftOut (start e) (is_character e) ▸ unless TypeMismatch at (is_vector_type type)
+    ▸ lacking TypeMismatch (start e) (filled_value type e)

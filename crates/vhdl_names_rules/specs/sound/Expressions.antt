@@ -1,5 +1,5 @@
--- What elaboration may take for granted of expressions: numbers are in range, parameters stand inside their generates and loops, and
--- one element stands where one is asked for.
+-- What elaboration may take for granted of expressions: numbers are in range, parameters stand inside their generates
+-- and loops, and one element stands where one is asked for.
 use Rattle.std.specs.Prelude.{ℕ, ◌==◌, nat_lt, Bool, true, false, not, ◌&&◌, List, map, slice_get, Option, Some, None}
 use Rattle.vhdl_names_rules.specs.declared.operator.VectorOperator.{VectorOperator}
 use Rattle.vhdl_names_rules.specs.declared.operator.VectorOperator.TheVariants as v

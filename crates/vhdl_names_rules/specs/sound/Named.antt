@@ -36,7 +36,8 @@ architecture_is_named (Some a) = list_all declaration_is_named a.declarations &&
 
 abbrev pub entity_is_named : u.Entity → Bool
 entity_is_named x =
-    has_text x.name && objects_are_named (map (λ (p : u.Port). p.object) x.ports) && architecture_is_named x.architecture
+    has_text x.name && objects_are_named (map (λ (p : u.Port). p.object) x.ports)
+    && architecture_is_named x.architecture
 
 unfoldable pub are_named : Units → Bool
 are_named units = list_all entity_is_named units

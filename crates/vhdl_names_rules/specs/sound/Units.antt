@@ -1,4 +1,5 @@
--- What elaboration may take for granted of units: lists are as long as those that they are for, and no in port is assigned.
+-- What elaboration may take for granted of units: lists are as long as those that they are for, and no in port
+-- is assigned.
 use Rattle.std.specs.Prelude.{suc, ◌==◌, nat_lt, nat_le, Bool, true, false, ◌&&◌, List, [], ◌∷◌, ◌++◌, map, length, slice_get, Option, Some, None, option_map, is_some}
 use Rattle.std.specs.List.{list_all}
 use Rattle.vhdl_tree.specs.declared.declaration.Mode.{Mode}
@@ -35,7 +36,8 @@ may_be_resolved (u.enumeration count) true = false
 may_be_resolved _ _ = true
 
 abbrev pub object_fits : Inside → u.Object → Bool
-object_fits i o = form_fits i o.form && may_be_resolved o.form o.is_resolved && default_fits i (shape_of o.form) o.default
+object_fits i o =
+    form_fits i o.form && may_be_resolved o.form o.is_resolved && default_fits i (shape_of o.form) o.default
 
 -- a port is of the nine values
 abbrev pub port_fits : u.Port → Bool
@@ -100,7 +102,8 @@ actuals_fit i _ _ = false
 abbrev pub instance_fits : Inside → u.Instance → Option u.Entity → Bool
 instance_fits i x None = false
 instance_fits i x (Some unit) =
-    (length x.generics == length unit.generics) && list_all (static_default_fits i) x.generics && actuals_fit i unit.ports x.ports
+    (length x.generics == length unit.generics)
+    && list_all (static_default_fits i) x.generics && actuals_fit i unit.ports x.ports
 
 abbrev pub within_generate : Inside → Inside
 within_generate i = record i { generates = suc i.generates }
@@ -120,7 +123,16 @@ module _ (units : Units) where
 -- ---- units
 
 abbrev pub nothing_inside : Inside
-nothing_inside = record { generics = 0; integers = 0; constants = []; ports = []; signals = []; variables = []; generates = 0; loops = 0 }
+nothing_inside = record {
+  generics = 0;
+  integers = 0;
+  constants = [];
+  ports = [];
+  signals = [];
+  variables = [];
+  generates = 0;
+  loops = 0;
+}
 
 abbrev pub architecture_fits : Units → Inside → Option u.Architecture → Bool
 architecture_fits units i None = true

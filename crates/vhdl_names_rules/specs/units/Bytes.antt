@@ -125,10 +125,12 @@ sensitivity_bytes (u.listed ps) = flat_map place_bytes ps
 sensitivity_bytes _ = []
 
 abbrev pub process_bytes : u.Process → List ℕ
-process_bytes p = p.at ∷ (flat_map object_bytes p.variables ++ (sensitivity_bytes p.sensitivity ++ statements_bytes p.body))
+process_bytes p =
+    p.at ∷ (flat_map object_bytes p.variables ++ (sensitivity_bytes p.sensitivity ++ statements_bytes p.body))
 
 abbrev pub instance_bytes : u.Instance → List ℕ
-instance_bytes x = x.at ∷ (flat_map (if_any_bytes static_bytes) x.generics ++ flat_map (if_any_bytes place_bytes) x.ports)
+instance_bytes x =
+    x.at ∷ (flat_map (if_any_bytes static_bytes) x.generics ++ flat_map (if_any_bytes place_bytes) x.ports)
 
 abbrev mutual
   pub concurrent_bytes : u.Concurrent → List ℕ
@@ -148,7 +150,8 @@ architecture_bytes a = flat_map declaration_bytes a.declarations ++ concurrents_
 
 abbrev pub entity_bytes : u.Entity → List ℕ
 entity_bytes x =
-    x.at ∷ (flat_map generic_bytes x.generics ++ (flat_map port_bytes x.ports ++ if_any_bytes architecture_bytes x.architecture))
+    x.at ∷ (flat_map generic_bytes x.generics
+    ++ (flat_map port_bytes x.ports ++ if_any_bytes architecture_bytes x.architecture))
 
 abbrev pub units_bytes : Units → List ℕ
 units_bytes units = flat_map entity_bytes units

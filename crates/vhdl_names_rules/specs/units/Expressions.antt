@@ -1,6 +1,7 @@
--- Analysed expressions (IEEE 1076-2008, clause 9): each name is the number of its declaration, each operator its kind, each
--- literal its values. Integers, vectors and truths are three types of tree, so that no type is left to be looked up. Of the text
--- there are the bytes at which elaboration tells what is wrong: where a name, a literal, a call or an operator starts.
+-- Analysed expressions (IEEE 1076-2008, clause 9): each name is the number of its declaration, each operator its kind,
+-- each literal its values. Integers, vectors and truths are three types of tree, so that no type is left to be looked
+-- up. Of the text there are the bytes at which elaboration tells what is wrong: where a name, a literal, a call or an
+-- operator starts.
 use Rattle.std.specs.Prelude.{ℕ, List}
 use Rattle.vhdl_values.specs.declared.scalar.Nine.{Nine}
 use Rattle.vhdl_values.specs.declared.kinds.Logic.{Logic}

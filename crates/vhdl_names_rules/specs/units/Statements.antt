@@ -1,5 +1,5 @@
--- Analysed sequential statements (IEEE 1076-2008, clause 10): a variable assignment with where its target's name starts, an if, a case
--- and a loop with where they start themselves.
+-- Analysed sequential statements (IEEE 1076-2008, clause 10): a variable assignment with where its target's name
+-- starts, an if, a case and a loop with where they start themselves.
 use Rattle.std.specs.Prelude.{ℕ, List}
 use Rattle.vhdl_values.specs.declared.scalar.Nine.{Nine}
 use Rattle.vhdl_names_rules.specs.units.Expressions.{Range, Part, SignalPart, Vector, Value, Test}
@@ -34,8 +34,8 @@ mutual
     otherwise : Statements → Branches
     branch : Test → Statements → Branches → Branches
 
-  -- Last stands what is done otherwise. A case that names every literal of an enumeration and has no others does its last
-  -- alternative there.
+  -- Last stands what is done otherwise. A case that names every literal of an enumeration and has no others does its
+  -- last alternative there.
   pub data Alternatives : Type 0 where
     others : Statements → Alternatives
     alternative : List Choice → Statements → Alternatives → Alternatives

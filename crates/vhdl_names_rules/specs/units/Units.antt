@@ -1,6 +1,6 @@
--- The units of a file: entities in order of the text, each with its architecture (IEEE 1076-2008, clauses 3, 6 and 11). What is
--- declared has the byte at which its name starts, a process that at which it starts itself, an instance that of its label, and a
--- generate that of its scheme.
+-- The units of a file: entities in order of the text, each with its architecture (IEEE 1076-2008, clauses 3, 6 and 11).
+-- What is declared has the byte at which its name starts, a process that at which it starts itself, an instance that of
+-- its label, and a generate that of its scheme.
 use Rattle.std.specs.Prelude.{ℕ, Bool, List, Option}
 use Rattle.vhdl_values.specs.declared.scalar.Nine.{Nine}
 use Rattle.vhdl_tree.specs.declared.declaration.Mode.{Mode}

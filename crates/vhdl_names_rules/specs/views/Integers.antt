@@ -21,7 +21,8 @@ abbrev mutual
 
   pub links_view : {m : _} → u.Static → Row_of-StaticLink m → u.Static
   links_view left end_of-StaticLink = left
-  links_view left (more_of-StaticLink operator at operand rest) = links_view (u.Static.binary at operator left (static_view operand)) rest
+  links_view left (more_of-StaticLink operator at operand rest) =
+      links_view (u.Static.binary at operator left (static_view operand)) rest
 
 abbrev pub start_view : StaticStart → u.Static
 start_view s = u.Static.binary s.link.at s.link.operator (static_view s.first) (static_view s.link.operand)

@@ -33,7 +33,8 @@ static_start_view s = u.StaticTest.both s.link.operator (static_test_view s.firs
 
 abbrev pub static_test_chained : u.StaticTest → List StaticTestLink → u.StaticTest
 static_test_chained left [] = left
-static_test_chained left (l ∷ ls) = static_test_chained (u.StaticTest.both l.operator left (static_test_view l.operand)) ls
+static_test_chained left (l ∷ ls) =
+    static_test_chained (u.StaticTest.both l.operator left (static_test_view l.operand)) ls
 
 -- ---- any truth
 
@@ -49,11 +50,13 @@ abbrev mutual
   test_view (t.Edge e p) = u.edge e (place_view p)
   test_view (t.Event p) = u.event (place_view p)
   test_view (t.Not' b x) = u.Test.negated (test_view x)
-  test_view (t.Chain' b first operator operand shape rest) = links_view (u.Test.both operator (test_view first) (test_view operand)) rest
+  test_view (t.Chain' b first operator operand shape rest) =
+      links_view (u.Test.both operator (test_view first) (test_view operand)) rest
 
   pub links_view : {m : _} → u.Test → Row_of-TestLink m → u.Test
   links_view left end_of-TestLink = left
-  links_view left (more_of-TestLink operator operand rest) = links_view (u.Test.both operator left (test_view operand)) rest
+  links_view left (more_of-TestLink operator operand rest) =
+      links_view (u.Test.both operator left (test_view operand)) rest
 
 abbrev pub start_view : TestStart → u.Test
 start_view s = u.Test.both s.link.operator (test_view s.first) (test_view s.link.operand)

@@ -1,4 +1,5 @@
--- Elements and vectors of the code, with a chain of operators grouped from the left, and without where a character literal or `not` stands.
+-- Elements and vectors of the code, with a chain of operators grouped from the left, and without where a character
+-- literal or `not` stands.
 use Rattle.std.specs.Prelude.{List, [], ◌∷◌}
 use Rattle.vhdl_names_rules.specs.declared.vector.Signal.{Signal}
 use Rattle.vhdl_names_rules.specs.declared.vector.Signal.TheVariants as g

@@ -54,7 +54,8 @@ abbrev mutual
   pub concurrent_view : Concurrent → u.Concurrent
   concurrent_view (c.Process p) = u.process (process_view p)
   concurrent_view (c.Instance i) = u.instance (instance_view i)
-  concurrent_view (c.Generate' label at scheme shape statements) = generated label.text.items at (concurrents_row statements) scheme
+  concurrent_view (c.Generate' label at scheme shape statements) =
+      generated label.text.items at (concurrents_row statements) scheme
 
   pub concurrents_row : {m : _} → Row_of-Concurrent m → u.Concurrents
   concurrents_row end_of-Concurrent = u.no_concurrents

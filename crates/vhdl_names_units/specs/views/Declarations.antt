@@ -13,18 +13,28 @@ use Rattle.vhdl_names_units.specs.declared.declaration.Declaration.{Declaration}
 use Rattle.vhdl_names_units.specs.declared.declaration.Declaration.TheVariants as d
 
 abbrev pub generics_view : Generics → List u.Generic
-generics_view g = for_each (λ n. record { at = n.at; type = g.integer_type; default = option_map static_view g.default }) (idents_view g.names)
+generics_view g =
+    for_each (λ n. record { at = n.at; type = g.integer_type; default = option_map static_view g.default })
+    (idents_view g.names)
 
 abbrev pub object_view : Objects → List u.Object
 object_view o =
-    for_each (λ n. record { at = n.at; name = n.text; form = form_view o.form; is_resolved = o.is_resolved; default = option_map fixed_view o.default }) (idents_view o.names)
+    for_each (λ n. record {
+      at = n.at;
+      name = n.text;
+      form = form_view o.form;
+      is_resolved = o.is_resolved;
+      default = option_map fixed_view o.default;
+    }) (idents_view o.names)
 
 abbrev pub ports_view : Ports → List u.Port
 ports_view p = map (λ o. record { mode = p.mode; object = o }) (object_view p.objects)
 
 abbrev pub declaration_view : Declaration → List u.Declaration
-declaration_view (d.Integers names type value) = for_each (λ n. u.Declaration.integer n.at type (static_view value)) (idents_view names)
-declaration_view (d.Constants names form value) = for_each (λ n. u.Declaration.constant n.at (form_view form) (fixed_view value)) (idents_view names)
+declaration_view (d.Integers names type value) =
+    for_each (λ n. u.Declaration.integer n.at type (static_view value)) (idents_view names)
+declaration_view (d.Constants names form value) =
+    for_each (λ n. u.Declaration.constant n.at (form_view form) (fixed_view value)) (idents_view names)
 declaration_view (d.Signals o) = map u.Declaration.signal (object_view o)
 
 -- ---- of a list of declarations

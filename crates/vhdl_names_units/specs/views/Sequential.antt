@@ -37,7 +37,8 @@ abbrev mutual
 
   pub branches_row : {m : _} → Row_of-Branch m → s.Branches → s.Branches
   branches_row end_of-Branch last = last
-  branches_row (more_of-Branch condition shape statements rest) last = s.branch (test_view condition) (statements_row statements) (branches_row rest last)
+  branches_row (more_of-Branch condition shape statements rest) last =
+      s.branch (test_view condition) (statements_row statements) (branches_row rest last)
 
   pub alternatives_row : {m : _} → Row_of-Alternative m → s.Statements → s.Alternatives
   alternatives_row end_of-Alternative last = s.others last

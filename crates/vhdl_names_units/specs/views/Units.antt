@@ -8,7 +8,10 @@ use Rattle.vhdl_names_units.specs.declared.unit.Entity.{Entity}
 use Rattle.vhdl_names_units.specs.declared.unit.Units.{Units}
 
 abbrev pub architecture_view : Architecture → u.Architecture
-architecture_view a = record { declarations = declarations_view a.declarations; statements = concurrents_of (concurrents_view a.statements) }
+architecture_view a = record {
+  declarations = declarations_view a.declarations;
+  statements = concurrents_of (concurrents_view a.statements);
+}
 
 abbrev pub entity_view : Entity → u.Entity
 entity_view e = record {
