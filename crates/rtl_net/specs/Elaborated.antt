@@ -1,5 +1,5 @@
--- What holds of every `Net`: that it is in range and connected (so that all laws of rtl_model hold of it) and within the
--- limits of elaboration, that each process lists what its body reads, and how scopes and signals stand.
+-- What holds of every `Net`: that it is in range and connected (so that all laws of rtl_model hold of it) and within
+-- the limits of elaboration, that each process lists what its body reads, and how scopes and signals stand.
 use Rattle.std.specs.Prelude.{◌≡◌, ◌≢◌, ◌↔◌, ◌⊎◌, ℕ, suc, ◌-◌, ◌<◌, ◌≤◌, max, min, true, All, List, [], length, Contains, Some, None, IfSome}
 use Rattle.std.specs.List.{AllPairs}
 use Rattle.std.specs.List.Sorted.{IsStrictlyIncreasing}
@@ -44,7 +44,8 @@ pub record ProcessIsNamed (scopes : ℕ) (p : Process) : Type 0 where
 -- a scope is the other, or the other stands in it, at any depth
 pub data IsRound (scopes : List ScopeView) (outer : ℕ) : (inner : ℕ) → Type 0 where
   itself : IsRound scopes outer outer
-  further_in : (inner parent : ℕ) → parent_of scopes inner ≡ Some parent → IsRound scopes outer parent → IsRound scopes outer inner
+  further_in : (inner parent : ℕ) → parent_of scopes inner ≡ Some parent
+      → IsRound scopes outer parent → IsRound scopes outer inner
 
 -- in order of the text, the scope after k stands in k or in one round it
 pub record FollowsInText (scopes : List ScopeView) (k : ℕ) : Type 0 where

@@ -47,7 +47,8 @@ path_within (suc steps) scopes k = behind_parent (path_within steps scopes) (par
 abbrev pub path : List ScopeView → (scope : ℕ) → List ℕ
 path scopes k = path_within k scopes k
 
--- the index of a vector's element by its place from the left: up from the left bound, or down where the right one is less
+-- the index of a vector's element by its place from the left: up from the left bound, or down where the right one
+-- is less
 abbrev pub index_at : (left right place : ℕ) → ℕ
 index_at left right place = if nat_le left right then left + place else left - place
 
@@ -84,7 +85,8 @@ label_or_number p (Some label) = label
 
 abbrev pub name_of_process : List ScopeView → Process → (p : ℕ) → List ℕ
 name_of_process scopes process p =
-    path scopes process.scope ++ codes "." ++ generates_prefix process.generates.items ++ label_or_number p (option_map (λ l. l.items) process.label)
+    path scopes process.scope ++ codes "." ++ generates_prefix process.generates.items
+    ++ label_or_number p (option_map (λ l. l.items) process.label)
 
 -- `path.label`, or `path.#K`, the labels of generates between
 abbrev pub process_name : NetlistView → (p : ℕ) → List ℕ

@@ -37,5 +37,6 @@ tabled n f = map f (range_with_len 0 n)
 pub record IsKept (n : Inside) : Type 0 where
   pub net : IsNet (net_of n)
   -- the sources of each net, and the element that it was declared as
-  pub sources : map (λ listed. map source_view listed.items) n.sources.items ≡ tabled (length n.kinds.items) (flat_sources (flat (net_of n)))
+  pub sources : map (λ listed. map source_view listed.items) n.sources.items
+      ≡ tabled (length n.kinds.items) (flat_sources (flat (net_of n)))
   pub owners : map (λ o. Some (owner_view o)) n.owners.items ≡ tabled (length n.kinds.items) (element_of (net_of n))

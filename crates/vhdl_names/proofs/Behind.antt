@@ -4,7 +4,7 @@ use Rattle.vhdl_tree.specs.Tree as t
 use Rattle.vhdl_tree.specs.Tree.{ContextItem}
 use Rattle.vhdl_names_rules.specs.units.Units as u
 use Rattle.vhdl_names_rules.specs.Rules.{◌>>=◌, ◌>>◌, met}
-use Rattle.vhdl_names_rules.specs.Visibility.{Name, Declared, Sight, Declares, are_distinct, ends, with_declared}
+use Rattle.vhdl_names_rules.specs.Visibility.{Declared, Sight, Declares, are_distinct, ends, with_declared}
 use Rattle.vhdl_names_rules.specs.Packages.{context, sight_of}
 use Rattle.vhdl_names_rules.specs.Declarations.{in_order}
 use Rattle.vhdl_names_rules.specs.Interfaces.{EntityView, declared_names}
@@ -13,17 +13,9 @@ use Rattle.vhdl_names_rules.specs.Files.{declaration, labelled, architecture}
 use Rattle.vhdl_names_units.proofs.Lists.{bound, inner}
 use Rattle.vhdl_names_declarations.specs.Entered.{entered, entering, more}
 use Rattle.vhdl_names_declarations.proofs.Regions.{more_split}
-use Rattle.vhdl_names_interfaces.specs.Views.{sight_behind, named_view}
-use Rattle.vhdl_names_interfaces.specs.declared.interface.EntityInterface.{EntityInterface}
-use Rattle.vhdl_names_interfaces.specs.Views as i
+use Rattle.vhdl_names_interfaces.specs.Views.{sight_behind}
 use Rattle.vhdl_names.specs.steps.Architectures as steps
 use Rattle.vhdl_names.specs.steps.Architectures.{with_region}
-
--- an architecture is the same under another name of its entity
-pub whatever_name : (all : List EntityView) (n : Name) (e : EntityInterface) (items : List ContextItem) (a : t.Architecture)
-    → architecture all (named_view n e) items a ≡ architecture all (i.entity_view e) items a
-unfolding architecture
-whatever_name all n e items a = refl
 
 abbrev pair : {A B : Type 0} → A → B → A × B
 pair x y = (x, y)

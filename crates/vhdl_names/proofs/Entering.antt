@@ -1,12 +1,12 @@
 -- The entities of a file one after another, past those that are at fault, and the first that is.
-use Rattle.std.proofs.Common.{◌≡◌, ◌≢◌, Bool, true, false, not, List, [], ◌∷◌, ◌++◌, Option, Some, None, Result, Ok, Err, IfOk, IfErr, refl, ap, sym, ◌∙◌}
+use Rattle.std.proofs.Common.{◌≡◌, ◌≢◌, Bool, true, false, List, [], ◌∷◌, ◌++◌, Option, Some, None, Result, Ok, Err, IfOk, IfErr, refl, ap, sym, ◌∙◌}
 use Rattle.std.specs.Prelude.{filter_map, if◌then◌else◌}
 use Rattle.std.specs.List.{cons_option}
 use Rattle.vhdl_tree.specs.Tree as t
 use Rattle.vhdl_tree.specs.Tree.{ContextItem, DesignUnit, LibraryUnit}
 use Rattle.vhdl_names_rules.specs.declared.fault.NameFault.{NameFault}
 use Rattle.vhdl_names_rules.specs.declared.fault.NameFault.TheVariants.{At, NoMemory}
-use Rattle.vhdl_names_rules.specs.Rules.{◌>>=◌, met, each}
+use Rattle.vhdl_names_rules.specs.Rules.{◌>>=◌, each}
 use Rattle.vhdl_names_rules.specs.Gives.{Gives}
 use Rattle.vhdl_names_rules.specs.Visibility.{is_among}
 use Rattle.vhdl_names_rules.specs.Interfaces.{EntityView}
@@ -17,7 +17,6 @@ use Rattle.vhdl_names_rules.specs.problems.Interfaces.{entity}
 use Rattle.vhdl_names_rules.specs.problems.Files.{with_entities}
 use Rattle.vhdl_names_rules.proofs.Telling.{behind_kept, told_same, at_is_told}
 use Rattle.vhdl_names_rules.proofs.kept.Interfaces.{entity_kept}
-use Rattle.vhdl_names_interfaces.specs.Views.{one_more}
 use Rattle.vhdl_names.specs.Finding.{Finds, HasMemory, first_of}
 use Rattle.vhdl_names.specs.Views.{Keyed}
 use Rattle.vhdl_names.specs.steps.Entities.{viewed_by, with_unit}
@@ -103,9 +102,6 @@ pub record Entered (as' : List Keyed) (ds : List DesignUnit) (es : List EntityVi
   pub first : IfErr told (Tells (any_of broken (entities_of ds)))
   pub all : IfOk told (λ _. AllViewed as' rest → AllViewed as' ds)
 
-pub none_entered : (as' : List Keyed) (ds : List DesignUnit) (es : List EntityView) → es ≡ [] → Entered as' ds es (Ok tt) ds
-none_entered as' ds es h = record { given = λ n. ap (λ es. given_behind as' es ds) (sym h); left = refl; first = tt; all = λ k. k }
-
 module _ (as' : List Keyed) (ds : List DesignUnit) (es : List EntityView) (items : List ContextItem) (y : LibraryUnit) (rest : List DesignUnit) where
   abbrev unit : DesignUnit
   unit = record { context = items; unit = y }
@@ -145,16 +141,3 @@ entities_found as' ds es (Err f) x = x.first
 pub entities_viewed : (as' : List Keyed) (ds : List DesignUnit) (es : List EntityView) (told : Result (Unit {0}) NameFault) → Entered as' ds es told [] → IfOk told (λ _. AllViewed as' ds)
 entities_viewed as' ds es (Ok u) x = x.all refl
 entities_viewed as' ds es (Err f) x = tt
-
--- ---- one more entity, of one name the first alone
-
-pub added : (es vs : List EntityView) (v : EntityView) (r : Result (Unit {0}) NameFault) → Gives (λ _. vs) (one_more es v) r → IfErr r (λ f. f ≢ NoMemory → vs ≡ es) → HasMemory r
-    → with_entities es (v ∷ []) ≡ vs
-added es vs v r g k n = go (is_among v.name (names_in es)) r g k n
-  where
-    go : (b : Bool) (r : Result (Unit {0}) NameFault) → Gives (λ _. vs) (met (not b) >>= λ _. let o : Option (List EntityView) = Some (es ++ v ∷ []) in o) r
-        → IfErr r (λ f. f ≢ NoMemory → vs ≡ es) → HasMemory r → (if b then es else es ++ v ∷ []) ≡ vs
-    go true (Ok u) g k n = cc
-    go false (Ok u) g k n = some_is (es ++ v ∷ []) vs g
-    go true (Err f) g k n = sym (k n)
-    go false (Err f) g k n = let no : Some (es ++ v ∷ []) ≡ None = g n in absurd cc

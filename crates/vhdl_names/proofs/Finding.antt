@@ -9,17 +9,9 @@ use Rattle.vhdl_names_rules.specs.problems.Broken.{Broken, Tells, nothing, refus
 use Rattle.vhdl_names_rules.proofs.Telling.{told_same, at_is_told}
 use Rattle.vhdl_names.specs.Finding.{Finds, HasMemory, first_of}
 
-pub found : {X : Type 0} (b : Broken) (r : Result X NameFault) → IfErr r (Tells b) → IfOk r (λ _. b ≡ nothing) → Finds b r
-found b (Ok x) t k = k
-found b (Err f) t k = t
-
 pub found_same : {X : Type 0} (a b : Broken) (r : Result X NameFault) → a ≡ b → Finds a r → Finds b r
 found_same a b (Ok x) e h = sym e ∙ h
 found_same a b (Err f) e h = told_same a b f e h
-
-pub found_err : {X : Type 0} (b : Broken) (r : Result X NameFault) → Finds b r → IfErr r (Tells b)
-found_err b (Ok x) h = tt
-found_err b (Err f) h = h
 
 -- one behind the other
 pub first_memory : {A : Type 0} (told next : Result A NameFault) → HasMemory (first_of told next) → HasMemory told × HasMemory next
@@ -36,10 +28,6 @@ tells_at p at f h = let P : NameFault → Type 0 = λ f. Tells (refused p at) f 
 -- an answer that is passed on where only memory may be wanting
 pub some_none : {Y : Type 0} (y : Y) → Some y ≡ None → ⊥
 some_none y e = cc
-
-pub only_memory : {Y : Type 0} (b : Broken) (y : Y) (f : NameFault) → (f ≢ NoMemory → Some y ≡ None) → Tells b f
-only_memory b y (At p at) h = absurd (some_none y (h (at_is_told p at)))
-only_memory b y NoMemory h = tt
 
 -- ---- what is given
 

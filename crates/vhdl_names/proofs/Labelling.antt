@@ -80,6 +80,3 @@ labels_once qs =
     go : (b : Bool) → met b ≡ (then_some b (statement_labels (t.statements_of qs)) >>= λ ns. Some tt)
     go true = refl
     go false = refl
-
-pub labels_refused : (qs : List t.Sequential) → with_statements [] qs ≡ None → met (are_distinct (statement_labels (t.statements_of qs))) ≡ None
-labels_refused qs e = labels_once qs ∙ ap (λ o. o >>= λ ns. Some tt) e

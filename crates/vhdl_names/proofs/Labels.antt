@@ -25,7 +25,7 @@ use Rattle.vhdl_names_rules.specs.problems.Files.{with_labels}
 use Rattle.vhdl_names_rules.proofs.Telling.{told_same, at_is_told}
 use Rattle.vhdl_names_rules.proofs.kept.Twice.{apart, distinct_next, names_append}
 use Rattle.vhdl_names_rules.proofs.kept.Labels.{labels_named}
-use Rattle.vhdl_names_rules.proofs.kept.Architectures.{names_labelled, labels_enter}
+use Rattle.vhdl_names_rules.proofs.kept.Architectures.{names_labelled}
 use Rattle.vhdl_names_declarations.specs.Entered.{more}
 use Rattle.vhdl_names_declarations.proofs.Labelling.{labels_in}
 use Rattle.vhdl_names_declarations.proofs.Regions.{more_split}
@@ -33,11 +33,6 @@ use Rattle.vhdl_names.specs.Finding.{Finds, HasMemory, first_of}
 
 more_names : (ds : List Declared) (ls : List Name) → are_distinct (declared_names (ds ++ labelled ls)) ≡ are_distinct (declared_names ds ++ ls)
 more_names ds ls = ap are_distinct (names_append ds (labelled ls) ∙ ap (λ ns. declared_names ds ++ ns) (names_labelled ls))
-
-pub with_more : (ds : List Declared) (ls : List Name) (r : List Declared) → more ds (labelled ls) ≡ Some r → with_labels ds ls ≡ r
-with_more ds ls r h =
-    let k = kept (are_distinct (declared_names (ds ++ labelled ls))) (Some (ds ++ labelled ls)) r h in
-    labels_enter ls ds (sym (more_names ds ls) ∙ k.0) ∙ some_is (ds ++ labelled ls) r k.1
 
 no_more : (ds : List Declared) (ls : List Name) → more ds (labelled ls) ≡ None → are_distinct (declared_names ds ++ ls) ≡ false
 no_more ds ls h = sym (more_names ds ls) ∙ go (are_distinct (declared_names (ds ++ labelled ls))) h

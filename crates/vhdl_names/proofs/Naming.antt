@@ -73,9 +73,6 @@ abbrev pub Named : List DesignUnit → OutlineView → Result (Unit {0}) NameFau
 Named ds o (Ok u) rest = SoFar ds o rest
 Named ds o (Err f) rest = Tells (names [] ds) f
 
-pub none_named : (ds : List DesignUnit) (o : OutlineView) → no_outline ≡ o → Named ds o (Ok tt) ds
-none_named ds o h = record { before = []; units = refl; gathered = ap Some h; left = refl }
-
 -- the whole of what is gathered
 is_whole : (before : List DesignUnit) (o : OutlineView) → outlined before ≡ Some o → outline_of before ≡ o
 is_whole before o h =

@@ -10,14 +10,14 @@ use Rattle.vhdl_tree.specs.Tree as t
 use Rattle.vhdl_tree.specs.Tree.{ContextItem, DesignUnit, LibraryUnit}
 use Rattle.vhdl_names_rules.specs.Rules.{◌>>=◌, ◌>>◌, met, then_some}
 use Rattle.vhdl_names_rules.specs.Visibility.{Name, is_among}
-use Rattle.vhdl_names_rules.specs.Files.{entity_names, described_names, architectures_of, stands_after, stand_after}
-use Rattle.vhdl_names_rules.proofs.laws.Rules.{comes, kept, both, some_is}
+use Rattle.vhdl_names_rules.specs.Files.{entity_names, described_names, architectures_of, stands_after}
+use Rattle.vhdl_names_rules.proofs.laws.Rules.{comes, kept, some_is}
 use Rattle.vhdl_names_units.specs.Once.{one_name}
 use Rattle.vhdl_names_rules.specs.problems.Files.{placed_architectures}
 use Rattle.vhdl_names.proofs.Naming.{then_is}
 use Rattle.vhdl_names.specs.Views.{Keyed, OutlineView}
-use Rattle.vhdl_names.specs.steps.Outlines.{keyed, names_of, one_described, with_unit, no_outline, described_of}
-use Rattle.vhdl_names.proofs.Outlining.{placed, placed_from, names-append}
+use Rattle.vhdl_names.specs.steps.Outlines.{keyed, names_of, one_described, with_unit, described_of}
+use Rattle.vhdl_names.proofs.Outlining.{names-append}
 
 -- ---- architectures after their entities
 
@@ -45,22 +45,6 @@ gathered before (d ∷ ds) =
 
 pub all_placed : (ds : List DesignUnit) → placed_architectures ds ≡ placed_behind [] ds
 all_placed ds = gathered [] ds
-
-one_placed : (ns : List Name) (items : List ContextItem) (x : LibraryUnit) (ds : List DesignUnit) (b : Bool) → b ≡ true
-    → (if b then architectures_of (record { context = items; unit = x } ∷ []) else []) ++ architectures_of ds ≡ architectures_of (record { context = items; unit = x } ∷ ds)
-one_placed ns items (t.LibraryUnit.entity e) ds true h = refl
-one_placed ns items (t.architecture a) ds true h = refl
-one_placed ns items x ds false h = cc
-
-where_placed : (ns : List Name) (ds : List DesignUnit) → placed ns ds ≡ true → placed_behind ns ds ≡ architectures_of ds
-where_placed ns [] h = refl
-where_placed ns (d ∷ ds) h =
-    let b = both (list_all (λ n. is_among n ns) (described_names (d ∷ []))) (placed (ns ++ entity_names (d ∷ [])) ds) h in
-    ap (λ l. (if list_all (λ n. is_among n ns) (described_names (d ∷ [])) then architectures_of (d ∷ []) else []) ++ l) (where_placed (ns ++ entity_names (d ∷ [])) ds b.1)
-    ∙ one_placed ns d.context d.unit ds (list_all (λ n. is_among n ns) (described_names (d ∷ []))) b.0
-
-pub placed_whole : (ds : List DesignUnit) → stand_after ds ≡ true → placed_architectures ds ≡ architectures_of ds
-placed_whole ds h = all_placed ds ∙ where_placed [] ds (sym (placed_from [] ds) ∙ h)
 
 -- ---- names
 
@@ -99,14 +83,6 @@ pub record Outlined (ds : List DesignUnit) (o : OutlineView) (rest : List Design
   pub units : before ++ rest ≡ ds
   pub entities : (n : Name) → is_among n o.entities ≡ is_among n (entity_names before)
   pub seen : (n : Name) → described_of n (o.architectures ++ map keyed (placed_behind (entity_names before) rest)) ≡ described_of n (map keyed (placed_behind [] ds))
-
-pub none_outlined : (ds : List DesignUnit) (o : OutlineView) → o ≡ no_outline → Outlined ds o ds
-none_outlined ds o h = record {
-  before = [];
-  units = refl;
-  entities = λ n. ap (λ (o : OutlineView). is_among n o.entities) h;
-  seen = λ n. ap (λ (o : OutlineView). described_of n (o.architectures ++ map keyed (placed_behind [] ds))) h;
-}
 
 pub all_outlined : (ds : List DesignUnit) (o : OutlineView) → Outlined ds o [] → (n : Name) → described_of n o.architectures ≡ described_of n (map keyed (placed_architectures ds))
 all_outlined ds o x n = ap (described_of n) (sym (append-nil o.architectures)) ∙ x.seen n ∙ ap (λ l. described_of n (map keyed l)) (sym (all_placed ds))

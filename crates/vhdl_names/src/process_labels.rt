@@ -149,7 +149,8 @@ fn of_case(alloc: Global, taken: &mut Names, case: &syntax::Case) -> Result<(), 
 #[cycle(labels)]
 fn of_loop(alloc: Global, taken: &mut Names, repeated: &syntax::For) -> Result<(), NameFault>
     ensures given { Gives (λ _. names_view taken.new)
-        (steps.with_statements (names_view taken.old) (tree.sequentials_view (out-For repeated.now).statements)) result }
+        (steps.with_statements (names_view taken.old) (tree.sequentials_view (out-For repeated.now).statements))
+        result }
     ensures told { IfErr result (Tells
         (twice (names_view taken.old)
         (broken.statement_labels (statements_of (tree.sequentials_view (out-For repeated.now).statements))))) }
@@ -165,7 +166,8 @@ pub fn statement_labels_are_distinct(
     list: &[syntax::Sequential],
 ) -> Result<(), NameFault>
     ensures given { Gives (λ _. tt)
-        (rule Twice (are_distinct (rules.statement_labels (statements_of (map tree.sequential_view list.now))))) result }
+        (rule Twice (are_distinct (rules.statement_labels (statements_of (map tree.sequential_view list.now)))))
+        result }
     ensures told { IfErr result (Tells
         (twice [] (broken.statement_labels (statements_of (map tree.sequential_view list.now))))) }
 {

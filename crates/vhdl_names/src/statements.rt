@@ -84,7 +84,8 @@ fn statements(
         sight.old (map tree.concurrent_view list.now)) result }
     ensures kept { OnOk result (sight.new ≡ sight.old) }
     ensures told { (all : List EntityView) → AreEntities entities.now all
-        → IfErr result (Tells (broken.concurrents all sight.old (t.concurrents_of (map tree.concurrent_view list.now)))) }
+        → IfErr result (Tells
+        (broken.concurrents all sight.old (t.concurrents_of (map tree.concurrent_view list.now)))) }
 {
     let mut all = Vec::new(sight.alloc);
     for item in list {
@@ -197,7 +198,8 @@ pub fn concurrents(
         result }
     ensures kept { OnOk result (sight.new ≡ sight.old) }
     ensures told { (all : List EntityView) → AreEntities entities.now all
-        → IfErr result (Tells (broken.concurrents all sight.old (t.concurrents_of (map tree.concurrent_view list.now)))) }
+        → IfErr result (Tells
+        (broken.concurrents all sight.old (t.concurrents_of (map tree.concurrent_view list.now)))) }
 {
     statements(entities, sight, list)
 }

@@ -32,7 +32,7 @@ use Rattle.vhdl_names_rules.specs.problems.Places.{start}
 use Rattle.vhdl_names_rules.specs.problems.Operators.{string_problem}
 use Rattle.vhdl_names_rules.specs.problems.Expressions.{meaning, no_attribute, typed_suffix, static_range, is_vector_type}
 use Rattle.vhdl_names_rules.specs.problems.Statements.{named}
-use Rattle.vhdl_names_rules.specs.problems.Subtypes.{fixed, fixed_value, literal, value_of, suffixed_problem, subtype, mark_problem, is_marked, is_character}
+use Rattle.vhdl_names_rules.specs.problems.Subtypes.{fixed, literal, value_of, suffixed_problem, subtype, mark_problem, is_marked}
 use Rattle.vhdl_names_rules.proofs.Telling.{told_same, told_left, told_right, told_given, told_on, at_is_told}
 use Rattle.vhdl_names_rules.proofs.laws.Rules.{comes, kept}
 use Rattle.vhdl_names_rules.proofs.kept.Expressions.{meaning_kept}
@@ -42,12 +42,11 @@ use Rattle.vhdl_names_sight.specs.declared.meaning.Meaning.TheVariants as d
 use Rattle.vhdl_names_sight.specs.Views.{meaning_view}
 use Rattle.vhdl_names_expressions.specs.Asked.{unattributed}
 use Rattle.vhdl_names_rules.specs.Instances.{as_name}
-use Rattle.vhdl_names_expressions.specs.Chosen.{as_character, is_literal, character_values}
+use Rattle.vhdl_names_expressions.specs.Chosen.{is_literal, character_values}
 use Rattle.vhdl_names_expressions.specs.Fixing.{suffixed_value, filled_with}
 use Rattle.vhdl_names_expressions.proofs.Asking.{both}
 use Rattle.vhdl_names_expressions.proofs.Breaking.{told_fault, in_turn, refused_told}
 use Rattle.vhdl_names_expressions.proofs.Choosing.{chain_is_no_literal}
-use Rattle.vhdl_names_expressions.proofs.Fixing.{filled_as}
 
 -- ---- literals
 
@@ -117,10 +116,6 @@ pub fixed_literal : (sight : Sight) (type : ObjectType) (e : t.Expr) → None �
 fixed_literal sight type (t.named n y a) h = cc
 fixed_literal sight type e h = refl
 
-character_is : (e : t.Expr) → is_character e ≡ is_some (as_character e)
-character_is (t.bits at s) = refl
-character_is e = refl
-
 -- ---- (others => e)
 
 pub not_vector : (type : ObjectType) → ((k : ElementKind) → type ≡ Elements k → ⊥) → is_vector_type type ≡ false
@@ -171,15 +166,6 @@ none_of_nine type k at place o c of_kind is h none =
     a_character type at place o c is
     ∙ of_vectors type k at (lacking TypeMismatch place (filled_with type (Some c))) of_kind h
     ∙ ap (lacking TypeMismatch place) (ap (λ t. filled_with t (Some c)) of_kind ∙ none_with (is_vector k) (nine_of c) none)
-
--- (others => e), by the character that e is and where it starts
-pub filled_breaks : (sight : Sight) (type : ObjectType) (at place : ℕ) (e : t.Expr) (o : Option ℕ) → place ≡ start e → o ≡ as_character e →
-    (unless LeftOut place (is_some o) ▸ unless TypeMismatch at (is_vector_type type) ▸ lacking TypeMismatch place (filled_with type o)) ≡ fixed_value sight type (t.others at e)
-filled_breaks sight type at place e o same is =
-    ap (λ k. unless LeftOut k (is_some o) ▸ unless TypeMismatch at (is_vector_type type) ▸ lacking TypeMismatch k (filled_with type o)) same
-    ∙ ap (λ c. unless LeftOut (start e) (is_some c) ▸ unless TypeMismatch at (is_vector_type type) ▸ lacking TypeMismatch (start e) (filled_with type c)) is
-    ∙ ap (λ b. unless LeftOut (start e) b ▸ unless TypeMismatch at (is_vector_type type) ▸ lacking TypeMismatch (start e) (filled_with type (as_character e))) (sym (character_is e))
-    ∙ ap (λ v. unless LeftOut (start e) (is_character e) ▸ unless TypeMismatch at (is_vector_type type) ▸ lacking TypeMismatch (start e) v) (sym (filled_as type e))
 
 -- ---- names of objects
 

@@ -1,4 +1,5 @@
--- What is asked of an expression beyond a value: a generate's condition, and what a case selects by; and of an object's name.
+-- What is asked of an expression beyond a value: a generate's condition, and what a case selects by; and of an
+-- object's name.
 use Rattle.std.specs.Prelude.{Option, Some, is_none}
 use Rattle.vhdl_tree.specs.Tree.{Expr, Name}
 use Rattle.vhdl_names_rules.specs.declared.kind.ObjectType.{ObjectType}

@@ -16,7 +16,8 @@ abbrev pub link_breaks : Sight → Bool → Option Typed → Link → Broken
 link_breaks sight b o l =
     typed sight (view l.operand)
     ▸ where_given o (λ x. where_given (are.typed sight (view l.operand)) (λ y.
-    lacking (operator_problem l.operator x (enclosed_if b y)) l.at (operated sight.numbers l.at l.operator x (enclosed_if b y))))
+    lacking (operator_problem l.operator x (enclosed_if b y)) l.at
+    (operated sight.numbers l.at l.operator x (enclosed_if b y))))
 
 -- further links, on what stands before them
 abbrev pub all_break : Sight → Option Typed → List Link → Broken
@@ -26,4 +27,5 @@ all_break sight o (l ∷ ls) = link_breaks sight false o l ▸ all_break sight (
 -- a chain's first operand, and the first operator with its right operand
 unfoldable pub started_breaks : Sight → Chain → Broken
 started_breaks sight k =
-    typed sight (view (out-Chain k).first) ▸ link_breaks sight (is_parens (view (out-Chain k).first)) (are.typed sight (view (out-Chain k).first)) (out-Chain k).second
+    typed sight (view (out-Chain k).first) ▸ link_breaks sight (is_parens (view (out-Chain k).first))
+    (are.typed sight (view (out-Chain k).first)) (out-Chain k).second

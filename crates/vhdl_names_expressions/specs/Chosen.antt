@@ -48,7 +48,8 @@ arguments_of sight es = option_map (arguments (is_one_name es)) (typed_each sigh
 
 -- a chain's first operand, and the first operator with its right operand
 unfoldable pub started : Sight → Chain → Option Typed
-started sight k = linked sight (is_parens (view (out-Chain k).first)) (typed sight (view (out-Chain k).first)) (out-Chain k).second
+started sight k =
+    linked sight (is_parens (view (out-Chain k).first)) (typed sight (view (out-Chain k).first)) (out-Chain k).second
 
 -- its further operators
 abbrev pub links_of : Chain → List Link

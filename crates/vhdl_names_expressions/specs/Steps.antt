@@ -20,7 +20,8 @@ is_parens _ = false
 -- an operator's right operand, and then the operator, on what its left operand is, which may stand in parentheses
 abbrev pub linked : Sight → Bool → Option Typed → Link → Option Typed
 linked sight b None l = None
-linked sight b (Some x) l = typed sight (view l.operand) >>= λ y. operated sight.numbers l.at l.operator x (enclosed_if b y)
+linked sight b (Some x) l =
+    typed sight (view l.operand) >>= λ y. operated sight.numbers l.at l.operator x (enclosed_if b y)
 
 abbrev pub all_linked : Sight → Option Typed → List Link → Option Typed
 all_linked sight o [] = o

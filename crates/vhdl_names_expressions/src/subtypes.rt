@@ -36,7 +36,8 @@ fn mark_problem(meaning: &Meaning) -> NameProblem
 fn marked(meaning: &Meaning, at: usize) -> Result<Subtype, NameFault>
     ensures given { Gives subtype_view (rules.marked (meaning_view meaning.now) None) result }
     ensures told { IfErr result (Tells
-        (unless (broken.mark_problem (meaning_view meaning.now)) at (broken.is_marked (meaning_view meaning.now) None))) }
+        (unless (broken.mark_problem (meaning_view meaning.now)) at
+        (broken.is_marked (meaning_view meaning.now) None))) }
 {
     match meaning {
         Meaning::ElementType { is_resolved } => Ok(Subtype {
@@ -60,7 +61,8 @@ fn marked(meaning: &Meaning, at: usize) -> Result<Subtype, NameFault>
 #[tactic(auto, using(crate::proofs::Marks::no_range))]
 fn ranged(sight: &Sight, meaning: &Meaning, range: &Range, at: usize) -> Result<Subtype, NameFault>
     ensures given { Gives subtype_view
-        (with_range (meaning_view meaning.now) (expressions.static_range sight.now (trees.range_view range.now))) result }
+        (with_range (meaning_view meaning.now) (expressions.static_range sight.now (trees.range_view range.now)))
+        result }
     ensures told { IfErr result (Tells
         (unless (broken.mark_problem (meaning_view meaning.now)) at
         (broken.is_marked (meaning_view meaning.now) (Some (trees.range_view range.now))) ▸ range_breaks sight.now

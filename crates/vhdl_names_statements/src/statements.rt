@@ -191,10 +191,12 @@ fn otherwise(
     conditional: &syntax::If,
 ) -> Result<Option<Vec<Statement>>, NameFault>
     ensures given { Gives views.option_statements_view
-        (if_any (steps.all_labelled sight.old) (tree.option_sequentials_view (out-If conditional.now).otherwise)) result }
+        (if_any (steps.all_labelled sight.old) (tree.option_sequentials_view (out-If conditional.now).otherwise))
+        result }
     ensures kept { sight.new ≡ sight.old }
     ensures told { IfErr result (Tells
-        (broken.otherwise sight.old (t.otherwise_of (tree.option_sequentials_view (out-If conditional.now).otherwise)))) }
+        (broken.otherwise sight.old
+        (t.otherwise_of (tree.option_sequentials_view (out-If conditional.now).otherwise)))) }
 {
     match &conditional.otherwise {
         None => Ok(None),

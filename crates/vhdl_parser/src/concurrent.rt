@@ -8,9 +8,9 @@ ghost use Rattle.vhdl_parser_expressions.specs.reader.Input.{Reads};
 
 use crate::instances::instance;
 use vhdl_lexer::TokenKind;
-use vhdl_parser_expressions::{Parser, Stop, below};
+use vhdl_parser_expressions::{Parser, Stop, below, followed};
 use vhdl_parser_statements::{
-    conditional_waveforms, end_of, followed, optional_label, process, selected_assignment,
+    conditional_waveforms, end_of, optional_label, process, selected_assignment,
 };
 use vhdl_tree::{Assignment, Concurrent, Identifier, Scheme};
 

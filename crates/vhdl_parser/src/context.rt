@@ -7,8 +7,8 @@ ghost use Rattle.vhdl_parser_expressions.specs.reader.Input.{Reads};
 ghost use Rattle.vhdl_parser.specs.reader.Context as read;
 
 use vhdl_lexer::TokenKind;
-use vhdl_parser_expressions::{Parser, Stop, many, separated};
-use vhdl_parser_statements::{followed, identifiers};
+use vhdl_parser_expressions::{Parser, Stop, followed, many, separated};
+use vhdl_parser_statements::identifiers;
 use vhdl_tree::{ContextItem, Selected};
 
 /// `word list ;`

@@ -8,8 +8,8 @@ ghost use Rattle.vhdl_parser_expressions.specs.reader.Input.{Reads};
 
 use crate::interface::{optional_generics, optional_ports};
 use vhdl_lexer::TokenKind;
-use vhdl_parser_expressions::{Parser, Stop, below, many};
-use vhdl_parser_statements::{end_of, followed, identifiers, object_declaration, subtype};
+use vhdl_parser_expressions::{Parser, Stop, below, followed, many};
+use vhdl_parser_statements::{end_of, identifiers, object_declaration, subtype};
 use vhdl_tree::{Component, Constants, Declaration, Enumeration, Signals, Value};
 
 #[tactic(auto, unfolding(crate::specs::reader::Declarations::signals_of))]

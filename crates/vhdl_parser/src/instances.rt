@@ -8,8 +8,7 @@ ghost use Rattle.vhdl_parser_expressions.specs.reader.Input.{Reads};
 ghost use Rattle.vhdl_parser.specs.reader.Instance as read;
 
 use vhdl_lexer::TokenKind;
-use vhdl_parser_expressions::{Parser, Stop, below, optional};
-use vhdl_parser_statements::followed;
+use vhdl_parser_expressions::{Parser, Stop, below, followed, optional};
 use vhdl_tree::{Association, Identifier, Instance, Instantiated};
 
 #[tactic(auto, unfolding(crate::specs::reader::Instance::chosen))]

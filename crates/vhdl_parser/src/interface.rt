@@ -7,8 +7,8 @@ ghost use Rattle.vhdl_parser.specs.reader.Declarations as read;
 ghost use Rattle.vhdl_parser_expressions.specs.reader.Input.{Reads};
 
 use vhdl_lexer::TokenKind;
-use vhdl_parser_expressions::{Parser, Stop, below, optional, separated};
-use vhdl_parser_statements::{followed, identifiers, optional_default, subtype};
+use vhdl_parser_expressions::{Parser, Stop, below, followed, optional, separated};
+use vhdl_parser_statements::{identifiers, optional_default, subtype};
 use vhdl_tree::{Expr, Generic, Mode, Port};
 
 /// `word ( items ) ;`

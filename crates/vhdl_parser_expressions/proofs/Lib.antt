@@ -18,3 +18,4 @@ pub mod Gives
 pub mod WalkExpressions
 pub mod WalkValues
 pub mod GiveValues
+mod Started

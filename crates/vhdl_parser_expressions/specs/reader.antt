@@ -2,3 +2,4 @@
 pub mod Input
 pub mod Expressions
 pub mod Lists
+pub mod Behind

@@ -1,13 +1,14 @@
 //! Names and expressions (IEEE 1076-2008 clauses 8 and 9).
 
-ghost use Rattle.std.specs.Prelude.{◌≡◌, option_map};
+ghost use Rattle.std.specs.Prelude.{◌≡◌, Some, option_map};
 ghost use Rattle.vhdl_lexer.specs.declared.token.TokenKind.TheVariants as k;
-ghost use Rattle.vhdl_tree.specs.Tree.{Expr as Tree, all_joined};
+ghost use Rattle.vhdl_tree.specs.Tree.{Expr as Tree, all_joined, chained};
 ghost use Rattle.vhdl_tree.specs.View.{view, suffix_view, name_view, ident_view, exprs_view, pair_view, pairs_view};
 ghost use Rattle.vhdl_parser_expressions.specs.reader.Input as input;
 ghost use Rattle.vhdl_parser_expressions.specs.reader.Input.{Reads};
 ghost use Rattle.vhdl_parser_expressions.specs.reader.Expressions as read;
 
+use crate::behind::followed;
 use crate::operator::{Level, direction_at, sign_at};
 use crate::parser::Parser;
 use crate::stop::Stop;
@@ -98,14 +99,14 @@ impl Parser<'_> {
         ensures { Reads suffix_view (read.range_from (read.inside levels) (view left) direction self.old) result
             self.new }
     {
-        self.expect(direction.kind())?;
+        let left = followed(self, left, direction.kind())?;
         let right = self.inside(levels)?;
-        self.expect(TokenKind::RightParen)?;
         let range = Range {
             left,
             direction,
             right,
         };
+        let range = followed(self, range, TokenKind::RightParen)?;
         Ok(Suffix::from_range(self.alloc, range)?)
     }
 
@@ -117,7 +118,7 @@ impl Parser<'_> {
         let mut found = Vec::new(self.alloc);
         found.push(first)?;
         let all = self.arguments(levels, found)?;
-        self.expect(TokenKind::RightParen)?;
+        let all = followed(self, all, TokenKind::RightParen)?;
         Ok(Suffix::from_arguments(all))
     }
 
@@ -162,9 +163,26 @@ impl Parser<'_> {
         let Some(operator) = level.operator_at(self.peek()) else {
             return Ok(first);
         };
+        let (second, rest) = self.all_links(levels, level, operator)?;
+        Ok(Expr::chain(self.alloc, first, second, rest)?)
+    }
+
+    /// What follows the first operand of a chain, whatever that is: an operator, its operand, and
+    /// what goes on behind them.
+    #[cycle(expr)]
+    fn all_links(
+        &mut self,
+        levels: usize,
+        level: Level,
+        operator: Operator,
+    ) -> Result<(Link, Vec<Link>), Stop>
+        ensures { (first : Tree) → Reads (λ r. chained first (pair_view r.0) (pairs_view r.1))
+            (read.begin_by (read.operand_of (read.inside levels) level) level first (Some operator) self.old) result
+            self.new }
+    {
         let second = self.link(levels, level, operator)?;
         let rest = self.links(levels, level, operator)?;
-        Ok(Expr::chain(self.alloc, first, second, rest)?)
+        Ok((second, rest))
     }
 
     /// The first operand of a chain.
@@ -280,7 +298,7 @@ impl Parser<'_> {
     {
         let at = self.expect(TokenKind::LeftParen)?;
         let inner = self.inside(levels)?;
-        self.expect(TokenKind::RightParen)?;
+        let inner = followed(self, inner, TokenKind::RightParen)?;
         Ok(Expr::in_parens(self.alloc, at, inner)?)
     }
 

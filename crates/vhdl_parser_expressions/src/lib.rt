@@ -2,6 +2,7 @@
 //! expressions, values, choices and associations.
 #![tactic(auto)]
 
+mod behind;
 mod expr;
 mod list;
 mod operator;
@@ -9,6 +10,7 @@ mod parser;
 mod stop;
 mod value;
 
+pub use behind::followed;
 pub use list::{many, separated};
 pub use parser::{Parser, below};
 pub use stop::Stop;

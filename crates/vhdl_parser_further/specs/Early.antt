@@ -1,5 +1,5 @@
--- What has to follow a `;`, for a statement or declaration to end with it. Where a fault is told at a `;`, that may stand too early: so what
--- follows goes on, up to a `;` behind which a statement or declaration begins.
+-- What has to follow a `;`, for a statement or declaration to end with it. Where a fault is told at a `;`, that may
+-- stand too early: so what follows goes on, up to a `;` behind which a statement or declaration begins.
 use Rattle.std.specs.Prelude.{◌==◌, ◌&&◌, ◌||◌, not, Bool, true, false, if◌then◌else◌, List, [], ◌∷◌}
 use Rattle.vhdl_lexer.specs.Kinds.{is_semicolon}
 use Rattle.vhdl_lexer.specs.declared.token.Token.{Token}

@@ -1,4 +1,5 @@
--- What the kinds of tokens say of statements and declarations (IEEE 1076-2008, 3.3.2, 10 and 11). `last` is the kind of the token before.
+-- What the kinds of tokens say of statements and declarations (IEEE 1076-2008, 3.3.2, 10 and 11). `last` is the kind of
+-- the token before.
 use Rattle.std.specs.Prelude.{◌&&◌, ◌||◌, not, Bool, false, [], ◌∷◌, if◌then◌else◌}
 use Rattle.vhdl_lexer.specs.Kinds as lexer
 use Rattle.vhdl_lexer.specs.Kinds.{is_one_of, is_end, is_semicolon}
@@ -62,7 +63,8 @@ declares = is_one_of (
     k.File ∷ k.Function ∷ k.Procedure ∷ k.Pure ∷ k.Impure ∷ k.Disconnect ∷ k.Group ∷ k.Use ∷ []
     )
 
--- what begins with such a token may be taken out: behind the architecture's `begin`, if it stands before, or in front of it
+-- what begins with such a token may be taken out: behind the architecture's `begin`, if it stands before, or in front
+-- of it
 abbrev pub may_go : (begun : Bool) → TokenKind → Bool
 may_go begun kind = if begun then not (closes kind) else declares kind
 

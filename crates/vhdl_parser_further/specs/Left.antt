@@ -1,6 +1,7 @@
--- What is left of the tokens of a source behind a fault of grammar that is told at a byte. The statement or declaration is taken out in which
--- it stands: the innermost one, or the outermost one where that can't be; with it what goes on behind a `;` that is at fault. Where neither
--- can be, or it stands in no architecture, or that has too few or too many `end`s, the next units are left.
+-- What is left of the tokens of a source behind a fault of grammar that is told at a byte. The statement or declaration
+-- is taken out in which it stands: the innermost one, or the outermost one where that can't be; with it what goes on
+-- behind a `;` that is at fault. Where neither can be, or it stands in no architecture, or that has too few or too many
+-- `end`s, the next units are left.
 use Rattle.std.specs.Prelude.{ℕ, ◌&&◌, Bool, false, if◌then◌else◌, List, [], ◌∷◌, ◌++◌, Option, Some, None, take, drop}
 use Rattle.vhdl_lexer.specs.declared.token.Token.{Token}
 use Rattle.vhdl_lexer.specs.declared.token.TokenKind.TheVariants as k
@@ -37,7 +38,8 @@ without_or sequel tokens units (Some begins) = without sequel tokens begins
 
 -- what is left, where the fault stands at this place and so many tokens of its unit are ahead
 abbrev pub left_ahead : (tokens : List Token) → Place → (ahead : List Token) → (n : ℕ) → List Token
-left_ahead tokens p ahead n = without_or (sequel_of p (take n ahead)) tokens (drop n ahead) (taken p tokens (take n ahead))
+left_ahead tokens p ahead n =
+    without_or (sequel_of p (take n ahead)) tokens (drop n ahead) (taken p tokens (take n ahead))
 
 abbrev pub left_at : (tokens : List Token) → Place → List Token
 left_at tokens p = left_ahead tokens p (drop p.read tokens) (before_unit (drop p.read tokens))

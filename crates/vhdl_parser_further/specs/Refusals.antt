@@ -17,8 +17,9 @@ pub record IsTreeOf (source : List ℕ) (tokens : List Token) (file : File) : Ty
   pub spelled : Spells (spell_file file) (lexemes source tokens) []
   pub well_formed : IsFile file
 
--- The tokens spell no well-formed tree, or open more levels than the limit. Unexpected is told of the first token with which no file goes
--- on, and EndOfFile at the end of a source all of whose tokens begin a file. The fault is told at this byte.
+-- The tokens spell no well-formed tree, or open more levels than the limit. Unexpected is told of the first token with
+-- which no file goes on, and EndOfFile at the end of a source all of whose tokens begin a file. The fault is told at
+-- this byte.
 pub record Refuses (source : List ℕ) (tokens : List Token) (fault : SyntaxFault) (at : ℕ) : Type 0 where
   pub refused : IsRefusal fault → (file : File) → IsTreeOf source tokens file → ⊥
   pub deep : IsTooDeep fault → IsDeep most_open (lexemes source tokens)
@@ -29,7 +30,8 @@ pub record Refuses (source : List ℕ) (tokens : List Token) (fault : SyntaxFaul
 -- a tree spells the tokens, or their fault isn't told behind the byte
 abbrev pub HasNoFurther : (source : List ℕ) → (tokens : List Token) → (at : ℕ) → Type 0
 HasNoFurther source tokens at =
-    ((file : File) × IsTreeOf source tokens file) ⊎ ((fault : SyntaxFault) × (told : ℕ) × Refuses source tokens fault told × (told ≤ at))
+    ((file : File) × IsTreeOf source tokens file)
+    ⊎ ((fault : SyntaxFault) × (told : ℕ) × Refuses source tokens fault told × (told ≤ at))
 
 -- this is found in what is left behind a fault that is told at this byte
 abbrev pub Finds : (source : List ℕ) → (left : List Token) → (at : ℕ) → Next → Type 0

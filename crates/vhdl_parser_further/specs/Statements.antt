@@ -1,5 +1,5 @@
--- The statements and declarations of an architecture, as its tokens show them without being read: where those begin in which a token
--- stands, and where one ends (IEEE 1076-2008, 3.3.2, 10 and 11).
+-- The statements and declarations of an architecture, as its tokens show them without being read: where those begin in
+-- which a token stands, and where one ends (IEEE 1076-2008, 3.3.2, 10 and 11).
 use Rattle.std.specs.Prelude.{ℕ, ◌+◌, ◌-◌, ◌==◌, ◌&&◌, ◌||◌, not, nat_le, Bool, true, false, if◌then◌else◌, List, [], ◌∷◌}
 use Rattle.vhdl_lexer.specs.Extents as extents
 use Rattle.vhdl_lexer.specs.Extents.{depth_behind}
@@ -48,7 +48,8 @@ step p kind = record {
   innermost = if begins_behind p kind then p.read + 1 else p.innermost;
 }
 
--- Behind so many tokens, the last of which begins a unit. What stands in an architecture begins behind the five tokens of its head.
+-- Behind so many tokens, the last of which begins a unit. What stands in an architecture begins behind the five tokens
+-- of its head.
 abbrev pub first : (is_architecture : Bool) → (read : ℕ) → TokenKind → Place
 first is_architecture read kind = record {
   read = read;
@@ -64,7 +65,8 @@ first is_architecture read kind = record {
 -- behind the token of this kind with which these begin
 abbrev pub behind : Place → TokenKind → List Token → Place
 behind p kind ts =
-    if begins_architecture ts then first true (p.read + 1) kind else (if begins_entity ts then first false (p.read + 1) kind else step p kind)
+    if begins_architecture ts then first true (p.read + 1) kind
+    else (if begins_entity ts then first false (p.read + 1) kind else step p kind)
 
 -- the place of the first token that starts at the byte or behind it
 abbrev pub place_from : (at : ℕ) → Place → List Token → Place
@@ -78,10 +80,11 @@ place_of at ts = place_from at (first false 0 k.Semicolon) ts
 
 -- how many parentheses are open behind a token
 abbrev pub parens_behind : (parens : ℕ) → TokenKind → ℕ
-parens_behind parens kind = if is_left_paren kind then parens + 1 else (if is_right_paren kind then parens - 1 else parens)
+parens_behind parens kind =
+    if is_left_paren kind then parens + 1 else (if is_right_paren kind then parens - 1 else parens)
 
--- where so much with an `end` and so many parentheses are open, one ends with this token, in front of these: a `;` outside of all that, which
--- has to be followed so; not the `;` behind `select` or `:`
+-- where so much with an `end` and so many parentheses are open, one ends with this token, in front of these: a `;`
+-- outside of all that, which has to be followed so; not the `;` behind `select` or `:`
 abbrev pub ends_behind : Sequel → (opened parens : ℕ) → (last kind : TokenKind) → List Token → Bool
 ends_behind sequel opened parens last kind ts =
     (opened == 0) && (parens == 0) && is_semicolon kind && not (wants_more last) && begins sequel ts

@@ -41,7 +41,7 @@ beginnings last (t ∷ ts) = (if opens last t.kind then 1 else 0) + beginnings t
 abbrev pub ends : List Token → ℕ
 ends ts = count_by (λ t. is_end t.kind) ts
 
--- The rest of a unit in which so many statements and declarations are open has an `end` for each of them, for each that begins in it, and
--- for the unit, and no other.
+-- The rest of a unit in which so many statements and declarations are open has an `end` for each of them, for each that
+-- begins in it, and for the unit, and no other.
 unfoldable pub is_balanced : (opened : ℕ) → (last : TokenKind) → List Token → Bool
 is_balanced opened last ts = opened + 1 + beginnings last ts == ends ts

@@ -6,7 +6,6 @@ pub mod WalkProcess
 pub mod GiveProcess
 pub mod Conditional
 pub mod Deeper
-mod Started
 pub mod Alone
 pub mod Branched
 pub mod Taken

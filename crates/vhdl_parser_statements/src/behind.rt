@@ -2,24 +2,13 @@
 
 ghost use Rattle.std.specs.Prelude.{◌≡◌, IfOk};
 ghost use Rattle.vhdl_tree.specs.View.{option_ident_view};
-ghost use Rattle.vhdl_parser_expressions.specs.reader.Input.{Reads, expect};
-ghost use Rattle.vhdl_parser_statements.specs.reader.Behind.{start};
+ghost use Rattle.vhdl_parser_expressions.specs.reader.Input.{Reads};
 ghost use Rattle.vhdl_parser_statements.specs.reader.Sequential as read;
 
 use crate::sequential::end_of;
 use vhdl_lexer::TokenKind;
 use vhdl_parser_expressions::{Parser, Stop};
 use vhdl_tree::Identifier;
-
-/// What was read, and behind it a token of this kind.
-#[tactic(auto, using(crate::proofs::Started::starts))]
-pub fn followed<T: Drop>(parser: &mut Parser<'_>, found: T, kind: TokenKind) -> Result<T, Stop>
-    ensures same { IfOk result (λ x. x ≡ found) }
-    ensures reads { Reads (λ _. start parser.old) (expect kind parser.old) result parser.new }
-{
-    parser.expect(kind)?;
-    Ok(found)
-}
 
 /// What was read, and behind it `end word [ id ] ;`.
 pub fn ended<T: Drop>(

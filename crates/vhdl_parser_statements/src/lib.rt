@@ -8,7 +8,6 @@ mod processes;
 mod sequential;
 mod waveforms;
 
-pub use behind::followed;
 pub use objects::{identifiers, object_declaration, optional_default, subtype};
 pub use processes::process;
 pub use sequential::{end_of, optional_label};

@@ -6,9 +6,8 @@ ghost use Rattle.vhdl_parser_expressions.specs.reader.Input.{Reads};
 ghost use Rattle.vhdl_parser_statements.specs.reader.Subtypes as read;
 ghost use Rattle.vhdl_parser_statements.specs.reader.Subtypes.{objects_view};
 
-use crate::behind::followed;
 use vhdl_lexer::TokenKind;
-use vhdl_parser_expressions::{Parser, Stop, below, optional, separated};
+use vhdl_parser_expressions::{Parser, Stop, below, followed, optional, separated};
 use vhdl_tree::{Identifier, Range, Subtype, Value};
 
 /// One identifier or more, with commas between.

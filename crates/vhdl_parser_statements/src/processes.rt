@@ -6,11 +6,11 @@ ghost use Rattle.vhdl_parser_expressions.specs.reader.Input.{Reads};
 ghost use Rattle.vhdl_parser_statements.specs.reader.Process as read;
 ghost use Rattle.vhdl_parser_statements.specs.reader.Process.{body_view};
 
-use crate::behind::{ended, followed};
+use crate::behind::ended;
 use crate::objects::object_declaration;
 use crate::sequential::statements;
 use vhdl_lexer::TokenKind;
-use vhdl_parser_expressions::{Parser, Stop, below, many, separated};
+use vhdl_parser_expressions::{Parser, Stop, below, followed, many, separated};
 use vhdl_tree::{Identifier, Name, Process, Sensitivity, Sequential, Variables};
 
 fn names(parser: &mut Parser<'_>, levels: usize) -> Result<Vec<Name>, Stop>

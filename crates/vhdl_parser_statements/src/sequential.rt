@@ -8,9 +8,9 @@ ghost use Rattle.vhdl_parser_expressions.specs.reader.Input as input;
 ghost use Rattle.vhdl_parser_expressions.specs.reader.Input.{Reads};
 ghost use Rattle.vhdl_parser_statements.specs.reader.Sequential as read;
 
-use crate::behind::{ended, followed};
+use crate::behind::ended;
 use vhdl_lexer::TokenKind;
-use vhdl_parser_expressions::{Parser, Stop, below};
+use vhdl_parser_expressions::{Parser, Stop, below, followed};
 use vhdl_tree::{Alternative, Conditional, Identifier, Sequential, Statement, Value};
 
 fn begins_statement(kind: Option<TokenKind>) -> bool

@@ -9,9 +9,8 @@ ghost use Rattle.vhdl_parser_expressions.specs.reader.Input.{Reads};
 ghost use Rattle.vhdl_parser_statements.specs.reader.Waveforms as read;
 ghost use Rattle.vhdl_parser_statements.specs.reader.Waveforms.{part_view, conditional_view};
 
-use crate::behind::followed;
 use vhdl_lexer::TokenKind;
-use vhdl_parser_expressions::{Parser, Stop, optional, separated};
+use vhdl_parser_expressions::{Parser, Stop, followed, optional, separated};
 use vhdl_tree::{Branch, Expr, SelectedAssignment, Value, Waveform};
 
 #[tactic(auto, unfolding(crate::specs::reader::Waveforms::condition))]

@@ -70,7 +70,8 @@ abbrev mutual
   height (e.Chain' p chain) = suc (chain_height chain)
 
   pub chain_height : Chain → ℕ
-  chain_height (Chain' first operator at operand shape rest) = max (max (height first) (height operand)) (links_height rest)
+  chain_height (Chain' first operator at operand shape rest) =
+      max (max (height first) (height operand)) (links_height rest)
 
   pub links_height : {m : _} → Row_of-Link m → ℕ
   links_height end_of-Link = 0
@@ -134,13 +135,16 @@ abbrev mutual
   statement_height (st.For f) = suc (for_height f)
 
   pub if_height : If → ℕ
-  if_height (If' at shape branches otherwise end_label) = max (conditionals_height branches) (otherwise_height otherwise)
+  if_height (If' at shape branches otherwise end_label) =
+      max (conditionals_height branches) (otherwise_height otherwise)
 
   pub case_height : Case → ℕ
-  case_height (Case' at selector shape alternatives end_label) = max (height selector) (alternatives_height alternatives)
+  case_height (Case' at selector shape alternatives end_label) =
+      max (height selector) (alternatives_height alternatives)
 
   pub for_height : For → ℕ
-  for_height (For' at parameter range shape statements end_label) = max (range_height range) (statements_height statements)
+  for_height (For' at parameter range shape statements end_label) =
+      max (range_height range) (statements_height statements)
 
   pub statements_height : {m : _} → Row_of-Sequential m → ℕ
   statements_height end_of-Sequential = 0
@@ -158,7 +162,8 @@ abbrev mutual
   alternatives_height (more_of-Alternative a rest) = max (alternative_height a) (alternatives_height rest)
 
   pub alternative_height : Alternative → ℕ
-  alternative_height (Alternative' choices shape statements) = max (highest choice_height choices.items) (statements_height statements)
+  alternative_height (Alternative' choices shape statements) =
+      max (highest choice_height choices.items) (statements_height statements)
 
   pub otherwise_height : Held-If-otherwise → ℕ
   otherwise_height None' = 0
@@ -179,22 +184,27 @@ variables_height d = suc (max (subtype_height d.subtype) (optional_height value_
 
 abbrev pub process_height : Process → ℕ
 process_height p =
-    suc (max (sensitivity_height p.sensitivity) (max (highest variables_height p.variables.items) (highest sequential_height p.statements.items)))
+    suc (max (sensitivity_height p.sensitivity)
+    (max (highest variables_height p.variables.items) (highest sequential_height p.statements.items)))
 
 abbrev pub waveform_height : Waveform → ℕ
 waveform_height w = max (value_height w.value) (highest choice_height w.choices.items)
 
 abbrev pub selected_height : SelectedAssignment → ℕ
-selected_height s = suc (max (height s.selector) (max (name_height s.target) (highest waveform_height s.waveforms.items)))
+selected_height s =
+    suc (max (height s.selector) (max (name_height s.target) (highest waveform_height s.waveforms.items)))
 
 abbrev pub branch_height : Branch → ℕ
 branch_height b = max (value_height b.value) (height b.condition)
 
 abbrev pub assignment_height : Assignment → ℕ
-assignment_height a = suc (max (name_height a.target) (max (highest branch_height a.branches.items) (optional_height value_height a.otherwise)))
+assignment_height a =
+    suc (max (name_height a.target)
+    (max (highest branch_height a.branches.items) (optional_height value_height a.otherwise)))
 
 abbrev pub instance_height : Instance → ℕ
-instance_height i = suc (max (optional_height associations_height i.generics) (optional_height associations_height i.ports))
+instance_height i =
+    suc (max (optional_height associations_height i.generics) (optional_height associations_height i.ports))
 
 abbrev pub scheme_height : Scheme → ℕ
 scheme_height (sc.For parameter range) = range_height range
@@ -206,7 +216,8 @@ abbrev mutual
   concurrent_height (c.Selected label s) = selected_height s
   concurrent_height (c.Process label p) = process_height p
   concurrent_height (c.Instance label i) = instance_height i
-  concurrent_height (c.Generate' label at scheme begin_word shape statements end_label) = suc (max (scheme_height scheme) (concurrents_height statements))
+  concurrent_height (c.Generate' label at scheme begin_word shape statements end_label) =
+      suc (max (scheme_height scheme) (concurrents_height statements))
 
   pub concurrents_height : {m : _} → Row_of-Concurrent m → ℕ
   concurrents_height end_of-Concurrent = 0
@@ -247,7 +258,8 @@ abbrev pub entity_height : Entity → ℕ
 entity_height n = suc (max (optional_height generics_height n.generics) (optional_height ports_height n.ports))
 
 abbrev pub architecture_height : Architecture → ℕ
-architecture_height a = suc (max (highest declaration_height a.declarations.items) (highest concurrent_height a.statements.items))
+architecture_height a =
+    suc (max (highest declaration_height a.declarations.items) (highest concurrent_height a.statements.items))
 
 abbrev pub library_unit_height : LibraryUnit → ℕ
 library_unit_height (u.Entity n) = entity_height n

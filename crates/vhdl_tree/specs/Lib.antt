@@ -1,5 +1,6 @@
 pub mod Lexeme
 pub mod Tree
+pub mod ExpressionViews
 pub mod View
 pub mod Pieces
 pub mod Levels

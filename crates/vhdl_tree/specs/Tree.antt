@@ -1,4 +1,5 @@
--- A syntax tree as contracts see it: without where it lies in memory, and with a chain of operators of one level grouped from the left.
+-- A syntax tree as contracts see it: without where it lies in memory, and with a chain of operators of one level
+-- grouped from the left.
 use Rattle.std.specs.Prelude.{ℕ, Bool, true, false, Option, Some, None, List, [], ◌∷◌}
 use Rattle.vhdl_tree.specs.declared.operator.Operator.{Operator}
 use Rattle.vhdl_tree.specs.declared.operator.Sign.{Sign}
@@ -236,7 +237,8 @@ mutual
     selected : Option Ident → SelectedAssignment → Concurrent
     process : Option Ident → Process → Concurrent
     instance : Ident → Instance → Concurrent
-    -- its label, where its scheme starts, the scheme, whether `begin` stands there, its statements, and the label at its end
+    -- its label, where its scheme starts, the scheme, whether `begin` stands there, its statements, and the label at
+    -- its end
     generated : Ident → ℕ → Scheme → Bool → Concurrents → Option Ident → Concurrent
 
   pub data Concurrents : Type 0 where

@@ -1,24 +1,7 @@
 -- What contracts see of a tree of the code.
-use Rattle.std.specs.Prelude.{ℕ, true, false, List, map, Vec, Option, option_map}
+use Rattle.std.specs.Prelude.{List, map, Vec, Option, option_map}
 use Rattle.std.specs.Global.{Global}
-use Rattle.vhdl_tree.specs.declared.expression.Identifier.{Identifier}
-use Rattle.vhdl_tree.specs.declared.expression.Literal.{Literal}
-use Rattle.vhdl_tree.specs.declared.expression.Expr.{Expr}
-use Rattle.vhdl_tree.specs.declared.expression.Expr.TheVariants as e
-use Rattle.vhdl_tree.specs.declared.expression.Expr.TheBlock.{Row_of-Link, end_of-Link, more_of-Link, Row_of-Expr, end_of-Expr, more_of-Expr}
-use Rattle.vhdl_tree.specs.declared.expression.Link.{Link}
-use Rattle.vhdl_tree.specs.declared.expression.Chain.{Chain, Chain'}
 use Rattle.vhdl_tree.specs.declared.expression.Name.{Name}
-use Rattle.vhdl_tree.specs.declared.expression.Suffix.{Suffix}
-use Rattle.vhdl_tree.specs.declared.expression.Suffix.TheVariants as s
-use Rattle.vhdl_tree.specs.declared.expression.Range.{Range}
-use Rattle.vhdl_tree.specs.declared.expression.Value.{Value}
-use Rattle.vhdl_tree.specs.declared.expression.Value.TheVariants as v
-use Rattle.vhdl_tree.specs.declared.expression.Choice.{Choice}
-use Rattle.vhdl_tree.specs.declared.expression.Choice.TheVariants as ch
-use Rattle.vhdl_tree.specs.declared.expression.Actual.{Actual}
-use Rattle.vhdl_tree.specs.declared.expression.Actual.TheVariants as ac
-use Rattle.vhdl_tree.specs.declared.expression.Association.{Association}
 use Rattle.vhdl_tree.specs.declared.sequential.Sequential.{Sequential}
 use Rattle.vhdl_tree.specs.declared.sequential.Statement.{Statement}
 use Rattle.vhdl_tree.specs.declared.sequential.Statement.TheVariants as st
@@ -43,7 +26,6 @@ use Rattle.vhdl_tree.specs.declared.concurrent.Concurrent.TheVariants as c
 use Rattle.vhdl_tree.specs.declared.concurrent.Concurrent.TheBlock.{Row_of-Concurrent, end_of-Concurrent, more_of-Concurrent}
 use Rattle.vhdl_tree.specs.declared.concurrent.Scheme.{Scheme}
 use Rattle.vhdl_tree.specs.declared.concurrent.Scheme.TheVariants as sc
-use Rattle.vhdl_tree.specs.declared.declaration.Subtype.{Subtype}
 use Rattle.vhdl_tree.specs.declared.declaration.Generic.{Generic}
 use Rattle.vhdl_tree.specs.declared.declaration.Port.{Port}
 use Rattle.vhdl_tree.specs.declared.unit.Entity.{Entity}
@@ -63,97 +45,7 @@ use Rattle.vhdl_tree.specs.declared.unit.LibraryUnit.TheVariants as u
 use Rattle.vhdl_tree.specs.declared.unit.DesignUnit.{DesignUnit}
 use Rattle.vhdl_tree.specs.declared.unit.File.{File}
 use Rattle.vhdl_tree.specs.Tree as tree
-
-abbrev pub ident_view : Identifier → tree.Ident
-ident_view i = record { at = i.at; text = i.text.items }
-
-abbrev pub idents_view : Vec Identifier Global → List tree.Ident
-idents_view v = map ident_view v.items
-
-abbrev pub option_ident_view : Option Identifier → Option tree.Ident
-option_ident_view = option_map ident_view
-
-abbrev pub literal_view : Literal → ℕ × List ℕ
-literal_view l = (l.at, l.text.items)
-
--- ---- expressions
-
-abbrev mutual
-  pub view : Expr → tree.Expr
-  view (e.Integer l) = tree.integer l.at l.text.items
-  view (e.Character at code) = tree.character at code
-  view (e.StringLiteral l) = tree.string l.at l.text.items
-  view (e.BitString l) = tree.bits l.at l.text.items
-  view (e.Name' identifier suffix attribute) = tree.named (ident_view identifier) (suffix_view suffix) (option_map ident_view attribute)
-  view (e.Parens' at p inner) = tree.parens at (view inner)
-  view (e.Not' at p operand) = tree.negation at (view operand)
-  view (e.Signed' sign at p operand) = tree.signed sign at (view operand)
-  view (e.Chain' p chain) = chain_view chain
-
-  pub suffix_view : Suffix → tree.Suffix
-  suffix_view s.Plain = tree.plain
-  suffix_view (s.Arguments' shape all) = tree.arguments (row_view all)
-  suffix_view (s.Range' p left direction right) = tree.sliced (view left) direction (view right)
-
-  pub row_view : {m : _} → Row_of-Expr m → tree.Exprs
-  row_view end_of-Expr = tree.no_exprs
-  row_view (more_of-Expr x rest) = tree.expr (view x) (row_view rest)
-
-  pub chain_view : Chain → tree.Expr
-  chain_view (Chain' first operator at operand shape rest) = links_view (tree.binary true operator at (view first) (view operand)) rest
-
-  -- the further operators of a chain, grouped from the left
-  pub links_view : {m : _} → tree.Expr → Row_of-Link m → tree.Expr
-  links_view left end_of-Link = left
-  links_view left (more_of-Link operator at operand rest) = links_view (tree.binary false operator at left (view operand)) rest
-
-abbrev pub pair_view : Link → tree.Pair
-pair_view l = record { operator = l.operator; at = l.at; operand = view l.operand }
-
-abbrev pub pairs_view : Vec Link Global → List tree.Pair
-pairs_view v = map pair_view v.items
-
-abbrev pub exprs_view : Vec Expr Global → List tree.Expr
-exprs_view v = map view v.items
-
-abbrev pub range_view : Range → tree.Range
-range_view r = record { left = view r.left; direction = r.direction; right = view r.right }
-
-abbrev pub option_expr_view : Option Expr → Option tree.Expr
-option_expr_view = option_map view
-
-abbrev pub option_range_view : Option Range → Option tree.Range
-option_range_view = option_map range_view
-
-abbrev pub name_view : Name → tree.Name
-name_view n = record { identifier = ident_view n.identifier; suffix = suffix_view n.suffix; attribute = option_map ident_view n.attribute }
-
-abbrev pub value_view : Value → tree.Value
-value_view (v.Expr x) = tree.single (view x)
-value_view (v.Others at x) = tree.others at (view x)
-
-abbrev pub choice_view : Choice → tree.Choice
-choice_view (ch.Expr x) = tree.chosen (view x)
-choice_view (ch.Others at) = tree.otherwise at
-
-abbrev pub choices_view : Vec Choice Global → List tree.Choice
-choices_view v = map choice_view v.items
-
-abbrev pub actual_view : Actual → tree.Actual
-actual_view (ac.Expr x) = tree.actual (view x)
-actual_view (ac.Open at) = tree.left_open at
-
-abbrev pub association_view : Association → tree.Association
-association_view a = record { formal = option_map ident_view a.formal; actual = actual_view a.actual }
-
-abbrev pub associations_view : Vec Association Global → List tree.Association
-associations_view v = map association_view v.items
-
-abbrev pub option_value_view : Option Value → Option tree.Value
-option_value_view = option_map value_view
-
-abbrev pub subtype_view : Subtype → tree.Subtype
-subtype_view t = record { mark = ident_view t.mark; range = option_map range_view t.range }
+pub use Rattle.vhdl_tree.specs.ExpressionViews.{ident_view, idents_view, option_ident_view, literal_view, view, suffix_view, row_view, chain_view, links_view, pair_view, pairs_view, exprs_view, range_view, option_expr_view, option_range_view, name_view, value_view, choice_view, choices_view, actual_view, association_view, associations_view, option_value_view, subtype_view}
 
 -- ---- sequential statements
 
@@ -176,25 +68,29 @@ abbrev mutual
 
   pub for_view : For → tree.Statement
   for_view (For' at parameter range shape statements end_label) =
-      tree.for_of at (ident_view parameter) (range_view range) (statements_row statements) (option_map ident_view end_label)
+      tree.for_of at (ident_view parameter) (range_view range)
+      (statements_row statements) (option_map ident_view end_label)
 
   pub statements_row : {m : _} → Row_of-Sequential m → tree.Statements
   statements_row end_of-Sequential = tree.done
-  statements_row (more_of-Sequential label s rest) = tree.step (option_map ident_view label) (statement_view s) (statements_row rest)
+  statements_row (more_of-Sequential label s rest) =
+      tree.step (option_map ident_view label) (statement_view s) (statements_row rest)
 
   pub conditionals_row : {m : _} → Row_of-Conditional m → tree.Conditionals
   conditionals_row end_of-Conditional = tree.no_conditionals
   conditionals_row (more_of-Conditional c rest) = condition_row c (conditionals_row rest)
 
   pub condition_row : Conditional → tree.Conditionals → tree.Conditionals
-  condition_row (Conditional' condition shape statements) rest = tree.guarded (view condition) (statements_row statements) rest
+  condition_row (Conditional' condition shape statements) rest =
+      tree.guarded (view condition) (statements_row statements) rest
 
   pub alternatives_row : {m : _} → Row_of-Alternative m → tree.Alternatives
   alternatives_row end_of-Alternative = tree.no_alternatives
   alternatives_row (more_of-Alternative a rest) = alternative_row a (alternatives_row rest)
 
   pub alternative_row : Alternative → tree.Alternatives → tree.Alternatives
-  alternative_row (Alternative' choices shape statements) rest = tree.alternative (choices_view choices) (statements_row statements) rest
+  alternative_row (Alternative' choices shape statements) rest =
+      tree.alternative (choices_view choices) (statements_row statements) rest
 
   pub otherwise_row : Held-If-otherwise → tree.Otherwise
   otherwise_row None' = tree.no_else
@@ -210,13 +106,19 @@ abbrev pub option_sequentials_view : Option (Vec Sequential Global) → Option (
 option_sequentials_view = option_map sequentials_view
 
 abbrev pub conditional_view : Conditional → tree.Conditional
-conditional_view c = record { condition = view (out-Conditional c).condition; statements = sequentials_view (out-Conditional c).statements }
+conditional_view c = record {
+  condition = view (out-Conditional c).condition;
+  statements = sequentials_view (out-Conditional c).statements;
+}
 
 abbrev pub conditionals_view : Vec Conditional Global → List tree.Conditional
 conditionals_view v = map conditional_view v.items
 
 abbrev pub alternative_view : Alternative → tree.Alternative
-alternative_view a = record { choices = choices_view (out-Alternative a).choices; statements = sequentials_view (out-Alternative a).statements }
+alternative_view a = record {
+  choices = choices_view (out-Alternative a).choices;
+  statements = sequentials_view (out-Alternative a).statements;
+}
 
 abbrev pub alternatives_view : Vec Alternative Global → List tree.Alternative
 alternatives_view v = map alternative_view v.items
@@ -232,7 +134,8 @@ sensitivity_view se.All = tree.every
 sensitivity_view (se.Names all) = tree.listed (names_view all)
 
 abbrev pub variables_view : Variables → tree.Variables
-variables_view d = record { names = idents_view d.names; subtype = subtype_view d.subtype; default = option_map value_view d.default }
+variables_view d =
+    record { names = idents_view d.names; subtype = subtype_view d.subtype; default = option_map value_view d.default }
 
 abbrev pub all_variables_view : Vec Variables Global → List tree.Variables
 all_variables_view v = map variables_view v.items
@@ -254,16 +157,26 @@ abbrev pub waveforms_view : Vec Waveform Global → List tree.Waveform
 waveforms_view v = map waveform_view v.items
 
 abbrev pub selected_assignment_view : SelectedAssignment → tree.SelectedAssignment
-selected_assignment_view s = record { at = s.at; selector = view s.selector; target = name_view s.target; waveforms = waveforms_view s.waveforms }
+selected_assignment_view s = record {
+  at = s.at;
+  selector = view s.selector;
+  target = name_view s.target;
+  waveforms = waveforms_view s.waveforms;
+}
 
 -- ---- instances
 
 abbrev pub instantiated_view : Instantiated → tree.Instantiated
-instantiated_view (it.Entity library name chosen) = tree.entity_unit (ident_view library) (ident_view name) (option_map ident_view chosen)
+instantiated_view (it.Entity library name chosen) =
+    tree.entity_unit (ident_view library) (ident_view name) (option_map ident_view chosen)
 instantiated_view (it.Component word name) = tree.component_unit word (ident_view name)
 
 abbrev pub instance_view : Instance → tree.Instance
-instance_view i = record { unit = instantiated_view i.unit; generics = option_map associations_view i.generics; ports = option_map associations_view i.ports }
+instance_view i = record {
+  unit = instantiated_view i.unit;
+  generics = option_map associations_view i.generics;
+  ports = option_map associations_view i.ports;
+}
 
 -- ---- concurrent statements
 
@@ -275,7 +188,12 @@ branches_view v = map branch_view v.items
 
 abbrev pub assignment_view : Assignment → tree.Assignment
 assignment_view a =
-    record { label = option_map ident_view a.label; target = name_view a.target; branches = branches_view a.branches; otherwise = option_map value_view a.otherwise }
+    record {
+      label = option_map ident_view a.label;
+      target = name_view a.target;
+      branches = branches_view a.branches;
+      otherwise = option_map value_view a.otherwise;
+    }
 
 abbrev pub scheme_view : Scheme → tree.Scheme
 scheme_view (sc.For parameter range) = tree.for_each (ident_view parameter) (range_view range)
@@ -288,7 +206,8 @@ abbrev mutual
   concurrent_view (c.Process label p) = tree.process (option_map ident_view label) (process_view p)
   concurrent_view (c.Instance label i) = tree.instance (ident_view label) (instance_view i)
   concurrent_view (c.Generate' label at scheme begin_word shape statements end_label) =
-      tree.generated (ident_view label) at (scheme_view scheme) begin_word (concurrents_row statements) (option_map ident_view end_label)
+      tree.generated (ident_view label) at (scheme_view scheme) begin_word
+      (concurrents_row statements) (option_map ident_view end_label)
 
   pub concurrents_row : {m : _} → Row_of-Concurrent m → tree.Concurrents
   concurrents_row end_of-Concurrent = tree.no_concurrents
@@ -301,20 +220,33 @@ concurrents_view v = map concurrent_view v.items
 
 abbrev pub generic_view : Generic → tree.Generic
 generic_view g =
-    record { constant_word = g.constant_word; names = idents_view g.names; in_word = g.in_word; mark = ident_view g.mark; default = option_map view g.default }
+    record {
+      constant_word = g.constant_word;
+      names = idents_view g.names;
+      in_word = g.in_word;
+      mark = ident_view g.mark;
+      default = option_map view g.default;
+    }
 
 abbrev pub generics_view : Vec Generic Global → List tree.Generic
 generics_view v = map generic_view v.items
 
 abbrev pub port_view : Port → tree.Port
 port_view p =
-    record { signal_word = p.signal_word; names = idents_view p.names; mode = p.mode; subtype = subtype_view p.subtype; default = option_map value_view p.default }
+    record {
+      signal_word = p.signal_word;
+      names = idents_view p.names;
+      mode = p.mode;
+      subtype = subtype_view p.subtype;
+      default = option_map value_view p.default;
+    }
 
 abbrev pub ports_view : Vec Port Global → List tree.Port
 ports_view v = map port_view v.items
 
 abbrev pub signals_view : Signals → tree.Signals
-signals_view d = record { names = idents_view d.names; subtype = subtype_view d.subtype; default = option_map value_view d.default }
+signals_view d =
+    record { names = idents_view d.names; subtype = subtype_view d.subtype; default = option_map value_view d.default }
 
 abbrev pub constants_view : Constants → tree.Constants
 constants_view d = record { names = idents_view d.names; subtype = subtype_view d.subtype; value = value_view d.value }

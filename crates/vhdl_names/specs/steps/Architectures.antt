@@ -50,7 +50,8 @@ abbrev pub options_view : Vec (Option Architecture) Global → List (Option u.Ar
 options_view v = map (option_map architecture_view) v.items
 
 -- with one more architecture, as that of its entity
-abbrev pub with_described : List EntityView → List (Option u.Architecture) → List ContextItem × t.Architecture → Option (List (Option u.Architecture))
+abbrev pub with_described : List EntityView → List (Option u.Architecture)
+    → List ContextItem × t.Architecture → Option (List (Option u.Architecture))
 with_described es os a = placed (entity_named es a.1.entity.text)
   where
     placed : Option (ℕ × EntityView) → Option (List (Option u.Architecture))
@@ -58,7 +59,8 @@ with_described es os a = placed (entity_named es a.1.entity.text)
     placed (Some (k, e)) = rules.architecture es e a.0 a.1 >>= λ x. Some (set os k (Some x))
 
 -- with one more unit, which may be an architecture
-abbrev pub with_unit : List EntityView → List (Option u.Architecture) → DesignUnit → Option (List (Option u.Architecture))
+abbrev pub with_unit : List EntityView → List (Option u.Architecture)
+    → DesignUnit → Option (List (Option u.Architecture))
 with_unit es os d = of_unit d.context d.unit
   where
     of_unit : List ContextItem → LibraryUnit → Option (List (Option u.Architecture))

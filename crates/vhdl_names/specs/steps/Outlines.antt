@@ -17,7 +17,8 @@ names_of as' = map (λ (k : Keyed). k.name) as'
 
 -- one more architecture, of an entity that none before it is of
 abbrev pub one_described : List Keyed → List ContextItem × t.Architecture → Option (List Keyed)
-one_described as' a = given_that SecondArchitecture (not (is_among a.1.entity.text (names_of as'))) (as' ++ keyed a ∷ [])
+one_described as' a =
+    given_that SecondArchitecture (not (is_among a.1.entity.text (names_of as'))) (as' ++ keyed a ∷ [])
 
 abbrev pub with_entity : OutlineView → t.Entity → Option OutlineView
 with_entity o e = one_name o.entities e.name.text >>= λ ns. Some (record o { entities = ns })

@@ -21,7 +21,8 @@ abbrev pub variables_in : Sight → List t.Variables → Option (Sight × List u
 variables_in = entering_variables (in_order with_variables variables)
 
 abbrev pub body : Sight → List t.Sequential → Option s.Statements
-body sight qs = rule Twice (are_distinct (statement_labels (t.statements_of qs))) >> statements sight (t.statements_of qs)
+body sight qs =
+    rule Twice (are_distinct (statement_labels (t.statements_of qs))) >> statements sight (t.statements_of qs)
 
 abbrev pub process : Sight → Option Ident → t.Process → Option u.Process
 process sight label p = do

@@ -13,7 +13,9 @@ use Rattle.vhdl_names_rules.specs.problems.Concurrent.{scheme, concurrents}
 
 -- the statements directly in a generate, among which their labels stand
 abbrev pub labelled : List EntityView → Sight → List t.Concurrent → Broken
-labelled entities sight cs = earlier (twice [] (labels_of (t.concurrents_of cs))) (concurrents entities sight (t.concurrents_of cs))
+labelled entities sight cs =
+    earlier (twice [] (labels_of (t.concurrents_of cs))) (concurrents entities sight (t.concurrents_of cs))
 
 abbrev pub generate : List EntityView → Sight → Ident → t.Scheme → List t.Concurrent → Option Ident → Broken
-generate entities sight label k cs end = scheme sight k ▸ labelled entities (sight_within sight k) cs ▸ end_name label end
+generate entities sight label k cs end =
+    scheme sight k ▸ labelled entities (sight_within sight k) cs ▸ end_name label end

@@ -4,7 +4,8 @@ use Rattle.vhdl_names_rules.specs.units.Units as u
 use Rattle.vhdl_names_rules.specs.Interfaces.{EntityView}
 
 abbrev pub with_architecture : EntityView → Option u.Architecture → u.Entity
-with_architecture e a = record { at = e.at; name = e.name; generics = e.interface.generics; ports = e.interface.ports; architecture = a }
+with_architecture e a =
+    record { at = e.at; name = e.name; generics = e.interface.generics; ports = e.interface.ports; architecture = a }
 
 abbrev pub first : {A : Type 0} → List (Option A) → Option A
 first [] = None

@@ -14,7 +14,7 @@ use Rattle.vhdl_names_rules.specs.declared.kind.ObjectType.{ObjectType}
 use Rattle.vhdl_names_rules.specs.declared.fault.NameFault.{NameFault}
 use Rattle.vhdl_names_rules.specs.declared.fault.NameFault.TheVariants.{NoMemory}
 use Rattle.vhdl_names_rules.specs.declared.fault.NameProblem.{NameProblem}
-use Rattle.vhdl_names_rules.specs.declared.fault.NameProblem.TheVariants.{WrongKind, ChoiceTwice}
+use Rattle.vhdl_names_rules.specs.declared.fault.NameProblem.TheVariants.{ChoiceTwice}
 use Rattle.vhdl_names_rules.specs.units.Statements as s
 use Rattle.vhdl_names_rules.specs.Rules.{◌>>=◌, then_some}
 use Rattle.vhdl_names_rules.specs.Gives.{Gives}
@@ -35,7 +35,7 @@ use Rattle.vhdl_names_units.proofs.Once.{among_keys}
 use Rattle.vhdl_names_units.proofs.Once as names
 use Rattle.vhdl_names_statements.specs.steps.Cases.{choice_list, all_lists}
 use Rattle.vhdl_names_statements.specs.steps.Told as told
-use Rattle.vhdl_names_statements.specs.steps.Told.{keys_of, with_choice, with_list, with_lists, others_alone}
+use Rattle.vhdl_names_statements.specs.steps.Told.{keys_of, with_choice, with_list, with_lists}
 
 -- ---- keys that are taken
 
@@ -142,26 +142,6 @@ module _ (sight : Sight) (type : ObjectType) where
         ∙ ap (λ k. with_list sight type k (map choice_view (drop (i + 1) xs))) (sym added)
 
   -- ---- one alternative
-
-  pub no_others : (keys : List Name) (is_last : Bool) (cs : List t.Choice) → others_alone cs ≡ None
-      → told.alternative_in_place sight type keys is_last cs ≡ told.each_once sight type keys cs
-  no_others keys is_last [] e = refl
-  no_others keys is_last (t.otherwise at ∷ []) e = cc
-  no_others keys is_last (t.otherwise at ∷ d ∷ ds) e = refl
-  no_others keys is_last (t.chosen x ∷ cs) e = refl
-
-  pub others_placed : (keys : List Name) (is_last : Bool) (cs : List t.Choice) (at : ℕ) → others_alone cs ≡ Some at
-      → told.alternative_in_place sight type keys is_last cs ≡ unless WrongKind at is_last
-  others_placed keys is_last [] at e = cc
-  others_placed keys is_last (t.otherwise b ∷ []) at e = let same : b ≡ at = cc in ap (λ x. unless WrongKind x is_last) same
-  others_placed keys is_last (t.otherwise b ∷ d ∷ ds) at e = cc
-  others_placed keys is_last (t.chosen x ∷ cs) at e = cc
-
-  pub others_added : (keys : List Name) (cs : List t.Choice) (at : ℕ) → others_alone cs ≡ Some at → keys ≡ with_list sight type keys cs
-  others_added keys [] at e = cc
-  others_added keys (t.otherwise b ∷ []) at e = sym (append-nil keys)
-  others_added keys (t.otherwise b ∷ d ∷ ds) at e = cc
-  others_added keys (t.chosen x ∷ cs) at e = cc
 
   -- ---- one alternative after another
 

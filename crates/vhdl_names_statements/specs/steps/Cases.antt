@@ -50,7 +50,8 @@ pub record Divided : Type 0 where
 abbrev pub but_last : List Chosen → Option Divided
 but_last [] = None
 but_last (a ∷ []) = Some (record { alternatives = []; last = a.statements })
-but_last (a ∷ b ∷ more) = but_last (b ∷ more) >>= λ d. Some (record { alternatives = a ∷ d.alternatives; last = d.last })
+but_last (a ∷ b ∷ more) =
+    but_last (b ∷ more) >>= λ d. Some (record { alternatives = a ∷ d.alternatives; last = d.last })
 
 abbrev pub choice_lists : List t.Alternative → List (List t.Choice)
 choice_lists = map (λ a. a.choices)

@@ -41,7 +41,8 @@ guarded sight b = do
   Some (guarded_by c xs)
 
 -- an if that starts at this byte
-abbrev pub conditional : Sight → Option Ident → (at : ℕ) → List t.Conditional → Option (List t.Sequential) → Option Ident → Option s.Statement
+abbrev pub conditional : Sight → Option Ident → (at : ℕ) → List t.Conditional
+    → Option (List t.Sequential) → Option Ident → Option s.Statement
 conditional sight label at bs o end = do
   gs ← each (guarded sight) bs
   last ← if_any (all_labelled sight) o
@@ -53,7 +54,8 @@ abbrev pub turn : Sight → Ident → List t.Sequential → Option (List s.State
 turn sight n body = all_labelled (within_loop sight n) body
 
 -- a loop that starts at this byte
-abbrev pub repetition : Sight → Option Ident → (at : ℕ) → Ident → t.Range → List t.Sequential → Option Ident → Option s.Statement
+abbrev pub repetition : Sight → Option Ident → (at : ℕ) → Ident
+    → t.Range → List t.Sequential → Option Ident → Option s.Statement
 repetition sight label at n r body end = do
   range ← static_range sight r
   found ← turn sight n body

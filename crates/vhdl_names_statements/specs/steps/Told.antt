@@ -57,7 +57,8 @@ with_lists sight type keys (cs ∷ rest) = with_lists sight type (with_list sigh
 
 abbrev pub once : Sight → ObjectType → List Name → t.Choice → Broken
 once sight type keys c =
-    choice sight type c ▸ where_given (are.choice sight type c) (λ x. unless ChoiceTwice (choice_place c) (not (is_among (key_of x) keys)))
+    choice sight type c
+    ▸ where_given (are.choice sight type c) (λ x. unless ChoiceTwice (choice_place c) (not (is_among (key_of x) keys)))
 
 abbrev pub each_once : Sight → ObjectType → List Name → List t.Choice → Broken
 each_once sight type keys [] = nothing

@@ -46,7 +46,8 @@ instance_with n label = instance label <$> instance_reader.instance n
 
 -- whether a component's name comes next, and no target
 abbrev pub sees_component : List Lexeme → Bool
-sees_component ts = sees_both k.Identifier k.Generic ts || (sees_both k.Identifier k.Port ts || sees_both k.Identifier k.Semicolon ts)
+sees_component ts =
+    sees_both k.Identifier k.Generic ts || (sees_both k.Identifier k.Port ts || sees_both k.Identifier k.Semicolon ts)
 
 unfoldable pub named_with : ℕ → Ident → Parser Concurrent
 named_with n label = λ ts. if sees_component ts then instance_with n label ts else assign_with n (Some label) ts
@@ -66,7 +67,8 @@ pub record GenerateBody : Type 0 where
   pub statements : List Concurrent
   pub end_label : Option Ident
 
-abbrev pub generate_body_view : Bool × Vec code_concurrent.Concurrent Global × Option code_identifier.Identifier → GenerateBody
+abbrev pub generate_body_view : Bool × Vec code_concurrent.Concurrent Global × Option code_identifier.Identifier
+    → GenerateBody
 generate_body_view b = record { begin_word = b.0; statements = concurrents_view b.1; end_label = option_ident_view b.2 }
 
 -- What follows the scheme of a generate statement. The parameter reads the statements in it.
@@ -80,7 +82,8 @@ module _ (inner : Parser (List Concurrent)) where
     pure (record { begin_word = word; statements = found; end_label = last })
 
   unfoldable pub generate_rest : Ident → ℕ → Scheme → Parser Concurrent
-  generate_rest label at scheme = (λ b. generated label at scheme b.begin_word (concurrents_of b.statements) b.end_label) <$> generate_body
+  generate_rest label at scheme =
+      (λ b. generated label at scheme b.begin_word (concurrents_of b.statements) b.end_label) <$> generate_body
 
 unfoldable pub for_scheme : ℕ → Parser Scheme
 for_scheme m = do
@@ -95,7 +98,8 @@ module _ (n : ℕ) (inner : Parser (List Concurrent)) where
   for_generate label = opened k.For (λ m at. for_scheme m >>= generate_rest inner label at) n
 
   unfoldable pub if_generate : Ident → Parser Concurrent
-  if_generate label = opened k.If (λ m at. expr m >>= (λ condition. generate_rest inner label at (if_holds condition))) n
+  if_generate label =
+      opened k.If (λ m at. expr m >>= (λ condition. generate_rest inner label at (if_holds condition))) n
 
   abbrev pub labelled_by : Ident → Option TokenKind → Parser Concurrent
   labelled_by label (Some k.With) = select_with n (Some label)

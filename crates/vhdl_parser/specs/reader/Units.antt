@@ -39,7 +39,15 @@ architecture_unit = do
   word ← eat k.Architecture
   last ← optional (is_kind k.Identifier) identifier
   expect k.Semicolon
-  pure (record { at = at; name = name; entity = of_entity; declarations = ds; statements = found; end_word = word; end_name = last })
+  pure (record {
+    at = at;
+    name = name;
+    entity = of_entity;
+    declarations = ds;
+    statements = found;
+    end_word = word;
+    end_name = last;
+  })
 
 abbrev pub library_unit_by : Option TokenKind → Parser LibraryUnit
 library_unit_by (Some k.Entity) = entity <$> entity_unit

@@ -46,7 +46,8 @@ operator_at Multiplying next = multiplying_at next
 
 -- the operator that a chain of a level goes on with, by its last one and the next token
 unfoldable pub next_operator : Level → Operator → Option TokenKind → Option Operator
-next_operator Logical last next = if repeats last then (if is_kind (kind_of last) next then Some last else None) else None
+next_operator Logical last next =
+    if repeats last then (if is_kind (kind_of last) next then Some last else None) else None
 next_operator Relation last next = None
 next_operator Adding last next = adding_at next
 next_operator Multiplying last next = multiplying_at next

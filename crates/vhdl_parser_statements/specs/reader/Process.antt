@@ -51,4 +51,11 @@ process n = do
   word ← eat k.Is
   vs ← all_variables n
   b ← body n
-  pure (record { at = at; sensitivity = s; is_word = word; variables = vs; statements = b.statements; end_label = b.end_label })
+  pure (record {
+    at = at;
+    sensitivity = s;
+    is_word = word;
+    variables = vs;
+    statements = b.statements;
+    end_label = b.end_label;
+  })

@@ -51,7 +51,8 @@ begins_sequential (Some k.For) = true
 begins_sequential _ = false
 
 -- what guards statements, the token behind it, and they
-abbrev pub guarding : {A B : Type 0} → Parser (List Sequential) → Parser A → TokenKind → (A → List Sequential → B) → Parser B
+abbrev pub guarding : {A B : Type 0} → Parser (List Sequential)
+    → Parser A → TokenKind → (A → List Sequential → B) → Parser B
 guarding inner guard sign make = do
   x ← guard
   expect sign

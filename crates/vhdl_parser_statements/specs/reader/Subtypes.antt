@@ -50,5 +50,6 @@ objects n word = do
   expect k.Semicolon
   pure (record { names = names; subtype = t; default = d })
 
-abbrev pub objects_view : Vec code_identifier.Identifier Global × code_subtype.Subtype × Option code_value.Value → Objects
+abbrev pub objects_view : Vec code_identifier.Identifier Global × code_subtype.Subtype × Option code_value.Value
+    → Objects
 objects_view o = record { names = idents_view o.0; subtype = subtype_view o.1; default = option_value_view o.2 }

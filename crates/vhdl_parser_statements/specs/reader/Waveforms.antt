@@ -38,7 +38,8 @@ abbrev pub go_on : (List Branch → Parser Waveforms) → List Branch → Value 
 go_on go found v None = pure (record { branches = found; otherwise = Some v })
 go_on go found v (Some c) = go (found ++ record { value = v; condition = c } ∷ [])
 
--- { else value when expr } [ else value ], after the branches found. The number bounds the turns, and each turn takes a token.
+-- { else value when expr } [ else value ], after the branches found. The number bounds the turns, and each turn takes
+-- a token.
 unfoldable pub more_branches_from : ℕ → ℕ → List Branch → Parser Waveforms
 more_branches_from n zero found = pure (record { branches = found; otherwise = None })
 more_branches_from n (suc turns) found =

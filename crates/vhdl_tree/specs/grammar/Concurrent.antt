@@ -27,11 +27,13 @@ spell_waveforms (b ∷ more) otherwise = spell_branch b ++ spell_otherwise more 
 -- [ id : ] name <= value [ when .. ] ;
 abbrev pub spell_assignment : Assignment → List Piece
 spell_assignment a =
-    spell_option spell_label a.label ++ (spell_name a.target ++ (some k.LessEqual ∷ (spell_waveforms a.branches a.otherwise ++ some k.Semicolon ∷ [])))
+    spell_option spell_label a.label
+    ++ (spell_name a.target ++ (some k.LessEqual ∷ (spell_waveforms a.branches a.otherwise ++ some k.Semicolon ∷ [])))
 
 -- for id in range | if expr
 abbrev pub spell_scheme : ℕ → Scheme → List Piece
-spell_scheme at (for_each parameter range) = one_at k.For at ∷ (word_at parameter.at parameter.text ∷ (some k.In ∷ spell_range range))
+spell_scheme at (for_each parameter range) =
+    one_at k.For at ∷ (word_at parameter.at parameter.text ∷ (some k.In ∷ spell_range range))
 spell_scheme at (if_holds condition) = one_at k.If at ∷ spell condition
 
 abbrev mutual

@@ -25,7 +25,9 @@ spell_generic g =
 
 -- generics = generic ( gdecl { ; gdecl } ) ;
 abbrev pub spell_generics : List Generic → List Piece
-spell_generics gs = some k.Generic ∷ (some k.LeftParen ∷ (spell_list k.Semicolon spell_generic gs ++ (some k.RightParen ∷ (some k.Semicolon ∷ []))))
+spell_generics gs =
+    some k.Generic
+    ∷ (some k.LeftParen ∷ (spell_list k.Semicolon spell_generic gs ++ (some k.RightParen ∷ (some k.Semicolon ∷ []))))
 
 -- pdecl = [ signal ] ids : [ in | out ] subtype [ := value ]
 abbrev pub spell_port : Port → List Piece
@@ -35,12 +37,15 @@ spell_port p =
 
 -- ports = port ( pdecl { ; pdecl } ) ;
 abbrev pub spell_ports : List Port → List Piece
-spell_ports ps = some k.Port ∷ (some k.LeftParen ∷ (spell_list k.Semicolon spell_port ps ++ (some k.RightParen ∷ (some k.Semicolon ∷ []))))
+spell_ports ps =
+    some k.Port
+    ∷ (some k.LeftParen ∷ (spell_list k.Semicolon spell_port ps ++ (some k.RightParen ∷ (some k.Semicolon ∷ []))))
 
 -- signal ids : subtype [ := value ] ;
 abbrev pub spell_signals : Signals → List Piece
 spell_signals d =
-    some k.Signal ∷ (spell_idents d.names ++ (some k.Colon ∷ (spell_subtype d.subtype ++ (spell_option spell_default d.default ++ some k.Semicolon ∷ []))))
+    some k.Signal ∷ (spell_idents d.names
+    ++ (some k.Colon ∷ (spell_subtype d.subtype ++ (spell_option spell_default d.default ++ some k.Semicolon ∷ []))))
 
 -- constant ids : subtype := value ;
 abbrev pub spell_constants : Constants → List Piece
@@ -51,7 +56,8 @@ spell_constants d =
 -- type id is ( ids ) ;
 abbrev pub spell_enumeration : Enumeration → List Piece
 spell_enumeration d =
-    some k.Type ∷ (spell_ident d.name ++ (some k.Is ∷ (some k.LeftParen ∷ (spell_idents d.literals ++ (some k.RightParen ∷ (some k.Semicolon ∷ []))))))
+    some k.Type ∷ (spell_ident d.name
+    ++ (some k.Is ∷ (some k.LeftParen ∷ (spell_idents d.literals ++ (some k.RightParen ∷ (some k.Semicolon ∷ []))))))
 
 -- component id [ is ] [ generics ] [ ports ] end component [ id ] ;
 abbrev pub spell_component : Component → List Piece

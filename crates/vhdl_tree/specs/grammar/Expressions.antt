@@ -68,7 +68,8 @@ abbrev mutual
   pub spell_suffix : Suffix → List Piece
   spell_suffix plain = []
   spell_suffix (arguments all) = some k.LeftParen ∷ (spell_exprs all ++ some k.RightParen ∷ [])
-  spell_suffix (sliced left direction right) = some k.LeftParen ∷ (spell left ++ (some (direction_kind direction) ∷ (spell right ++ some k.RightParen ∷ [])))
+  spell_suffix (sliced left direction right) =
+      some k.LeftParen ∷ (spell left ++ (some (direction_kind direction) ∷ (spell right ++ some k.RightParen ∷ [])))
 
   pub spell_exprs : Exprs → List Piece
   spell_exprs no_exprs = []
@@ -85,7 +86,8 @@ spell_name n = word_at n.identifier.at n.identifier.text ∷ (spell_suffix n.suf
 -- value = expr | ( others => expr )
 abbrev pub spell_value : Value → List Piece
 spell_value (single e) = spell e
-spell_value (others at e) = one_at k.LeftParen at ∷ (some k.Others ∷ (some k.Arrow ∷ (spell e ++ some k.RightParen ∷ [])))
+spell_value (others at e) =
+    one_at k.LeftParen at ∷ (some k.Others ∷ (some k.Arrow ∷ (spell e ++ some k.RightParen ∷ [])))
 
 -- range = expr ( to | downto ) expr
 abbrev pub spell_range : Range → List Piece
@@ -119,7 +121,8 @@ spell_associations = spell_list k.Comma spell_association
 
 -- ---- precedence and chaining
 
--- how tightly an operator binds its operands, by its token: logical operators 1, relations 2, sums 3, terms 4, and what is none 0
+-- how tightly an operator binds its operands, by its token: logical operators 1, relations 2, sums 3, terms 4, and what
+-- is none 0
 abbrev pub token_rank : TokenKind → ℕ
 token_rank kind =
     if is_one_of (k.And ∷ k.Or ∷ k.Xor ∷ k.Xnor ∷ k.Nand ∷ k.Nor ∷ []) kind then 1
@@ -143,12 +146,13 @@ binding (negation at operand) = 5
 binding (signed sign at operand) = 3
 binding (binary begins operator at left right) = rank operator
 
--- the logical operators of expr = rel { and rel } | rel { or rel } | rel { xor rel } | rel { xnor rel } | rel nand rel | rel nor rel that may stand
--- more than once
+-- the logical operators of expr = rel { and rel } | rel { or rel } | rel { xor rel } | rel { xnor rel } | rel nand rel
+-- | rel nor rel that may stand more than once
 abbrev pub repeats : Operator → Bool
 repeats operator = is_one_of (k.And ∷ k.Or ∷ k.Xor ∷ k.Xnor ∷ []) (kind_of operator)
 
--- An operator may follow another of its rank without parentheses: any in a sum or a term, itself where it repeats, and none in a relation.
+-- An operator may follow another of its rank without parentheses: any in a sum or a term, itself where it repeats, and
+-- none in a relation.
 abbrev pub Chains : Operator → Operator → Type 0
 Chains first next = (rank first ≡ rank next) × ((3 ≤ rank next) ⊎ ((first ≡ next) × (repeats next ≡ true)))
 
@@ -162,7 +166,8 @@ abbrev pub IsSigned : Operator → Expr → Type 0
 IsSigned operator (signed sign at operand) = rank operator ≡ 3
 IsSigned operator _ = ⊥
 
--- An operator begins a chain behind what binds more tightly, or behind a sign. So a chain's first operand is none of its own chain's trees.
+-- An operator begins a chain behind what binds more tightly, or behind a sign. So a chain's first operand is none of
+-- its own chain's trees.
 abbrev pub Leads : Bool → Operator → Expr → Type 0
 Leads true operator left = (rank operator < binding left) ⊎ IsSigned operator left
 Leads false operator left = GoesOn operator left
@@ -179,7 +184,8 @@ abbrev mutual
   IsExpr (negation at operand) = (5 < binding operand) × IsExpr operand
   -- sum = ( + | - ) term { .. }
   IsExpr (signed sign at operand) = (3 < binding operand) × IsExpr operand
-  IsExpr (binary begins operator at left right) = Leads begins operator left × (rank operator < binding right) × IsExpr left × IsExpr right
+  IsExpr (binary begins operator at left right) =
+      Leads begins operator left × (rank operator < binding right) × IsExpr left × IsExpr right
 
   pub IsSuffix : Suffix → Type 0
   IsSuffix plain = Unit {0}

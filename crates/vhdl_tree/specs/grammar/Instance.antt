@@ -23,7 +23,8 @@ spell_map word all = some word ∷ (some k.Map ∷ (some k.LeftParen ∷ (spell_
 -- instance = ( .. ) [ generic map ( .. ) ] [ port map ( .. ) ] ;
 abbrev pub spell_instance : Instance → List Piece
 spell_instance i =
-    spell_instantiated i.unit ++ (spell_option (spell_map k.Generic) i.generics ++ (spell_option (spell_map k.Port) i.ports ++ some k.Semicolon ∷ []))
+    spell_instantiated i.unit ++ (spell_option (spell_map k.Generic) i.generics
+    ++ (spell_option (spell_map k.Port) i.ports ++ some k.Semicolon ∷ []))
 
 abbrev pub IsInstance : Instance → Type 0
 IsInstance i = IsOption AreAssociations i.generics × IsOption AreAssociations i.ports

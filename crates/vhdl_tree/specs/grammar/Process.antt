@@ -16,7 +16,8 @@ spell_sensitivity (listed names) = some k.LeftParen ∷ (spell_list k.Comma spel
 -- variable ids : subtype [ := value ] ;
 abbrev pub spell_variables : Variables → List Piece
 spell_variables d =
-    some k.Variable ∷ (spell_idents d.names ++ (some k.Colon ∷ (spell_subtype d.subtype ++ (spell_option spell_default d.default ++ some k.Semicolon ∷ []))))
+    some k.Variable ∷ (spell_idents d.names
+    ++ (some k.Colon ∷ (spell_subtype d.subtype ++ (spell_option spell_default d.default ++ some k.Semicolon ∷ []))))
 
 -- begin { seq } end process [ id ] ;
 abbrev pub spell_body : Process → List Piece
@@ -25,7 +26,8 @@ spell_body p = some k.Begin ∷ (spell_statements (statements_of p.statements) +
 -- process = process [ .. ] [ is ] { variable ids : subtype [ := value ] ; } begin { seq } end process [ id ] ;
 abbrev pub spell_process : Process → List Piece
 spell_process p =
-    one_at k.Process p.at ∷ (spell_sensitivity p.sensitivity ++ (spell_word k.Is p.is_word ++ (spell_each spell_variables p.variables ++ spell_body p)))
+    one_at k.Process p.at ∷ (spell_sensitivity p.sensitivity
+    ++ (spell_word k.Is p.is_word ++ (spell_each spell_variables p.variables ++ spell_body p)))
 
 abbrev pub IsSensitivity : Sensitivity → Type 0
 IsSensitivity absent = Unit {0}

@@ -19,11 +19,14 @@ abbrev mutual
   -- seq = null ;
   spell_statement (null_of at) = one_at k.Null at ∷ (some k.Semicolon ∷ [])
   -- seq = name <= value ;
-  spell_statement (assigned target value) = spell_name target ++ (some k.LessEqual ∷ (spell_value value ++ some k.Semicolon ∷ []))
+  spell_statement (assigned target value) =
+      spell_name target ++ (some k.LessEqual ∷ (spell_value value ++ some k.Semicolon ∷ []))
   -- seq = name := value ;
-  spell_statement (variable_assigned target value) = spell_name target ++ (some k.Assign ∷ (spell_value value ++ some k.Semicolon ∷ []))
+  spell_statement (variable_assigned target value) =
+      spell_name target ++ (some k.Assign ∷ (spell_value value ++ some k.Semicolon ∷ []))
   -- if = if expr then { seq } { elsif expr then { seq } } [ else { seq } ] end if [ id ] ;
-  spell_statement (if_of at branches otherwise label) = one_at k.If at ∷ (spell_conditionals branches ++ (spell_else otherwise ++ spell_end k.If label))
+  spell_statement (if_of at branches otherwise label) =
+      one_at k.If at ∷ (spell_conditionals branches ++ (spell_else otherwise ++ spell_end k.If label))
   -- case = case expr is alt { alt } end case [ id ] ;
   spell_statement (case_of at selector alternatives label) =
       one_at k.Case at ∷ (spell selector ++ (some k.Is ∷ (spell_alternatives alternatives ++ spell_end k.Case label)))
@@ -40,12 +43,14 @@ abbrev mutual
   -- expr then { seq } { elsif expr then { seq } }
   pub spell_conditionals : Conditionals → List Piece
   spell_conditionals no_conditionals = []
-  spell_conditionals (guarded condition statements more) = (spell condition ++ (some k.Then ∷ spell_statements statements)) ++ spell_elsifs more
+  spell_conditionals (guarded condition statements more) =
+      (spell condition ++ (some k.Then ∷ spell_statements statements)) ++ spell_elsifs more
 
   -- { elsif expr then { seq } }
   pub spell_elsifs : Conditionals → List Piece
   spell_elsifs no_conditionals = []
-  spell_elsifs (guarded condition statements more) = (some k.Elsif ∷ (spell condition ++ (some k.Then ∷ spell_statements statements))) ++ spell_elsifs more
+  spell_elsifs (guarded condition statements more) =
+      (some k.Elsif ∷ (spell condition ++ (some k.Then ∷ spell_statements statements))) ++ spell_elsifs more
 
   -- [ else { seq } ]
   pub spell_else : Otherwise → List Piece
@@ -94,4 +99,5 @@ abbrev mutual
 
   pub AreAlternatives : Alternatives → Type 0
   AreAlternatives no_alternatives = Unit {0}
-  AreAlternatives (alternative choices statements more) = AreChoices choices × AreStatements statements × AreAlternatives more
+  AreAlternatives (alternative choices statements more) =
+      AreChoices choices × AreStatements statements × AreAlternatives more

@@ -1,4 +1,5 @@
--- Files, context clauses, entities and architectures (IEEE 1076-2008, 3.2, 3.3, 13): how they are spelled, and which are well formed.
+-- Files, context clauses, entities and architectures (IEEE 1076-2008, 3.2, 3.3, 13): how they are spelled, and which
+-- are well formed.
 use Rattle.std.specs.Prelude.{Bool, Option, List, [], ◌∷◌, ◌++◌}
 use Rattle.vhdl_lexer.specs.declared.token.TokenKind.{TokenKind}
 use Rattle.vhdl_lexer.specs.declared.token.TokenKind.TheVariants as k
@@ -18,7 +19,8 @@ spell_context (uses all) = some k.Use ∷ (spell_list k.Comma spell_selected all
 
 -- end [ word ] [ id ] ;
 abbrev pub spell_end : TokenKind → Bool → Option Ident → List Piece
-spell_end word has_word name = some k.End ∷ (spell_word word has_word ++ (spell_option spell_ident name ++ some k.Semicolon ∷ []))
+spell_end word has_word name =
+    some k.End ∷ (spell_word word has_word ++ (spell_option spell_ident name ++ some k.Semicolon ∷ []))
 
 -- entity = entity id is [ generics ] [ ports ] end [ entity ] [ id ] ;
 abbrev pub spell_entity : Entity → List Piece

@@ -23,7 +23,10 @@ abbrev pub decreases-chain : goal.decreases-chain
 decreases-chain l = 50 * l.levels + (10 + (6 * height l.level + 5))
 
 abbrev pub decreases-links : goal.decreases-links
-decreases-links l = 50 * l.levels + (10 + (6 * height l.level + 4))
+decreases-links l = 50 * l.levels + (10 + (6 * height l.level + 2))
+
+abbrev pub decreases-all_links : goal.decreases-all_links
+decreases-all_links l = 50 * l.levels + (10 + (6 * height l.level + 4))
 
 abbrev pub decreases-first : goal.decreases-first
 decreases-first l = 50 * l.levels + (10 + (6 * height l.level + 3))

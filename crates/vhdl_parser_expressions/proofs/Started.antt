@@ -5,7 +5,7 @@ use Rattle.vhdl_parser_expressions.specs.declared.stop.Stop.TheVariants.{Unexpec
 use Rattle.vhdl_tree.specs.Lexeme.{Lexeme, same_kind}
 use Rattle.vhdl_parser_expressions.specs.reader.Input.{Outcome, and_then, expect, token}
 use Rattle.vhdl_parser_expressions.proofs.Steps.{pure_ok}
-use Rattle.vhdl_parser_statements.specs.reader.Behind.{start}
+use Rattle.vhdl_parser_expressions.specs.reader.Behind.{start}
 
 pub starts : (kind : TokenKind) (ts : List Lexeme) (at : ℕ) (rest : List Lexeme) → expect kind ts ≡ Ok (at, rest) → at ≡ start ts
 unfolding expect token
