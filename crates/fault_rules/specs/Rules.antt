@@ -45,7 +45,9 @@ pub record AreWords (w : Words Text) (told : Words (Bor (List ℕ))) : Type 0 wh
 
 -- the row of that number in a layer's table; no table has a row 0
 abbrev pub row : List (Words Text) → ℕ → Words Text
-row rows number = get_or rows (number - 1) (record { layer = none; number = 0; name = none; opening = none; middle = none; closing = none; help = none })
+row rows number =
+    get_or rows (number - 1)
+    (record { layer = none; number = 0; name = none; opening = none; middle = none; closing = none; help = none })
   where
     none : Text
     none = record { now = [] }

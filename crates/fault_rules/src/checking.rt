@@ -22,7 +22,8 @@ pub enum CheckRule {
 static CHECKING: [Words<&str>; 9] = [
     rule! { fault 1 TwoDrivers: PROCESSES " both drive " NET
         => "let one of them drive it, with all of its assignments, or give each a signal of its own and choose \
-            between these; in a generate each turn drives it: declare a vector, and assign its element, as hit(i)" },
+            between these; in a generate see which element each turn has to drive, as hit(i) of a vector, or \
+            c(i + 1)" },
     rule! { fault 2 Mixed: "process " PROCESS " has an edge or an event, and is none of the registers that are read"
         => "write a register as one if: its asynchronous reset first, the edge as the only other branch, and enables \
             inside that; a second edge takes a process of its own; the reset is tested as rst = '1' or rst = '0', and \

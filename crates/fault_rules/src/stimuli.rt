@@ -29,9 +29,8 @@ static STIMULI: [Words<&str>; 8] = [
     rule! { stim 3 BadValue: "the value doesn't fit the input"
         => "write for each element one of U X 0 1 Z W L H -, the leftmost first, with no quotation mark and no x; a \
             clock has one element" },
-    rule! { stim 4 SetTwice: "the input is set a second time at this time, or has a second clock"
-        => "see which line above sets it too, and keep one of the two, or give one another time; an input has one \
-            clock" },
+    rule! { stim 4 SetTwice: "the input is set twice, at one time or by two clocks"
+        => "keep one of the two words or lines that set it, or give a line another time; an input has one clock" },
     rule! { stim 5 ClockAndSet: "the input is a clock, and is set too"
         => "drop the clock, or what sets the input" },
     rule! { stim 6 NoStop: "no line says when the run stops"

@@ -11,7 +11,8 @@ use Rattle.vhdl_tree.specs.Lexeme.{lexemes}
 abbrev pub Said : Type 0
 Said = List ℕ × List ℕ
 
--- of a token: what is put before it, and how many are taken away from it on; and what is told where the text then goes on
+-- of a token: what is put before it, and how many are taken away from it on, or all where fewer are there; and what is
+-- told where the text then goes on
 pub record Change : Type 0 where
   pub put : List TokenKind
   pub taken : ℕ

@@ -1,5 +1,5 @@
--- Words that are nearly the same, in capitals or small letters: by one slip, or, where the word is long, by two. A slip is a letter too many,
--- one that lacks, another one, or two neighbours that are exchanged.
+-- Words that are nearly the same, in capitals or small letters: by one slip, or, where the word is long, by two. A slip
+-- is a letter too many, one that lacks, another one, or two neighbours that are exchanged.
 use Rattle.std.specs.Prelude.{ℕ, ◌==◌, ◌&&◌, ◌||◌, nat_le, Bool, false, if◌then◌else◌, List, [], ◌∷◌, drop, length}
 use Rattle.std.specs.Char.{to_ascii_lowercase}
 use Rattle.std.specs.Str.{str_eq_ignore_ascii_case}
@@ -28,7 +28,8 @@ is_exchanged _ _ = false
 -- one slip, with which it begins
 abbrev pub is_one_off : (text word : List ℕ) → Bool
 is_one_off text word =
-    is_alike 1 0 text word || is_alike 0 1 text word || is_alike 1 1 text word || is_exchanged text word && is_alike 2 2 text word
+    is_alike 1 0 text word || is_alike 0 1 text word || is_alike 1 1 text word
+    || is_exchanged text word && is_alike 2 2 text word
 
 -- one slip more, behind so many letters of each
 abbrev pub is_once_more : (skipped left_out : ℕ) → (text word : List ℕ) → Bool
@@ -39,7 +40,8 @@ is_once_more skipped left_out text word =
 -- two slips, with one of which it begins
 abbrev pub is_two_off : (text word : List ℕ) → Bool
 is_two_off text word =
-    is_once_more 1 0 text word || is_once_more 0 1 text word || is_once_more 1 1 text word || is_exchanged text word && is_once_more 2 2 text word
+    is_once_more 1 0 text word || is_once_more 0 1 text word
+    || is_once_more 1 1 text word || is_exchanged text word && is_once_more 2 2 text word
 
 abbrev pub is_off : (is_long : Bool) → (text word : List ℕ) → Bool
 is_off is_long text word = if is_long then is_two_off text word else is_one_off text word

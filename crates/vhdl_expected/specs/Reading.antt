@@ -1,5 +1,5 @@
--- The tokens in which a refused one is looked at: from the beginning of its design unit, or of an item of the context clause before it, up
--- to the next `;` behind it.
+-- The tokens in which a refused one is looked at: from the beginning of its design unit, or of an item of the context
+-- clause before it, up to the next `;` behind it.
 use Rattle.std.specs.Prelude.{ℕ, ◌+◌, ◌≤◌, ◌&&◌, not, length, nat_lt, Bool, true, false, if◌then◌else◌, List, [], ◌∷◌, take, drop}
 use Rattle.std.specs.List.{prefix_len}
 use Rattle.vhdl_lexer.specs.Cut.{AreWithin}

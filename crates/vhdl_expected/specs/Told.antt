@@ -1,4 +1,5 @@
 -- What is told of a refused token: of trials in a fixed order what is said of the first with which the text goes on.
+-- It goes on up to the next `;`, or, where a trial takes away all that follows, as far as what that puts there.
 use Rattle.std.specs.Prelude.{◌≡◌, ℕ, zero, suc, ◌+◌, ◌-◌, ◌==◌, ◌&&◌, ◌||◌, not, nat_le, Bool, true, false, if◌then◌else◌, List, [], ◌∷◌, ◌++◌, ◌⊎◌, length, map, flat_map, drop, slice_range, min, Option, Some, None}
 use Rattle.std.specs.Borrow.{Bor}
 use Rattle.std.specs.List.{list_any}
@@ -63,8 +64,8 @@ is_wrong _ = false
 
 -- ---- words that are meant by others
 
--- a word: how it is spelled; the tokens that stand for it, and in place of how many; and what is told where it is meant by the refused token,
--- or by one before
+-- a word: how it is spelled; the tokens that stand for it, and in place of how many; and what is told where it is meant
+-- by the refused token, or by one before
 pub record Word : Type 0 where
   pub spelled : List ℕ
   pub kinds : List TokenKind
@@ -73,7 +74,8 @@ pub record Word : Type 0 where
   pub before : Said
 
 abbrev pub word : (spelled : List ℕ) → (kinds : List TokenKind) → (taken : ℕ) → (here before : Said) → Word
-word spelled kinds taken here before = record { spelled = spelled; kinds = kinds; taken = taken; here = here; before = before }
+word spelled kinds taken here before =
+    record { spelled = spelled; kinds = kinds; taken = taken; here = here; before = before }
 
 -- a word of the code
 abbrev pub CodeWord : Type 0
@@ -134,7 +136,8 @@ respelt r = respelt_back r (min MOST_PLACES (r.refused + 1)) r.refused
 abbrev pub is_no_name : TokenKind → Bool
 is_no_name kind = list_any (same_kind kind) NO_NAMES
 
--- a name may stand between these, but for that of an attribute, what is ended, or what has an operand or index in parentheses
+-- a name may stand between these, but for that of an attribute, what is ended, or what has an operand or index
+-- in parentheses
 abbrev pub is_between : (last next : TokenKind) → Bool
 is_between last next = not (same_kind last k.Tick || same_kind last k.End || same_kind next k.LeftParen)
 
@@ -146,7 +149,8 @@ is_reserved _ = false
 -- a name in place of the refused token, where that is a reserved word
 abbrev pub named : Reading → List Trial
 named r =
-    if is_reserved (drop (r.refused - 1) r.tokens) then at r.refused (change (k.Identifier ∷ []) 1 (RESERVED.0.now, RESERVED.1.now)) ∷ [] else []
+    if is_reserved (drop (r.refused - 1) r.tokens)
+    then at r.refused (change (k.Identifier ∷ []) 1 (RESERVED.0.now, RESERVED.1.now)) ∷ [] else []
 
 -- ---- changes where certain tokens stand
 

@@ -2,12 +2,12 @@
 
 use crate::help::{
     ALL, CLOSE_LIST, END, END_CASE, END_COMPONENT, END_GENERATE, END_IF, END_LOOP, END_PROCESS,
-    END_UNIT, LABEL,
+    END_UNIT, LABEL, OUTSIDE,
 };
 use crate::row::{Row, before, before_name, row};
 use crate::texts::{
-    CLOSED_BEFORE, ELSE_BEGUN, LIST_END, LOOP_OR_END, MODE_IN, MODE_OUT, NO_CASE, NO_END, NO_IF,
-    NO_PORT, NO_PROCESS, OPEN_PROCESS, PARTED, SELECTED, SPARE, SPARE_BEFORE, THEN_OR_END,
+    ELSE_BEGUN, MODE_IN, MODE_OUT, NO_CASE, NO_END, NO_IF, NO_PORT, NO_PROCESS, OPEN_PROCESS,
+    PARTED, SPARE, SPARE_BEFORE,
 };
 use vhdl_lexer::TokenKind;
 
@@ -21,34 +21,41 @@ pub static CLOSED: [Row; 25] = [
     row!(PARTED, 1, [Semicolon String] 1, [Comma]),
     row!(PARTED, 1, [Semicolon BitString] 1, [Comma]),
     row!(SPARE, 1, [RightParen Semicolon Begin] 2, [RightParen]),
-    row!(CLOSED_BEFORE, 2, [RightParen Semicolon Identifier] 1, []),
+    row!(("can't stand here: the `)` before the `;` before it closes the list too early",
+        "leave that `)` out, and close the list behind its last declaration"),
+        2, [RightParen Semicolon Identifier] 1, []),
     before!("`end`", END, [] End),
     row!(NO_END, 1, [If Semicolon] 0, [End]),
     row!(NO_END, 1, [Case Semicolon] 0, [End]),
     before!("`.all`", ALL, [] Dot All),
     before!("`end;`", END_UNIT, [] End Semicolon),
     before!("`);`", CLOSE_LIST, [] RightParen Semicolon),
-    row!(LIST_END, 1, [Semicolon] 0, [RightParen]),
+    row!(("can't stand here: `)` is expected before the `;` before it", CLOSE_LIST),
+        1, [Semicolon] 0, [RightParen]),
     row!(ELSE_BEGUN, 0, [Elsif] 0, [End If Semicolon]),
     row!(ELSE_BEGUN, 0, [Else] 0, [End If Semicolon]),
     before!("`end if;`", END_IF, [] End If Semicolon),
     before!("`end loop;`", END_LOOP, [] End Loop Semicolon),
     before!("`end case;`", END_CASE, [] End Case Semicolon),
-    row!(SELECTED, 0, [With] 0, [End Process Semicolon]),
+    row!(("can't stand in a process: a selected assignment stands outside of one",
+        "end the process before it, or write case s is in place of it"),
+        0, [With] 0, [End Process Semicolon]),
     before!("`end process;`", END_PROCESS, [] End Process Semicolon),
     before!("`end generate;`", END_GENERATE, [] End Generate Semicolon),
     before!("`end component;`", END_COMPONENT, [] End Component Semicolon),
 ];
 
 /// What stands in another place than its own.
-pub static PLACES: [Row; 31] = [
+pub static PLACES: [Row; 33] = [
     row!(OPEN_PROCESS, 0, [Process] 0, [Null Semicolon End Process Semicolon]),
     row!(OPEN_PROCESS, 0, [Entity] 0, [Null Semicolon End Process Semicolon Identifier Colon]),
     row!(OPEN_PROCESS, 0, [Component] 0, [Null Semicolon End Process Semicolon Identifier Colon]),
     row!(OPEN_PROCESS, 0, [Port] 0, [LessEqual Integer Semicolon End Process Semicolon Identifier Colon Identifier]),
     row!(OPEN_PROCESS, 0, [Generic] 0, [LessEqual Integer Semicolon End Process Semicolon Identifier Colon Identifier]),
-    row!(THEN_OR_END, 0, [Generate] 1, [Then]),
-    row!(LOOP_OR_END, 0, [Generate] 1, [Loop]),
+    row!(("can't stand in a process: `then` is expected in its place, or `end process;` above it", OUTSIDE),
+        0, [Generate] 1, [Then]),
+    row!(("can't stand in a process: `loop` is expected in its place, or `end process;` above it", OUTSIDE),
+        0, [Generate] 1, [Loop]),
     before!("a label with `:`", LABEL, [For] Identifier Colon),
     before!("a label with `:`", LABEL, [If] Identifier Colon),
     before!("a label with `:`", LABEL, [Entity] Identifier Colon),
@@ -65,6 +72,8 @@ pub static PLACES: [Row; 31] = [
     row!(NO_CASE, 1, [Then When] 1, [Then Case Identifier Is]),
     row!(MODE_IN, 1, [Identifier In] 2, [In Identifier]),
     row!(MODE_OUT, 1, [Identifier Out] 2, [Out Identifier]),
+    row!(MODE_IN, 1, [RightParen In] 2, [RightParen]),
+    row!(MODE_OUT, 1, [RightParen Out] 2, [RightParen]),
     row!(NO_PORT, 1, [Colon In] 2, [Colon]),
     row!(NO_PORT, 1, [Colon Out] 2, [Colon]),
     row!(MODE_IN, 0, [In Colon] 2, [Colon In]),

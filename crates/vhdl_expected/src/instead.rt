@@ -1,6 +1,6 @@
 //! What stands in place of another word or delimiter, with what is told of each.
 
-use crate::help::{ARROW, ASSIGN, COMPARE, CONDITIONAL, END_STATEMENT, IS, SELECT};
+use crate::help::{ARROW, ASSIGN, CLOSE, COMMA, COMPARE, CONDITIONAL, END_STATEMENT, IS, SELECT};
 use crate::reading::MOST_TOKENS;
 use crate::row::{Row, before, here, in_place, in_place_here, row};
 use crate::texts::{SPARE, SPARE_BEFORE, STEP, Said};
@@ -33,36 +33,13 @@ const ELSE_NAME: Said = (
     CONDITIONAL,
 );
 
-const COMMA_NAME: Said = (
-    "can't stand here: `,` is expected in place of the `;` before the name before it",
-    SELECT,
-);
+const LAST_COMMA: &str = "can't stand here: `;` is expected in place of the last comma";
 
 const LISTED: &str = "part ports and generics by `;`, and the names of one declaration by commas";
-
-const DECLARATION: Said = (
-    "can't stand here: `;` and another declaration are expected in its place",
-    "write signal a, b : std_logic; or signal a : std_logic; signal b : std_logic;",
-);
-
-const TARGETS: Said = (
-    "can't stand here: the target of an assignment is one name",
-    "assign each by a statement of its own: y <= a; z <= a;",
-);
-
-const WITH_FIRST: Said = (
-    "can't stand here: a selected assignment begins with it, and its target stands behind select",
-    SELECT,
-);
 
 const UNCHANGED: Said = (
     "isn't a value that is read here",
     "write a value in each case; what keeps its value is a register: if rising_edge(clk) then .. end if;",
-);
-
-const NO_CALL: Said = (
-    "can't stand here: a name alone is no statement, and procedures aren't served here",
-    "write y <= a; for a signal, and v := a; for a variable",
 );
 
 /// What stands in place of `<=`, `:=`, `>=`, `=` or `=>`, or of a word.
@@ -91,10 +68,12 @@ pub static INSTEAD: [Row; 19] = [
 ];
 
 /// What parts values, statements and declarations otherwise than it has to, or lacks between them.
-pub static PARTS: [Row; 25] = [
+pub static PARTS: [Row; 31] = [
+    row!((LAST_COMMA, END_STATEMENT), 8, [Comma Identifier LessEqual] 1, [Semicolon]),
+    row!((LAST_COMMA, END_STATEMENT), 4, [Comma Identifier LessEqual] 1, [Semicolon]),
     in_place_here!("`,`", SELECT, [Else] Comma Integer When Others Semicolon),
-    in_place_here!("`else`", CONDITIONAL, [Comma] Else Integer Semicolon),
     in_place_here!("`else`", CONDITIONAL, [Then] Else Integer Semicolon),
+    in_place_here!("`else`", CONDITIONAL, [Colon] Else Integer Semicolon),
     in_place_here!("`else`", CONDITIONAL, [Elsif] Else Integer Semicolon),
     before!("`when others`", SELECT, [Semicolon] When Others),
     before!("`when`", SELECT, [Others] When),
@@ -107,14 +86,27 @@ pub static PARTS: [Row; 25] = [
     row!(ELSE_BEFORE, 1, [Semicolon BitString] 1, [Else]),
     row!(ELSE_NAME, 2, [Semicolon Identifier When] 1, [Else]),
     row!(ELSE_NAME, 2, [Semicolon Identifier Semicolon] 1, [Else]),
-    row!(COMMA_NAME, 2, [Semicolon Identifier When] 1, [Comma]),
+    row!(("can't stand here: `,` is expected in place of the `;` before the name before it", SELECT),
+        2, [Semicolon Identifier When] 1, [Comma]),
     in_place_here!("`;`", LISTED, [Comma Identifier] Semicolon Identifier Comma Identifier Colon Identifier),
-    here!(DECLARATION, 0, [Comma Identifier Colon] [Semicolon Signal Identifier Colon Identifier]),
+    here!(("can't stand here: `;` and another declaration are expected in its place",
+        "write signal a, b : std_logic; or signal a : std_logic; signal b : std_logic;"),
+        0, [Comma Identifier Colon] [Semicolon Signal Identifier Colon Identifier]),
     in_place!("`;`", END_STATEMENT, [Comma Signal] Semicolon),
-    in_place!("`;`", END_STATEMENT, [Comma Identifier LessEqual] Semicolon),
-    row!(TARGETS, 0, [Comma Identifier LessEqual] 1, [LessEqual Integer Semicolon]),
-    here!(WITH_FIRST, 2, [Identifier LessEqual With] [With Identifier Select Identifier LessEqual]),
+    in_place!("`;`", END_STATEMENT, [Dot] Semicolon),
+    in_place_here!("`,`", COMMA, [Semicolon Identifier] Comma Identifier RightParen Semicolon),
+    here!(("can't stand here: `)` is expected before the comma before it", CLOSE),
+        2, [Comma Identifier Arrow] [RightParen Comma Identifier Arrow Identifier RightParen Semicolon]),
+    in_place!("`;`", END_STATEMENT, [Comma Identifier] Semicolon),
+    in_place_here!("`else`", CONDITIONAL, [Comma] Else Integer Semicolon),
+    row!(("can't stand here: the target of an assignment is one name",
+        "assign each by a statement of its own: y <= a; z <= a;"),
+        0, [Comma Identifier LessEqual] 1, [LessEqual Integer Semicolon]),
+    here!(("can't stand here: a selected assignment begins with it, and its target stands behind select", SELECT),
+        2, [Identifier LessEqual With] [With Identifier Select Identifier LessEqual]),
     row!(UNCHANGED, 0, [Unaffected] 1, [Integer]),
     row!(UNCHANGED, 1, [Else Null] 2, [Else Integer]),
-    row!(NO_CALL, 0, [Semicolon] 0, [Assign Integer Semicolon Null]),
+    row!(("can't stand here: a name alone is no statement, and procedures aren't served here",
+        "write y <= a; for a signal, and v := a; for a variable; an alternative of a case ends by itself"),
+        0, [Semicolon] 0, [Assign Integer Semicolon Null]),
 ];

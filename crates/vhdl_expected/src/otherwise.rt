@@ -5,25 +5,31 @@ ghost use Rattle.vhdl_expected.specs.Told as spec;
 
 use crate::help::{
     ARROW, ASSIGN, COLON, COMMA, COMPARE, CONDITIONAL, END_STATEMENT, GENERATE, IN, IS, LOOP, OF,
-    THEN, TO,
+    OUTSIDE_IF, THEN, TO,
 };
 use crate::reading::MOST_TOKENS;
 use crate::row::{Row, before, here, in_place, row};
-use crate::texts::{
-    ARGUMENT, GENERATE_OR_PROCESS, LEFT_OUT, NOT_OPEN, OPERAND, OPERATOR, OUTSIDE_UNITS, SPARE,
-    TWO_NAMES, UNFINISHED, UNIT, UNREAD,
-};
+use crate::texts::{COMMENT, MERGE, OPERATOR, SPARE, UNREAD};
 use vhdl_lexer::TokenKind;
 
 /// What else the token may be: the first counts with which the text goes on.
-pub static OTHERWISE: [Row; 45] = [
-    row!(UNIT, 1, [Integer Identifier] 1, [Integer Ampersand]),
-    row!(ARGUMENT, 2, [Tick Identifier LeftParen] 2, []),
+pub static OTHERWISE: [Row; 55] = [
+    row!(("can't stand here: no unit is read behind a number, and no name without an operator",
+        "leave out what is a time or a delay; else write what joins the two, as + or &"),
+        1, [Integer Identifier] 1, [Integer Ampersand]),
+    row!(("isn't read here: of the attributes only 'event is served",
+        "write what it stands for, or a generic in its place"),
+        2, [Tick Identifier LeftParen] 2, []),
     row!(OPERATOR, 0, [] 0, [Ampersand]),
     row!(OPERATOR, 0, [] 0, [And]),
     row!(OPERATOR, 0, [] 0, [Or]),
     row!(OPERATOR, 0, [] 0, [Xor]),
-    row!(TWO_NAMES, 0, [Identifier] 0, [Assign]),
+    row!(("can't stand here: an operator is expected in its place",
+        "write and, or, xor, nand, nor, xnor, mod or rem between two operands"),
+        0, [Identifier Identifier] 1, [And]),
+    row!(("can't stand here: a type is one name, and := stands before a value",
+        "write the type's name alone, as std_logic, and := before the value"),
+        0, [Identifier] 0, [Assign]),
     in_place!("`to` or `downto`", TO, [Colon] To),
     in_place!("`=>`", ARROW, [] Arrow),
     in_place!("`,`", COMMA, [] Comma),
@@ -32,7 +38,8 @@ pub static OTHERWISE: [Row; 45] = [
     in_place!("`is`", IS, [Colon] Is),
     in_place!("`is`", IS, [Semicolon] Is),
     in_place!("`loop`", LOOP, [] Loop),
-    row!(GENERATE_OR_PROCESS, 0, [Then] 1, [Generate]),
+    row!(("can't stand outside of a process: `generate` is expected in its place, or a process around it", OUTSIDE_IF),
+        0, [Then] 1, [Generate]),
     in_place!("`generate`", GENERATE, [] Generate),
     in_place!("`in`", IN, [Equal] In),
     in_place!("`in`", IN, [Assign] In),
@@ -55,13 +62,32 @@ pub static OTHERWISE: [Row; 45] = [
     row!(SPARE, 1, [Begin Semicolon] 2, [Begin]),
     row!(SPARE, 1, [Loop Semicolon] 2, [Loop]),
     row!(SPARE, 1, [Generate Semicolon] 2, [Generate]),
-    row!(UNFINISHED, 0, [Semicolon] 1, []),
+    row!(("can't stand here: what stands before it isn't finished",
+        "write what lacks before it, as an operand, a value, a condition or null; or leave the `;` out"),
+        0, [Semicolon] 1, []),
     row!(SPARE, 0, [Semicolon] 1, []),
     row!(SPARE, 0, [Comma] 1, []),
-    row!(OPERAND, 0, [] 0, [Identifier]),
-    row!(NOT_OPEN, 0, [RightParen] 1, []),
-    row!(LEFT_OUT, 0, [] 1, []),
-    here!(OUTSIDE_UNITS, 0, [] [Entity Identifier Is]),
+    row!(("can't stand here: a name or a value is expected before it", "write what lacks there"),
+        0, [] 0, [Identifier]),
+    row!(("can't stand here: no parenthesis is open before it", "open it where it has to begin, or leave this one out"),
+        0, [RightParen] 1, []),
+    row!(("can't stand here, and what follows goes on without it",
+        "leave it out if it is one too many; else write what lacks before it, or put parentheses around what it begins"),
+        0, [] 1, []),
+    // Before an aggregate: so an operand isn't taken for the beginning of a statement.
+    here!(COMMENT, 1, [Identifier Identifier Identifier] [Identifier LessEqual LeftParen Others Arrow Integer RightParen Semicolon]),
+    here!(COMMENT, 0, [Identifier Identifier Identifier] [Signal]),
+    here!(COMMENT, 0, [Identifier Identifier Identifier] [Entity Identifier Is]),
+    here!(MERGE, 0, [Less Less Less] [Identifier LessEqual LeftParen Others Arrow Integer RightParen Semicolon]),
+    here!(MERGE, 0, [Less Less Less] [Signal]),
+    here!(MERGE, 0, [Less Less Less] [Entity Identifier Is]),
+    here!(MERGE, 0, [Equal Equal Equal] [Identifier LessEqual LeftParen Others Arrow Integer RightParen Semicolon]),
+    here!(MERGE, 0, [Greater Greater Greater] [Identifier LessEqual LeftParen Others Arrow Integer RightParen Semicolon]),
+    here!(("can't stand here: no entity or architecture is open above it",
+        "leave it out, or an end above it that is one too many"), 0, [End] [Entity Identifier Is]),
+    here!(("can't stand here: outside of entities and architectures library and use clauses alone are read",
+        "move it into an architecture, leave out an end above it that is one too many, or write -- before a comment"),
+        0, [] [Entity Identifier Is]),
 ];
 
 /// What else the token may be.

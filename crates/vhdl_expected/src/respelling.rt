@@ -111,7 +111,8 @@ fn respelt_in(
     requires place { place ≤ length reading.tokens.now }
     requires token { IsPart reading.source.now token }
     ensures { IfOk result (λ said. spec.Finds (reading_of reading.entry)
-        (spec.respelt_in (reading_of reading.entry) place token (spec.words_of words.entry)) (option_map said_of said)) }
+        (spec.respelt_in (reading_of reading.entry) place token (spec.words_of words.entry))
+        (option_map said_of said)) }
 {
     let mut left = words;
     while let [word, rest @ ..] = left {

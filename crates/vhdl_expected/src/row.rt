@@ -24,7 +24,7 @@ macro_rules! kinds {
 }
 
 macro_rules! row {
-    ($said:ident, $back:literal, [$($stands:ident)*] $taken:literal, [$($put:ident)*]) => {
+    ($said:expr, $back:literal, [$($stands:ident)*] $taken:literal, [$($put:ident)*]) => {
         (
             $back,
             &[$(TokenKind::$stands),*],
@@ -73,7 +73,7 @@ macro_rules! in_place {
 
 /// What is put may stand there, whatever follows it: all from the changed token on is taken away.
 macro_rules! here {
-    ($said:ident, $back:literal, [$($stands:ident)*] [$($put:ident)+]) => {
+    ($said:expr, $back:literal, [$($stands:ident)*] [$($put:ident)+]) => {
         (
             $back,
             &[$(TokenKind::$stands),*],

@@ -5,7 +5,7 @@ ghost use Rattle.vhdl_expected.specs.Told as spec;
 
 use crate::closed::{CLOSED, PLACES};
 use crate::help::{
-    ALL, ALTERNATIVE, ARROW, BEGIN, CASE, CLOSE, COLON, COMMA, COMPONENT, CONDITIONAL, DOT,
+    ALL, ALTERNATIVE, ARROW, ASSIGN, BEGIN, CASE, CLOSE, COLON, COMMA, COMPONENT, CONDITIONAL, DOT,
     END_CASE, END_COMPONENT, END_GENERATE, END_IF, END_IT, END_LOOP, END_PROCESS, ENTITY, GENERATE,
     IF, IN, IS, IS_PORT, LIBRARY, LOOP, MAP, OBJECT, OF, OPEN, PORT, PROCESS, SELECT, SIGNAL,
     SPARE_END, THEN, TO, TYPE, VARIABLE,
@@ -13,27 +13,34 @@ use crate::help::{
 use crate::instead::{INSTEAD, PARTS};
 use crate::names::{NAMES, TYPES};
 use crate::reading::MOST_TOKENS;
-use crate::row::{Row, bare, before, before_name, here, row, spare_end, unended};
+use crate::row::{Row, bare, before, before_name, here, in_place_here, row, spare_end, unended};
 use crate::texts::{
-    ACTUAL, ALONE, AROUND, ASSIGNED, ASSOCIATIONS, AT_MOST, BITS, BLANK, BOUND, CONDITION, EITHER,
-    ELSIF, END_ARCHITECTURE, END_ENTITY, FORMAL, INDEX, LAST_COMMA, LITERAL, NEGATED, OF_GENERATE,
-    OF_LOOP, OTHERS, POINTS, PORT_MAP, RELATION, SENSITIVITY, SHIFT, SIGN, SPARE, SPARE_BEFORE,
-    STEP, TARGET, TWICE, TWO_MODES, UNEQUAL, UNTYPED, VALUE, WORD, WORK,
+    ALONE, AROUND, ASSIGNED, BLANK, BOUND, EITHER, INDEX, LITERAL, OF_GENERATE, OTHERS, RELATION,
+    SHIFT, SIGN, SPARE, SPARE_BEFORE, STEP, TARGET, TWICE, TWO_MODES, UNEQUAL, UNTYPED, VALUE,
 };
 use vhdl_lexer::TokenKind;
 
 /// What is written otherwise, or one too many.
-pub static SLIPS: [Row; 26] = [
+pub static SLIPS: [Row; 30] = [
     row!(TWICE, 1, [Begin Begin] 1, []),
     row!(TWICE, 1, [Then Then] 1, []),
     row!(TWICE, 1, [Is Is] 1, []),
     row!(TWICE, 1, [Semicolon Semicolon] 1, []),
     row!(TWICE, 1, [Comma Comma] 1, []),
     row!(TWICE, 1, [Dot Dot] 1, []),
-    row!(POINTS, 0, [Dot Dot] 2, [To]),
+    row!(("can't stand here: `to` or `downto` is expected in place of the points", TO),
+        0, [Dot Dot] 2, [To]),
     row!(UNEQUAL, 1, [Less Greater] 2, [NotEqual]),
     row!(UNEQUAL, 1, [Equal Slash] 2, [NotEqual]),
-    row!(AT_MOST, 1, [Equal Less] 2, [LessEqual]),
+    row!(("can't stand here: `<=` is expected in place of it and the delimiter before it",
+        "write a <= b where a is less than b or equal to it"),
+        1, [Equal Less] 2, [LessEqual]),
+    row!(("can't stand here: `=>` is expected in place of it and the delimiter before it", ARROW),
+        1, [Minus Greater] 2, [Arrow]),
+    in_place_here!("`=>`", ARROW, [Minus Greater] Arrow Null Semicolon),
+    in_place_here!("`=>`", ARROW, [Minus Greater] Arrow Integer RightParen Semicolon),
+    row!(("can't stand here: `<=` is expected in place of it and the delimiter behind it", ASSIGN),
+        0, [Less Minus] 2, [LessEqual]),
     row!(BLANK, 0, [Less Equal] 2, [LessEqual]),
     row!(BLANK, 1, [Less Equal] 2, [LessEqual]),
     row!(BLANK, 0, [Greater Equal] 2, [GreaterEqual]),
@@ -45,7 +52,8 @@ pub static SLIPS: [Row; 26] = [
     row!(BLANK, 1, [Slash Equal] 2, [NotEqual]),
     row!(LITERAL, 0, [Tick Integer] 2, [Character]),
     row!(LITERAL, 1, [Integer Tick] 2, [Character]),
-    row!(LAST_COMMA, 1, [Comma RightParen] 1, []),
+    row!(("can't stand here: the comma before it is one too many", "leave that out"),
+        1, [Comma RightParen] 1, []),
     row!(SPARE, 0, [Comma Port] 1, []),
     row!(SPARE_BEFORE, 1, [Semicolon Port] 1, []),
     row!(TWO_MODES, 1, [In Out] 1, []),
@@ -66,9 +74,12 @@ pub static ENDED: [Row; 23] = [
     unended!("`end process;`", END_PROCESS, Process),
     unended!("`end generate;`", END_GENERATE, Generate),
     unended!("`end component;`", END_COMPONENT, Component),
-    row!(END_ENTITY, 1, [End Architecture] 2, [End Entity]),
-    row!(END_ARCHITECTURE, 1, [End Entity] 2, [End Architecture]),
-    row!(OF_LOOP, 1, [End For] 2, [End Loop]),
+    row!(("can't follow this end: it ends an entity", "write end entity;"),
+        1, [End Architecture] 2, [End Entity]),
+    row!(("can't follow this end: it ends an architecture", "write end architecture;"),
+        1, [End Entity] 2, [End Architecture]),
+    row!(("can't follow this end: it ends a loop", "write end loop;"),
+        1, [End For] 2, [End Loop]),
     row!(OF_GENERATE, 1, [End For] 2, [End Generate]),
     row!(OF_GENERATE, 1, [End If] 2, [End Generate]),
     row!(OF_GENERATE, 1, [End Loop] 2, [End Generate]),
@@ -84,7 +95,8 @@ pub static OPERANDS: [Row; 25] = [
     row!(TWICE, 1, [And And] 1, []),
     row!(TWICE, 1, [Or Or] 1, []),
     row!(TWICE, 1, [Xor Xor] 1, []),
-    row!(NEGATED, 1, [Not Not] 1, []),
+    row!(("can't stand here: `not` stands before a name, a literal or a parenthesis", "write not (not a), or a"),
+        1, [Not Not] 1, []),
     row!(SHIFT, 1, [Greater Greater] 1, []),
     row!(SHIFT, 1, [Less Less] 1, []),
     row!(SIGN, 0, [Minus] 0, [Identifier]),
@@ -95,7 +107,9 @@ pub static OPERANDS: [Row; 25] = [
     row!(RELATION, 0, [NotEqual] 1, [And]),
     row!(RELATION, 0, [Less] 1, [And]),
     row!(RELATION, 0, [Greater] 1, [And]),
-    row!(BITS, 1, [Integer Tick Identifier] 3, [BitString]),
+    row!(("can't stand here: a literal of bits has no length before it",
+        "write \"0101\", b\"0101\" or x\"5\" for a vector, and '1' for one element"),
+        1, [Integer Tick Identifier] 3, [BitString]),
     row!(OTHERS, 1, [LessEqual Others Arrow] 3, [LessEqual]),
     row!(OTHERS, 1, [Assign Others Arrow] 3, [Assign]),
     row!(ALONE, 5, [LeftParen Others Arrow Character RightParen Ampersand] 5, [Identifier]),
@@ -105,11 +119,12 @@ pub static OPERANDS: [Row; 25] = [
     row!(ALONE, 5, [LeftParen Others Arrow Character RightParen Xor] 5, [Identifier]),
     row!(STEP, 0, [Plus Equal] 2, [LessEqual]),
     row!(STEP, 0, [Minus Equal] 2, [LessEqual]),
-    row!(WORD, 1, [Identifier Identifier Equal] 3, [Identifier LessEqual]),
+    row!(("can't stand here: an assignment begins with its target, and no word before that", "write y <= a;"),
+        1, [Identifier Identifier Equal] 3, [Identifier LessEqual Integer Semicolon Identifier LessEqual]),
 ];
 
 /// What lacks between two parts.
-pub static JOINTS: [Row; 20] = [
+pub static JOINTS: [Row; 21] = [
     before!("`then`", THEN, [] Then),
     before!("`is`", IS, [] Is),
     before!("`loop`", LOOP, [] Loop),
@@ -122,6 +137,9 @@ pub static JOINTS: [Row; 20] = [
     // Behind another alternative: so what is no choice isn't taken for one.
     before!("`when`", ALTERNATIVE, [] When Others Arrow Null Semicolon When),
     before_name!("`when`", ALTERNATIVE, [Identifier] When Others Arrow Null Semicolon When),
+    here!(("can't stand here: `<=` is expected before it, or in an instance `:` and the word entity",
+        "write y <= resize(a, 8); or u : entity work.k port map (a, b);"),
+        1, [Identifier Identifier LeftParen] [Identifier Colon Identifier Port]),
     // Behind an aggregate, and behind another statement: so neither an operand nor a declaration is
     // taken for an assignment. The token stands in a relation: so none follows it, as that of
     // another assignment.
@@ -138,18 +156,21 @@ pub static JOINTS: [Row; 20] = [
 ];
 
 /// What lacks in a declaration, or in a list.
-pub static DECLARED: [Row; 24] = [
+pub static DECLARED: [Row; 26] = [
     before!("`signal` or `constant`", OBJECT, [Identifier] Constant),
     before!("`signal`", SIGNAL, [Identifier] Signal),
     before!("`variable`", VARIABLE, [Identifier] Variable),
     before!("`type`", TYPE, [Identifier] Type),
     before!("`begin`", BEGIN, [] Begin),
     row!(TARGET, 0, [Identifier LessEqual] 0, [Colon]),
-    row!(TARGET, 0, [Identifier Assign] 0, [Colon]),
+    row!(TARGET, 0, [Identifier Assign] 0, [Colon Null Semicolon]),
     row!(UNTYPED, 0, [Assign] 1, [Colon Identifier Assign]),
     row!(UNTYPED, 0, [LessEqual] 1, [Colon Identifier Assign]),
-    row!(UNTYPED, 0, [Equal Integer] 1, [Colon Identifier Assign]),
-    row!(UNTYPED, 0, [Equal Character] 1, [Colon Identifier Assign]),
+    // Behind another declaration: so an assignment isn't taken for one.
+    row!(UNTYPED, 0, [Equal Integer] 1, [Colon Identifier Assign Integer Semicolon Constant Identifier Colon Identifier Assign]),
+    row!(UNTYPED, 0, [Equal Character] 1, [Colon Identifier Assign Integer Semicolon Constant Identifier Colon Identifier Assign]),
+    row!(UNTYPED, 0, [Equal Integer] 1, [Colon Identifier Assign Integer Semicolon Variable Identifier Colon Identifier Assign]),
+    row!(UNTYPED, 0, [Equal Character] 1, [Colon Identifier Assign Integer Semicolon Variable Identifier Colon Identifier Assign]),
     before!("`:`", COLON, [] Colon),
     // Behind a slice: so an index in an expression, or in the name that is assigned, isn't taken
     // for a list of names.
@@ -168,30 +189,42 @@ pub static DECLARED: [Row; 24] = [
 ];
 
 /// What lacks at the beginning of a statement, a list or a unit.
-pub static HEADS: [Row; 23] = [
+pub static HEADS: [Row; 25] = [
     before!("`if`", IF, [] If),
-    row!(ELSIF, 2, [Else Identifier] 1, [Elsif]),
-    row!(CONDITION, 0, [] 0, [LessEqual Integer Semicolon If Identifier]),
+    row!(("can't stand here: `elsif` is expected in place of the else before it", "write elsif b = '1' then"),
+        2, [Else Identifier] 1, [Elsif]),
+    row!(("can't stand here: `then` is expected in its place, or `else` in place of the elsif before it", THEN),
+        4, [Elsif Identifier LessEqual] 1, [Else]),
+    row!(("can't stand here: `else` is expected in place of the elsif before it", THEN), 2, [Elsif Identifier Assign] 1, [Else]),
+    row!(("can't stand here: `if` or `elsif` is expected before the name before it", IF),
+        0, [] 0, [LessEqual Integer Semicolon If Identifier]),
     before!("`case`", CASE, [LeftParen] Case),
     before_name!("`case`", CASE, [Identifier] Case),
     before!("`component`", COMPONENT, [Identifier] Component),
     before!("`port` or `generic`", PORT, [] Port),
     before!("`is port`", IS_PORT, [LeftParen] Is Port),
     before!("`port map`", MAP, [LeftParen] Port Map),
-    row!(PORT_MAP, 0, [Map Port] 2, [Port Map]),
-    here!(ASSOCIATIONS, 1, [Map Identifier] [Map LeftParen Open RightParen Semicolon]),
+    row!(("can't stand here: `port map` is expected in place of it and the word behind it", MAP),
+        0, [Map Port] 2, [Port Map]),
+    here!(("can't stand here: `(` is expected before it", "write port map (a => b, c => d)"),
+        1, [Map Identifier] [Map LeftParen Open RightParen Semicolon]),
     before!("`entity`", ENTITY, [] Entity),
     before!("`architecture`", OF, [] Architecture),
     before!("`.`", DOT, [] Dot),
     before!("`use`", LIBRARY, [Identifier] Use),
     before!("`library`", LIBRARY, [Identifier] Library),
-    row!(WORK, 0, [] 0, [Dot Identifier]),
-    row!(SENSITIVITY, 0, [RightParen] 0, [All]),
+    row!(("can't stand here: `work.` is expected before the name before it", "write u : entity work.e port map (..)"),
+        0, [] 0, [Dot Identifier]),
+    row!(("can't stand here: `all`, or a name, is expected before it",
+        "write process (all), or the names that it reads"),
+        0, [RightParen] 0, [All]),
     row!(AROUND, 0, [Identifier Begin] 1, [LeftParen Identifier RightParen]),
     row!(AROUND, 0, [Identifier Is] 1, [LeftParen Identifier RightParen]),
     before!("`all`", ALL, [] All),
-    row!(ACTUAL, 0, [] 0, [Open]),
-    row!(FORMAL, 0, [Dot Identifier LeftParen] 1, [Identifier Arrow]),
+    row!(("can't stand here: a signal, or `open`, is expected before it", "name what is connected, or write open"),
+        0, [] 0, [Open]),
+    row!(("can't stand here: a formal has no point, and stands before =>", "write port map (a => b)"),
+        0, [Dot Identifier LeftParen] 1, [Identifier Arrow]),
 ];
 
 /// The tables of what lacks, or of what else is wrong, at the token or shortly before it; the first

@@ -32,10 +32,11 @@ pub enum Expected {
 /// it.
 ///
 /// Changes at that token, and shortly before it, are tried in a fixed order, until the text goes on
-/// with one up to the next `;`. Each trial reads the text once, from the beginning of the design
-/// unit on; of a text of more than [`MOST_TOKENS`] nothing is told. There are fewer than 100 trials
-/// of rows, and one for each word that one of 16 identifiers is nearly the same as: never 200. They
-/// take some 40 ms at most.
+/// with one up to the next `;`, or, where a change takes away all that follows, as far as what it
+/// puts there. Each trial reads the text once, from the beginning of the design unit on; of a text
+/// of more than [`MOST_TOKENS`] nothing is told. There are fewer than 100 trials of rows, and one
+/// for each word that one of 16 identifiers is nearly the same as: never 200. They take some 40 ms
+/// at most.
 ///
 /// # Errors
 ///

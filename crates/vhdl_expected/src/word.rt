@@ -122,7 +122,8 @@ pub static LATE: [Word; 21] = [
     word!("library", "library", Library),
     word!("loop", "loop", Loop),
     word!("map", "map", Map),
-    word!("not", "not", Not),
+    // In a relation: so a name before an assignment, as nxt, isn't taken for it.
+    word!("not", "not", Integer Equal Not),
     word!("null", "null", Null),
     word!("of", "of", Of),
     word!("open", "open", Open),
@@ -143,7 +144,7 @@ pub static LATE: [Word; 21] = [
 ];
 
 /// Ends and maps in one word, words that are written in two, and names that aren't read.
-pub static JOINED: [Word; 17] = [
+pub static JOINED: [Word; 21] = [
     word!("endif", "end if", End If),
     word!("endcase", "end case", End Case),
     word!("endloop", "end loop", End Loop),
@@ -152,10 +153,14 @@ pub static JOINED: [Word; 17] = [
     word!("endcomponent", "end component", End Component),
     word!("endentity", "end entity", End Entity),
     word!("endarchitecture", "end architecture", End Architecture),
+    word!("downto0", "downto ..", Downto Integer),
+    word!("to0", "to ..", To Integer),
     word!("portmap", "port map", Port Map),
     word!("genericmap", "generic map", Generic Map),
     edge!("rising_edge"),
     edge!("falling_edge"),
+    edge!("posedge"),
+    edge!("negedge"),
     one_word!("rising", "rising_edge", Identifier),
     one_word!("falling", "falling_edge", Identifier),
     (
