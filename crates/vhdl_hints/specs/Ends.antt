@@ -33,7 +33,8 @@ is_inside_head t = not (same_kind t.kind k.Then || same_kind t.kind k.Loop || sa
 abbrev pub goes_on : TokenKind → (behind : List Token) → Bool
 goes_on word behind = begins word (drop (prefix_len is_inside_head behind) behind)
 
--- a statement of this word begins with such a token, these standing behind it: a loop with for, a generate with for or if
+-- a statement of this word begins with such a token, these standing behind it: a loop with for, a generate with for
+-- or if
 abbrev pub begins_statement : (word kind : TokenKind) → (behind : List Token) → Bool
 begins_statement k.If kind behind = same_kind kind k.If && goes_on k.Then behind
 begins_statement k.Loop kind behind = same_kind kind k.For && goes_on k.Loop behind
@@ -44,17 +45,20 @@ begins_statement word kind behind = same_kind kind word
 abbrev pub label_of : (label colon : Token) → Begun
 label_of label colon = if same_kind colon.kind k.Colon then Named label else Unnamed
 
--- what is known behind the third of these tokens of the statement of this word that was begun last; of an ended one nothing
+-- what is known behind the third of these tokens of the statement of this word that was begun last; of an ended
+-- one nothing
 abbrev pub statement_at : (word : TokenKind) → (found : Begun) → List Token → Begun
 statement_at word found (first ∷ second ∷ third ∷ ts) =
     if same_kind second.kind k.End && same_kind third.kind word then Unknown
-    else if begins_statement word third.kind (drop 3 (first ∷ second ∷ third ∷ ts)) then label_of first second else found
+    else if begins_statement word third.kind (drop 3 (first ∷ second ∷ third ∷ ts)) then label_of first second
+    else found
 statement_at word found _ = found
 
 -- of a unit, which begins with `entity NAME is` or `architecture NAME of`
 abbrev pub begins_unit : (first third : Token) → Bool
 begins_unit first third =
-    (same_kind first.kind k.Entity && same_kind third.kind k.Is) || (same_kind first.kind k.Architecture && same_kind third.kind k.Of)
+    (same_kind first.kind k.Entity && same_kind third.kind k.Is)
+    || (same_kind first.kind k.Architecture && same_kind third.kind k.Of)
 
 abbrev pub unit_at : (found : Begun) → List Token → Begun
 unit_at found (first ∷ second ∷ third ∷ ts) = if begins_unit first third then Named second else found
@@ -63,7 +67,8 @@ unit_at found _ = found
 -- of a component, whose name follows its word
 abbrev pub component_at : (found : Begun) → List Token → Begun
 component_at found (first ∷ second ∷ third ∷ ts) =
-    if not (same_kind second.kind k.Component) then found else if same_kind first.kind k.End then Unknown else Named third
+    if not (same_kind second.kind k.Component) then found
+    else if same_kind first.kind k.End then Unknown else Named third
 component_at found _ = found
 
 -- of what ends with such a word; a bare end ends a unit

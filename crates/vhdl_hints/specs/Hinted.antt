@@ -25,10 +25,12 @@ pub data Hint : Type 0 where
   Actual : (entity port : Token) → (bounds : List Token) → (found needed : ℕ) → Hint
   -- an actual has another type than its port
   OtherType : (entity port : Token) → Hint
-  -- a component differs from its entity, which has these ports
-  Differs : (ports : List Token) → Hint
+  -- a component differs from its entity, which has these generics and ports
+  Differs : (generics ports : List Token) → Hint
   -- a word that is nearly the same may be meant
   Meant : (word : List ℕ) → Hint
+  -- an entity of nearly the same name may be meant
+  NearEntity : (name : Token) → Hint
   -- two lengths differ, which are measured so
   Measured : Measure → (found needed : ℕ) → Hint
   -- what stands in a map can't stand there for a generic or port of an entity, which has these
@@ -44,8 +46,9 @@ hint_view (c.Outside name index bounds) = Outside name index.now bounds.now
 hint_view (c.Empty left right is_upward) = Empty left right is_upward
 hint_view (c.Actual entity port bounds found needed) = Actual entity port bounds.now found needed
 hint_view (c.OtherType entity port) = OtherType entity port
-hint_view (c.Differs ports) = Differs ports.now
+hint_view (c.Differs generics ports) = Differs generics.now ports.now
 hint_view (c.Meant word) = Meant word.now
+hint_view (c.NearEntity name) = NearEntity name
 hint_view (c.Measured said found needed) = Measured (measure_view said) found needed
 hint_view (c.NoPosition entity is_port formals) = NoPosition entity is_port formals.now
 

@@ -19,14 +19,13 @@ pub const INDEX: Said = (
 
 pub const BELOW: Said = (
     "is declared below, and not within sight of this place",
-    "move its declaration above this place, into the same architecture or process; what the range of a port names is \
-     a generic",
+    "move its declaration above this place",
 );
 
-pub const ABOVE: Said = (
-    "is declared above, but not within sight of this place",
+pub const ELSEWHERE: Said = (
+    "is declared in this file, but not within sight of this place",
     "declare it as a signal of this architecture: a variable is known in its process alone, and a signal or constant \
-     in its architecture alone",
+     in its architecture alone; what the range of a port names is a generic",
 );
 
 pub const FORMAL_TWICE: Said = (
@@ -62,6 +61,16 @@ pub const LIBRARY: Said = (
 pub const FORMAL_ARROW: Said = (
     "is a generic or port of the entity here, and => follows it in a map",
     "write => between it and what it is connected to, as clk => clk or width => 8",
+);
+
+pub const LISTED: Said = (
+    "is no signal or port, and a sensitivity list names these alone",
+    "leave it out: what is no signal doesn't change in a run, or is known in a process alone",
+);
+
+pub const CAST: Said = (
+    "is a type of one element, and converts nothing",
+    "leave it and its parentheses out: one element of a vector or of unsigned is a std_logic already",
 );
 
 pub const OTHERS: Said = (

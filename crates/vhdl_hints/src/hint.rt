@@ -8,18 +8,19 @@ ghost use Rattle.vhdl_slips.specs.Words.{read_of, with_tokens};
 ghost use Rattle.vhdl_hints.specs.Hinted.{hint_view, is_nothing, or_else};
 ghost use Rattle.vhdl_hints.specs.Hints as spec;
 
-use crate::bound::{bounds_of, is_declared, is_empty, listed_bounds, range_at};
 use crate::end_name::{Begun, but_last_two, end_word, last_begun, last_two};
 use crate::form::{LITERALS, NO_NAME, WORDS};
-use crate::misplaced::{assigned, component, misplaced, position, unknown};
-use crate::word::{elsewhere, known_of, meant_among, no_target, twice};
+use crate::misplaced::{actual, assigned, component, misplaced, position, unknown};
+use crate::word::{elsewhere, known_of, meant_among, misspelt, no_target, twice};
 use fault_rules::{ElabRule, NameRule, Report, Rule, Subject};
 use vhdl_lexer::{Token, TokenKind};
-use vhdl_misfits::{Measure, begins_one_of, foreign, measured, misfit};
+use vhdl_misfits::{
+    Measure, begins_one_of, bounds_of, foreign, is_declared, is_empty, measured, misfit, range_at,
+};
 use vhdl_slips::{
-    Lexed, Said, associations, entity_of, first_choice, first_of, first_open, first_text,
-    formal_in, formals, has, in_parentheses, interface_of, is_by_name, is_literal, is_same_kind,
-    labelled, open_instance, past, text_of, type_of,
+    Lexed, Said, associations, entity_of, first_choice, first_of, first_open, first_text, formals,
+    has, in_parentheses, interface_of, is_by_name, is_literal, is_same_kind, labelled,
+    open_instance, past, text_of, type_of,
 };
 
 /// What the tokens around a fault tell of it.
@@ -44,10 +45,12 @@ pub enum Hint<'a> {
     Actual(Token, Token, &'a [Token], usize, usize),
     /// An actual has another type than of its entity this port.
     OtherType(Token, Token),
-    /// A component differs from its entity, which has these ports.
-    Differs(&'a [Token]),
+    /// A component differs from its entity, which has these generics and ports.
+    Differs(&'a [Token], &'a [Token]),
     /// A word that is nearly the same may be meant.
     Meant(&'static str),
+    /// An entity of nearly the same name may be meant.
+    NearEntity(Token),
     /// Two lengths differ, which are measured so.
     Measured(Measure, usize, usize),
     /// What can't stand in a map for a port, or generic, of an entity, which has these.
@@ -92,7 +95,7 @@ pub fn hint_at<'a>(
         Rule::Name(NameRule::LeftOut) => assigned(source, before, from),
         Rule::Name(NameRule::NoOthers) => enumeration(source.text, before, from),
         Rule::Elab(ElabRule::Length) => actual(source, before, from, report.subject).or_else(
-            measure_hint(report.subject, measured(from)),
+            measure_hint(report.subject, measured(source.text, from)),
         ),
         Rule::Elab(ElabRule::Index) => outside(source, before, from),
         Rule::Elab(ElabRule::Unassociated) => open_port(source, from),
@@ -115,12 +118,23 @@ fn undeclared<'a>(source: Lexed<'a>, before: &[Token], from: &[Token]) -> Hint<'
     ensures { hint_view result ≡ spec.undeclared (read_of source.entry) before.now from.now }
 {
     let text = source.text;
+    let meant = if begins_one_of(&[TokenKind::LeftParen, TokenKind::Arrow], past(1, from))
+        || begins_one_of(
+            &[TokenKind::Colon, TokenKind::In, TokenKind::Out],
+            past(1, last_two(before)),
+        )
+    {
+        meant_among(&WORDS, first_text(Lexed { text, tokens: from }))
+    } else {
+        Hint::Nothing
+    };
     no_formal(source, before, from)
         .or_else(assigned(source, before, from))
         .or_else(unknown(text, last_two(before), from))
+        .or_else(misspelt(source, last_two(before), from))
         .or_else(elsewhere(text, before, from))
         .or_else(told_hint(foreign(text, from)))
-        .or_else(meant_among(&WORDS, first_text(Lexed { text, tokens: from })))
+        .or_else(meant)
 }
 
 /// Of a value, an operator or a call.
@@ -151,8 +165,8 @@ fn wrong_kind<'a>(source: Lexed<'a>, before: &[Token], from: &[Token]) -> Hint<'
         .or_else(no_target(before, from))
         .or_else(component(source, last_two(before), from))
         .or_else(assigned(source, before, from))
+        .or_else(misplaced(source.text, before, from))
         .or_else(position(source, before, from))
-        .or_else(misplaced(before, from))
 }
 
 /// Of a name in an instance that is no formal of its entity.
@@ -353,30 +367,5 @@ fn outside_hint<'a>(name: Token, index: &'a [Token], bounds: &'a [Token]) -> Hin
         Hint::Nothing
     } else {
         Hint::Outside(name, index, bounds)
-    }
-}
-
-/// Of an actual of another length or type than its port.
-fn actual<'a>(source: Lexed<'a>, before: &[Token], from: &[Token], subject: Subject) -> Hint<'a>
-    ensures { hint_view result ≡ spec.actual (read_of source.entry) before.now from.now subject }
-{
-    let instance = open_instance(before);
-    let is_port = begins_one_of(&[TokenKind::Comma, TokenKind::RightParen], past(1, from))
-        && has(TokenKind::Port, instance);
-    match (is_port, entity_of(instance), formal_in(last_two(before))) {
-        (true, Some(entity), Some(port)) => actual_of(source, entity, port, subject),
-        _ => Hint::Nothing,
-    }
-}
-
-/// Of two lengths that differ, or else of two types.
-fn actual_of<'a>(source: Lexed<'a>, entity: Token, port: Token, subject: Subject) -> Hint<'a>
-    ensures { hint_view result ≡ spec.actual_of (read_of source.entry) entity port subject }
-{
-    let ports = formals(true, interface_in(source, entity));
-    let bounds = listed_bounds(source.text, text_of(source.text, port), ports);
-    match subject {
-        Subject::Lengths { found, needed } => Hint::Actual(entity, port, bounds, found, needed),
-        _ => Hint::OtherType(entity, port),
     }
 }

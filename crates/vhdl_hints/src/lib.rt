@@ -7,7 +7,6 @@
 //! `specs/Hints.antt` says which hint there is at a byte, and `specs/Sayings.antt` how it is told.
 #![tactic(auto)]
 
-mod bound;
 mod end_name;
 mod form;
 mod hint;

@@ -6,8 +6,8 @@ ghost use Rattle.vhdl_slips.specs.Words.{read_of};
 ghost use Rattle.vhdl_hints.specs.Sayings as spec;
 
 use byte_streams::{Sink, push_number, push_text};
-use vhdl_lexer::Token;
-use vhdl_slips::{Lexed, Listing, first_of, past, push_names, push_subject, text_of};
+use vhdl_lexer::{Token, TokenKind};
+use vhdl_slips::{Lexed, Listing, first_of, has, past, push_names, push_subject, text_of};
 
 /// A part of a sentence.
 #[derive(Clone, Copy)]
@@ -20,6 +20,8 @@ pub(crate) enum Part<'a> {
     Words(&'a [Token]),
     /// The bounds of a port, where they are known.
     Bounds(&'a [Token]),
+    /// The names of the generics of an entity, where it has some.
+    Generics(&'a [Token]),
     Number(usize),
     /// The names of generics or ports.
     Names(Listing, &'a [Token]),
@@ -47,6 +49,7 @@ fn push_part<S: Sink>(words: Lexed<'_>, part: Part<'_>, sink: &mut S)
         Part::Word(token) => push_text(sink, text_of(text, token)),
         Part::Words(tokens) => push_words(text, tokens, sink),
         Part::Bounds(tokens) => push_bounds(text, tokens, sink),
+        Part::Generics(tokens) => push_generics(text, tokens, sink),
         Part::Number(number) => push_number(sink, number as u64),
         Part::Names(listing, tokens) => push_names(listing, Lexed { text, tokens }, sink),
     }
@@ -62,6 +65,19 @@ fn push_bounds<S: Sink>(text: &[u8], bounds: &[Token], sink: &mut S)
         push_text(sink, b", as (");
         push_words(text, bounds, sink);
         push_text(sink, b")");
+    }
+}
+
+/// Writes the names of the generics of an entity, where it has some.
+fn push_generics<S: Sink>(text: &[u8], generics: &[Token], sink: &mut S)
+    ensures { Goes (S.state sink.old) (S.state sink.new) (spec.generics_text text.now generics.now) }
+{
+    if has(TokenKind::Colon, generics) {
+        let tokens = generics;
+        push_names(Listing::Generics, Lexed { text, tokens }, sink);
+        push_text(sink, b"; ");
+    } else {
+        push_text(sink, b"");
     }
 }
 

@@ -30,6 +30,9 @@ const HELP_COMPONENT: &str =
 
 const HELP_MEANT: &str = "correct its spelling, or declare it above this place";
 
+const HELP_ENTITY: &str =
+    "correct its spelling; where it is an entity in another file, give that file by --with";
+
 const HELP_POSITION: &str =
     "give each by its position, in this order and no more than these, or by its name, as y => q, with names alone \
      behind that; an actual of a port names a signal";
@@ -45,8 +48,9 @@ pub fn help(hint: Hint<'_>, usual: &'static [u8]) -> &'static [u8]
         Hint::Empty(..) => HELP_EMPTY.as_bytes(),
         Hint::Actual(..) => HELP_LENGTH.as_bytes(),
         Hint::OtherType(..) => HELP_TYPE.as_bytes(),
-        Hint::Differs(_) => HELP_COMPONENT.as_bytes(),
+        Hint::Differs(..) => HELP_COMPONENT.as_bytes(),
         Hint::Meant(_) => HELP_MEANT.as_bytes(),
+        Hint::NearEntity(_) => HELP_ENTITY.as_bytes(),
         Hint::Measured((_, _, help), _, _) => help.as_bytes(),
         Hint::NoPosition(..) => HELP_POSITION.as_bytes(),
         _ => usual,
@@ -87,10 +91,12 @@ pub fn push_hint<S: Sink>(words: Lexed<'_>, hint: Hint<'_>, sink: &mut S)
             Word(entity) Text(" has length ") Number(needed) Bounds(bounds)),
         Hint::OtherType(entity, port) => push!(words sink:
             Subject Text("has another type than the port ") Word(port) Text(" of entity ") Word(entity)),
-        Hint::Differs(ports) => push!(words sink:
-            Subject Text("isn't declared as its entity is: ") Names(Listing::Ports, ports)),
+        Hint::Differs(generics, ports) => push!(words sink:
+            Subject Text("isn't declared as its entity is: ") Generics(generics) Names(Listing::Ports, ports)),
         Hint::Meant(word) =>
             push!(words sink: Subject Text("isn't declared: did you mean ") Text(word) Text("?")),
+        Hint::NearEntity(name) =>
+            push!(words sink: Subject Text("isn't declared: did you mean ") Word(name) Text("?")),
         Hint::Measured((first, second, _), found, needed) => push!(words sink:
             Subject Text(first) Number(found) Text(second) Number(needed)),
         Hint::NoPosition(entity, is_port, formals) => push!(words sink:

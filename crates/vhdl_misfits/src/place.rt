@@ -5,6 +5,7 @@ ghost use Rattle.std.specs.List.{prefix_len};
 ghost use Rattle.vhdl_lexer.specs.Kinds.{is_one_of};
 ghost use Rattle.vhdl_misfits.specs.Places as spec;
 
+use crate::sort::{Sort, stand};
 use vhdl_lexer::{Token, TokenKind};
 use vhdl_slips::{begins, has, is_same_kind, past, up_to};
 
@@ -35,21 +36,13 @@ pub fn begins_one_of(kinds: &[TokenKind], tokens: &[Token]) -> bool
 }
 
 /// Whether one of them is.
-pub(crate) fn has_one_of(kinds: &[TokenKind], tokens: &[Token]) -> bool
+fn has_one_of(kinds: &[TokenKind], tokens: &[Token]) -> bool
     ensures { result ≡ spec.has_one_of kinds.now tokens.now }
 {
     tokens.iter().any(|token| is_one_of(kinds, token.kind))
 }
 
-/// What stands before the first that is.
-pub(crate) fn up_to_one_of<'a>(kinds: &[TokenKind], tokens: &'a [Token]) -> &'a [Token]
-    ensures { result.now ≡ spec.up_to_one_of kinds.now tokens.now }
-{
-    let (before, _) = tokens.split_at(len_before(kinds, tokens));
-    before
-}
-
-/// What stands from it on.
+/// What stands from the first that is on.
 pub(crate) fn from_one_of<'a>(kinds: &[TokenKind], tokens: &'a [Token]) -> &'a [Token]
     ensures { result.now ≡ spec.from_one_of kinds.now tokens.now }
 {
@@ -74,53 +67,24 @@ fn len_before(kinds: &[TokenKind], tokens: &[Token]) -> usize
         .count()
 }
 
-// ---- before a token
-
-/// Whether the last of the two tokens before is of one of these kinds.
-pub(crate) fn stands_behind(kinds: &[TokenKind], last_two: &[Token]) -> bool
-    ensures { result ≡ spec.stands_behind kinds.now last_two.now }
-{
-    match last_two {
-        [_, last] => is_one_of(kinds, last.kind),
-        _ => false,
-    }
-}
-
-/// Whether a value stands behind `<=` or `:=`.
-pub(crate) fn is_assigned(last_two: &[Token]) -> bool
-    ensures { result ≡ spec.is_assigned last_two.now }
-{
-    stands_behind(&kinds!(LessEqual Assign), last_two)
-}
-
-/// Whether what it is assigned to is a whole name, without an index.
-pub(crate) fn is_whole_target(last_two: &[Token]) -> bool
-    ensures { result ≡ spec.is_whole_target last_two.now }
-{
-    match last_two {
-        [first, _] => is_same_kind(first.kind, TokenKind::Identifier),
-        _ => false,
-    }
-}
-
-/// Whether a statement may begin behind these.
+/// Whether a statement may begin behind these two.
 pub fn begins_statement(last_two: &[Token]) -> bool
     ensures { result ≡ spec.begins_statement last_two.now }
 {
-    stands_behind(
-        &kinds!(Semicolon Begin Then Else Loop Generate Select Arrow),
-        last_two,
-    )
+    stand(&[Sort::Any, Sort::Statement], last_two)
 }
 
 // ---- parentheses behind a name
 
-/// How many parentheses are open behind a token, where so many are before it.
-fn open_behind(opened: usize, kind: TokenKind) -> usize
+/// How many parentheses of a name are open behind a token, where so many are before it, and this
+/// kind stands there.
+fn open_behind(opened: usize, last: TokenKind, kind: TokenKind) -> usize
     requires { opened < 2 ^ 63 }
-    ensures { result ≡ spec.open_behind opened kind }
+    ensures { result ≡ spec.open_behind opened last kind }
 {
-    if is_same_kind(kind, TokenKind::LeftParen) {
+    if is_same_kind(kind, TokenKind::LeftParen)
+        && (opened != 0 || is_same_kind(last, TokenKind::Identifier))
+    {
         opened + 1
     } else if is_same_kind(kind, TokenKind::RightParen) {
         opened.saturating_sub(1)
@@ -129,24 +93,26 @@ fn open_behind(opened: usize, kind: TokenKind) -> usize
     }
 }
 
-/// Whether it is of one of these kinds, and stands in the first that was opened, and in no other.
-fn stops_here(stops: &[TokenKind], opened: usize, kind: TokenKind) -> bool
-    ensures { result ≡ spec.stops_here stops.now opened kind }
+/// Whether it is of one of these kinds, and stands as deep as is asked for.
+fn stops_here(stops: &[TokenKind], depth: usize, opened: usize, kind: TokenKind) -> bool
+    ensures { result ≡ spec.stops_here stops.now depth opened kind }
 {
-    opened == 1 && is_one_of(stops, kind)
+    opened == depth && is_one_of(stops, kind)
 }
 
-/// What stands from the first such token on.
-fn from_inside<'a>(stops: &[TokenKind], tokens: &'a [Token]) -> &'a [Token]
-    ensures { result.now ≡ spec.from_inside stops.now 0 tokens.now }
+/// What stands from the first of these kinds on that is so deep in the parentheses of names.
+pub(crate) fn at_depth<'a>(depth: usize, stops: &[TokenKind], tokens: &'a [Token]) -> &'a [Token]
+    ensures { result.now ≡ spec.at_depth depth stops.now tokens.now }
 {
     let mut opened: usize = 0;
+    let mut last = TokenKind::Semicolon;
     let mut left = tokens;
     while let [token, rest @ ..] = left {
-        if stops_here(stops, opened, token.kind) {
+        if stops_here(stops, depth, opened, token.kind) {
             return left;
         }
-        opened = open_behind(opened, token.kind);
+        opened = open_behind(opened, last, token.kind);
+        last = token.kind;
         left = rest;
     }
     &[]
@@ -158,7 +124,7 @@ pub fn behind_name(tokens: &[Token]) -> &[Token]
 {
     let behind = past(1, tokens);
     if begins(TokenKind::LeftParen, behind) {
-        past(1, from_inside(&kinds!(RightParen), behind))
+        past(1, at_depth(1, &kinds!(RightParen), tokens))
     } else {
         behind
     }
@@ -170,7 +136,17 @@ pub(crate) fn has_one_argument(tokens: &[Token]) -> bool
 {
     begins(
         TokenKind::RightParen,
-        from_inside(&kinds!(Comma RightParen), past(1, tokens)),
+        at_depth(1, &kinds!(Comma RightParen), tokens),
+    )
+}
+
+/// Whether `to` or `downto` stands in them.
+pub(crate) fn has_slice(tokens: &[Token]) -> bool
+    ensures { result ≡ spec.has_slice tokens.now }
+{
+    begins_one_of(
+        &kinds!(To Downto),
+        at_depth(1, &kinds!(RightParen To Downto), tokens),
     )
 }
 

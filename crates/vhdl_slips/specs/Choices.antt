@@ -1,5 +1,6 @@
--- The choice that a case statement (IEEE 1076-2008, 10.9) or a selected signal assignment (11.6) lacks: of the enumeration (5.2.2) that its
--- first choice is a literal of, the first literal that is none of its choices. It is found from the tokens of the source alone.
+-- The choice that a case statement (IEEE 1076-2008, 10.9) or a selected signal assignment (11.6) lacks: of the
+-- enumeration (5.2.2) that its first choice is a literal of, the first literal that is none of its choices. It is found
+-- from the tokens of the source alone.
 use Rattle.std.specs.Prelude.{ℕ, ◌+◌, ◌-◌, ◌<◌, ◌^◌, ◌==◌, ◌&&◌, ◌||◌, not, nat_le, Bool, if◌then◌else◌, List, [], ◌∷◌, ◌++◌, drop, codes, length, Option, Some, None, option_map, find}
 use Rattle.std.specs.List.{list_all, list_any}
 use Rattle.std.specs.Str.{str_eq_ignore_ascii_case}
@@ -16,7 +17,8 @@ use Rattle.vhdl_tree.specs.Lexeme.{same_kind}
 
 -- how many cases are open behind a token; `last`: the kind of the token before it
 abbrev pub open_behind : (opened : ℕ) → (last kind : TokenKind) → ℕ
-open_behind opened last kind = if same_kind kind k.Case then (if same_kind last k.End then opened - 1 else opened + 1) else opened
+open_behind opened last kind =
+    if same_kind kind k.Case then (if same_kind last k.End then opened - 1 else opened + 1) else opened
 
 -- what stands behind this is a choice, and none of a case in the statement
 abbrev pub chooses : (opened : ℕ) → (last : TokenKind) → Bool
@@ -29,7 +31,8 @@ ends opened kind = opened == 0 && same_kind kind k.Semicolon
 abbrev pub choices_from : (opened : ℕ) → (last : TokenKind) → List Token → List Token
 choices_from opened last [] = []
 choices_from opened last (t ∷ ts) =
-    if ends opened t.kind then [] else (if chooses opened last then t ∷ [] else []) ++ choices_from (open_behind opened last t.kind) t.kind ts
+    if ends opened t.kind then []
+    else (if chooses opened last then t ∷ [] else []) ++ choices_from (open_behind opened last t.kind) t.kind ts
 
 abbrev pub choices : List Token → List Token
 choices statement = choices_from 0 k.Semicolon statement
@@ -56,16 +59,20 @@ in_std_ulogic t = text_of STD_ULOGIC.now t
 
 abbrev pub nine_values : List (List ℕ)
 nine_values =
-    codes "'U'" ∷ codes "'X'" ∷ codes "'0'" ∷ codes "'1'" ∷ codes "'Z'" ∷ codes "'W'" ∷ codes "'L'" ∷ codes "'H'" ∷ codes "'-'" ∷ []
+    codes "'U'" ∷ codes "'X'" ∷ codes "'0'" ∷ codes "'1'" ∷ codes "'Z'"
+    ∷ codes "'W'" ∷ codes "'L'" ∷ codes "'H'" ∷ codes "'-'" ∷ []
 
--- the literals of the enumeration that a token begins, these behind it, where it has this literal: type NAME is ( LITERAL { , LITERAL } );
+-- the literals of the enumeration that a token begins, these behind it, where it has this literal: type NAME is (
+-- LITERAL { , LITERAL } );
 -- an architecture begins without one; else those found before
 abbrev pub type_at : (literal text : List ℕ) → (found : Read) → Token → (behind : List Token) → Read
 type_at literal text found t behind =
     if same_kind t.kind k.Architecture then std_ulogic
-    else if same_kind t.kind k.Type && is_written text (literals_of behind) literal then with_tokens text (literals_of behind) else found
+    else if same_kind t.kind k.Type && is_written text (literals_of behind) literal
+    then with_tokens text (literals_of behind) else found
 
--- those of the last enumeration that has it, of the last architecture among these tokens; those of type std_ulogic where none has it
+-- those of the last enumeration that has it, of the last architecture among these tokens; those of type std_ulogic
+-- where none has it
 abbrev pub type_of : Read → (literal : List ℕ) → Read
 type_of read literal = found_by (type_at literal read.text) std_ulogic read.tokens
 
@@ -73,7 +80,8 @@ type_of read literal = found_by (type_at literal read.text) std_ulogic read.toke
 
 -- the literal isn't among these choices of a text
 abbrev pub is_left_out : (text : List ℕ) → (choices : List Token) → (literals : List ℕ) → Token → Bool
-is_left_out text choices literals t = not (same_kind t.kind k.Comma) && not (is_written text choices (text_of literals t))
+is_left_out text choices literals t =
+    not (same_kind t.kind k.Comma) && not (is_written text choices (text_of literals t))
 
 abbrev pub left_out : (text : List ℕ) → (choices : List Token) → (literals : List ℕ) → List Token → Option (List ℕ)
 left_out text choices literals tokens = option_map (text_of literals) (find (is_left_out text choices literals) tokens)
@@ -81,7 +89,8 @@ left_out text choices literals tokens = option_map (text_of literals) (find (is_
 -- the first that isn't, where each choice is a literal of the type
 abbrev pub missing_in : (text : List ℕ) → (choices : List Token) → (type : Read) → Option (List ℕ)
 missing_in text choices type =
-    if list_all (λ choice. is_among type (text_of text choice)) choices then left_out text choices type.text type.tokens else None
+    if list_all (λ choice. is_among type (text_of text choice)) choices
+    then left_out text choices type.text type.tokens else None
 
 -- the type is that of the first choice
 abbrev pub missing_of : (before : Read) → (text : List ℕ) → (choices : List Token) → Option (List ℕ)

@@ -25,7 +25,8 @@ labelled tokens = up_to k.Semicolon (drop 2 tokens)
 -- the name of its entity: `entity L . NAME`, `component NAME` or `NAME`, and then a map
 abbrev pub entity_of : (instance : List Token) → Option Token
 entity_of (first ∷ second ∷ third ∷ fourth ∷ ts) =
-    if same_kind first.kind k.Entity then Some fourth else if same_kind first.kind k.Component then Some second else Some first
+    if same_kind first.kind k.Entity then Some fourth
+    else if same_kind first.kind k.Component then Some second else Some first
 entity_of _ = None
 
 -- ---- the map of its ports
@@ -43,7 +44,8 @@ is_by_name _ = false
 -- the port has an actual at the front of these: `NAME => ACTUAL`, and that isn't open
 abbrev pub gives : (text name : List ℕ) → List Token → Bool
 gives text name (first ∷ second ∷ third ∷ ts) =
-    same_kind second.kind k.Arrow && not (same_kind third.kind k.Open) && str_eq_ignore_ascii_case (text_of text first) name
+    same_kind second.kind k.Arrow && not (same_kind third.kind k.Open)
+    && str_eq_ignore_ascii_case (text_of text first) name
 gives text name _ = false
 
 abbrev pub is_given : (text name : List ℕ) → (associations : List Token) → Bool
@@ -63,13 +65,15 @@ declaration_of behind = up_to k.Semicolon (drop 1 (from k.Colon behind))
 -- the port at the front of these has no actual, but needs one
 abbrev pub is_left_open : (text : List ℕ) → (associations : List Token) → (ports : List Token) → Bool
 is_left_open text associations (t ∷ next ∷ ts) =
-    is_declared t next && needs_actual (declaration_of (drop 1 (t ∷ next ∷ ts))) && not (is_given text (text_of text t) associations)
+    is_declared t next && needs_actual (declaration_of (drop 1 (t ∷ next ∷ ts)))
+    && not (is_given text (text_of text t) associations)
 is_left_open text associations _ = false
 
 -- the first of these ports that is left open
 abbrev pub first_open : (text : List ℕ) → (associations : List Token) → (ports : List Token) → Option Token
 first_open text associations [] = None
-first_open text associations (t ∷ ts) = if is_left_open text associations (t ∷ ts) then Some t else first_open text associations ts
+first_open text associations (t ∷ ts) =
+    if is_left_open text associations (t ∷ ts) then Some t else first_open text associations ts
 
 -- ---- the port of an actual
 

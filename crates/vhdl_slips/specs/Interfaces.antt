@@ -9,7 +9,8 @@ use Rattle.vhdl_tree.specs.Lexeme.{same_kind}
 
 -- a source shows an architecture of this entity where the tokens begin with `architecture X of NAME` (3.3.1)
 abbrev pub entity_at : List Token → Option Token
-entity_at (first ∷ second ∷ third ∷ name ∷ ts) = if same_kind first.kind k.Architecture && same_kind third.kind k.Of then Some name else None
+entity_at (first ∷ second ∷ third ∷ name ∷ ts) =
+    if same_kind first.kind k.Architecture && same_kind third.kind k.Of then Some name else None
 entity_at _ = None
 
 -- these tokens begin with `entity NAME is`
@@ -18,7 +19,8 @@ begins_entity text name (first ∷ second ∷ third ∷ ts) =
     same_kind first.kind k.Entity && same_kind third.kind k.Is && str_eq_ignore_ascii_case (text_of text second) name
 begins_entity text name _ = false
 
--- what stands behind the word entity of the first entity of this name, up to its first `end`; nothing where there is none
+-- what stands behind the word entity of the first entity of this name, up to its first `end`; nothing where there
+-- is none
 abbrev pub interface_of : (text name : List ℕ) → List Token → List Token
 interface_of text name [] = []
 interface_of text name (t ∷ ts) = if begins_entity text name (t ∷ ts) then up_to k.End ts else interface_of text name ts

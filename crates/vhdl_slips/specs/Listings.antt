@@ -59,6 +59,8 @@ entities_line read = names_listed Entities read.text read.tokens
 -- ---- names that are told one by one
 
 -- these names went out: whatever names follow, all of them go where the others go from here
-abbrev pub Tells : Listing → (names : List (List ℕ)) → (is_first : Bool) → (old : SinkState) → (still_first : Bool) → (new : SinkState) → Type 0
+abbrev pub Tells : Listing → (names : List (List ℕ)) → (is_first : Bool)
+    → (old : SinkState) → (still_first : Bool) → (new : SinkState) → Type 0
 Tells listing names is_first old still_first new =
-    (others : List (List ℕ)) (end : SinkState) → Goes new end (listed listing still_first others) → Goes old end (listed listing is_first (names ++ others))
+    (others : List (List ℕ)) (end : SinkState) → Goes new end (listed listing still_first others)
+    → Goes old end (listed listing is_first (names ++ others))

@@ -168,12 +168,14 @@ pub const SECOND_INDEX: Said = (
 pub const ACTUAL: Said = (
     "can't stand here: a port map gives names of signals, a generic map whole numbers, a default (others => \
      '0') or (others => '1')",
-    "assign the value to a signal first, and give that signal's name",
+    "give a generic a whole number; of a port assign the value to a signal first, and give that signal's name",
 );
 
 pub const DEFAULT: Said = (
-    "can't stand here: a constant or default is one literal of its type, another constant or (others => value)",
-    "write (others => '0') or \"0101\" for a vector or unsigned, and no number; assign what is computed to a signal",
+    "can't stand here: a constant or default is one literal of its type, another constant, (others => value), or for \
+     unsigned to_unsigned(5, 4)",
+    "write (others => '0') or \"0101\" for a vector or unsigned, and to_unsigned(5, 4) for a number as unsigned; assign \
+     what is computed to a signal",
 );
 
 /// What is no literal, behind `when` or `|`.
@@ -212,7 +214,8 @@ pub const SIGNED: Said = (
 
 pub const TRUTH: Said = (
     "is a value of type boolean, and that isn't served here",
-    "assign '1' for true and '0' for false; in a condition leave = true out, and write not (..) for .. = false",
+    "write '1' for true and '0' for false, as rst = '0', and 1 or 0 for a generic; a test needs no = true, and is negated \
+     as not (n = 3)",
 );
 
 /// A library, or a package of one.

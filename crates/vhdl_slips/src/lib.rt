@@ -28,7 +28,7 @@ pub use form::Said;
 pub use instance::{
     associations, entity_of, first_open, formal_in, is_by_name, labelled, open_instance,
 };
-pub use interface::{formals, interface_of};
+pub use interface::{formal_at, formals, interface_of};
 pub use lexed::{
     Lexed, first_text, is_same_kind, is_same_word, push_quoted, push_subject, text_of,
 };

@@ -164,10 +164,10 @@ pub static UNREAD: [FormWord; 73] = [
 
 /// The names of packages, types and attributes that are left out.
 pub static LEFT_OUT: [FormWord; 36] = [
-    (b"", Behind::Kind(TokenKind::Arrow), ACTUAL),
-    (b"", Behind::Opener(TokenKind::Map), ACTUAL),
     (b"true", Behind::Anything, TRUTH),
     (b"false", Behind::Anything, TRUTH),
+    (b"", Behind::Kind(TokenKind::Arrow), ACTUAL),
+    (b"", Behind::Opener(TokenKind::Map), ACTUAL),
     (b"high", Behind::Kind(TokenKind::Tick), RANGE_ATTRIBUTE),
     (b"low", Behind::Kind(TokenKind::Tick), RANGE_ATTRIBUTE),
     (b"left", Behind::Kind(TokenKind::Tick), RANGE_ATTRIBUTE),

@@ -28,5 +28,8 @@ returns-in-NoPosition g c =
 pub returns-in-Measured : goal.returns-in-Measured
 returns-in-Measured g c = rw c.in-Measured.is c.push_parts-in-Measured.ensures
 
+pub returns-in-NearEntity : goal.returns-in-NearEntity
+returns-in-NearEntity g c = rw c.in-NearEntity.is c.push_parts-in-NearEntity.ensures
+
 pub returns-in-Meant : goal.returns-in-Meant
 returns-in-Meant g c = rw c.in-Meant.is c.push_parts-in-Meant.ensures

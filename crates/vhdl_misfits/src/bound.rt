@@ -1,10 +1,11 @@
 //! The bounds of an object that one declaration alone declares.
 
 ghost use Rattle.std.specs.Prelude.{◌≡◌};
-ghost use Rattle.vhdl_hints.specs.Bounds as spec;
+ghost use Rattle.vhdl_misfits.specs.Bounds as spec;
 
+use crate::place::begins_declaration;
+use crate::told::Known;
 use vhdl_lexer::{MAX_INTEGER, Token, TokenKind, integer_value};
-use vhdl_misfits::begins_declaration;
 use vhdl_slips::{
     Lexed, begins, behind_last, formals, from, in_parentheses, interface_of, is_literal,
     is_same_kind, past, text_of, up_to,
@@ -21,14 +22,14 @@ pub(crate) enum Declared<'a> {
 
 /// The bounds of the type of this name, where the architecture before a byte and the ports of its
 /// entity declare it once together, and it has bounds without parentheses in them; else nothing.
-pub(crate) fn bounds_of<'a>(source: Lexed<'a>, name: &[u8], before: &'a [Token]) -> &'a [Token]
+pub fn bounds_of<'a>(source: Lexed<'a>, name: &[u8], before: &'a [Token]) -> &'a [Token]
     ensures { result.now ≡ spec.bounds_of source.entry.text.now name.now source.entry.tokens.now before.now }
 {
     bounds_in(all_declared(source, name, before))
 }
 
 /// The same of a port in a list.
-pub(crate) fn listed_bounds<'a>(text: &[u8], name: &[u8], list: &'a [Token]) -> &'a [Token]
+pub fn listed_bounds<'a>(text: &[u8], name: &[u8], list: &'a [Token]) -> &'a [Token]
     ensures { result.now ≡ spec.listed_bounds text.now name.now list.now }
 {
     bounds_in(declared_in(text, name, true, Declared::Never, list))
@@ -44,7 +45,7 @@ fn bounds_in<'a>(found: Declared<'a>) -> &'a [Token]
 }
 
 /// Whether these tokens declare this name: a list of generics or ports, or others.
-pub(crate) fn is_declared(text: &[u8], name: &[u8], in_list: bool, tokens: &[Token]) -> bool
+pub fn is_declared(text: &[u8], name: &[u8], in_list: bool, tokens: &[Token]) -> bool
     ensures { result ≡ spec.is_declared text.now name.now in_list tokens.now }
 {
     !matches!(
@@ -53,12 +54,32 @@ pub(crate) fn is_declared(text: &[u8], name: &[u8], in_list: bool, tokens: &[Tok
     )
 }
 
-/// Whether the architecture before a byte, or a port of its entity, declares a name.
-pub(crate) fn is_object(source: Lexed<'_>, name: &[u8], before: &[Token]) -> bool
-    ensures { result
-        ≡ spec.is_found (spec.all_declared source.entry.text.now name.now source.entry.tokens.now before.now) }
+/// What a name is that the architecture before a byte, or a port of its entity, declares.
+pub fn known_object(source: Lexed<'_>, name: &[u8], before: &[Token]) -> Known
+    ensures { result ≡ spec.known_object source.entry.text.now name.now source.entry.tokens.now before.now }
 {
-    !matches!(all_declared(source, name, before), Declared::Never)
+    match all_declared(source, name, before) {
+        Declared::Never => Known::Unknown,
+        Declared::Once(declaration) => {
+            if is_element(source.text, declaration) {
+                Known::Element
+            } else {
+                Known::Object
+            }
+        }
+        Declared::Often => Known::Object,
+    }
+}
+
+/// Whether a declaration is of one element: its type is std_logic or std_ulogic.
+fn is_element(text: &[u8], declaration: &[Token]) -> bool
+    ensures { result ≡ spec.is_element text.now declaration.now }
+{
+    let words = Lexed {
+        text,
+        tokens: declaration,
+    };
+    is_literal(words, b"std_logic") || is_literal(words, b"std_ulogic")
 }
 
 /// How often the architecture before a byte and the ports of its entity declare a name together.
@@ -78,7 +99,7 @@ fn all_declared<'a>(source: Lexed<'a>, name: &[u8], before: &'a [Token]) -> Decl
 }
 
 /// The ports of the entity of an architecture, which stands from its name on.
-pub(crate) fn ports_of<'a>(source: Lexed<'a>, architecture: &[Token]) -> &'a [Token]
+pub fn ports_of<'a>(source: Lexed<'a>, architecture: &[Token]) -> &'a [Token]
     ensures { result.now ≡ spec.ports_of source.entry.text.now source.entry.tokens.now architecture.now }
 {
     match architecture {
@@ -168,7 +189,7 @@ fn once_more<'a>(found: Declared<'a>, declaration: &'a [Token]) -> Declared<'a>
 // ---- a range without elements
 
 /// What stands in parentheses behind the name at the front, or in its declaration behind the type.
-pub(crate) fn range_at(tokens: &[Token]) -> &[Token]
+pub fn range_at(tokens: &[Token]) -> &[Token]
     ensures { result.now ≡ spec.range_at tokens.now }
 {
     let behind = past(1, tokens);
@@ -181,7 +202,7 @@ pub(crate) fn range_at(tokens: &[Token]) -> &[Token]
 }
 
 /// Whether the bounds of a range are integers, and no number stands between them.
-pub(crate) fn is_empty(text: &[u8], range: &[Token]) -> bool
+pub fn is_empty(text: &[u8], range: &[Token]) -> bool
     ensures { result ≡ spec.is_empty text.now range.now }
 {
     match range {

@@ -1,7 +1,7 @@
 use Rattle.std.proofs.Common.{◌≡◌, length}
-use Rattle.vhdl_hints.specs.Bounds.{declared_at, declared_in, declared_view}
+use Rattle.vhdl_misfits.specs.Bounds.{declared_at, declared_in, declared_view}
 use Rattle.vhdl_slips.specs.Parts.{found_by}
-use Rattle.vhdl_hints.proofs.bound.declared_in.Given as goal
+use Rattle.vhdl_misfits.proofs.bound.declared_in.Given as goal
 
 -- the tokens that are left decide, behind what was found
 abbrev pub invariant-loop-left : goal.invariant-loop-left

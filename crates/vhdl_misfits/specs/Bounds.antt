@@ -1,11 +1,13 @@
 -- The bounds of an object that one declaration alone declares.
-use Rattle.std.specs.Prelude.{ℕ, ◌&&◌, ◌||◌, min, nat_lt, Bool, true, false, if◌then◌else◌, List, [], ◌∷◌, drop}
+use Rattle.std.specs.Prelude.{ℕ, ◌&&◌, ◌||◌, min, nat_lt, Bool, true, false, if◌then◌else◌, List, [], ◌∷◌, codes, drop}
 use Rattle.vhdl_slips.specs.Choices.{is_written}
 use Rattle.vhdl_slips.specs.Interfaces.{formals, interface_of}
 use Rattle.vhdl_slips.specs.Parts.{begins, behind_last, found_by, from, in_parentheses, up_to}
 use Rattle.vhdl_misfits.specs.Places.{begins_declaration}
-use Rattle.vhdl_hints.specs.declared.bound.Declared as code
-use Rattle.vhdl_hints.specs.declared.bound.Declared.TheVariants as c
+use Rattle.vhdl_misfits.specs.declared.bound.Declared as code
+use Rattle.vhdl_misfits.specs.declared.bound.Declared.TheVariants as c
+use Rattle.vhdl_misfits.specs.declared.told.Known.{Known}
+use Rattle.vhdl_misfits.specs.declared.told.Known.TheVariants as known
 use Rattle.vhdl_slips.specs.Words.{text_of}
 use Rattle.vhdl_lexer.specs.declared.token.Token.{Token}
 use Rattle.vhdl_lexer.specs.declared.token.TokenKind.{TokenKind}
@@ -45,7 +47,8 @@ once_more _ declaration = Often
 -- how often behind a token, these standing behind it
 abbrev pub declared_at : (text name : List ℕ) → (in_list : Bool) → Declared → Token → (behind : List Token) → Declared
 declared_at text name in_list found t behind =
-    if opens in_list t.kind && declares text name behind then once_more found (up_to k.Semicolon (from k.Colon behind)) else found
+    if opens in_list t.kind && declares text name behind
+    then once_more found (up_to k.Semicolon (from k.Colon behind)) else found
 
 -- in these tokens, behind those in which it was found so often
 abbrev pub declared_in : (text name : List ℕ) → (in_list : Bool) → Declared → List Token → Declared
@@ -73,7 +76,22 @@ ports_of text source _ = []
 -- in the architecture before the byte, and among the ports of its entity
 abbrev pub all_declared : (text name : List ℕ) → (source before : List Token) → Declared
 all_declared text name source before =
-    declared_in text name true (declared_in text name false Never (architecture before)) (ports_of text source (architecture before))
+    declared_in text name true (declared_in text name false Never (architecture before))
+    (ports_of text source (architecture before))
+
+-- its type is std_logic or std_ulogic
+abbrev pub is_element : (text : List ℕ) → (declaration : List Token) → Bool
+is_element text declaration =
+    is_written text declaration (codes "std_logic") || is_written text declaration (codes "std_ulogic")
+
+-- what is known of a name that is declared so often
+abbrev pub known_by : (text : List ℕ) → Declared → Known
+known_by text Never = known.Unknown
+known_by text (Once declaration) = if is_element text declaration then known.Element else known.Object
+known_by text Often = known.Object
+
+abbrev pub known_object : (text name : List ℕ) → (source before : List Token) → Known
+known_object text name source before = known_by text (all_declared text name source before)
 
 -- the bounds of its type, where it is declared once, and has them without parentheses in them; else nothing
 abbrev pub bounds_in : Declared → List Token
@@ -104,4 +122,5 @@ is_empty text _ = false
 -- what stands in parentheses behind the name at the front, or in its declaration behind the type
 abbrev pub range_at : List Token → List Token
 range_at tokens =
-    in_parentheses (if begins k.LeftParen (drop 1 tokens) then drop 1 tokens else from k.LeftParen (from k.Colon (up_to k.Semicolon tokens)))
+    in_parentheses (if begins k.LeftParen (drop 1 tokens) then drop 1 tokens
+    else from k.LeftParen (from k.Colon (up_to k.Semicolon tokens)))

@@ -1,7 +1,7 @@
 use Rattle.std.proofs.Common.{◌∙◌}
-use Rattle.vhdl_hints.specs.Bounds.{declared_at, declared_view}
+use Rattle.vhdl_misfits.specs.Bounds.{declared_at, declared_view}
 use Rattle.vhdl_slips.proofs.Folds.{found_more}
-use Rattle.vhdl_hints.proofs.bound.declared_in.Goals as goal
+use Rattle.vhdl_misfits.proofs.bound.declared_in.Goals as goal
 
 pub loop-left-preserved : goal.loop-left-preserved
 loop-left-preserved c = rw c.declared_at-found.ensures (

@@ -1,0 +1,82 @@
+//! Which form stands at a word.
+
+ghost use Rattle.std.specs.Prelude.{◌≡◌, map, option_map};
+ghost use Rattle.vhdl_misfits.specs.Misfits as spec;
+
+use crate::provided::holds;
+use crate::row::Row;
+use crate::sort::stand;
+use crate::table::{CALLS, FOREIGN, OPERATORS, PLACES, VALUES};
+use vhdl_lexer::Token;
+use vhdl_slips::{Lexed, Said, first_text, is_same_word};
+
+/// What else has the name at the front.
+#[derive(Clone, Copy)]
+pub enum Known {
+    /// Nothing that is declared in sight.
+    Unknown,
+    /// A signal, variable or constant.
+    Object,
+    /// One of these, which is declared as one element.
+    Element,
+    /// The index of a loop or generate that is open.
+    Turn,
+}
+
+/// What is told of what stands at the front, and has or takes another type, behind the last two of
+/// the tokens before it; nothing where that shows no more.
+pub fn misfit(known: Known, text: &[u8], last_two: &[Token], from: &[Token]) -> Option<Said>
+    ensures { option_map spec.said_of result ≡ spec.misfit known text.now last_two.now from.now }
+{
+    let operator = first_told(&OPERATORS, known, text, last_two, from, None);
+    let place = first_told(&PLACES, known, text, last_two, from, operator);
+    let call = first_told(&CALLS, known, text, last_two, from, place);
+    first_told(&VALUES, known, text, last_two, from, call)
+}
+
+/// What is told of a name that isn't declared, where another package or language has it.
+pub fn foreign(text: &[u8], from: &[Token]) -> Option<Said>
+    ensures { option_map spec.said_of result ≡ spec.foreign text.now from.now }
+{
+    first_told(&FOREIGN, Known::Unknown, text, &[], from, None)
+}
+
+/// What the first of these rows tells that fits, or else this.
+fn first_told(
+    mut rows: &[Row],
+    known: Known,
+    text: &[u8],
+    last_two: &[Token],
+    from: &[Token],
+    otherwise: Option<Said>,
+) -> Option<Said>
+    ensures { option_map spec.said_of result ≡ spec.first_told (map spec.row_of rows.entry.now)
+        known text.now last_two.now from.now (option_map spec.said_of otherwise.entry) }
+{
+    while let [row, rest @ ..] = rows {
+        if fits(*row, known, text, last_two, from) {
+            return Some(row.4);
+        }
+        rows = rest;
+    }
+    otherwise
+}
+
+/// Whether a row fits what stands at the front.
+fn fits(row: Row, known: Known, text: &[u8], last_two: &[Token], from: &[Token]) -> bool
+    ensures { result ≡ spec.fits (spec.row_of row.entry) known text.now last_two.now from.now }
+{
+    let (word, before, sorts, provided, _) = row;
+    let written = first_text(Lexed { text, tokens: from });
+    stand(before, last_two)
+        && stand(sorts, from)
+        && is_called(word, known, written)
+        && holds(provided, known, written, from)
+}
+
+/// Whether it is written so, where nothing else has that name; the empty word stands for any.
+fn is_called(word: &[u8], known: Known, written: &[u8]) -> bool
+    ensures { result ≡ spec.is_called word.now known written.now }
+{
+    word.is_empty() || (matches!(known, Known::Unknown) && is_same_word(word, written))
+}
