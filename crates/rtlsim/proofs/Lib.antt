@@ -4,3 +4,4 @@ pub mod Buffers
 pub mod Reading
 pub mod Watching
 pub mod Files
+pub mod Tokens

@@ -7,7 +7,7 @@ use Rattle.byte_streams.proofs.Writing.{Goes-append}
 use Rattle.byte_streams.specs.Written.{SinkState, Goes}
 use Rattle.byte_streams.specs.Stands.{Stand}
 use Rattle.rtlsim.specs.Served.{ServesBy, ServesEvents, ServesLevels, ServesMachine}
-use Rattle.rtlsim.specs.Sinks.{Sinks, ShowsIf}
+use Rattle.rtlsim.specs.Sinks.{Sinks, ShowsIf, outputs}
 use Rattle.rtlsim_commands.specs.Served.{Outputs, Serves}
 use Rattle.rtlsim_commands.specs.Told.{Done}
 use Rattle.rtlsim_commands.proofs.Watched.{if_whole_so, of_events_so, of_machine_so}
@@ -52,6 +52,13 @@ module _ {P Q : List Stand → Type 0} (f : (stands : List Stand) → P stands �
     serves_by (Run false order) sets text expected s = serves_machine text expected s
     serves_by Levels sets text expected s = serves_levels text expected s
     serves_by _ sets text expected s = s
+
+-- what is served by these texts is served by texts that are the same
+pub serves_same : (telling : Telling) (outcome : Status) (shows : Bool) (s : Sinks) (request : Request) (source given top called : List ℕ) (sets words : List (List ℕ)) (text read : List ℕ)
+    (expected wanted : Option (List ℕ)) → source ≡ given → top ≡ called → sets ≡ words → text ≡ read → expected ≡ wanted
+    → ServesBy telling source top outcome (outputs s) (ShowsIf shows text s) request sets text expected
+    → ServesBy telling given called outcome (outputs s) (ShowsIf shows read s) request words read wanted
+serves_same telling outcome shows s request source given top called sets words text read expected wanted e f h i j serves = rw (← e, ← f, ← h, ← i, ← j) serves
 
 -- nothing is to be shown
 pub shows_none : (shows : Bool) → shows ≡ false → (stimulus : List ℕ) (s : Sinks) (stands : List Stand) → ShowsIf shows stimulus s stands

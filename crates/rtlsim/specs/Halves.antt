@@ -11,7 +11,8 @@ begins_mark text = bytes_eq (first_line_of text) (codes "@")
 -- where the first such line starts: bytes are counted from k, and `starts` says whether a line starts in front
 abbrev pub mark_from : ℕ → Bool → List ℕ → Option ℕ
 mark_from k starts [] = None
-mark_from k starts (byte ∷ bytes) = if starts && begins_mark (byte ∷ bytes) then Some k else mark_from (suc k) (ends_line byte) bytes
+mark_from k starts (byte ∷ bytes) =
+    if starts && begins_mark (byte ∷ bytes) then Some k else mark_from (suc k) (ends_line byte) bytes
 
 abbrev pub mark_of : List ℕ → Option ℕ
 mark_of all = mark_from 0 true all

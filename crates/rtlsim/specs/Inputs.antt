@@ -20,7 +20,8 @@ IsTooLong left = IfSome left (λ bytes. greatest_input < length bytes)
 abbrev pub IsEndless : (left : Option (List ℕ)) → Type 0
 IsEndless left = IfSome left (λ bytes. greatest_input ≤ length bytes)
 
--- a read to the end gives what is left; it fails where the reader fails, where too much is left, or where so many reads come to no end
+-- a read to the end gives what is left; it fails where the reader fails, where too much is left, or where so many reads
+-- come to no end
 abbrev pub GivesWhole : ReaderState → ReaderState → Answer → Type 0
 GivesWhole old new (Ok all) = IfSome old.left (λ bytes. all ≡ bytes)
 GivesWhole old new (Err ReadFailed) = new.failed ≡ true
@@ -46,7 +47,8 @@ GivesFile {File} remaining (Err Endless) = (file : File) × IsEndless (remaining
 GivesFile {File} remaining (Err problem) = ⊤
 
 -- and another name is that of a file of the system
-pub record GivesNamed {File : Type 0} (remaining : File → Option (List ℕ)) (old new : ReaderState) (name : List ℕ) (given : Answer) : Type 0 where
+pub record GivesNamed {File : Type 0} (remaining : File → Option (List ℕ))
+    (old new : ReaderState) (name : List ℕ) (given : Answer) : Type 0 where
   pub standard : GivesStandard old new name given
   pub named : name ≢ codes "@" → GivesFile remaining given
 

@@ -21,10 +21,13 @@ Made {A} make Gives old new (Ok made) = (given : A) × Gives old new (Ok given) 
 Made make Gives old new (Err unread) = Gives old new (Err unread)
 
 -- one is read, and then another
-abbrev pub Then : {A B : Type 0} → (First : Given A) → (Next : Given B) → (old new : ReaderState) → Result (A × B) Unread → Type 0
-Then First Next old new (Ok both) = (between : ReaderState) × First old between (Ok both.0) × Next between new (Ok both.1)
+abbrev pub Then : {A B : Type 0} → (First : Given A) → (Next : Given B)
+    → (old new : ReaderState) → Result (A × B) Unread → Type 0
+Then First Next old new (Ok both) =
+    (between : ReaderState) × First old between (Ok both.0) × Next between new (Ok both.1)
 Then {A} First Next old new (Err unread) =
-    First old new (Err unread) ⊎ ((first : A) × (between : ReaderState) × First old between (Ok first) × Next between new (Err unread))
+    First old new (Err unread)
+    ⊎ ((first : A) × (between : ReaderState) × First old between (Ok first) × Next between new (Err unread))
 
 -- both names are that of the standard input
 abbrev pub AreStandard : (file stimulus : List ℕ) → Type 0
@@ -44,7 +47,8 @@ module _ (Gives : Reading) where
   -- the files of these names in order, each with its name
   abbrev pub GivesAll : (names : List (List ℕ)) → Given (List FileView)
   GivesAll [] = Without []
-  GivesAll (name ∷ names) = Made (λ read. record { name = name; text = read.0 } ∷ read.1) (Then (GivesOne name) (GivesAll names))
+  GivesAll (name ∷ names) =
+      Made (λ read. record { name = name; text = read.0 } ∷ read.1) (Then (GivesOne name) (GivesAll names))
 
   -- a source and a stimulus: of one input that has both, or the source and then the stimulus
   abbrev pub GivesBoth : (file stimulus : List ℕ) → (old new : ReaderState) → Result (List ℕ × List ℕ) Unread → Type 0

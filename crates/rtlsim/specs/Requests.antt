@@ -9,7 +9,8 @@ use Rattle.rtlsim_command_line.specs.Words.{CallView}
 abbrev pub set_form : List ℕ
 set_form = codes "NAME=VALUE"
 
--- what was read: the files of the source in order, the text of the stimulus, which is empty where there is none, and that of what is expected
+-- what was read: the files of the source in order, the text of the stimulus, which is empty where there is none, and
+-- that of what is expected
 pub record TextsView : Type 0 where
   pub files : List FileView
   pub stimulus : List ℕ
@@ -26,4 +27,5 @@ texts file read = record {
 -- The files of a call, in the order in which they are read.
 abbrev pub GivesTexts : Reading → CallView → Given TextsView
 GivesTexts Gives call =
-    Made (texts call.file) (Then (GivesAll Gives call.with) (Then (GivesMain Gives call.file call.stimulus) (GivesMaybe Gives call.expected)))
+    Made (texts call.file)
+    (Then (GivesAll Gives call.with) (Then (GivesMain Gives call.file call.stimulus) (GivesMaybe Gives call.expected)))

@@ -1,5 +1,5 @@
 -- What commands do with what was read.
-use Rattle.std.specs.Prelude.{◌≡◌, ◌+◌, ℕ, Bool, true, false, List, Option, map, option_map, unwrap_or}
+use Rattle.std.specs.Prelude.{◌≡◌, ◌+◌, ◌||◌, ◌≤◌, ℕ, Bool, true, false, List, Option, None, length, map, option_map, unwrap_or}
 use Rattle.rtlsim.specs.Requests.{TextsView, set_form}
 use Rattle.byte_streams.specs.Stands.{Stand}
 use Rattle.rtlsim.specs.Sinks.{Sinks, IsSilent, ShowsIf, outputs}
@@ -14,15 +14,33 @@ use Rattle.rtlsim_commands.specs.Told.{quiet, verdict, summary, events, levels}
 use Rattle.rtlsim_commands.specs.Watched.{OfEvents, OfMachine, Watched}
 use Rattle.rtlsim_command_faults.specs.declared.status.Status.{Status}
 use Rattle.rtlsim_command_faults.specs.declared.telling.Telling.{Telling}
+use Rattle.vhdl_lexer.specs.Cut.{Cuts}
+use Rattle.vhdl_lexer.specs.Fault.{greatest_length}
+use Rattle.vhdl_lexer.specs.declared.token.Token.{Token}
 use Rattle.vhdl_source_files.specs.Files.{file_view, joined}
 use Rattle.rtlsim_command_line.specs.Words.{CallView}
 use Rattle.rtlsim_command_line.specs.declared.call.Order.TheVariants.{Forward, Reverse}
 use Rattle.rtlsim_command_line.specs.declared.call.Request.{Request}
 use Rattle.rtlsim_command_line.specs.declared.call.Request.TheVariants.{Eval, Net, Check, Dot, Json, Run, Levels}
 
+-- an explanation or an object is asked for, which tell places
+abbrev pub is_object : Request → Bool
+is_object Json = true
+is_object _ = false
+
+abbrev pub asks_places : CallView → Bool
+asks_places call = call.explains || is_object call.request
+
+-- where they are asked for, these are the tokens of a source that isn't too long, if it has any
+pub record AreTokens (asked : Bool) (source : List ℕ) (tokens : List Token) : Type 0 where
+  pub only : asked ≡ true → length source ≤ greatest_length
+      → (other : List Token) → Cuts None 0 source other → other ≡ tokens
+
 -- the commands tell of these files, this stimulus, and explain faults where that is asked for
 pub record IsToldOf (call : CallView) (texts : TextsView) (telling : Telling) : Type 0 where
   pub files : map file_view telling.files.now ≡ texts.files
+  pub source : telling.source.text.now ≡ joined texts.files
+  pub tokens : AreTokens (asks_places call) telling.source.text.now telling.source.tokens.now
   pub stimulus : telling.stimulus.now ≡ unwrap_or call.stimulus set_form
   pub text : option_map (λ text. text.now) telling.stimulus_text ≡ option_map (λ name. texts.stimulus) call.stimulus
   pub explains : telling.explains ≡ call.explains
@@ -30,27 +48,35 @@ pub record IsToldOf (call : CallView) (texts : TextsView) (telling : Telling) : 
 -- a picker goes by the order of the run that is asked for: of so many processes the first is next, or the last
 abbrev pub GoesBy : {P : Type 0} → Request → (picks : P → (count place : ℕ) → P → Type 0) → Type 0
 GoesBy {P} (Run is_event Forward) picks = (old new : P) (count place : ℕ) → picks old count place new → place ≡ 0
-GoesBy {P} (Run is_event Reverse) picks = (old new : P) (count place : ℕ) → picks old count place new → place + 1 ≡ count
+GoesBy {P} (Run is_event Reverse) picks =
+    (old new : P) (count place : ℕ) → picks old count place new → place + 1 ≡ count
 GoesBy _ picks = ⊥
 
 module _ (telling : Telling) (source top : List ℕ) (outcome : Status) (o : Outputs) (Holds : List Stand → Type 0) where
-  -- A run under the text of a stimulus, compared with what is expected if that is given. This holds of what is seen of it where it writes the
-  -- whole trace. No order of processes counts.
+  -- A run under the text of a stimulus, compared with what is expected if that is given. This holds of what is seen of
+  -- it where it writes the whole trace. No order of processes counts.
   abbrev pub ServesMachine : (text : List ℕ) → (expected : Option (List ℕ)) → Type 0
-  ServesMachine text expected = ServesSource (Watched (Comparing (machine text) (RunsMachine text) expected) (OfMachine text Holds)) summary telling source top outcome o
+  ServesMachine text expected =
+      ServesSource (Watched (Comparing (machine text) (RunsMachine text) expected) (OfMachine text Holds))
+      summary telling source top outcome o
 
   abbrev pub ServesEvents : (text : List ℕ) → (expected : Option (List ℕ)) → Type 0
-  ServesEvents text expected = ServesSource (Watched (Comparing (by.events text) (RunsEvents text) expected) (OfEvents text Holds)) (events text) telling source top outcome o
+  ServesEvents text expected =
+      ServesSource (Watched (Comparing (by.events text) (RunsEvents text) expected) (OfEvents text Holds))
+      (events text) telling source top outcome o
 
   abbrev pub ServesLevels : (text : List ℕ) → (expected : Option (List ℕ)) → Type 0
-  ServesLevels text expected = ServesSource (Watched (Comparing (machine text) (RunsMachineByLevels text) expected) (OfMachine text Holds)) levels telling source top outcome o
+  ServesLevels text expected =
+      ServesSource (Watched (Comparing (machine text) (RunsMachineByLevels text) expected) (OfMachine text Holds))
+      levels telling source top outcome o
 
   -- by events alone where `is_event` says so
   abbrev pub ServesRun : (is_event : Bool) → (text : List ℕ) → (expected : Option (List ℕ)) → Type 0
   ServesRun true text expected = ServesEvents text expected
   ServesRun false text expected = ServesMachine text expected
 
-  -- the command of a request serves the source, with the words that set inputs, the text of the stimulus and that of what is expected
+  -- the command of a request serves the source, with the words that set inputs, the text of the stimulus and that of
+  -- what is expected
   abbrev pub ServesBy : Request → (sets : List (List ℕ)) → (text : List ℕ) → (expected : Option (List ℕ)) → Type 0
   ServesBy Eval sets text expected = ServesSource (EvaluatesMachine sets) quiet telling source top outcome o
   ServesBy Net sets text expected = ServesSource ListsNet quiet telling source top outcome o
@@ -60,10 +86,12 @@ module _ (telling : Telling) (source top : List ℕ) (outcome : Status) (o : Out
   ServesBy (Run is_event order) sets text expected = ServesRun is_event text expected
   ServesBy Levels sets text expected = ServesLevels text expected
 
--- The command of a call serves the source of the files. Where the call asks for it, it is shown how far a run is, and else nothing.
+-- The command of a call serves the source of the files. Where the call asks for it, it is shown how far a run is, and
+-- else nothing.
 pub record ServesTexts (call : CallView) (texts : TextsView) (outcome : Status) (s : Sinks) : Type 0 where
   pub telling : Telling
   pub told : IsToldOf call texts telling
-  pub serves : ServesBy telling (joined texts.files) call.top outcome (outputs s) (ShowsIf call.shows_progress texts.stimulus s)
+  pub serves : ServesBy telling (joined texts.files) call.top outcome
+      (outputs s) (ShowsIf call.shows_progress texts.stimulus s)
       call.request call.sets texts.stimulus texts.expected
   pub silent : call.shows_progress ≡ false → IsSilent s

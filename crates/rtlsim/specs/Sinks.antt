@@ -18,7 +18,14 @@ pub record Sinks : Type 0 where
 -- of these states
 abbrev pub sinks : (out out_after err err_after progress progress_after : SinkState) → Sinks
 sinks out out_after err err_after progress progress_after =
-    record { out = out; out_after = out_after; err = err; err_after = err_after; progress = progress; progress_after = progress_after }
+    record {
+      out = out;
+      out_after = out_after;
+      err = err;
+      err_after = err_after;
+      progress = progress;
+      progress_after = progress_after;
+    }
 
 -- neither output has failed
 abbrev pub AreIntact : (out err : SinkState) → Type 0

@@ -23,7 +23,14 @@ pub record Writers : Type 0 where
 -- of what these hold
 abbrev pub writers : (out out_after err err_after progress progress_after : Option (List ℕ)) → Writers
 writers out out_after err err_after progress progress_after =
-    record { out = out; out_after = out_after; err = err; err_after = err_after; progress = progress; progress_after = progress_after }
+    record {
+      out = out;
+      out_after = out_after;
+      err = err;
+      err_after = err_after;
+      progress = progress;
+      progress_after = progress_after;
+    }
 
 -- what was taken is in the writer: all of it, or where the writer failed a beginning
 abbrev pub GoesOut : (is_out : Bool) → (taken held : Option (List ℕ)) → Type 0
@@ -40,8 +47,10 @@ TellsLoss true had_failed old new = new ≡ old
 abbrev pub fresh : Option (List ℕ) → SinkState
 fresh held = record { taken = held; failed = false }
 
--- What two sinks have taken goes out to their writers. The status is the one that was to be, or 8 where something didn't go out.
-pub record Ends (outcome : Status) (out err : SinkState) (result : Status) (out_held err_held : Option (List ℕ)) : Type 0 where
+-- What two sinks have taken goes out to their writers. The status is the one that was to be, or 8 where something
+-- didn't go out.
+pub record Ends (outcome : Status) (out err : SinkState)
+    (result : Status) (out_held err_held : Option (List ℕ)) : Type 0 where
   pub is_out : Bool
   pub told : SinkState
   pub loss : TellsLoss is_out out.failed err told
@@ -68,8 +77,10 @@ pub record TellsMemory (result : Status) (err err_held : Option (List ℕ)) : Ty
   pub held : told.taken ≡ err_held
   pub status : result ≡ ended_by told.failed status.Memory
 
--- The program for its words, or for none, where they are no text or memory for them is refused; the standard input has these bytes left.
-abbrev pub ServesArguments : Reading → (words : Option (List (List ℕ))) → (left : Option (List ℕ)) → (outcome : Status) → Sinks → Type 0
+-- The program for its words, or for none, where they are no text or memory for them is refused; the standard input has
+-- these bytes left.
+abbrev pub ServesArguments : Reading → (words : Option (List (List ℕ)))
+    → (left : Option (List ℕ)) → (outcome : Status) → Sinks → Type 0
 ServesArguments Gives None left outcome s = Silently (RefusesWords ⊤ outcome) s
 ServesArguments Gives (Some words) left outcome s =
     (after : ReaderState) × ServesWords Gives words (record { left = left; failed = false }) after outcome s
@@ -79,4 +90,5 @@ abbrev pub RunsArguments : Reading → (left : Option (List ℕ)) → (result : 
 RunsArguments Gives left result w =
     (TellsMemory result w.err w.err_after × (w.out_after ≡ w.out) × (w.progress_after ≡ w.progress))
     ⊎ ((words : Option (List (List ℕ)))
-    × GoesToWriters (ServesArguments Gives words left) result (fresh w.out) (fresh w.err) (fresh w.progress) w.out_after w.err_after w.progress_after)
+    × GoesToWriters (ServesArguments Gives words left) result (fresh w.out)
+    (fresh w.err) (fresh w.progress) w.out_after w.err_after w.progress_after)

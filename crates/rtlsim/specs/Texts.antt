@@ -18,7 +18,8 @@ abbrev pub read_view : ReadFile → FileView
 read_view file = record { name = file.name.now; text = file.text.items }
 
 abbrev pub texts_view : Texts → TextsView
-texts_view t = texts t.file.now (map read_view t.before.items, (texts_of t.main, option_map (λ text. text.items) t.expected))
+texts_view t =
+    texts t.file.now (map read_view t.before.items, (texts_of t.main, option_map (λ text. text.items) t.expected))
 
 -- the text of these files: that of one is its own, and that of several was joined before
 abbrev pub source_by : (joined : List ℕ) → List FileView → List ℕ

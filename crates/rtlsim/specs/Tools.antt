@@ -28,7 +28,8 @@ abbrev pub Silently : (Outputs → Type 0) → Sinks → Type 0
 Silently Does s = Does (outputs s) × IsSilent s
 
 -- What was read is served; or why it isn't read is told by this text; or want of memory is.
-abbrev pub ReadsInputs : {A Why : Type 0} → (Gives : Result A Why → Type 0) → (text_of : Why → List ℕ) → (Served : A → Type 0) → (outcome : Status) → Sinks → Type 0
+abbrev pub ReadsInputs : {A Why : Type 0} → (Gives : Result A Why → Type 0)
+    → (text_of : Why → List ℕ) → (Served : A → Type 0) → (outcome : Status) → Sinks → Type 0
 ReadsInputs {A} {Why} Gives text_of Served outcome s =
     Silently (TellsInput memory_line status.Memory outcome) s
     ⊎ ((why : Why) × Gives (Err why) × Silently (TellsInput (text_of why) status.Failed outcome) s)
@@ -37,7 +38,8 @@ ReadsInputs {A} {Why} Gives text_of Served outcome s =
 -- What is done for a call. Its files are read first; then its command serves the source.
 unfoldable pub Performs : Reading → CallView → (old new : ReaderState) → (outcome : Status) → Sinks → Type 0
 Performs Gives call old new outcome s =
-    ReadsInputs (GivesTexts Gives call old new) (input_text call.explains) (λ texts. ServesTexts call texts outcome s) outcome s
+    ReadsInputs (GivesTexts Gives call old new) (input_text call.explains)
+    (λ texts. ServesTexts call texts outcome s) outcome s
 
 -- the words are refused for this reason, or for want of memory, with a text on the standard error and nothing else
 pub record RefusesWords (Reason : Type 0) (outcome : Status) (o : Outputs) : Type 0 where
@@ -48,9 +50,11 @@ pub record RefusesWords (Reason : Type 0) (outcome : Status) (o : Outputs) : Typ
       ⊎ ((outcome ≡ ended status.Memory o.out_after o.err_after) × (text ≡ memory_line))
 
 -- what the program does: it serves a call that its words say, or refuses words that say none
-abbrev pub ServesCall : Reading → (words : List (List ℕ)) → (old new : ReaderState) → (outcome : Status) → Sinks → Type 0
+abbrev pub ServesCall : Reading → (words : List (List ℕ))
+    → (old new : ReaderState) → (outcome : Status) → Sinks → Type 0
 ServesCall Gives words old new outcome s =
-    ((call : Call) × Says words call × Performs Gives (call_view call) old new outcome s) ⊎ Silently (RefusesWords (SayNothing words) outcome) s
+    ((call : Call) × Says words call × Performs Gives (call_view call) old new outcome s)
+    ⊎ Silently (RefusesWords (SayNothing words) outcome) s
 
 -- ---- words in the first line of the input
 
@@ -60,15 +64,18 @@ words_in line = filter (λ word. not (length word == 0)) (slice_split (λ byte. 
 
 -- the same for the words of a line, which have to be text
 abbrev pub ServesLine : Reading → (line : List ℕ) → (old new : ReaderState) → (outcome : Status) → Sinks → Type 0
-ServesLine Gives line old new outcome s = ServesCall Gives (words_in line) old new outcome s ⊎ Silently (RefusesWords (¬ (IsUtf8 line)) outcome) s
+ServesLine Gives line old new outcome s =
+    ServesCall Gives (words_in line) old new outcome s ⊎ Silently (RefusesWords (¬ (IsUtf8 line)) outcome) s
 
--- Without words those of the input's first line count, and the rest of the input is held as the standard input. Until that line is read
--- nothing asks for an explanation.
+-- Without words those of the input's first line count, and the rest of the input is held as the standard input. Until
+-- that line is read nothing asks for an explanation.
 abbrev pub ServesFirstLine : Reading → (old new : ReaderState) → (outcome : Status) → Sinks → Type 0
 ServesFirstLine Gives old new outcome s =
-    ReadsInputs (GivesWhole old new) (λ problem. input_line) (λ all. (left : List ℕ) × ServesLine Gives (first_line_of all) (held (after_first ends_line all)) (held left) outcome s) outcome s
+    ReadsInputs (GivesWhole old new) (λ problem. input_line) (λ all. (left : List ℕ)
+    × ServesLine Gives (first_line_of all) (held (after_first ends_line all)) (held left) outcome s) outcome s
 
 -- the program for its words; without words, for those of the input's first line
-abbrev pub ServesWords : Reading → (words : List (List ℕ)) → (old new : ReaderState) → (outcome : Status) → Sinks → Type 0
+abbrev pub ServesWords : Reading → (words : List (List ℕ))
+    → (old new : ReaderState) → (outcome : Status) → Sinks → Type 0
 ServesWords Gives [] old new outcome s = ServesFirstLine Gives old new outcome s
 ServesWords Gives (word ∷ words) old new outcome s = ServesCall Gives (word ∷ words) old new outcome s

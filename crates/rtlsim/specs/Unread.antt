@@ -19,20 +19,27 @@ pub record Unread : Type 0 where
 
 -- why it isn't read, and what is to be done about it
 abbrev pub said_of : InputProblem → List ℕ × List ℕ
-said_of Missing =
-    (codes "there is no file of this name", codes "see the spelling, and the folder that the program runs in; @ names the standard input")
-said_of Denied = (codes "it isn't readable for this user", codes "let this user read it, and enter each folder on the way to it")
+said_of Missing = (
+  codes "there is no file of this name",
+  codes "see the spelling, and the folder that the program runs in; @ names the standard input",
+)
+said_of Denied =
+    (codes "it isn't readable for this user", codes "let this user read it, and enter each folder on the way to it")
 said_of Folder = (codes "it is a folder", codes "name a file in it")
 said_of NotOpened = (codes "it can't be opened", codes "see that each part of its name but the last is a folder")
-said_of ReadFailed =
-    (codes "reading it failed", codes "copy it by another program: that shows whether its disk or the other end of its pipe is at fault")
-said_of TooLong = (codes "it has more than 33554432 bytes", codes "split it; of a source no more than 4194304 bytes are read")
+said_of ReadFailed = (
+  codes "reading it failed",
+  codes "copy it by another program: that shows whether its disk or the other end of its pipe is at fault",
+)
+said_of TooLong =
+    (codes "it has more than 33554432 bytes", codes "split it; of a source no more than 4194304 bytes are read")
 said_of Endless = (codes "33554432 reads of it came to no end", codes "write what it gives into a file, and name that")
 
 -- "NAME: input: REASON", and the help below
 abbrev pub input_explained : Unread → List ℕ
 input_explained unread =
-    unread.name ++ codes ": input: " ++ (said_of unread.problem).0 ++ codes "\nhelp: " ++ (said_of unread.problem).1 ++ codes "\n"
+    unread.name ++ codes ": input: " ++ (said_of unread.problem).0
+    ++ codes "\nhelp: " ++ (said_of unread.problem).1 ++ codes "\n"
 
 -- the line, and below it the explanation where that is asked for
 abbrev pub input_text : (explains : Bool) → Unread → List ℕ

@@ -1,8 +1,8 @@
 //! What is done for a call once its files are read.
 
-ghost use Rattle.std.specs.Prelude.{◌≡◌, ◌⊎◌, false, map, option_map, unwrap_or};
+ghost use Rattle.std.specs.Prelude.{◌≡◌, ◌⊎◌, false, map, option_map, unwrap_or, IfOk};
 ghost use Rattle.rtlsim.specs.Requests as requests;
-ghost use Rattle.rtlsim.specs.Served.{GoesBy, ServesBy, ServesRun, ServesTexts};
+ghost use Rattle.rtlsim.specs.Served.{GoesBy, ServesBy, ServesRun, ServesTexts, AreTokens, asks_places};
 ghost use Rattle.rtlsim.specs.Sinks.{AreIntact, ShowsIf, outputs, sinks};
 ghost use Rattle.rtlsim_commands.specs.Served.{Serves, both};
 ghost use Rattle.rtlsim_commands.specs.Sights.{Seeing, events_of};
@@ -24,7 +24,9 @@ use rtlsim_commands::{
     CheckNet, Command, Compared, EvalNet, Form, Forward, Front, ListNet, Pick, Reverse, RunEvents,
     RunLevels, RunMachine, Status, Telling, describe, serve,
 };
-use std::alloc::Global;
+use std::alloc::{AllocError, Global};
+use vhdl_lexer::{LexFault, Token, lex};
+use vhdl_slips::Lexed;
 
 /// Does what is asked for with what was read, or tells that memory was refused before.
 pub(crate) fn perform_texts<'b, F: Front, O: Sink, E: Sink, G: Sink>(
@@ -44,16 +46,24 @@ pub(crate) fn perform_texts<'b, F: Front, O: Sink, E: Sink, G: Sink>(
     let Ok(prepared) = prepare(alloc, &call.sets, texts) else {
         return refuse_input(ReadFault::NoMemory, false, out, err);
     };
+    let source = prepared.source();
+    let Ok(tokens) = tokens_for(alloc, call, source) else {
+        return refuse_input(ReadFault::NoMemory, false, out, err);
+    };
     let (_source, stimulus) = texts.main.texts();
     let telling = Telling {
         files: &prepared.files,
+        source: Lexed {
+            text: source,
+            tokens: &tokens,
+        },
         stimulus: stimulus_name(call),
         stimulus_text: call.stimulus.map(|_name| stimulus),
         explains: call.explains,
     };
     let job = Job {
         request: call.request,
-        source: prepared.source(),
+        source,
         top: call.top.as_bytes(),
         telling: &telling,
         sets: &prepared.sets,
@@ -61,6 +71,30 @@ pub(crate) fn perform_texts<'b, F: Front, O: Sink, E: Sink, G: Sink>(
         expected: texts.expected(),
     };
     perform_shown::<F, _, _, _>(alloc, &job, call.shows_progress, out, err, progress)
+}
+
+/// Whether an explanation or an object is asked for, which tell places.
+fn asks_places(call: &Call<'_>) -> bool
+    ensures { result ≡ asks_places (call_view call.now) }
+{
+    call.explains || matches!(call.request, Request::Json)
+}
+
+/// The tokens of a source by which places are told, where they are asked for; none of a source that
+/// has no tokens. It takes the memory of the tokens.
+fn tokens_for(alloc: Global, call: &Call<'_>, source: &[u8]) -> Result<Vec<Token>, AllocError>
+    ensures { IfOk result (λ tokens. AreTokens (asks_places (call_view call.now)) source.now tokens.items) }
+{
+    if !asks_places(call) {
+        return Ok(Vec::new(alloc));
+    }
+    match lex(alloc, source) {
+        Ok(tokens) => Ok(tokens),
+        Err(fault) => match fault {
+            LexFault::NoMemory => Err(AllocError),
+            _ => Ok(Vec::new(alloc)),
+        },
+    }
 }
 
 /// The name of the stimulus, or what stands for it.

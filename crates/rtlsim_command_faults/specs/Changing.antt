@@ -4,7 +4,8 @@ use Rattle.rtl_net.specs.Names.{net_name}
 use Rattle.rtl_net.specs.Nets.{NetlistView}
 use Rattle.rtlsim_findings.specs.Ranges.{follows, range_text}
 
--- The elements from the one of this name to the net `last`, as a range, and then the nets of these numbers, so many of them at most.
+-- The elements from the one of this name to the net `last`, as a range, and then the nets of these numbers, so many of
+-- them at most.
 abbrev pub names_from : NetlistView → (first : List ℕ) → (last room : ℕ) → (numbers : List ℕ) → List ℕ
 names_from net first last room [] = range_text first (net_name net last)
 names_from net first last zero (number ∷ numbers) = range_text first (net_name net last) ++ codes " and more"
@@ -15,4 +16,5 @@ names_from net first last (suc room) (number ∷ numbers) =
 -- "still changing: NAME, NAME", of sixteen nets at most; nothing where there is none
 abbrev pub changing_line : NetlistView → (numbers : List ℕ) → List ℕ
 changing_line net [] = []
-changing_line net (number ∷ numbers) = codes "still changing: " ++ names_from net (net_name net number) number 15 numbers ++ codes "\n"
+changing_line net (number ∷ numbers) =
+    codes "still changing: " ++ names_from net (net_name net number) number 15 numbers ++ codes "\n"

@@ -8,11 +8,11 @@ use Rattle.rtlsim_command_faults.specs.Expecting.{IsExpectedBy}
 use Rattle.rtlsim_command_faults.specs.Lines.{fault_lines}
 use Rattle.rtlsim_command_faults.specs.Reports.{lex_report, syntax_report, name_report, elab_report, stim_report}
 use Rattle.rtlsim_command_faults.specs.declared.faults.Fault.{Fault}
-use Rattle.rtlsim_command_faults.specs.declared.faults.Fault.TheVariants.{Lex, Syntax, Name, Elab, Rejected, Stim, Expect, Differs, NoSettling, Memory, Output}
+use Rattle.rtlsim_command_faults.specs.declared.faults.Fault.TheVariants.{Lex, Syntax, Name, Elab, Rejected, Stim, NoSettling}
 use Rattle.rtlsim_command_faults.specs.declared.telling.Telling.{Telling}
 use Rattle.rtlsim_refusals.specs.Explained.{refusal_explained, source_explained}
 use Rattle.rtlsim_refusals.specs.Stimuli.{stim_explained, settle_explained}
-use Rattle.vhdl_slips.specs.Words.{Read}
+use Rattle.vhdl_slips.specs.Words.{Read, read_of}
 use Rattle.rtlsim_findings_text.specs.Explained.{rejection_explained}
 use Rattle.vhdl_source_files.specs.Files.{FileView, file_view, joined, source_name}
 use Rattle.vhdl_expected.specs.Told.{Expected, nothing}
@@ -31,7 +31,8 @@ pub record Source : Type 0 where
 -- the source of these files, which has this report
 abbrev pub IsRead : List FileView → Option Report → Source → Type 0
 IsRead files report source =
-    (source.read.text ≡ joined files) × Cuts None 0 source.read.text source.read.tokens × IsExpectedBy source.read report source.expected
+    (source.read.text ≡ joined files) × Cuts None 0 source.read.text source.read.tokens
+    × IsExpectedBy source.read report source.expected
 
 -- a source that isn't read
 abbrev pub unread : Source
@@ -56,14 +57,13 @@ explanation telling read net (Lex fault) = refusal_said (files_of telling) (lex_
 explanation telling read net (Syntax fault) = source_said (files_of telling) read (syntax_report fault)
 explanation telling read net (Name fault) = source_said (files_of telling) read (name_report fault)
 explanation telling read net (Elab fault) = source_said (files_of telling) read (elab_report fault)
-explanation telling read net (Rejected faults) = rejection_explained (files_of telling) net faults.items
+explanation telling read net (Rejected faults) =
+    rejection_explained (files_of telling) (read_of telling.source) net faults.items
 explanation telling read net (Stim fault) =
-    reported (stim_explained telling.stimulus.now (option_map (λ text. text.now) telling.stimulus_text) net) (stim_report fault)
+    reported (stim_explained telling.stimulus.now (option_map (λ text. text.now) telling.stimulus_text) net)
+    (stim_report fault)
 explanation telling read net (NoSettling time) = settle_explained (source_name (files_of telling)) time
-explanation telling read net (Expect fault) = []
-explanation telling read net (Differs difference) = []
-explanation telling read net Memory = []
-explanation telling read net Output = []
+explanation telling read net _ = []
 
 -- the source is read for its explanation
 abbrev pub is_read : Fault → Bool
@@ -81,14 +81,17 @@ source_report _ = None
 
 -- what is told of a fault: its lines, and below them its explanation where that is asked for
 abbrev pub told : Telling → (read : Source) → NetlistView → Fault → List ℕ
-told telling read net fault = fault_lines (files_of telling) net fault ++ (if telling.explains then explanation telling read net fault else [])
+told telling read net fault =
+    fault_lines (files_of telling) net fault ++ (if telling.explains then explanation telling read net fault else [])
 
 -- ---- verdicts
 
 abbrev pub verdict_explained : Telling → NetlistView → Verdict → List ℕ
 verdict_explained telling net (verdict.Yes report) = []
-verdict_explained telling net (verdict.No faults) = rejection_explained (files_of telling) net faults.items
+verdict_explained telling net (verdict.No faults) =
+    rejection_explained (files_of telling) (read_of telling.source) net faults.items
 
 -- a verdict's text, and below it the explanation of its faults where that is asked for
 abbrev pub with_explanation : (text_of : NetlistView → Verdict → List ℕ) → Telling → NetlistView → Verdict → List ℕ
-with_explanation text_of telling net v = text_of net v ++ (if telling.explains then verdict_explained telling net v else [])
+with_explanation text_of telling net v =
+    text_of net v ++ (if telling.explains then verdict_explained telling net v else [])

@@ -13,7 +13,7 @@ use Rattle.rtl_run.specs.declared.summary.RunFault.{RunFault}
 use Rattle.rtl_run.specs.declared.summary.RunFault.TheVariants as run
 use Rattle.rtl_stim_lines.specs.declared.faults.StimFault.{StimFault}
 use Rattle.rtl_stim_lines.specs.declared.faults.StimFault.TheVariants as stim
-use Rattle.rtlsim_refusals.specs.Stimuli.{sets_twice}
+use Rattle.rtlsim_refusals.specs.Stimuli.{is_of_two}
 use Rattle.vhdl_expand_rules.specs.declared.fault.ElabFault.TheVariants as elab
 use Rattle.vhdl_lexer.specs.declared.fault.LexFault.TheVariants as lex
 use Rattle.vhdl_names_rules.specs.declared.fault.NameFault.TheVariants as names
@@ -80,8 +80,8 @@ has_names (Stim (stim.Race time input clock)) = true
 has_names (Differs difference) = true
 has_names _ = false
 
--- these names take memory, and so do the words of lines, to find the one that sets first what is set twice
+-- these names take memory, and so do the words of lines, to find the first of two that can't both stand
 abbrev pub takes_memory : Fault → Bool
 takes_memory (Differs difference) = false
-takes_memory (Stim (stim.InLine its_rule line)) = sets_twice (rule.Stim its_rule)
+takes_memory (Stim (stim.InLine its_rule line)) = is_of_two (rule.Stim its_rule)
 takes_memory fault = has_names fault

@@ -1,5 +1,6 @@
--- Which faults of names and types of a source follow its first, and what is told of them. What is at fault is taken out of the source, and
--- the next fault is one of what is left; so it goes on until what is left is refused for no name or type.
+-- Which faults of names and types of a source follow its first, and what is told of them. What is at fault is taken out
+-- of the source, and the next fault is one of what is left; so it goes on until what is left is refused for no name
+-- or type.
 use Rattle.std.specs.Prelude.{◌≡◌, ◌⊎◌, ℕ, zero, suc, Bool, true, false, List, [], ◌++◌, Option, Some, None, option_to_list}
 use Rattle.rtl_net.specs.Nets.{NetlistView}
 use Rattle.fault_rules.specs.declared.report.Report.{Report}
@@ -74,10 +75,12 @@ abbrev pub Reads : (top : List ℕ) → (So : (left : List ℕ) → NameFault �
 Reads top So None found = found ≡ ended end.Whole
 Reads top So (Some left) found =
     (found ≡ ended end.NoMemory)
-    ⊎ ((HasNames left top × (found ≡ ended end.Whole)) ⊎ ((fault : NameFault) × Refuses left top (Name fault) × So left fault))
+    ⊎ ((HasNames left top × (found ≡ ended end.Whole))
+    ⊎ ((fault : NameFault) × Refuses left top (Name fault) × So left fault))
 
 -- A fault whose cause is told already isn't told. Else it is, where so many may be told still, and then the others are.
-abbrev pub Tells : (known : Bool) → (more : ℕ) → (told : List Told) → (So : (more : ℕ) → Found → Type 0) → Found → Type 0
+abbrev pub Tells : (known : Bool) → (more : ℕ) → (told : List Told)
+    → (So : (more : ℕ) → Found → Type 0) → Found → Type 0
 Tells true more told So found = So more found
 Tells false zero told So found = found ≡ ended end.More
 Tells false (suc more) told So found = (others : Found) × (found ≡ before told others) × So more others
@@ -87,7 +90,8 @@ abbrev pub Further : Asked → (steps more : ℕ) → (left : List ℕ) → Name
 Further a zero more left fault found = found ≡ ended end.More
 Further a (suc steps) more left fault found =
     Reads a.top
-    (λ next other. Tells (is_known a.source a.tokens next other) more (name_told a other) (λ fewer others. Further a steps fewer next other others) found)
+    (λ next other. Tells (is_known a.source a.tokens next other) more
+    (name_told a other) (λ fewer others. Further a steps fewer next other others) found)
     (past a.source a.tokens left fault) found
 
 -- ---- of a source

@@ -37,7 +37,9 @@ place_text files _ = []
 
 -- "rtlsim: LAYER NUMBER NAME"
 abbrev pub rule_text : Rule → List ℕ
-rule_text rule = codes "rtlsim: " ++ (words_of rule).layer.now ++ codes " " ++ decimal (words_of rule).number ++ codes " " ++ (words_of rule).name.now
+rule_text rule =
+    codes "rtlsim: " ++ (words_of rule).layer.now ++ codes " "
+    ++ decimal (words_of rule).number ++ codes " " ++ (words_of rule).name.now
 
 -- the rule, and where it is broken
 abbrev pub report_text : List FileView → Report → List ℕ
@@ -60,7 +62,8 @@ output_line = codes "rtlsim: output\n"
 -- the data input that changes, and then the clock
 abbrev pub race_line : NetlistView → (time input clock : ℕ) → List ℕ
 race_line net time input clock =
-    rule_text (rules.Stim stimuli.Race) ++ codes " " ++ decimal time ++ codes " " ++ net_name net input ++ codes " " ++ net_name net clock ++ codes "\n"
+    rule_text (rules.Stim stimuli.Race) ++ codes " " ++ decimal time ++ codes " "
+    ++ net_name net input ++ codes " " ++ net_name net clock ++ codes "\n"
 
 abbrev pub stim_line : List FileView → NetlistView → StimFault → List ℕ
 stim_line files net (Race time input clock) = race_line net time input clock

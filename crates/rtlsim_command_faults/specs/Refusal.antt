@@ -23,7 +23,8 @@ use Rattle.vhdl_front_rules.specs.declared.fault.SourceFault.TheVariants as refu
 -- this is told of a report on a source that has tokens
 abbrev pub TellsRead : List FileView → (source : List ℕ) → Option Report → Option Told → Type 0
 TellsRead files source report told =
-    (tokens : List Token) × (expected : Expected) × Cuts None 0 source tokens × IsExpectedBy (with_tokens source tokens) report expected
+    (tokens : List Token) × (expected : Expected) × Cuts None 0 source tokens
+    × IsExpectedBy (with_tokens source tokens) report expected
     × (told ≡ told_of files (with_tokens source tokens) expected report)
 
 -- this is told of the first fault; nothing of another one than a source's
@@ -45,9 +46,11 @@ pub record AreTold (files : List FileView) (source top : List ℕ) (fault : Faul
 
 -- the object of all of them
 abbrev pub IsObject : List FileView → (source top : List ℕ) → Fault → (text : List ℕ) → Type 0
-IsObject files source top fault text = (told : List Told) × AreTold files source top fault told × (text ≡ refused_text told)
+IsObject files source top fault text =
+    (told : List Told) × AreTold files source top fault told × (text ≡ refused_text told)
 
 -- it is written; of want of memory nothing is
 abbrev pub Describes : List FileView → (source top : List ℕ) → SourceFault → (old new : SinkState) → Type 0
 Describes files source top refused.NoMemory old new = new ≡ old
-Describes files source top fault old new = (text : List ℕ) × IsObject files source top (of_source fault) text × Goes old new text
+Describes files source top fault old new =
+    (text : List ℕ) × IsObject files source top (of_source fault) text × Goes old new text

@@ -63,13 +63,16 @@ elab_report elab.NoMemory = None
 -- ---- a stimulus, expected values and a run
 
 abbrev pub stim_report : StimFault → Option Report
-stim_report (stim.InLine its_rule line) = Some (record { rule = rule.Stim its_rule; place = Line line; subject = Nothing })
+stim_report (stim.InLine its_rule line) =
+    Some (record { rule = rule.Stim its_rule; place = Line line; subject = Nothing })
 stim_report stim.NoStop = Some (record { rule = rule.Stim stimuli.NoStop; place = Nowhere; subject = Nothing })
-stim_report (stim.Race time input clock) = Some (record { rule = rule.Stim stimuli.Race; place = Time time; subject = Race input clock })
+stim_report (stim.Race time input clock) =
+    Some (record { rule = rule.Stim stimuli.Race; place = Time time; subject = Race input clock })
 stim_report stim.NoMemory = None
 
 abbrev pub expect_report : ExpectFault → Option Report
-expect_report (expect.InLine its_rule line) = Some (record { rule = rule.Expect its_rule; place = Line line; subject = Nothing })
+expect_report (expect.InLine its_rule line) =
+    Some (record { rule = rule.Expect its_rule; place = Line line; subject = Nothing })
 expect_report expect.NoMemory = None
 
 -- a moment that doesn't settle

@@ -18,13 +18,16 @@ use Rattle.byte_streams.specs.Written.{SinkState, TakesBeginning, Goes}
 
 -- the source is read, and its fault explained; or memory for that is refused, and nothing is written
 abbrev pub ExplainsRead : List FileView → Option Report → (whole : Bool) → (old new : SinkState) → Type 0
-ExplainsRead files report true old new = (read : Source) × IsRead files report read × Goes old new (source_said files read report)
+ExplainsRead files report true old new =
+    (read : Source) × IsRead files report read × Goes old new (source_said files read report)
 ExplainsRead files report false old new = new ≡ old
 
--- the fault is explained, whichever netlist is looked at; or memory to read the source is refused, and nothing is written
+-- the fault is explained, whichever netlist is looked at; or memory to read the source is refused, and nothing
+-- is written
 abbrev pub Explains : Telling → Fault → (whole : Bool) → (old new : SinkState) → Type 0
 Explains telling fault true old new =
-    (read : Source) × (is_read fault ≡ true → IsRead (files_of telling) (source_report fault) read) × ((net : NetlistView) → Goes old new (explanation telling read net fault))
+    (read : Source) × (is_read fault ≡ true → IsRead (files_of telling) (source_report fault) read)
+    × ((net : NetlistView) → Goes old new (explanation telling read net fault))
 Explains telling fault false old new = (is_read fault ≡ true) × (new ≡ old)
 
 -- ---- what is told of a fault

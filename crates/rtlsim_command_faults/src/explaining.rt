@@ -33,8 +33,8 @@ pub(crate) fn explain_fault<S: Sink>(
 ) -> Result<(), NoMemory>
     requires names { is_of_names fault.now ≡ true }
     ensures printed { Prints result (S.state sink.old) (S.state sink.new)
-        (if site.now.telling.now.explains then spec.explanation site.now.telling.now spec.unread site.now.net.now fault.now
-        else []) }
+        (if site.now.telling.now.explains
+        then spec.explanation site.now.telling.now spec.unread site.now.net.now fault.now else []) }
     ensures named { OnErr result (takes_memory fault.now ≡ true) }
 {
     if site.telling.explains {
@@ -53,7 +53,15 @@ fn explain_named<S: Sink>(site: &Site<'_>, fault: &Fault, sink: &mut S) -> Resul
 {
     match fault {
         Fault::Rejected(faults) => {
-            explain_rejection(site.alloc, site.telling.files, site.net, faults, sink)
+            let telling = site.telling;
+            explain_rejection(
+                site.alloc,
+                telling.files,
+                telling.source,
+                site.net,
+                faults,
+                sink,
+            )
         }
         Fault::Stim(stim) => explain_stimulus(site, *stim, sink),
         _ => Ok(()),

@@ -2,6 +2,7 @@
 
 use rtl_net::Net;
 use std::alloc::Global;
+use vhdl_slips::Lexed;
 use vhdl_source_files::SourceFile;
 
 /// The texts that a command was given, by which its faults are told, and how.
@@ -9,6 +10,9 @@ use vhdl_source_files::SourceFile;
 pub struct Telling<'a> {
     /// The files whose texts, joined, are the source.
     pub files: &'a [SourceFile<'a>],
+    /// The source with its tokens, by which places are told; without tokens where nothing asks for
+    /// these places.
+    pub source: Lexed<'a>,
     /// The name of the stimulus, or of what stands in its place.
     pub stimulus: &'a [u8],
     /// Its text, if it has one.

@@ -20,25 +20,31 @@ pub record Expects (net : NetlistView) (text : List ℕ) (Holds : List Expectati
   pub holds : Holds expectations
 
 -- A run, and what is seen of its moments.
-module _ {A : Type 0} (Runs : NetlistView → Result A Fault → (old new : SinkState) → Type 0) (Sees : (List Stand → Type 0) → NetlistView → Type 0) where
-  -- the run comes to its end with the whole trace, and of what is expected this is the first that isn't so; None where all is so
-  pub record RunsComparing (net : NetlistView) (answer : A) (old new : SinkState) (es : List Expectation) (difference : Option Difference) : Type 0 where
+module _ {A : Type 0} (Runs : NetlistView → Result A Fault → (old new : SinkState) → Type 0)
+    (Sees : (List Stand → Type 0) → NetlistView → Type 0) where
+  -- the run comes to its end with the whole trace, and of what is expected this is the first that isn't so; None where
+  -- all is so
+  pub record RunsComparing (net : NetlistView) (answer : A) (old new : SinkState)
+      (es : List Expectation) (difference : Option Difference) : Type 0 where
     pub runs : Runs net (Ok answer) old new
     pub first : Sees (λ stands. first_difference stands es ≡ difference) net
 
   abbrev pub RunsExpecting : (expected : List ℕ) → NetlistView → Result A Fault → (old new : SinkState) → Type 0
   RunsExpecting expected net (Ok x) old new = Expects net expected (λ es. RunsComparing net x old new es None)
-  RunsExpecting expected net (Err (Differs d)) old new = Expects net expected (λ es. (x : A) × RunsComparing net x old new es (Some (difference_view d)))
+  RunsExpecting expected net (Err (Differs d)) old new =
+      Expects net expected (λ es. (x : A) × RunsComparing net x old new es (Some (difference_view d)))
   RunsExpecting expected net (Err (Expect NoMemory)) old new = ⊥
   -- the first bad line, before anything is simulated
   RunsExpecting expected net (Err (Expect fault)) old new = (expectations_of net expected ≡ Err fault) × (new ≡ old)
   -- memory may be refused before the run
-  RunsExpecting expected net (Err Memory) old new = Expects net expected (λ es. Runs net (Err Memory) old new) ⊎ (new ≡ old)
+  RunsExpecting expected net (Err Memory) old new =
+      Expects net expected (λ es. Runs net (Err Memory) old new) ⊎ (new ≡ old)
   -- the run's own answer
   RunsExpecting expected net (Err fault) old new = Expects net expected (λ es. Runs net (Err fault) old new)
 
 -- such a run, if what is expected is given
-abbrev pub Comparing : {A : Type 0} → Sight → (Runs : NetlistView → Result A Fault → SinkState → SinkState → Type 0) → (expected : Option (List ℕ))
+abbrev pub Comparing : {A : Type 0} → Sight
+    → (Runs : NetlistView → Result A Fault → SinkState → SinkState → Type 0) → (expected : Option (List ℕ))
     → NetlistView → Result A Fault → (old new : SinkState) → Type 0
 Comparing sight Runs None net answer old new = Runs net answer old new
 Comparing sight Runs (Some expected) net answer old new = RunsExpecting Runs (Seen sight) expected net answer old new

@@ -13,6 +13,7 @@ use Rattle.rtlsim_listing.specs.DotText.{dot_text}
 use Rattle.rtlsim_findings_text.specs.RemarkText.{remarks_text}
 use Rattle.rtlsim_listing.specs.NetText.{net_text}
 use Rattle.rtl_net.specs.Nets.{NetlistView}
+use Rattle.vhdl_slips.specs.Words.{read_of}
 use Rattle.byte_streams.specs.Written.{SinkState, IsIntact, HasFailed, TakesAll, TakesBeginning}
 use Rattle.rtlsim_commands.specs.declared.listing.Form.{Form}
 use Rattle.rtlsim_commands.specs.declared.listing.Form.TheVariants.{Lines, Graph, ToldLines, ToldGraph, Object}
@@ -29,16 +30,20 @@ abbrev pub ListsNet : NetlistView → Result (Unit {0}) Fault → (old new : Sin
 ListsNet net answer old new = Writes (net_text net) answer old new
 
 -- the text of the checker's verdict on the netlist, in which a loop stands once round
-pub record WritesVerdict (text_of : NetlistView → Verdict → List ℕ) (net : NetlistView) (answer : Result Bool Fault) (old new : SinkState) : Type 0 where
+pub record WritesVerdict (text_of : NetlistView → Verdict → List ℕ) (net : NetlistView)
+    (answer : Result Bool Fault) (old new : SinkState) : Type 0 where
   pub verdict : Verdict
   pub is : IsVerdict (core net) verdict
   pub once : ListsLoopsOnce verdict
   pub written : Writes (text_of net verdict) answer old new
 
 -- it answers whether the verdict is yes; memory may also be refused before there is one
-abbrev pub AnswersVerdict : (text_of : NetlistView → Verdict → List ℕ) → NetlistView → Result Bool Fault → (old new : SinkState) → Type 0
-AnswersVerdict text_of net (Ok passed) old new = (w : WritesVerdict text_of net (Ok passed) old new) × (is_yes w.verdict ≡ passed)
-AnswersVerdict text_of net (Err fault) old new = WritesVerdict text_of net (Err fault) old new ⊎ ((fault ≡ Memory) × (new ≡ old))
+abbrev pub AnswersVerdict : (text_of : NetlistView → Verdict → List ℕ)
+    → NetlistView → Result Bool Fault → (old new : SinkState) → Type 0
+AnswersVerdict text_of net (Ok passed) old new =
+    (w : WritesVerdict text_of net (Ok passed) old new) × (is_yes w.verdict ≡ passed)
+AnswersVerdict text_of net (Err fault) old new =
+    WritesVerdict text_of net (Err fault) old new ⊎ ((fault ≡ Memory) × (new ≡ old))
 
 -- the lines of the verdict
 abbrev pub ChecksNet : NetlistView → Result Bool Fault → (old new : SinkState) → Type 0
@@ -50,14 +55,16 @@ DrawsNet net answer old new = AnswersVerdict dot_text net answer old new
 
 -- the lines with explanations of the faults, and below them the remarks on the netlist, where they are asked for
 abbrev pub with_remarks : Telling → NetlistView → Verdict → List ℕ
-with_remarks telling net v = with_explanation check_text telling net v ++ (if telling.explains then remarks_text (files_of telling) net else [])
+with_remarks telling net v =
+    with_explanation check_text telling net v ++ (if telling.explains then remarks_text (files_of telling) net else [])
 
 abbrev pub ChecksNetTold : Telling → NetlistView → Result Bool Fault → (old new : SinkState) → Type 0
 ChecksNetTold telling net answer old new = AnswersVerdict (with_remarks telling) net answer old new
 
 -- the verdict as an object of JSON
 abbrev pub ChecksNetJson : Telling → NetlistView → Result Bool Fault → (old new : SinkState) → Type 0
-ChecksNetJson telling net answer old new = AnswersVerdict (json_text (files_of telling)) net answer old new
+ChecksNetJson telling net answer old new =
+    AnswersVerdict (json_text (files_of telling) (read_of telling.source)) net answer old new
 
 -- the graph, or the lines with explanations; a graph stays one, so no remarks stand below it
 abbrev pub DrawsNetTold : Telling → NetlistView → Result Bool Fault → (old new : SinkState) → Type 0
@@ -69,4 +76,4 @@ form_text Lines = check_text
 form_text Graph = dot_text
 form_text (ToldLines telling) = with_remarks telling.now
 form_text (ToldGraph telling) = with_explanation dot_text telling.now
-form_text (Object telling) = json_text (files_of telling.now)
+form_text (Object telling) = json_text (files_of telling.now) (read_of telling.now.source)

@@ -17,13 +17,17 @@ as_answer (Err fault) = Err (of_machine fault)
 
 -- The trace of the synchronous machine's run under the stimulus that the text says, or why there is none.
 abbrev pub RunsMachine : (text : List ℕ) → NetlistView → Result Summary Fault → (old new : SinkState) → Type 0
-RunsMachine text net answer old new = (given : Result Summary MachineFault) × (answer ≡ as_answer given) × RunsNet net text old new given
+RunsMachine text net answer old new =
+    (given : Result Summary MachineFault) × (answer ≡ as_answer given) × RunsNet net text old new given
 
 -- The same trace, by levels and without delta cycles, or why there is none.
-abbrev pub RunsMachineByLevels : (text : List ℕ) → NetlistView → Result LevelSummary Fault → (old new : SinkState) → Type 0
+abbrev pub RunsMachineByLevels : (text : List ℕ) → NetlistView
+    → Result LevelSummary Fault → (old new : SinkState) → Type 0
 RunsMachineByLevels text net answer old new =
     (given : Result LevelSummary MachineFault) × (answer ≡ as_answer given) × RunsLevels net text old new given
 
 -- The out ports' values in the machine's first valuation under NAME=VALUE words, or why there are none.
-abbrev pub EvaluatesMachine : (words : List (List ℕ)) → NetlistView → Result (Unit {0}) Fault → (old new : SinkState) → Type 0
-EvaluatesMachine words net answer old new = (given : Result (Unit {0}) MachineFault) × (answer ≡ as_answer given) × Evaluates net words old new given
+abbrev pub EvaluatesMachine : (words : List (List ℕ)) → NetlistView
+    → Result (Unit {0}) Fault → (old new : SinkState) → Type 0
+EvaluatesMachine words net answer old new =
+    (given : Result (Unit {0}) MachineFault) × (answer ≡ as_answer given) × Evaluates net words old new given

@@ -8,8 +8,10 @@ use Rattle.vhdl_front_rules.specs.Designs.{IsNetOf}
 use Rattle.vhdl_front_rules.specs.Refusals.{Refuses}
 use Rattle.vhdl_front_rules.specs.declared.fault.SourceFault.{SourceFault}
 
--- The source has this netlist, and the command does its work on it; or the source is refused, and this is so of what is written.
-abbrev pub OpensOr : {A : Type 0} → (Refused : SourceFault → (old new : SinkState) → Type 0) → (Does : NetlistView → Result A Fault → SinkState → SinkState → Type 0)
+-- The source has this netlist, and the command does its work on it; or the source is refused, and this is so of what
+-- is written.
+abbrev pub OpensOr : {A : Type 0} → (Refused : SourceFault → (old new : SinkState) → Type 0)
+    → (Does : NetlistView → Result A Fault → SinkState → SinkState → Type 0)
     → (source top : List ℕ) → Result A Fault → (old new : SinkState) → Type 0
 OpensOr {A} Refused Does source top answer old new =
     ((net : NetlistView) × IsNetOf source top net × Does net answer old new)
@@ -19,6 +21,7 @@ OpensOr {A} Refused Does source top answer old new =
 abbrev pub Writeless : SourceFault → (old new : SinkState) → Type 0
 Writeless fault old new = new ≡ old
 
-abbrev pub Opens : {A : Type 0} → (Does : NetlistView → Result A Fault → SinkState → SinkState → Type 0) → (source top : List ℕ) → Result A Fault
+abbrev pub Opens : {A : Type 0} → (Does : NetlistView → Result A Fault → SinkState → SinkState → Type 0)
+    → (source top : List ℕ) → Result A Fault
     → (old new : SinkState) → Type 0
 Opens Does source top answer old new = OpensOr Writeless Does source top answer old new

@@ -9,7 +9,8 @@ use Rattle.rtlsim_command_faults.specs.declared.status.Status.{Status}
 use Rattle.rtlsim_command_faults.specs.declared.telling.Telling.{Telling}
 
 -- its fault, with this status, and then the others
-pub record RefusesSource (telling : Telling) (source top : List ℕ) (fault : Fault) (old new : SinkState) (said : Status) : Type 0 where
+pub record RefusesSource (telling : Telling) (source top : List ℕ)
+    (fault : Fault) (old new : SinkState) (said : Status) : Type 0 where
   pub between : SinkState
   pub first : (net : NetlistView) → TellsFault telling net fault old between said
   pub others : TellsOthers (asks_others telling.explains fault said) telling source top fault between new

@@ -15,10 +15,12 @@ machine_of_run : {A : Type 0} (given : Result A MachineFault) → IfErr (as_answ
 machine_of_run (Err (machine.Rejected faults)) = tt
 machine_of_run _ = tt
 
-pub machine_unexpecting : {A : Type 0} (given : Result A MachineFault) (fault : Fault) → Err fault ≡ as_answer given → IsOfRun fault
+pub machine_unexpecting : {A : Type 0} (given : Result A MachineFault) (fault : Fault)
+    → Err fault ≡ as_answer given → IsOfRun fault
 machine_unexpecting {A} given fault is = subst (λ (r : Result A Fault). IfErr r IsOfRun) (sym is) (machine_of_run given)
 
-pub events_unexpecting : (text : List ℕ) (net : NetlistView) (fault : Fault) (old new : SinkState) → RunsEvents text net (Err fault) old new → IsOfRun fault
+pub events_unexpecting : (text : List ℕ) (net : NetlistView) (fault : Fault) (old new : SinkState)
+    → RunsEvents text net (Err fault) old new → IsOfRun fault
 events_unexpecting text net (Expect x) old new h = absurd h
 events_unexpecting text net (Differs x) old new h = absurd h
 events_unexpecting text net _ old new h = tt

@@ -35,7 +35,8 @@ abbrev pub ended : Status → (out err : SinkState) → Status
 ended outcome out err = ended_by (out.failed || err.failed) outcome
 
 -- The command answers on the source; what is told of the answer goes to the standard error, and decides the status.
-pub record ServesOr {A : Type 0} (Refused : SourceFault → (old new : SinkState) → Type 0) (Does : NetlistView → Result A Fault → SinkState → SinkState → Type 0)
+pub record ServesOr {A : Type 0} (Refused : SourceFault → (old new : SinkState) → Type 0)
+    (Does : NetlistView → Result A Fault → SinkState → SinkState → Type 0)
     (done : Done A) (telling : Telling) (source top : List ℕ) (outcome : Status) (o : Outputs) : Type 0 where
   pub answer : Result A Fault
   pub output : OpensOr Refused Does source top answer o.out o.out_after
@@ -45,7 +46,8 @@ pub record ServesOr {A : Type 0} (Refused : SourceFault → (old new : SinkState
   pub ends : outcome ≡ ended said o.out_after o.err_after
 
 -- nothing is written to the standard output where the source is refused
-abbrev pub Serves : {A : Type 0} → (Does : NetlistView → Result A Fault → SinkState → SinkState → Type 0) → Done A → Telling → (source top : List ℕ)
+abbrev pub Serves : {A : Type 0} → (Does : NetlistView → Result A Fault → SinkState → SinkState → Type 0)
+    → Done A → Telling → (source top : List ℕ)
     → (outcome : Status) → Outputs → Type 0
 Serves Does done telling source top outcome o = ServesOr Writeless Does done telling source top outcome o
 
@@ -59,7 +61,8 @@ ServesObject telling source top outcome o =
 abbrev pub Unrefused : SourceFault → (old new : SinkState) → Type 0
 Unrefused fault old new = ⊥
 
-abbrev pub ServesNet : {A : Type 0} → (Does : NetlistView → Result A Fault → SinkState → SinkState → Type 0) → Done A → Telling → NetlistView
+abbrev pub ServesNet : {A : Type 0} → (Does : NetlistView → Result A Fault → SinkState → SinkState → Type 0)
+    → Done A → Telling → NetlistView
     → (outcome : Status) → Outputs → Type 0
 ServesNet Does done telling net outcome o =
     (source top : List ℕ) → IsNetOf source top net → ServesOr Unrefused Does done telling source top outcome o

@@ -23,7 +23,8 @@ Seen (machine text) Holds net = OfMachine text Holds net
 Seen (events text) Holds net = OfEvents text Holds net
 
 -- the command does this, and this holds of what is seen of it
-abbrev pub Seeing : {A : Type 0} → Sight → (Does : NetlistView → Result A Fault → SinkState → SinkState → Type 0) → (Holds : List Stand → Type 0)
+abbrev pub Seeing : {A : Type 0} → Sight
+    → (Does : NetlistView → Result A Fault → SinkState → SinkState → Type 0) → (Holds : List Stand → Type 0)
     → NetlistView → Result A Fault → (old new : SinkState) → Type 0
 Seeing nothing Does Holds net answer old new = Does net answer old new
 Seeing (machine text) Does Holds net answer old new = Watched Does (OfMachine text Holds) net answer old new
@@ -34,20 +35,23 @@ abbrev pub events_of : Sight → Option (List ℕ)
 events_of (events text) = Some text
 events_of _ = None
 
--- This holds of what settles before this time under the stimulus that the text says, and of the nets' values before the last delta cycle
--- allowed in the moment at this time, and after it.
-pub record OfUnsettled (text : List ℕ) (time : ℕ) (Holds : List Stand → (before now : List ℕ) → (time : ℕ) → Type 0) (net : NetlistView) : Type 0 where
+-- This holds of what settles before this time under the stimulus that the text says, and of the nets' values before the
+-- last delta cycle allowed in the moment at this time, and after it.
+pub record OfUnsettled (text : List ℕ) (time : ℕ)
+    (Holds : List Stand → (before now : List ℕ) → (time : ℕ) → Type 0) (net : NetlistView) : Type 0 where
   pub stimulus : StimulusView
   pub said : IsRead net text (Ok stimulus)
   pub first : IsToldUnsettled net stimulus most_deltas time Holds
 
 -- a moment at this time doesn't settle, as it may in a simulation by events alone, and this holds of it
-abbrev pub StuckIn : Sight → (time : ℕ) → (Holds : List Stand → (before now : List ℕ) → (time : ℕ) → Type 0) → NetlistView → Type 0
+abbrev pub StuckIn : Sight → (time : ℕ)
+    → (Holds : List Stand → (before now : List ℕ) → (time : ℕ) → Type 0) → NetlistView → Type 0
 StuckIn (events text) time Holds net = OfUnsettled text time Holds net
 StuckIn _ time Holds net = ⊥
 
 -- a fault that a command may answer: none of a source, and this holds of the moment that doesn't settle
-abbrev pub IsOfNet : Sight → (Holds : List Stand → (before now : List ℕ) → (time : ℕ) → Type 0) → NetlistView → Fault → Type 0
+abbrev pub IsOfNet : Sight → (Holds : List Stand → (before now : List ℕ) → (time : ℕ) → Type 0)
+    → NetlistView → Fault → Type 0
 IsOfNet sight Holds net (Lex fault) = ⊥
 IsOfNet sight Holds net (Syntax fault) = ⊥
 IsOfNet sight Holds net (Name fault) = ⊥

@@ -1,4 +1,5 @@
--- What event-driven simulation answers, from netlist and stimulus to the trace (IEEE 1076-2008, 14.7.5; IEEE 1364-2005, clause 18).
+-- What event-driven simulation answers, from netlist and stimulus to the trace (IEEE 1076-2008, 14.7.5; IEEE 1364-2005,
+-- clause 18).
 use Rattle.std.specs.Prelude.{⊤, ◌≡◌, ◌≢◌, ◌⊎◌, ℕ, List, [], map, Result, Ok, Err}
 use Rattle.rtl_net.specs.Core.{core}
 use Rattle.rtl_check.specs.Views.{fault_view}
@@ -31,9 +32,11 @@ RefusesStored net (Err (Rejected faults)) = AreStored (core net) (map fault_view
 RefusesStored net (Err Memory) = ⊤
 RefusesStored net (Err _) = ⊥
 
--- The netlist is simulated under what the text says, within so many delta cycles at each moment, and the trace is written as
--- `Answers` says: whole; up to the first moment that doesn't settle; or a beginning of it, where memory is refused or the sink fails.
-pub record Simulates (text : List ℕ) (net : NetlistView) (answer : Result Summary RunFault) (old new : SinkState) : Type 0 where
+-- The netlist is simulated under what the text says, within so many delta cycles at each moment, and the trace is
+-- written as `Answers` says: whole; up to the first moment that doesn't settle; or a beginning of it, where memory is
+-- refused or the sink fails.
+pub record Simulates (text : List ℕ) (net : NetlistView)
+    (answer : Result Summary RunFault) (old new : SinkState) : Type 0 where
   pub none_stored : HasNoneStored net
   pub stimulus : StimulusView
   pub said : IsRead net text (Ok stimulus)
@@ -42,10 +45,12 @@ pub record Simulates (text : List ℕ) (net : NetlistView) (answer : Result Summ
 abbrev pub RunsEvents : (text : List ℕ) → NetlistView → Result Summary Fault → (old new : SinkState) → Type 0
 RunsEvents text net (Ok summary) old new = Simulates text net (Ok summary) old new
 -- all variables that are stored
-RunsEvents text net (Err (Rejected faults)) old new = AreStored (core net) (map fault_view faults.items) × (faults.items ≢ []) × (new ≡ old)
+RunsEvents text net (Err (Rejected faults)) old new =
+    AreStored (core net) (map fault_view faults.items) × (faults.items ≢ []) × (new ≡ old)
 RunsEvents text net (Err (Stim stim.NoMemory)) old new = ⊥
 -- the first bad line of the stimulus, or that none says when to stop
-RunsEvents text net (Err (Stim fault)) old new = HasNoneStored net × (schedule_of (inputs_of net) text ≡ Err fault) × (new ≡ old)
+RunsEvents text net (Err (Stim fault)) old new =
+    HasNoneStored net × (schedule_of (inputs_of net) text ≡ Err fault) × (new ≡ old)
 RunsEvents text net (Err (NoSettling time)) old new = Simulates text net (Err (run.NoSettling time)) old new
 RunsEvents text net (Err Output) old new = Simulates text net (Err run.Output) old new
 -- memory may be refused before the trace begins

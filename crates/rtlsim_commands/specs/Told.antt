@@ -33,33 +33,43 @@ abbrev pub is_memory : Status → Bool
 is_memory status.Memory = true
 is_memory _ = false
 
--- Behind a first fault the others are told where explanations are asked for, and where it was told whole, as its status says.
+-- Behind a first fault the others are told where explanations are asked for, and where it was told whole, as its
+-- status says.
 abbrev pub asks_others : (explains : Bool) → (first : Fault) → (said : Status) → Bool
 asks_others explains first said = explains && has_others first && not (is_memory said)
 
 -- else nothing
-abbrev pub TellsOthers : (asked : Bool) → Telling → (source top : List ℕ) → (first : Fault) → (old new : SinkState) → Type 0
+abbrev pub TellsOthers : (asked : Bool) → Telling → (source top : List ℕ)
+    → (first : Fault) → (old new : SinkState) → Type 0
 TellsOthers true telling source top first old new = TellsFurther telling source top first old new
 TellsOthers false telling source top first old new = new ≡ old
 
--- Behind the fault of a source that has a netlist the nets are told that still change, where it is a moment of a simulation by events that
--- doesn't settle, and else nothing.
-abbrev pub TellsNets : (events : Option (List ℕ)) → Telling → (source top : List ℕ) → Fault → (old new : SinkState) → Type 0
-TellsNets events telling source top fault old new = (net : NetlistView) × IsNetOf source top net × TellsChanging events telling.explains net fault old new
+-- Behind the fault of a source that has a netlist the nets are told that still change, where it is a moment of a
+-- simulation by events that doesn't settle, and else nothing.
+abbrev pub TellsNets : (events : Option (List ℕ)) → Telling
+    → (source top : List ℕ) → Fault → (old new : SinkState) → Type 0
+TellsNets events telling source top fault old new =
+    (net : NetlistView) × IsNetOf source top net × TellsChanging events telling.explains net fault old new
 
 -- what is told behind a fault that was told with this status; where a moment doesn't settle, the source has a netlist
-abbrev pub TellsBehind : (events : Option (List ℕ)) → Telling → (source top : List ℕ) → Fault → (said : Status) → (old new : SinkState) → Type 0
-TellsBehind events telling source top (NoSettling time) said old new = TellsNets events telling source top (NoSettling time) old new
+abbrev pub TellsBehind : (events : Option (List ℕ)) → Telling → (source top : List ℕ)
+    → Fault → (said : Status) → (old new : SinkState) → Type 0
+TellsBehind events telling source top (NoSettling time) said old new =
+    TellsNets events telling source top (NoSettling time) old new
 TellsBehind events telling source top fault said old new =
-    TellsNets events telling source top fault old new ⊎ TellsOthers (asks_others telling.explains fault said) telling source top fault old new
+    TellsNets events telling source top fault old new
+    ⊎ TellsOthers (asks_others telling.explains fault said) telling source top fault old new
 
-abbrev pub Tells : {A : Type 0} → Done A → Telling → (source top : List ℕ) → Result A Fault → (old new : SinkState) → (outcome : Status) → Type 0
+abbrev pub Tells : {A : Type 0} → Done A → Telling → (source top : List ℕ)
+    → Result A Fault → (old new : SinkState) → (outcome : Status) → Type 0
 Tells done telling source top (Ok x) old new outcome =
     (net : NetlistView) × IsNetOf source top net
-    × (between : SinkState) × TellsText (done.text x) old between × TellsRemarks telling net between new × (outcome ≡ done.status x)
+    × (between : SinkState) × TellsText (done.text x) old between
+    × TellsRemarks telling net between new × (outcome ≡ done.status x)
 Tells done telling source top (Err fault) old new outcome =
     (net : NetlistView) × HasNet source top fault net
-    × (between : SinkState) × TellsFault telling net fault old between outcome × TellsBehind done.events telling source top fault outcome between new
+    × (between : SinkState) × TellsFault telling net fault old between outcome
+    × TellsBehind done.events telling source top fault outcome between new
 
 -- ---- of each command
 

@@ -18,11 +18,13 @@ Names net numbers old new = Goes old new (changing_line net numbers) ⊎ Goes ol
 
 -- in a simulation by events under this stimulus those nets are named that the last delta cycle allowed changes
 abbrev pub TellsStuck : (events : Option (List ℕ)) → (time : ℕ) → NetlistView → (old new : SinkState) → Type 0
-TellsStuck (Some text) time net old new = OfUnsettled text time (λ stands before now at. Names net (changing before now) old new) net
+TellsStuck (Some text) time net old new =
+    OfUnsettled text time (λ stands before now at. Names net (changing before now) old new) net
 TellsStuck None time net old new = new ≡ old
 
 -- so it is below the explanation of a moment that doesn't settle
-abbrev pub TellsChanging : (events : Option (List ℕ)) → (explains : Bool) → NetlistView → Fault → (old new : SinkState) → Type 0
+abbrev pub TellsChanging : (events : Option (List ℕ)) → (explains : Bool)
+    → NetlistView → Fault → (old new : SinkState) → Type 0
 TellsChanging events true net (NoSettling time) old new = TellsStuck events time net old new
 TellsChanging events explains net fault old new = new ≡ old
 
@@ -33,7 +35,8 @@ NamesIf true net numbers (NoSettling time) old new = Names net numbers old new
 NamesIf explains net numbers fault old new = new ≡ old
 
 -- the fault is told, and behind it the nets of these numbers
-pub record TellsRun (telling : Telling) (net : NetlistView) (fault : Fault) (numbers : List ℕ) (old new : SinkState) (said : Status) : Type 0 where
+pub record TellsRun (telling : Telling) (net : NetlistView) (fault : Fault)
+    (numbers : List ℕ) (old new : SinkState) (said : Status) : Type 0 where
   pub between : SinkState
   pub lines : TellsFault telling net fault old between said
   pub behind : NamesIf telling.explains net numbers fault between new

@@ -14,7 +14,8 @@ use Rattle.byte_streams.specs.Stands.{Stand}
 abbrev pub OfMachine : (text : List ℕ) → (Holds : List Stand → Type 0) → NetlistView → Type 0
 OfMachine text Holds net = Admits net text (λ s bound. IsToldRun net s bound Holds)
 
--- This holds of what the moments of the simulation by events settle to under the stimulus that the text says, in their order.
+-- This holds of what the moments of the simulation by events settle to under the stimulus that the text says, in
+-- their order.
 pub record OfEvents (text : List ℕ) (Holds : List Stand → Type 0) (net : NetlistView) : Type 0 where
   pub stimulus : StimulusView
   pub said : IsRead net text (Ok stimulus)
@@ -27,7 +28,8 @@ IfWhole (Err (Differs difference)) So = So
 IfWhole (Err _) So = ⊤
 
 -- The command does this, and where the whole trace went out, a watch has seen this.
-pub record Watched {A : Type 0} (Does : NetlistView → Result A Fault → SinkState → SinkState → Type 0) (Sees : NetlistView → Type 0) (net : NetlistView)
+pub record Watched {A : Type 0} (Does : NetlistView → Result A Fault → SinkState → SinkState → Type 0)
+    (Sees : NetlistView → Type 0) (net : NetlistView)
     (answer : Result A Fault) (old new : SinkState) : Type 0 where
   pub does : Does net answer old new
   pub sees : IfWhole answer (Sees net)

@@ -100,7 +100,9 @@ fn show_verdict<S: Sink>(
             show_check(alloc, net, verdict, true, out)?;
             show_explanation(alloc, telling, net, verdict, out)
         }
-        Form::Object(telling) => show_check_json(alloc, telling.files, net, verdict, out),
+        Form::Object(telling) => {
+            show_check_json(alloc, telling.files, telling.source, net, verdict, out)
+        }
     }
 }
 
@@ -134,7 +136,7 @@ fn show_explanation<S: Sink>(
 {
     match verdict {
         Verdict::No(faults) if telling.explains => {
-            explain_rejection(alloc, telling.files, net, faults, out)
+            explain_rejection(alloc, telling.files, telling.source, net, faults, out)
         }
         _ => Ok(()),
     }

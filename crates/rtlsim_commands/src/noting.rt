@@ -22,7 +22,8 @@ impl<V: Watch> Watch for Noting<'_, V> {
         × V.told start.other.now stands now.other.now };
 
     ghost stuck = { λ start stands before now time watch. (watch.other.ghost_name ≡ start.other.ghost_name)
-        × (watch.changing.items ≡ take 17 (spec.changing before now)) × V.stuck start.other.now stands before now time watch.other.now };
+        × (watch.changing.items ≡ take 17 (spec.changing before now))
+        × V.stuck start.other.now stands before now time watch.other.now };
 
     fn stood(&mut self, values: &[u8], until: u64) {
         self.other.stood(values, until);

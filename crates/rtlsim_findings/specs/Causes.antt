@@ -1,6 +1,6 @@
--- What faults have in common that are told together: the rule, the lines that declare their processes, of a latch the statement that
--- leaves the assignment out, and what makes a process neither clocked nor combinational. So a fault that each instance of an entity has
--- is told once.
+-- What faults have in common that are told together: the rule, the lines that declare their processes, of a latch the
+-- statement that leaves the assignment out, and what makes a process neither clocked nor combinational. So a fault that
+-- each instance of an entity has is told once.
 use Rattle.std.specs.Prelude.{ℕ, ◌==◌, ◌&&◌, Bool, true, false, slice_get, Option, Some, None, option_map}
 use Rattle.rtl_model.specs.simulation.Accepted.{Fault}
 use Rattle.rtl_net.specs.Nets.{NetlistView}
@@ -44,7 +44,8 @@ is_same_number _ _ = false
 -- both are told of the same processes
 abbrev pub is_of : (before fault : Fault) → Bool
 is_of before fault =
-    is_same_number (first_process before) (first_process fault) && is_same_number (second_process before) (second_process fault)
+    is_same_number (first_process before) (first_process fault)
+    && is_same_number (second_process before) (second_process fault)
 
 -- ---- causes
 
@@ -77,5 +78,6 @@ cause_of net fault = record {
 
 abbrev pub is_same : (before cause : Cause) → Bool
 is_same before cause =
-    before.number == cause.number && is_same_number before.first cause.first && is_same_number before.second cause.second
+    before.number == cause.number && is_same_number before.first cause.first
+    && is_same_number before.second cause.second
     && are_same before.omission cause.omission && is_same_obstacle before.obstacle cause.obstacle

@@ -23,7 +23,8 @@ name_of_net net (Some n) = net_name net n
 -- a process of a loop, and the net on the way to it from the next
 abbrev pub step_text : NetlistView → (process next : ℕ) → List ℕ
 step_text net process next =
-    process_name net process ++ codes " <- " ++ name_of_net net (link_net (slice_get net.processes process) (slice_get net.processes next)) ++ codes " <- "
+    process_name net process ++ codes " <- "
+    ++ name_of_net net (link_net (slice_get net.processes process) (slice_get net.processes next)) ++ codes " <- "
 
 abbrev pub first_or : (other : ℕ) → List ℕ → ℕ
 first_or other [] = other
@@ -32,7 +33,8 @@ first_or other (process ∷ processes) = process
 -- these processes of a loop, the last with the net on the way from the first, and the first once more
 abbrev pub round_text : NetlistView → (first : ℕ) → List ℕ → List ℕ
 round_text net first [] = process_name net first
-round_text net first (process ∷ processes) = step_text net process (first_or first processes) ++ round_text net first processes
+round_text net first (process ∷ processes) =
+    step_text net process (first_or first processes) ++ round_text net first processes
 
 abbrev pub loop_text : NetlistView → List ℕ → List ℕ
 loop_text net [] = []

@@ -1,5 +1,5 @@
--- The findings of a rejection: each fault joins the first finding of its cause, or begins one. A clock that is read as data is left out
--- where it is told that it is no clock that may be.
+-- The findings of a rejection: each fault joins the first finding of its cause, or begins one. A clock that is read as
+-- data is left out where it is told that it is no clock that may be.
 use Rattle.std.specs.Prelude.{ℕ, ◌==◌, ◌||◌, Bool, false, if◌then◌else◌, List, [], ◌∷◌, ◌++◌, map}
 use Rattle.rtl_check.specs.Views.{fault_view}
 use Rattle.rtl_check.specs.declared.fault.CheckFault.{CheckFault}
@@ -16,7 +16,8 @@ pub record FindingView : Type 0 where
   pub others : List Fault
 
 abbrev pub finding_view : Finding → FindingView
-finding_view f = record { cause = f.cause; first = fault_view f.first.now; others = map (λ o. fault_view o.now) f.others.items }
+finding_view f =
+    record { cause = f.cause; first = fault_view f.first.now; others = map (λ o. fault_view o.now) f.others.items }
 
 abbrev pub begun : NetlistView → Fault → FindingView
 begun net fault = record { cause = cause_of net fault; first = fault; others = [] }
@@ -44,7 +45,8 @@ is_left_out gated _ = false
 
 -- what is found once this fault is taken
 abbrev pub taken : NetlistView → (gated : ℕ → Bool) → List FindingView → CheckFault → List FindingView
-taken net gated found fault = if is_left_out gated (fault_view fault) then found else joined net found (fault_view fault)
+taken net gated found fault =
+    if is_left_out gated (fault_view fault) then found else joined net found (fault_view fault)
 
 -- what is found once these faults are taken behind what was found before
 abbrev pub found_from : NetlistView → (gated : ℕ → Bool) → List FindingView → List CheckFault → List FindingView

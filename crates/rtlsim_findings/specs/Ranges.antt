@@ -36,7 +36,8 @@ are_beside _ _ = false
 -- the second is the element beside the first
 abbrev pub follows : (first second : List ℕ) → Bool
 follows first second =
-    ends_index first && ends_index second && bytes_eq (base_part first) (base_part second) && are_beside (index_of first) (index_of second)
+    ends_index first && ends_index second && bytes_eq (base_part first) (base_part second)
+    && are_beside (index_of first) (index_of second)
 
 -- ---- a range
 
@@ -49,4 +50,5 @@ direction first last = if falls (index_of first) (index_of last) then codes " do
 
 -- `alu.b(7 downto 0)`, or the one name
 abbrev pub range_text : (first last : List ℕ) → List ℕ
-range_text first last = if bytes_eq first last then first else take (length first - 1) first ++ direction first last ++ index_part last
+range_text first last =
+    if bytes_eq first last then first else take (length first - 1) first ++ direction first last ++ index_part last

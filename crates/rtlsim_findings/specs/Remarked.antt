@@ -1,4 +1,5 @@
--- What is told of remarks, as data: one of them tells elements of a vector that stand side by side and of which the same is said.
+-- What is told of remarks, as data: one of them tells elements of a vector that stand side by side and of which the
+-- same is said.
 use Rattle.std.specs.Prelude.{ℕ, ◌==◌, ◌&&◌, Bool, if◌then◌else◌, List, [], ◌∷◌, ◌++◌, Option}
 use Rattle.rtl_net.specs.Names.{net_name}
 use Rattle.rtl_net.specs.Nets.{NetlistView}

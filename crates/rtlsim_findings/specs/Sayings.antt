@@ -1,5 +1,5 @@
--- What a finding says: its sentence, with the processes and nets of its first fault, the other instances that have it, and the note that
--- stands beside it.
+-- What a finding says: its sentence, with the processes and nets of its first fault, the other instances that have it,
+-- and the note that stands beside it.
 use Rattle.std.specs.Prelude.{ℕ, ◌||◌, Bool, true, false, if◌then◌else◌, List, [], ◌∷◌, ◌++◌, bytes_eq, flat_map, map, Option, Some, None, codes}
 use Rattle.rtl_latches.specs.Omissions as omissions
 use Rattle.rtl_latches.specs.declared.omission.Omission.{Omission}
@@ -61,7 +61,9 @@ ranges_of net f = ranges_from (name net f.first) (name net f.first) (flat_map (o
 
 -- the same of all instances, each once
 abbrev pub all_ranges_of : NetlistView → FindingView → List (List ℕ)
-all_ranges_of net f = ranges_from (name net f.first) (name net f.first) (each_new bytes_eq (name net f.first ∷ []) (map (name net) f.others))
+all_ranges_of net f =
+    ranges_from (name net f.first) (name net f.first)
+    (each_new bytes_eq (name net f.first ∷ []) (map (name net) f.others))
 
 -- ---- the sentence
 
@@ -118,15 +120,16 @@ processes_in fault = processes_of (circle_of fault) (report_of fault).subject
 abbrev pub processes : FindingView → List (Option ℕ)
 processes f = processes_in f.first ++ flat_map processes_in (also f)
 
--- ---- the note: at the second driver, where a latch leaves the assignment out, or at the reason of a process that is neither clocked
--- nor combinational. No assignment of a latch's net stands in the expanded body where no turn of a loop has one: the note is then at the
--- process.
+-- ---- the note: at the second driver, where a latch leaves the assignment out, or at the reason of a process that is
+-- neither clocked nor combinational. No assignment of a latch's net stands in the expanded body where no turn of a loop
+-- has one: the note is then at the process.
 
 abbrev pub is_latch : Fault → Bool
 is_latch (Latch process n) = true
 is_latch _ = false
 
-abbrev pub start_of : (process : Option ℕ) → (latch : Bool) → (second : Option ℕ) → Option Omission → Option Obstacle → Option ℕ
+abbrev pub start_of : (process : Option ℕ) → (latch : Bool)
+    → (second : Option ℕ) → Option Omission → Option Obstacle → Option ℕ
 start_of process latch (Some at) omission obstacle = Some at
 start_of process latch None (Some omission) obstacle = Some (omissions.at_of omission)
 start_of process latch None None (Some obstacle) = Some obstacle.at

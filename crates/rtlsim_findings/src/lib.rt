@@ -22,4 +22,5 @@ pub use finding::{Finding, findings};
 pub use naming::{all_ranges_of, culprits, ranges_of};
 pub use ranges::{follows, push_range};
 pub use remarked::{RemarkFinding, remark_findings, remark_message, remark_process, remark_report};
+pub use rounds::{first_or, link_net, name_of_net};
 pub use saying::{also, message, note_at, note_text, processes};

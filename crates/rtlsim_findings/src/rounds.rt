@@ -40,7 +40,7 @@ fn round_text(
 }
 
 /// The first of these processes, or another where there is none.
-fn first_or(other: usize, processes: &[usize]) -> usize
+pub fn first_or(other: usize, processes: &[usize]) -> usize
     ensures { result ≡ spec.first_or other processes.now }
 {
     match processes {
@@ -68,11 +68,7 @@ fn push_step(
 }
 
 /// The name of a net, empty where there is none.
-pub(crate) fn name_of_net(
-    alloc: Global,
-    net: &Net,
-    number: Option<usize>,
-) -> Result<Vec<u8>, NoMemory>
+pub fn name_of_net(alloc: Global, net: &Net, number: Option<usize>) -> Result<Vec<u8>, NoMemory>
     ensures { IfOk result (λ text. text.items ≡ spec.name_of_net net.now number) }
 {
     match number {
@@ -81,8 +77,9 @@ pub(crate) fn name_of_net(
     }
 }
 
-/// The lowest net to which a process is sensitive and that another drives.
-fn link_net(
+/// The lowest net to which a process is sensitive and that another drives. It takes the memory of
+/// a list of the latter's nets.
+pub fn link_net(
     alloc: Global,
     net: &Net,
     process: usize,

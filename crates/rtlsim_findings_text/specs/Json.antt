@@ -1,5 +1,6 @@
--- The checker's verdict on a netlist, and the remarks on it, as an object of JSON on one line. A finding is an object of its own.
-use Rattle.std.specs.Prelude.{ℕ, Bool, true, false, if◌then◌else◌, List, [], ◌∷◌, ◌++◌, map, Option, Some, None, codes, decimal}
+-- The checker's verdict on a netlist, and the remarks on it, as an object of JSON on one line. A finding is an object
+-- of its own.
+use Rattle.std.specs.Prelude.{ℕ, Bool, true, false, if◌then◌else◌, List, [], ◌∷◌, ◌++◌, map, take, drop, flat_map, Option, Some, None, codes, decimal}
 use Rattle.rtl_check.specs.declared.checking.Verdict.{Verdict}
 use Rattle.rtl_check.specs.declared.checking.Verdict.TheVariants.{Yes, No}
 use Rattle.rtl_net.specs.Names.{process_name}
@@ -15,11 +16,13 @@ use Rattle.vhdl_source_files.specs.Files.{FileView, Spot, before, spot_in}
 use Rattle.rtlsim_findings.specs.Causes.{at_process}
 use Rattle.rtlsim_findings.specs.Findings.{FindingView, findings}
 use Rattle.rtlsim_findings.specs.Remarked as remarked
-use Rattle.rtlsim_findings.specs.Sayings.{message, note_at, note_text, processes, all_ranges_of}
+use Rattle.rtlsim_findings.specs.Sayings.{message, processes, all_ranges_of}
 use Rattle.rtlsim_listing.specs.CheckText.{greatest_level}
 use Rattle.rtlsim_listing.specs.Reports.{report_of}
-use Rattle.rtlsim_findings_text.specs.Explained.{words_for, any_stored, is_element}
-use Rattle.rtlsim_findings_text.specs.Values.{array_text, items_text, string_text}
+use Rattle.rtlsim_notes.specs.Notes.{NoteView, notes}
+use Rattle.vhdl_slips.specs.Words.{Read}
+use Rattle.rtlsim_findings_text.specs.Explained.{words_for, any_stored, is_element, without_tokens}
+use Rattle.rtlsim_findings_text.specs.Values.{array_text, items_text, next_text, string_text}
 
 -- ---- places
 
@@ -29,7 +32,8 @@ position_text p = codes ",\"line\":" ++ decimal p.line ++ codes ",\"column\":" +
 -- a byte of a file, as editors count lines and columns, and the note that stands there
 unfoldable pub spot_text : Spot → (note : List ℕ) → List ℕ
 spot_text spot note =
-    codes "{\"file\":" ++ string_text spot.file.name ++ position_text (position_behind (before spot)) ++ codes ",\"note\":" ++ note ++ codes "}"
+    codes "{\"file\":" ++ string_text spot.file.name
+    ++ position_text (position_behind (before spot)) ++ codes ",\"note\":" ++ note ++ codes "}"
 
 abbrev pub placed : List FileView → (at : Option ℕ) → (note : List ℕ) → List (List ℕ)
 placed files None note = []
@@ -53,16 +57,21 @@ is_net _ = false
 abbrev pub names_if : (told : Bool) → NetlistView → FindingView → List ℕ
 names_if told net f = array_text string_text (if told then all_ranges_of net f else [])
 
--- the place of the first process, and that of the note
-abbrev pub places_of : List FileView → NetlistView → FindingView → List (List ℕ)
-places_of files net f = placed files f.cause.first (codes "null") ++ placed files (note_at f) (string_text (note_text net f))
+abbrev pub noted_text : List FileView → NoteView → List ℕ
+noted_text files note = spot_text (spot_in files note.at) (string_text note.text)
+
+-- the place of the first process, and those of the notes
+abbrev pub places_of : List FileView → (source : Read) → NetlistView → FindingView → List (List ℕ)
+places_of files source net f = placed files f.cause.first (codes "null") ++ map (noted_text files) (notes source net f)
 
 unfoldable pub title_text : Words Text → List ℕ
 title_text words =
-    codes "{\"layer\":" ++ string_text words.layer.now ++ codes ",\"number\":" ++ decimal words.number ++ codes ",\"name\":" ++ string_text words.name.now
+    codes "{\"layer\":" ++ string_text words.layer.now ++ codes ",\"number\":"
+    ++ decimal words.number ++ codes ",\"name\":" ++ string_text words.name.now
 
 unfoldable pub said_text : NetlistView → FindingView → List ℕ
-said_text net f = codes ",\"message\":" ++ string_text (message net f) ++ codes ",\"help\":" ++ string_text (words_for f).help.now
+said_text net f =
+    codes ",\"message\":" ++ string_text (message net f) ++ codes ",\"help\":" ++ string_text (words_for f).help.now
 
 unfoldable pub named_text : NetlistView → FindingView → List ℕ
 named_text net f =
@@ -73,8 +82,9 @@ named_text net f =
 unfoldable pub places_text : List (List ℕ) → List ℕ
 places_text places = codes ",\"places\":" ++ array_text itself places ++ codes "}"
 
-unfoldable pub finding_text : List FileView → NetlistView → FindingView → List ℕ
-finding_text files net f = title_text (words_for f) ++ said_text net f ++ named_text net f ++ places_text (places_of files net f)
+unfoldable pub finding_text : List FileView → (source : Read) → NetlistView → FindingView → List ℕ
+finding_text files source net f =
+    title_text (words_for f) ++ said_text net f ++ named_text net f ++ places_text (places_of files source net f)
 
 -- ---- remarks
 
@@ -91,12 +101,14 @@ remark_text files net f =
 -- the greatest level, the bound on the delta cycles of a moment, and the command that simulates the netlist
 abbrev pub yes_text : (levels bound : ℕ) → List ℕ
 yes_text levels bound =
-    codes "{\"version\":2,\"verdict\":\"yes\",\"levels\":" ++ decimal levels ++ codes ",\"bound\":" ++ decimal bound ++ codes ",\"simulates\":\"run\""
+    codes "{\"version\":2,\"verdict\":\"yes\",\"levels\":" ++ decimal levels
+    ++ codes ",\"bound\":" ++ decimal bound ++ codes ",\"simulates\":\"run\""
 
 -- where no variable keeps its value, the simulation cycle itself runs what is rejected
 abbrev pub no_text : (stored : Bool) → List ℕ
 no_text stored =
-    codes "{\"version\":2,\"verdict\":\"no\",\"levels\":null,\"bound\":null,\"simulates\":" ++ (if stored then codes "null" else codes "\"run --event\"")
+    codes "{\"version\":2,\"verdict\":\"no\",\"levels\":null,\"bound\":null,\"simulates\":"
+    ++ (if stored then codes "null" else codes "\"run --event\"")
 
 abbrev pub verdict_text : Verdict → List ℕ
 verdict_text (Yes report) = yes_text (greatest_level report.levels.items) report.bound
@@ -108,8 +120,16 @@ found net (No faults) = findings net faults.items
 
 abbrev pub end_text : List FileView → NetlistView → List ℕ
 end_text files net =
-    codes ",\"remarks\":" ++ array_text itself (map (remark_text files net) (remarked.found net (remarks_of net))) ++ codes "}\n"
+    codes ",\"remarks\":"
+    ++ array_text itself (map (remark_text files net) (remarked.found net (remarks_of net))) ++ codes "}\n"
 
-abbrev pub json_text : List FileView → NetlistView → Verdict → List ℕ
-json_text files net verdict =
-    verdict_text verdict ++ codes ",\"faults\":[" ++ items_text (finding_text files net) (found net verdict) ++ codes "]" ++ end_text files net
+-- places are looked for among the tokens for the first 20
+abbrev pub findings_text : List FileView → (source : Read) → NetlistView → List FindingView → List ℕ
+findings_text files source net found =
+    items_text (finding_text files source net) (take 20 found)
+    ++ flat_map (next_text (finding_text files (without_tokens source) net)) (drop 20 found)
+
+abbrev pub json_text : List FileView → (source : Read) → NetlistView → Verdict → List ℕ
+json_text files source net verdict =
+    verdict_text verdict ++ codes ",\"faults\":["
+    ++ findings_text files source net (found net verdict) ++ codes "]" ++ end_text files net

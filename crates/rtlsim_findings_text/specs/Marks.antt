@@ -13,7 +13,8 @@ step = 1024
 
 -- a mark at each step, and past the text none
 pub record AreMarks (text : List ℕ) (marks : List Position) : Type 0 where
-  pub each : (k : ℕ) (d : Position) → k < length marks → slice_index_or marks k d ≡ position_behind (take (k * step) text)
+  pub each : (k : ℕ) (d : Position) → k < length marks
+      → slice_index_or marks k d ≡ position_behind (take (k * step) text)
   pub all : length text < length marks * step
 
 abbrev pub view : MarkedFile → FileView

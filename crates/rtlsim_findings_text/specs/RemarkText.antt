@@ -1,4 +1,5 @@
--- What is written of remarks: a line for each, but one for elements of a vector that stand side by side and of which the same is told.
+-- What is written of remarks: a line for each, but one for elements of a vector that stand side by side and of which
+-- the same is told.
 use Rattle.std.specs.Prelude.{ℕ, List, ◌++◌, flat_map, codes}
 use Rattle.rtl_net.specs.Nets.{NetlistView}
 use Rattle.rtl_remarks.specs.Remarks.{remarks_of}
@@ -11,7 +12,8 @@ use Rattle.rtlsim_findings_text.specs.Placed.{place_text}
 
 -- at the place of its process, of the source where it has none
 abbrev pub line : List FileView → NetlistView → RemarkView → List ℕ
-line files net f = place_text files (at_process net (process_of f.remark)) ++ codes "remark: " ++ message net f ++ codes "\n"
+line files net f =
+    place_text files (at_process net (process_of f.remark)) ++ codes "remark: " ++ message net f ++ codes "\n"
 
 abbrev pub lines : List FileView → NetlistView → List Remark → List ℕ
 lines files net remarks = flat_map (line files net) (found net remarks)

@@ -9,7 +9,8 @@ hex_digit n = if nat_lt n 10 then 48 + n else 87 + n
 
 -- a control byte, by its number in four such digits
 abbrev pub control_text : (byte : ℕ) → List ℕ
-control_text byte = if nat_lt byte 16 then codes "\\u000" ++ hex_digit byte ∷ [] else codes "\\u001" ++ hex_digit (byte - 16) ∷ []
+control_text byte =
+    if nat_lt byte 16 then codes "\\u000" ++ hex_digit byte ∷ [] else codes "\\u001" ++ hex_digit (byte - 16) ∷ []
 
 -- a byte as it stands in a string: a quote and a backslash behind a backslash
 abbrev pub byte_text : (byte : ℕ) → List ℕ

@@ -5,6 +5,8 @@ ghost use Rattle.fault_rules.specs.Rules.{words_of};
 ghost use Rattle.vhdl_source_files.specs.Files.{spot_view};
 ghost use Rattle.rtlsim_findings.specs.Findings.{finding_view};
 ghost use Rattle.rtlsim_findings.specs.Remarked.{remark_view};
+ghost use Rattle.rtlsim_notes.specs.Notes.{note_view};
+ghost use Rattle.vhdl_slips.specs.Words.{read_of};
 ghost use Rattle.rtlsim_findings_text.specs.Json as spec;
 ghost use Rattle.rtlsim_findings_text.specs.Marks.{IsMarked, Stands, files_at};
 ghost use Rattle.rtlsim_findings_text.specs.Values.{string_text};
@@ -15,25 +17,31 @@ use crate::values::{push_array, push_process, push_processes, push_string};
 use fault_rules::{Rule, Subject};
 use rtl_net::NoMemory;
 use rtlsim_findings::{
-    Finding, RemarkFinding, all_ranges_of, at_process, message, note_at, note_text, processes,
-    remark_message, remark_process, remark_report,
+    Finding, RemarkFinding, all_ranges_of, at_process, message, processes, remark_message,
+    remark_process, remark_report,
 };
 use rtlsim_listing::{push_decimal, report_of};
+use rtlsim_notes::{Note, notes};
 use rtlsim_refusals::Position;
 use std::alloc::Global;
+use vhdl_slips::Lexed;
 
 /// The object of a finding.
 #[tactic(auto, unfolding(crate::specs::Json::finding_text))]
-pub(crate) fn finding_text(site: &Site<'_>, finding: &Finding<'_>) -> Result<Vec<u8>, NoMemory>
+pub(crate) fn finding_text(
+    site: &Site<'_>,
+    source: Lexed<'_>,
+    finding: &Finding<'_>,
+) -> Result<Vec<u8>, NoMemory>
     requires marked { All IsMarked site.now.files.now }
     ensures { IfOk result (λ text. text.items
-        ≡ spec.finding_text (files_at site.now) site.now.net.now (finding_view finding.now)) }
+        ≡ spec.finding_text (files_at site.now) (read_of source.entry) site.now.net.now (finding_view finding.now)) }
 {
     let mut text = Vec::new(site.alloc);
     push_title(report_of(finding.first).rule, &mut text)?;
     push_said(site, finding, &mut text)?;
     push_named(site, finding, &mut text)?;
-    let places = places_of(site, finding)?;
+    let places = places_of(site, source, finding)?;
     push_places(&places, &mut text)?;
     Ok(text)
 }
@@ -117,18 +125,49 @@ fn is_net(subject: Subject) -> bool
     )
 }
 
-/// The places of a finding: that of its first process, and that of its note.
-fn places_of(site: &Site<'_>, finding: &Finding<'_>) -> Result<Vec<Vec<u8>>, NoMemory>
+/// The places of a finding: that of its first process, and those of its notes.
+fn places_of(
+    site: &Site<'_>,
+    source: Lexed<'_>,
+    finding: &Finding<'_>,
+) -> Result<Vec<Vec<u8>>, NoMemory>
     requires marked { All IsMarked site.now.files.now }
     ensures { IfOk result (λ texts. map (λ t. t.items) texts.items
-        ≡ spec.places_of (files_at site.now) site.now.net.now (finding_view finding.now)) }
+        ≡ spec.places_of (files_at site.now) (read_of source.entry) site.now.net.now (finding_view finding.now)) }
 {
     let mut texts = Vec::new(site.alloc);
     push_placed(site, finding.cause.first, b"null", &mut texts)?;
-    let mut note = Vec::new(site.alloc);
-    push_string(&note_text(site.alloc, site.net, finding)?, &mut note)?;
-    push_placed(site, note_at(finding), &note, &mut texts)?;
+    push_notes(
+        site,
+        &notes(site.alloc, source, site.net, finding)?,
+        &mut texts,
+    )?;
     Ok(texts)
+}
+
+/// Appends the objects of the places of these notes.
+fn push_notes(site: &Site<'_>, notes: &[Note], texts: &mut Vec<Vec<u8>>) -> Result<(), NoMemory>
+    requires marked { All IsMarked site.now.files.now }
+    ensures { OnOk result (map (λ t. t.items) texts.new.items
+        ≡ map (λ t. t.items) texts.old.items
+        ++ map (spec.noted_text (files_at site.now)) (map note_view notes.now)) }
+{
+    let mut left = notes;
+    while let [note, rest @ ..] = left {
+        texts.push(noted_text(site, note)?)?;
+        left = rest;
+    }
+    Ok(())
+}
+
+/// The object of the place of a note.
+fn noted_text(site: &Site<'_>, note: &Note) -> Result<Vec<u8>, NoMemory>
+    requires marked { All IsMarked site.now.files.now }
+    ensures { IfOk result (λ text. text.items ≡ spec.noted_text (files_at site.now) (note_view note.now)) }
+{
+    let mut said = Vec::new(site.alloc);
+    push_string(&note.text, &mut said)?;
+    spot_text(site.alloc, place_at(site.files, note.at), &said)
 }
 
 /// Appends the object of a place with this note, if there is a place.

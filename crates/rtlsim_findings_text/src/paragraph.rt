@@ -1,10 +1,12 @@
 //! The paragraph of a finding.
 
-ghost use Rattle.std.specs.Prelude.{◌≡◌, ◌++◌, All, codes, decimal, map, IfOk, OnOk};
+ghost use Rattle.std.specs.Prelude.{◌≡◌, ◌++◌, All, codes, decimal, flat_map, map, IfOk, OnOk};
 ghost use Rattle.rtl_check.specs.Views.{fault_view};
 ghost use Rattle.fault_rules.specs.Rules.{words_of};
 ghost use Rattle.rtlsim_refusals.specs.Explained.{help_line};
 ghost use Rattle.rtlsim_findings.specs.Findings.{finding_view};
+ghost use Rattle.rtlsim_notes.specs.Notes.{note_view};
+ghost use Rattle.vhdl_slips.specs.Words.{read_of};
 ghost use Rattle.rtlsim_findings_text.specs.Explained as spec;
 ghost use Rattle.rtlsim_findings_text.specs.Marks.{IsMarked, files_at, view};
 
@@ -13,23 +15,29 @@ use crate::shown::push_shown;
 use fault_rules::Rule;
 use rtl_check::CheckFault;
 use rtl_net::NoMemory;
-use rtlsim_findings::{Finding, also, culprits, message, note_at, note_text};
+use rtlsim_findings::{Finding, also, culprits, message};
 use rtlsim_listing::{push_decimal, push_title, report_of};
+use rtlsim_notes::{Note, notes};
+use vhdl_slips::Lexed;
 
 /// How many other instances are named behind the first.
 const MOST_OTHERS: usize = 14;
 
-/// The paragraph of a finding.
+/// The paragraph of a finding, with notes in the words of the source.
 #[tactic(auto, unfolding(crate::specs::Explained::paragraph))]
-pub(crate) fn paragraph(site: &Site<'_>, finding: &Finding<'_>) -> Result<Vec<u8>, NoMemory>
+pub(crate) fn paragraph(
+    site: &Site<'_>,
+    source: Lexed<'_>,
+    finding: &Finding<'_>,
+) -> Result<Vec<u8>, NoMemory>
     requires marked { All IsMarked site.now.files.now }
     ensures { IfOk result (λ text. text.items
-        ≡ spec.paragraph (files_at site.now) site.now.net.now (finding_view finding.now)) }
+        ≡ spec.paragraph (files_at site.now) (read_of source.entry) site.now.net.now (finding_view finding.now)) }
 {
     let mut text = Vec::new(site.alloc);
     push_told(site, finding, &mut text)?;
-    let note = note_text(site.alloc, site.net, finding)?;
-    push_noted(site.files, note_at(finding), &note, &mut text)?;
+    let notes = notes(site.alloc, source, site.net, finding)?;
+    push_notes(site.files, &notes, &mut text)?;
     push_also(site, &also(site.alloc, finding)?, &mut text)?;
     push_help(report_of(finding.first).rule, &mut text)?;
     Ok(text)
@@ -50,25 +58,31 @@ fn push_told(site: &Site<'_>, finding: &Finding<'_>, text: &mut Vec<u8>) -> Resu
     push_shown(site.files, finding.cause.first, text)
 }
 
+/// Appends what is written of these notes.
+fn push_notes(files: &[MarkedFile<'_>], notes: &[Note], text: &mut Vec<u8>) -> Result<(), NoMemory>
+    requires marked { All IsMarked files.now }
+    ensures { OnOk result (text.new.items
+        ≡ text.old.items ++ flat_map (spec.noted (map view files.now)) (map note_view notes.now)) }
+{
+    let mut left = notes;
+    while let [note, rest @ ..] = left {
+        push_noted(files, note, text)?;
+        left = rest;
+    }
+    Ok(())
+}
+
 /// Appends the place of a note, the note, and the line of the place.
 #[tactic(auto, unfolding(crate::specs::Explained::noted))]
-fn push_noted(
-    files: &[MarkedFile<'_>],
-    at: Option<usize>,
-    note: &[u8],
-    text: &mut Vec<u8>,
-) -> Result<(), NoMemory>
+fn push_noted(files: &[MarkedFile<'_>], note: &Note, text: &mut Vec<u8>) -> Result<(), NoMemory>
     requires marked { All IsMarked files.now }
-    ensures { OnOk result (text.new.items ≡ text.old.items ++ spec.noted (map view files.now) at note.now) }
+    ensures { OnOk result (text.new.items ≡ text.old.items ++ spec.noted (map view files.now) (note_view note.now)) }
 {
-    let Some(at) = at else {
-        return Ok(());
-    };
-    push_place(files, Some(at), text)?;
+    push_place(files, Some(note.at), text)?;
     text.extend_from_slice(b"note: ")?;
-    text.extend_from_slice(note)?;
+    text.extend_from_slice(&note.text)?;
     text.extend_from_slice(b"\n")?;
-    push_shown(files, Some(at), text)
+    push_shown(files, Some(note.at), text)
 }
 
 /// Appends the line of the processes of the other instances that have it.

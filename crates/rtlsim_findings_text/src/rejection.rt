@@ -1,10 +1,11 @@
 //! Explanations of the checker's faults, for a designer.
 
-ghost use Rattle.std.specs.Prelude.{◌≡◌, All, flat_map, map};
+ghost use Rattle.std.specs.Prelude.{◌≡◌, All, flat_map, map, take, drop};
 ghost use Rattle.byte_streams.specs.Written.{Goes};
 ghost use Rattle.vhdl_source_files.specs.Files.{file_view};
 ghost use Rattle.rtlsim_findings.specs.Findings.{finding_view};
 ghost use Rattle.rtlsim_listing.specs.Printing.{Prints};
+ghost use Rattle.vhdl_slips.specs.Words.{read_of};
 ghost use Rattle.rtlsim_findings_text.specs.Explained as spec;
 ghost use Rattle.rtlsim_findings_text.specs.Marks.{IsMarked, files_at};
 
@@ -17,26 +18,67 @@ use rtl_net::{Net, NoMemory};
 use rtlsim_findings::{Finding, findings};
 use rtlsim_listing::report_of;
 use std::alloc::Global;
+use vhdl_slips::Lexed;
 use vhdl_source_files::SourceFile;
 
+/// So many findings are told with the places that tokens show.
+const MOST_PLACED: usize = 20;
+
+/// The findings that are told with these places.
+pub(crate) fn first_placed<'s, 'f>(found: &'s [Finding<'f>]) -> &'s [Finding<'f>]
+    ensures { result.now ≡ take 20 found.now }
+{
+    if MOST_PLACED < found.len() {
+        &found[..MOST_PLACED]
+    } else {
+        found
+    }
+}
+
+/// The findings behind these.
+pub(crate) fn not_placed<'s, 'f>(found: &'s [Finding<'f>]) -> &'s [Finding<'f>]
+    ensures { result.now ≡ drop 20 found.now }
+{
+    if MOST_PLACED < found.len() {
+        &found[MOST_PLACED..]
+    } else {
+        &[]
+    }
+}
+
+/// A source without its tokens.
+pub(crate) fn without_tokens(source: Lexed<'_>) -> Lexed<'_>
+    ensures { read_of result ≡ spec.without_tokens (read_of source.entry) }
+{
+    Lexed {
+        text: source.text,
+        tokens: &[],
+    }
+}
+
 /// Explains what the checker found: a paragraph for each finding, at its place in these files,
-/// whose texts joined are the netlist's source, and below them what simulates the netlist all the
-/// same. It takes memory for the findings, and for one paragraph at a time; where that is refused,
-/// what went out is a beginning of the text.
+/// whose texts joined are the netlist's source, with notes where its tokens show a place, and below
+/// them what simulates the netlist all the same. It takes memory for the findings, and for one
+/// paragraph at a time; where that is refused, what went out is a beginning of the text.
 pub fn explain_rejection<S: Sink>(
     alloc: Global,
     files: &[SourceFile<'_>],
+    source: Lexed<'_>,
     net: &Net,
     faults: &[CheckFault],
     sink: &mut S,
 ) -> Result<(), NoMemory>
     ensures { Prints result (S.state sink.old) (S.state sink.new)
-        (spec.rejection_explained (map file_view files.now) net.now faults.now) }
+        (spec.rejection_explained (map file_view files.now) (read_of source.entry) net.now faults.now) }
 {
     let found = findings(alloc, net, faults)?;
     let marked = mark_files(alloc, files)?;
     let files = marked.as_slice();
-    push_paragraphs(&Site { alloc, files, net }, &found, sink)?;
+    let site = Site { alloc, files, net };
+    let first = first_placed(&found);
+    let others = not_placed(&found);
+    push_paragraphs(&site, source, first, sink)?;
+    push_paragraphs(&site, without_tokens(source), others, sink)?;
     push_ending(faults, sink);
     Ok(())
 }
@@ -44,15 +86,17 @@ pub fn explain_rejection<S: Sink>(
 /// Writes the paragraphs of these findings.
 fn push_paragraphs<S: Sink>(
     site: &Site<'_>,
+    source: Lexed<'_>,
     found: &[Finding<'_>],
     sink: &mut S,
 ) -> Result<(), NoMemory>
     requires marked { All IsMarked site.now.files.now }
     ensures { Prints result (S.state sink.old) (S.state sink.new)
-        (flat_map (spec.paragraph (files_at site.now) site.now.net.now) (map finding_view found.now)) }
+        (flat_map (spec.paragraph (files_at site.now) (read_of source.entry) site.now.net.now)
+        (map finding_view found.now)) }
 {
     for finding in found {
-        let text = paragraph(site, finding)?;
+        let text = paragraph(site, source, finding)?;
         push_text(sink, &text);
     }
     Ok(())

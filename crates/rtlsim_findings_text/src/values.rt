@@ -106,7 +106,8 @@ fn push_item(item: &[u8], is_string: bool, text: &mut Vec<u8>) -> Result<(), NoM
 /// Appends those behind the first, each behind a comma.
 fn push_next(items: &[Vec<u8>], are_strings: bool, text: &mut Vec<u8>) -> Result<(), NoMemory>
     ensures { OnOk result (text.new.items ≡ text.old.items
-        ++ flat_map (spec.next_text (if are_strings then spec.string_text else itself)) (map (λ t. t.items) items.now)) }
+        ++ flat_map (spec.next_text (if are_strings then spec.string_text else itself))
+        (map (λ t. t.items) items.now)) }
 {
     let mut left = items;
     while let [item, others @ ..] = left {

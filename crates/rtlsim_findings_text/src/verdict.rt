@@ -5,13 +5,14 @@ ghost use Rattle.vhdl_source_files.specs.Files.{file_view};
 ghost use Rattle.rtlsim_findings.specs.Findings.{finding_view};
 ghost use Rattle.rtlsim_findings.specs.Remarked as remarked;
 ghost use Rattle.rtlsim_listing.specs.Printing.{Prints};
+ghost use Rattle.vhdl_slips.specs.Words.{read_of};
 ghost use Rattle.rtlsim_findings_text.specs.Json as spec;
 ghost use Rattle.rtlsim_findings_text.specs.Marks.{IsMarked, files_at};
 ghost use Rattle.rtlsim_findings_text.specs.Values.{items_text, next_text};
 
 use crate::object::{finding_text, remark_text};
 use crate::places::{Site, mark_files};
-use crate::rejection::any_stored;
+use crate::rejection::{any_stored, first_placed, not_placed, without_tokens};
 use crate::values::push_array;
 use byte_streams::{Sink, push_text};
 use rtl_check::Verdict;
@@ -20,22 +21,24 @@ use rtl_remarks::remarks;
 use rtlsim_findings::{Finding, RemarkFinding, findings, remark_findings};
 use rtlsim_listing::{greatest_level, push_decimal};
 use std::alloc::Global;
+use vhdl_slips::Lexed;
 use vhdl_source_files::SourceFile;
 
 /// Writes the checker's verdict on a netlist and the remarks on it as an object of JSON on one
 /// line: `yes` with the greatest level and the bound, or `no` with an object for each finding, at
-/// its place in these files, whose texts joined are the netlist's source. It takes memory for the
-/// findings and the remarks, and for the text of one at a time; where that is refused, what went
-/// out is a beginning of the text.
+/// its place in these files, whose texts joined are the netlist's source, with places that its
+/// tokens show. It takes memory for the findings and the remarks, and for the text of one at a
+/// time; where that is refused, what went out is a beginning of the text.
 pub fn show_check_json<S: Sink>(
     alloc: Global,
     files: &[SourceFile<'_>],
+    source: Lexed<'_>,
     net: &Net,
     verdict: &Verdict,
     out: &mut S,
 ) -> Result<(), NoMemory>
     ensures { Prints result (S.state out.old) (S.state out.new)
-        (spec.json_text (map file_view files.now) net.now verdict.now) }
+        (spec.json_text (map file_view files.now) (read_of source.entry) net.now verdict.now) }
 {
     let found = found(alloc, net, verdict)?;
     let marked = mark_files(alloc, files)?;
@@ -45,7 +48,10 @@ pub fn show_check_json<S: Sink>(
     let end = end_text(&site)?;
     push_text(out, &begin);
     push_text(out, b",\"faults\":[");
-    push_findings(&site, &found, out)?;
+    let first = first_placed(&found);
+    let others = not_placed(&found);
+    push_findings(&site, source, first, out)?;
+    push_others(&site, without_tokens(source), others, out)?;
     push_text(out, b"]");
     push_text(out, &end);
     Ok(())
@@ -100,29 +106,37 @@ fn no_text(alloc: Global, stored: bool) -> Result<Vec<u8>, NoMemory>
 /// Writes the objects of findings, with a comma between two.
 fn push_findings<W: Sink>(
     site: &Site<'_>,
+    source: Lexed<'_>,
     found: &[Finding<'_>],
     out: &mut W,
 ) -> Result<(), NoMemory>
     requires marked { All IsMarked site.now.files.now }
     ensures { Prints result (W.state out.old) (W.state out.new)
-        (items_text (spec.finding_text (files_at site.now) site.now.net.now) (map finding_view found.now)) }
+        (items_text (spec.finding_text (files_at site.now) (read_of source.entry) site.now.net.now)
+        (map finding_view found.now)) }
 {
     let [first, others @ ..] = found else {
         return Ok(());
     };
-    let text = finding_text(site, first)?;
+    let text = finding_text(site, source, first)?;
     push_text(out, &text);
-    push_others(site, others, out)
+    push_others(site, source, others, out)
 }
 
 /// Writes the objects of findings, each behind a comma.
-fn push_others<W: Sink>(site: &Site<'_>, found: &[Finding<'_>], out: &mut W) -> Result<(), NoMemory>
+fn push_others<W: Sink>(
+    site: &Site<'_>,
+    source: Lexed<'_>,
+    found: &[Finding<'_>],
+    out: &mut W,
+) -> Result<(), NoMemory>
     requires marked { All IsMarked site.now.files.now }
     ensures { Prints result (W.state out.old) (W.state out.new)
-        (flat_map (next_text (spec.finding_text (files_at site.now) site.now.net.now)) (map finding_view found.now)) }
+        (flat_map (next_text (spec.finding_text (files_at site.now) (read_of source.entry) site.now.net.now))
+        (map finding_view found.now)) }
 {
     for finding in found {
-        let text = finding_text(site, finding)?;
+        let text = finding_text(site, source, finding)?;
         push_text(out, b",");
         push_text(out, &text);
     }

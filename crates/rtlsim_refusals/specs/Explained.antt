@@ -1,6 +1,7 @@
--- What is told of a fault of a source, and the paragraph that is written of that: where it is, what is wrong, the line with a mark under the
--- place, and what to do about it.
-use Rattle.std.specs.Prelude.{ℕ, Bool, List, [], if◌then◌else◌, ◌++◌, Option, Some, None, codes, decimal}
+-- What is told of a fault of a source, and the paragraph that is written of that: where it is, what is wrong, the line
+-- with a mark under the place, and what to do about it.
+use Rattle.std.specs.Prelude.{ℕ, Bool, List, [], if◌then◌else◌, ◌++◌, flat_map, Option, Some, None, option_map, codes, decimal}
+use Rattle.std.specs.Option.{option_to_list}
 use Rattle.std.specs.Str.{str_eq_ignore_ascii_case}
 use Rattle.fault_rules.specs.Rules.{words_of}
 use Rattle.fault_rules.specs.declared.source.ElabRule.TheVariants as elaboration
@@ -25,33 +26,63 @@ use Rattle.vhdl_hints.specs.Hints.{hint_at}
 use Rattle.vhdl_hints.specs.Sayings.{help, sentence}
 use Rattle.rtlsim_refusals.specs.declared.explaining.Site.{Site}
 use Rattle.rtlsim_refusals.specs.declared.place.Position.{Position}
+use Rattle.rtlsim_refusals.specs.declared.beside.Noted.{Noted}
+use Rattle.rtlsim_refusals.specs.declared.beside.Notes.{Notes}
 use Rattle.rtlsim_refusals.specs.declared.told.Told as told
 use Rattle.vhdl_source_files.specs.Files.{FileView, Spot, after, before, spot_in, spot_view}
+use Rattle.vhdl_lexer.specs.declared.token.Token.{Token}
+use Rattle.vhdl_places.specs.Firsts.{first_declared}
+use Rattle.vhdl_places.specs.Drivers.{first_driver, second_driver}
 use Rattle.vhdl_expected.specs.Told.{Expected, expected_of, nothing, perhaps, surely}
 
--- a byte of a source that has tokens: where it stands in its own file, the tokens before it and from it on, and what was expected at the first
--- of these, where the parser refuses it
+-- a byte of a source that has tokens: where it stands in its own file, the tokens before it and from it on, and what
+-- was expected at the first of these, where the parser refuses it
 pub record Seen : Type 0 where
   pub spot : Spot
   pub before : Read
   pub from : Read
   pub expected : Expected
 
+-- another place that has to be seen, and what is said there
+pub record Note : Type 0 where
+  pub spot : Spot
+  pub words : List ℕ
+
+abbrev pub note_view : Noted → Note
+note_view n = record { spot = spot_view n.place; words = n.words.now }
+
+abbrev pub notes_view : Notes → List Note
+notes_view n = option_to_list (option_map note_view n.first) ++ option_to_list (option_map note_view n.second)
+
 -- what is told of a fault
 pub record Told : Type 0 where
   pub rule : Rule
   pub spot : Spot
   pub sentence : List ℕ
+  pub notes : List Note
   pub help : List ℕ
   -- a line more that helps, or nothing
   pub below : List ℕ
 
 abbrev pub told_view : told.Told → Told
-told_view t = record { rule = t.rule; spot = spot_view t.place; sentence = t.sentence.items; help = t.help.now; below = t.below.items }
+told_view t =
+    record {
+      rule = t.rule;
+      spot = spot_view t.place;
+      sentence = t.sentence.items;
+      notes = notes_view t.notes;
+      help = t.help.now;
+      below = t.below.items;
+    }
 
 abbrev pub site_of : Site → Seen
 site_of site =
-    record { spot = spot_view site.place; before = read_of site.before; from = read_of site.from; expected = expected_of site.expected }
+    record {
+      spot = spot_view site.place;
+      before = read_of site.before;
+      from = read_of site.from;
+      expected = expected_of site.expected;
+    }
 
 abbrev pub seen_at : List FileView → Read → Expected → (at : ℕ) → Seen
 seen_at files source expected at =
@@ -65,7 +96,9 @@ position_text file p = file ++ codes ":" ++ decimal p.line ++ codes ":" ++ decim
 
 -- "LAYER NUMBER NAME: "
 abbrev pub title_text : Rule → List ℕ
-title_text rule = (words_of rule).layer.now ++ codes " " ++ decimal (words_of rule).number ++ codes " " ++ (words_of rule).name.now ++ codes ": "
+title_text rule =
+    (words_of rule).layer.now ++ codes " " ++ decimal (words_of rule).number
+    ++ codes " " ++ (words_of rule).name.now ++ codes ": "
 
 abbrev pub help_line : (help : List ℕ) → List ℕ
 help_line help = codes "help: " ++ help ++ codes "\n"
@@ -74,9 +107,15 @@ help_line help = codes "help: " ++ help ++ codes "\n"
 abbrev pub head_text : Spot → Rule → List ℕ
 head_text spot rule = position_text spot.file.name (position_behind (before spot)) ++ title_text rule
 
--- behind the sentence: the line of the source, and the mark; the help
-abbrev pub rest_text : Spot → (help : List ℕ) → List ℕ
-rest_text spot help = codes "\n" ++ line_shown spot ++ help_line help
+-- the place of a note, the note, and the line of the place
+abbrev pub note_text : Note → List ℕ
+note_text n =
+    position_text n.spot.file.name (position_behind (before n.spot))
+    ++ codes "note: " ++ n.words ++ codes "\n" ++ line_shown n.spot
+
+-- behind the sentence: the line of the source, and the mark; the notes; the help
+abbrev pub rest_text : Spot → List Note → (help : List ℕ) → List ℕ
+rest_text spot notes help = codes "\n" ++ line_shown spot ++ flat_map note_text notes ++ help_line help
 
 -- ---- what is said of a rule
 
@@ -122,6 +161,25 @@ below s source (rule.Name naming.NoOthers) = missing_line s.before s.from
 below s source (rule.Elab elaboration.NoTop) = entities_line source
 below s source rule = []
 
+-- ---- notes: of a name that is declared or associated a second time the first time; of two sources of a signal of an
+-- unresolved type two statements that assign it
+
+abbrev pub note_at : List FileView → (words : List ℕ) → Token → Note
+note_at files words t = record { spot = spot_in files t.start; words = words }
+
+abbrev pub notes_of : List FileView → (first second : List ℕ) → (one other : Option Token) → List Note
+notes_of files first second one other =
+    option_to_list (option_map (note_at files first) one) ++ option_to_list (option_map (note_at files second) other)
+
+abbrev pub notes_at : List FileView → Seen → (source : Read) → Rule → List Note
+notes_at files s source (rule.Name naming.Twice) =
+    notes_of files (codes "the first of the two") [] (first_declared source (first_text s.from) s.before.tokens) None
+notes_at files s source (rule.Elab elaboration.TwoUnresolved) =
+    notes_of files (codes "it is assigned here") (codes "it is assigned here too")
+    (first_driver s.from.text (first_text s.from) s.before.tokens s.from.tokens)
+    (second_driver s.from.text (first_text s.from) s.before.tokens s.from.tokens)
+notes_at files s source rule = []
+
 -- ---- what is told
 
 -- of a source without tokens: the word at the byte, and what is said of the rule
@@ -133,7 +191,14 @@ refusal_sentence spot rule = refused (after spot) ++ (refusal_said spot rule).0
 
 abbrev pub refusal_told : Spot → Rule → Told
 refusal_told spot rule =
-    record { rule = rule; spot = spot; sentence = refusal_sentence spot rule; help = (refusal_said spot rule).1; below = [] }
+    record {
+      rule = rule;
+      spot = spot;
+      sentence = refusal_sentence spot rule;
+      notes = [];
+      help = (refusal_said spot rule).1;
+      below = [];
+    }
 
 -- of a rule that its tokens break: what those around the byte tell of it
 abbrev pub hint_of : Seen → (source : Read) → Report → Hint
@@ -144,14 +209,21 @@ abbrev pub usual_sentence : Seen → Report → List ℕ
 usual_sentence s r = reported s.from r ++ (said_at s r.rule).0
 
 abbrev pub sentence_of : Seen → (source : Read) → Report → List ℕ
-sentence_of s source r = if is_nothing (hint_of s source r) then usual_sentence s r else sentence s.from (hint_of s source r)
+sentence_of s source r =
+    if is_nothing (hint_of s source r) then usual_sentence s r else sentence s.from (hint_of s source r)
 
 abbrev pub help_of : Seen → (source : Read) → Report → List ℕ
 help_of s source r = help (hint_of s source r) (said_at s r.rule).1
 
-abbrev pub seen_told : Seen → (source : Read) → Report → Told
-seen_told s source r =
-    record { rule = r.rule; spot = s.spot; sentence = sentence_of s source r; help = help_of s source r; below = below s source r.rule }
+abbrev pub seen_told : List FileView → Seen → (source : Read) → Report → Told
+seen_told files s source r = record {
+  rule = r.rule;
+  spot = s.spot;
+  sentence = sentence_of s source r;
+  notes = notes_at files s source r.rule;
+  help = help_of s source r;
+  below = below s source r.rule;
+}
 
 -- at the byte of a report; nothing where it has none
 abbrev pub refusal_at : List FileView → Rule → Place → Option Told
@@ -162,7 +234,7 @@ abbrev pub told_of_refusal : List FileView → Report → Option Told
 told_of_refusal files r = refusal_at files r.rule r.place
 
 abbrev pub told_at : List FileView → (source : Read) → Expected → Report → Place → Option Told
-told_at files source expected r (Byte at) = Some (seen_told (seen_at files source expected at) source r)
+told_at files source expected r (Byte at) = Some (seen_told files (seen_at files source expected at) source r)
 told_at files source expected r _ = None
 
 abbrev pub told_of_source : List FileView → (source : Read) → Expected → Report → Option Told
@@ -171,7 +243,7 @@ told_of_source files source expected r = told_at files source expected r r.place
 -- ---- explanations
 
 abbrev pub paragraph : Told → List ℕ
-paragraph t = head_text t.spot t.rule ++ t.sentence ++ rest_text t.spot t.help ++ t.below
+paragraph t = head_text t.spot t.rule ++ t.sentence ++ rest_text t.spot t.notes t.help ++ t.below
 
 abbrev pub explained : Option Told → List ℕ
 explained None = []

@@ -1,4 +1,5 @@
--- Where a byte stands in a text, as editors tell it: lines and columns count from 1, and each byte is a column, a tab too.
+-- Where a byte stands in a text, as editors tell it: lines and columns count from 1, and each byte is a column, a
+-- tab too.
 use Rattle.std.specs.Prelude.{ℕ, ◌+◌, ◌==◌, ◌&&◌, not, Bool, if◌then◌else◌, List, [], ◌∷◌, ◌++◌, take, codes, flat_map}
 use Rattle.std.specs.List.{list_all, prefix_len}
 use Rattle.rtl_stim_lines.specs.Lines.{ends_line, without_return}
@@ -10,7 +11,8 @@ use Rattle.vhdl_lexer.specs.Bytes.{is_separator}
 -- where the byte behind these bytes stands, the first of which has this line and column; a line feed ends a line
 abbrev pub position_from : (line column : ℕ) → List ℕ → Position
 position_from line column [] = record { line = line; column = column }
-position_from line column (byte ∷ bytes) = if ends_line byte then position_from (line + 1) 1 bytes else position_from line (column + 1) bytes
+position_from line column (byte ∷ bytes) =
+    if ends_line byte then position_from (line + 1) 1 bytes else position_from line (column + 1) bytes
 
 abbrev pub position_behind : (before : List ℕ) → Position
 position_behind before = position_from 1 1 before
@@ -40,7 +42,8 @@ blank byte = if byte == 9 then codes "\t" else codes " "
 -- the two halves of a line as they are shown, and a mark under the byte at which they meet
 abbrev pub halves_shown : (before after : List ℕ) → List ℕ
 halves_shown before after =
-    shown_before before after ++ shown_after before after ++ codes "\n" ++ (flat_map blank (shown_before before after) ++ codes "^\n")
+    shown_before before after ++ shown_after before after ++ codes "\n"
+    ++ (flat_map blank (shown_before before after) ++ codes "^\n")
 
 -- the line of a byte of a file, and the mark
 abbrev pub line_shown : Spot → List ℕ

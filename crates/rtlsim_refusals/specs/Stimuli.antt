@@ -11,7 +11,7 @@ use Rattle.fault_rules.specs.declared.report.Rule.TheVariants as rules
 use Rattle.fault_rules.specs.declared.report.Subject.{Subject}
 use Rattle.fault_rules.specs.declared.report.Subject.TheVariants.{Race}
 use Rattle.fault_rules.specs.declared.settling.RunRule.TheVariants.{NoSettling}
-use Rattle.fault_rules.specs.declared.stimuli.StimRule.TheVariants.{SetTwice}
+use Rattle.fault_rules.specs.declared.stimuli.StimRule.TheVariants.{ClockAndSet, SetTwice}
 use Rattle.rtl_stim_lines.specs.Lines.{ends_line}
 use Rattle.rtlsim_refusals.specs.Explained.{title_text, help_line}
 use Rattle.rtlsim_refusals.specs.Places.{line_after}
@@ -23,7 +23,8 @@ use Rattle.rtlsim_refusals.specs.Races.{first_setting, race_line}
 abbrev pub behind_lines : (count : ℕ) → List ℕ → List ℕ
 behind_lines zero bytes = bytes
 behind_lines (suc count) [] = []
-behind_lines (suc count) (byte ∷ bytes) = if ends_line byte then behind_lines count bytes else behind_lines (suc count) bytes
+behind_lines (suc count) (byte ∷ bytes) =
+    if ends_line byte then behind_lines count bytes else behind_lines (suc count) bytes
 
 -- the line of this number, from 1
 abbrev pub numbered_line : (line : ℕ) → (text : List ℕ) → List ℕ
@@ -34,19 +35,20 @@ abbrev pub shown : (line : Option ℕ) → (text : Option (List ℕ)) → List �
 shown (Some line) (Some text) = numbered_line line text ++ codes "\n"
 shown _ _ = []
 
--- ---- an input that is set twice
+-- ---- two lines of one input that can't both stand
 
-abbrev pub sets_twice : Rule → Bool
-sets_twice (rules.Stim SetTwice) = true
-sets_twice _ = false
+abbrev pub is_of_two : Rule → Bool
+is_of_two (rules.Stim SetTwice) = true
+is_of_two (rules.Stim ClockAndSet) = true
+is_of_two _ = false
 
 abbrev pub first_before : (line : Option ℕ) → (text : Option (List ℕ)) → Option ℕ
 first_before (Some line) (Some text) = first_setting (numbered_line line text) text
 first_before _ _ = None
 
--- where a line sets an input twice, the number of the line that sets it first
+-- where a line can't stand beside another of its input, the number of the first of the two
 abbrev pub first_of : Rule → (line : Option ℕ) → (text : Option (List ℕ)) → Option ℕ
-first_of rule line text = if sets_twice rule then first_before line text else None
+first_of rule line text = if is_of_two rule then first_before line text else None
 
 -- ---- the parts of a paragraph
 
@@ -65,13 +67,16 @@ head file rule line = place_text file line ++ title_text rule
 -- a note at the first of two lines
 abbrev pub first_noted : (file : List ℕ) → (text : Option (List ℕ)) → (first : Option ℕ) → List ℕ
 first_noted file text None = []
-first_noted file text (Some line) = place_text file (Some line) ++ codes "note: the first of the two\n" ++ shown (Some line) text
+first_noted file text (Some line) =
+    place_text file (Some line) ++ codes "note: the first of the two\n" ++ shown (Some line) text
 
 -- what stands behind the sentence: the line, the first of two, and the help
 abbrev pub rest : (file : List ℕ) → (text : Option (List ℕ)) → Rule → (line first : Option ℕ) → List ℕ
-rest file text rule line first = codes "\n" ++ shown line text ++ first_noted file text first ++ help_line (words_of rule).help.now
+rest file text rule line first =
+    codes "\n" ++ shown line text ++ first_noted file text first ++ help_line (words_of rule).help.now
 
-abbrev pub paragraph : (file : List ℕ) → (text : Option (List ℕ)) → Rule → (line first : Option ℕ) → (sentence : List ℕ) → List ℕ
+abbrev pub paragraph : (file : List ℕ) → (text : Option (List ℕ))
+    → Rule → (line first : Option ℕ) → (sentence : List ℕ) → List ℕ
 paragraph file text rule line first sentence = head file rule line ++ sentence ++ rest file text rule line first
 
 -- ---- explanations
@@ -83,7 +88,8 @@ line_of _ = None
 
 -- a fault that names no net
 abbrev pub plain_explained : (file : List ℕ) → (text : Option (List ℕ)) → Rule → Place → List ℕ
-plain_explained file text rule place = paragraph file text rule (line_of place) (first_of rule (line_of place) text) (words_of rule).middle.now
+plain_explained file text rule place =
+    paragraph file text rule (line_of place) (first_of rule (line_of place) text) (words_of rule).middle.now
 
 -- a time, and what is said of a rule before it and behind it
 abbrev pub time_text : Rule → (time : ℕ) → List ℕ
@@ -93,9 +99,11 @@ abbrev pub race_sentence : Rule → (time : ℕ) → (input clock : List ℕ) �
 race_sentence rule time input clock = time_text rule time ++ input ++ (words_of rule).closing.now ++ clock
 
 -- a race, in the line that makes the input change, which is shown; in the stimulus where there is none
-abbrev pub race_explained : (file : List ℕ) → (text : Option (List ℕ)) → NetlistView → Rule → (time input clock : ℕ) → List ℕ
+abbrev pub race_explained : (file : List ℕ) → (text : Option (List ℕ))
+    → NetlistView → Rule → (time input clock : ℕ) → List ℕ
 race_explained file text net rule time input clock =
-    paragraph file text rule (race_line net time input text) None (race_sentence rule time (net_name net input) (net_name net clock))
+    paragraph file text rule (race_line net time input text) None
+    (race_sentence rule time (net_name net input) (net_name net clock))
 
 abbrev pub stim_of : (file : List ℕ) → (text : Option (List ℕ)) → NetlistView → Rule → Place → Subject → List ℕ
 stim_of file text net rule (Time time) (Race input clock) = race_explained file text net rule time input clock
@@ -108,10 +116,11 @@ abbrev pub names_nets : Subject → Bool
 names_nets (Race input clock) = true
 names_nets _ = false
 
--- a race takes memory for its names, and an input that is set twice for the words of lines
+-- a race takes memory for its names, and one of two lines for the words of lines
 abbrev pub takes_memory : Report → Bool
-takes_memory r = names_nets r.subject || sets_twice r.rule
+takes_memory r = names_nets r.subject || is_of_two r.rule
 
 -- a moment that doesn't settle
 abbrev pub settle_explained : (file : List ℕ) → (time : ℕ) → List ℕ
-settle_explained file time = paragraph file None (rules.Run NoSettling) None None (time_text (rules.Run NoSettling) time)
+settle_explained file time =
+    paragraph file None (rules.Run NoSettling) None None (time_text (rules.Run NoSettling) time)

@@ -8,7 +8,8 @@ ghost use Rattle.vhdl_source_files.specs.Files.{file_view, spot_view};
 ghost use Rattle.vhdl_hints.specs.Hinted.{hint_view};
 ghost use Rattle.vhdl_expected.specs.Told.{expected_of};
 
-use crate::place::{begins_line, position_behind, push_shown};
+use crate::beside::{Notes, notes_at, push_notes};
+use crate::place::{begins_line, push_position, push_shown};
 use crate::refused::{push_refused, said_of, said_refused};
 use byte_streams::{Sink, push_number, push_text};
 use fault_rules::{ElabRule, NameRule, Place, Report, Rule, Subject, SyntaxRule};
@@ -57,7 +58,10 @@ pub fn explain_source<S: Sink>(
         (spec.source_explained (map file_view files.now) (read_of source.entry) (expected_of expected) report) }
 {
     match report.place {
-        Place::Byte(at) => push_seen(site_at(files, source, expected, at), source, report, sink),
+        Place::Byte(at) => {
+            let site = site_at(files, source, expected, at);
+            push_seen(files, site, source, report, sink);
+        }
         _ => push_text(sink, b""),
     }
 }
@@ -88,18 +92,25 @@ fn push_refusal<S: Sink>(place: FilePlace<'_>, rule: Rule, sink: &mut S)
 {
     push_head(place, rule, sink);
     push_refusal_sentence(place, rule, sink);
-    push_rest(place, refusal_help(place, rule), sink);
+    push_rest(place, Notes::none(), refusal_help(place, rule), sink);
     push_text(sink, b"");
 }
 
 /// Writes which rule is broken.
-fn push_seen<S: Sink>(site: Site<'_, '_>, source: Lexed<'_>, report: Report, sink: &mut S)
-    ensures { Goes (S.state sink.old) (S.state sink.new)
-        (spec.paragraph (spec.seen_told (spec.site_of site.entry) (read_of source.entry) report)) }
+fn push_seen<S: Sink>(
+    files: &[SourceFile<'_>],
+    site: Site<'_, '_>,
+    source: Lexed<'_>,
+    report: Report,
+    sink: &mut S,
+)
+    ensures { Goes (S.state sink.old) (S.state sink.new) (spec.paragraph
+        (spec.seen_told (map file_view files.now) (spec.site_of site.entry) (read_of source.entry) report)) }
 {
     push_head(site.place, report.rule, sink);
     push_sentence(site, source, report, sink);
-    push_rest(site.place, help_of(site, source, report), sink);
+    let notes = notes_at(files, site, source, report.rule);
+    push_rest(site.place, notes, help_of(site, source, report), sink);
     push_below(site, source, report.rule, sink);
 }
 
@@ -247,14 +258,7 @@ pub(crate) fn push_below<S: Sink>(site: Site<'_, '_>, source: Lexed<'_>, rule: R
 pub(crate) fn push_head<S: Sink>(place: FilePlace<'_>, rule: Rule, sink: &mut S)
     ensures { Goes (S.state sink.old) (S.state sink.new) (spec.head_text (spot_view place.entry) rule) }
 {
-    let (before, _) = place.halves();
-    let position = position_behind(before);
-    push_text(sink, place.file.name);
-    push_text(sink, b":");
-    push_number(sink, position.line as u64);
-    push_text(sink, b":");
-    push_number(sink, position.column as u64);
-    push_text(sink, b": ");
+    push_position(place, sink);
     push_title(rule, sink);
 }
 
@@ -271,13 +275,15 @@ pub(crate) fn push_title<S: Sink>(rule: Rule, sink: &mut S)
     push_text(sink, b": ");
 }
 
-/// Writes what stands behind the sentence: the line with a mark under the place, and what to do
-/// about it.
-pub(crate) fn push_rest<S: Sink>(place: FilePlace<'_>, help: &[u8], sink: &mut S)
-    ensures { Goes (S.state sink.old) (S.state sink.new) (spec.rest_text (spot_view place.entry) help.now) }
+/// Writes what stands behind the sentence: the line with a mark under the place, the notes, and
+/// what to do about it.
+pub(crate) fn push_rest<S: Sink>(place: FilePlace<'_>, notes: Notes<'_>, help: &[u8], sink: &mut S)
+    ensures { Goes (S.state sink.old) (S.state sink.new)
+        (spec.rest_text (spot_view place.entry) (spec.notes_view notes.entry) help.now) }
 {
     push_text(sink, b"\n");
     push_shown(place, sink);
+    push_notes(notes, sink);
     push_help(help, sink);
 }
 

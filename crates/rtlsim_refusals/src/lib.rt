@@ -9,6 +9,7 @@
 //! vhdl_hints'.
 #![tactic(auto)]
 
+mod beside;
 mod explaining;
 mod place;
 mod race;
@@ -16,6 +17,7 @@ mod refused;
 mod stimulus;
 mod told;
 
+pub use beside::{Noted, Notes};
 pub use explaining::{explain_refusal, explain_source};
 pub use place::{Position, line_after, line_before, position_behind, position_from};
 pub use stimulus::{explain_stim, explain_unsettled};

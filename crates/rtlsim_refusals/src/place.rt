@@ -4,9 +4,10 @@ ghost use Rattle.std.specs.Prelude.{◌≡◌, ◌+◌, ◌<◌, ◌≤◌, ◌^
 ghost use Rattle.std.specs.List.{prefix_len};
 ghost use Rattle.byte_streams.specs.Written.{Goes};
 ghost use Rattle.rtlsim_refusals.specs.Places as spec;
-ghost use Rattle.vhdl_source_files.specs.Files.{spot_view};
+ghost use Rattle.rtlsim_refusals.specs.Explained.{position_text};
+ghost use Rattle.vhdl_source_files.specs.Files.{before, spot_view};
 
-use byte_streams::{Sink, push_text};
+use byte_streams::{Sink, push_number, push_text};
 use rtl_stim_lines::without_return;
 use vhdl_source_files::{FilePlace, cut_line};
 
@@ -73,6 +74,21 @@ fn line_len(after: &[u8]) -> usize
     ensures within { result ≤ length after.now }
 {
     after.iter().take_while(|byte| **byte != b'\n').count()
+}
+
+/// Writes where a byte stands, as editors read it.
+pub(crate) fn push_position<S: Sink>(place: FilePlace<'_>, sink: &mut S)
+    ensures { Goes (S.state sink.old) (S.state sink.new)
+        (position_text place.entry.file.name.now (spec.position_behind (before (spot_view place.entry)))) }
+{
+    let (before, _) = place.halves();
+    let position = position_behind(before);
+    push_text(sink, place.file.name);
+    push_text(sink, b":");
+    push_number(sink, position.line as u64);
+    push_text(sink, b":");
+    push_number(sink, position.column as u64);
+    push_text(sink, b": ");
 }
 
 /// Writes the line of a byte, and below it a mark at the byte; of a long line what stands round the

@@ -1,5 +1,5 @@
-//! Which line of a stimulus makes an input change at a time, and which sets it first where it is
-//! set twice.
+//! Which line of a stimulus makes an input change at a time, and which is the first of two that
+//! can't both stand.
 
 ghost use Rattle.std.specs.Prelude.{◌≡◌, IfOk, Option, map, option_map};
 ghost use Rattle.rtl_net.specs.Nets.{signal_view};
@@ -26,7 +26,7 @@ pub(crate) fn race_line(
 {
     match text {
         None => Ok(None),
-        Some(text) => setting_line(alloc, name_with(input, net.signals()), time, text),
+        Some(text) => setting_line(alloc, name_with(input, net.signals()), Some(time), text),
     }
 }
 
@@ -43,52 +43,68 @@ fn name_with(net: usize, mut signals: &[Signal]) -> &[u8]
     &[]
 }
 
-/// The number of the first line of a text that sets a port at a time, or makes it a clock.
+/// The number of the first line of a text that sets a port at the time that is asked for, at any
+/// where none is, or makes it a clock.
 fn setting_line(
     alloc: Global,
     port: &[u8],
-    time: u64,
+    asked: Option<u64>,
     text: &[u8],
 ) -> Result<Option<usize>, AllocError>
-    ensures { IfOk result (λ line. line ≡ spec.setting_line port.now time text.now) }
+    ensures { IfOk result (λ line. line ≡ spec.setting_line port.now asked text.now) }
 {
     let mut left = text;
     let mut number = 1;
     while let Some(end) = line_end(left) {
-        if line_sets(alloc, port, time, without_return(&left[..end]))? {
+        if line_sets(alloc, port, asked, without_return(&left[..end]))? {
             return Ok(Some(number));
         }
         left = &left[end + 1..];
         number += 1;
     }
-    if line_sets(alloc, port, time, left)? {
+    if line_sets(alloc, port, asked, left)? {
         return Ok(Some(number));
     }
     Ok(None)
 }
 
-/// Whether a line sets a port at a time, or makes it a clock.
-fn line_sets(alloc: Global, port: &[u8], time: u64, line: &[u8]) -> Result<bool, AllocError>
-    ensures { IfOk result (λ sets. sets ≡ spec.line_sets port.now time line.now) }
+/// Whether a line does.
+fn line_sets(
+    alloc: Global,
+    port: &[u8],
+    asked: Option<u64>,
+    line: &[u8],
+) -> Result<bool, AllocError>
+    ensures { IfOk result (λ sets. sets ≡ spec.line_sets port.now asked line.now) }
 {
     let words = words_of(alloc, line)?;
-    Ok(form_sets(port, time, form_of(&words)))
+    Ok(form_sets(port, asked, form_of(&words)))
 }
 
 /// Whether a line of this form does.
-fn form_sets(port: &[u8], time: u64, form: Option<Form<'_>>) -> bool
-    ensures { (said : Option forms.Form) → IsFormOf said form.entry → result ≡ spec.form_sets port.now time said }
+fn form_sets(port: &[u8], asked: Option<u64>, form: Option<Form<'_>>) -> bool
+    ensures { (said : Option forms.Form) → IsFormOf said form.entry → result ≡ spec.form_sets port.now asked said }
 {
     match form {
         Some(
             Form::At {
-                time: Time::At(at),
+                time: Time::At(time),
                 name,
                 ..
             },
-        ) => at == time && is_same_word(name, port),
+        ) => is_at(asked, time) && is_same_word(name, port),
         Some(Form::Clock { name, .. }) => is_same_word(name, port),
         _ => false,
+    }
+}
+
+/// Whether this is the time that is asked for, or none is.
+fn is_at(asked: Option<u64>, time: u64) -> bool
+    ensures { result ≡ spec.is_at asked time }
+{
+    match asked {
+        Some(asked) => time == asked,
+        None => true,
     }
 }
 
@@ -103,13 +119,13 @@ pub(crate) fn first_setting(
 {
     let words = words_of(alloc, line)?;
     match setting_of(form_of(&words)) {
-        Some((name, time)) => setting_line(alloc, name, time, text),
+        Some((name, asked)) => setting_line(alloc, name, asked, text),
         None => Ok(None),
     }
 }
 
-/// What a line of this form sets, and when; a clock from 0 on.
-fn setting_of(form: Option<Form<'_>>) -> Option<(&[u8], u64)>
+/// What a line of this form sets, and when; a clock at any time.
+fn setting_of(form: Option<Form<'_>>) -> Option<(&[u8], Option<u64>)>
     ensures { (said : Option forms.Form) → IsFormOf said form.entry
         → option_map (λ setting. (setting.0.now, setting.1)) result ≡ spec.setting_of said }
 {
@@ -120,8 +136,8 @@ fn setting_of(form: Option<Form<'_>>) -> Option<(&[u8], u64)>
                 name,
                 ..
             },
-        ) => Some((name, time)),
-        Some(Form::Clock { name, .. }) => Some((name, 0)),
+        ) => Some((name, Some(time))),
+        Some(Form::Clock { name, .. }) => Some((name, None)),
         _ => None,
     }
 }

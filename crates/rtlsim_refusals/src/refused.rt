@@ -35,6 +35,16 @@ const NEGATION: Said = (
     "write not a for ~a and !a, and a /= b for a != b",
 );
 
+const EXCLUSIVE_OR: Said = (
+    "isn't read here: exclusive or is a word",
+    "write a xor b for a ^ b",
+);
+
+const REMAINDER: Said = (
+    "isn't read here: what is left of a division is given by the words mod and rem",
+    "write n mod 2 of whole numbers; of unsigned take the last elements: u(0)",
+);
+
 /// A string with a byte in it that isn't printable ASCII.
 const IN_STRING: Said = (
     "begins a string with a byte in it that isn't read here",
@@ -67,6 +77,8 @@ fn said_of_byte(text: &[u8], usual: Said) -> Said
         [b'[', ..] => INDEX,
         [b'{', ..] => BRACES,
         [b'~' | b'!', ..] => NEGATION,
+        [b'^', ..] => EXCLUSIVE_OR,
+        [b'%', ..] => REMAINDER,
         [b'"', ..] => IN_STRING,
         [0xEF, 0xBB, 0xBF, ..] => MARK,
         _ => usual,

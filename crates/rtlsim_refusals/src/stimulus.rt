@@ -17,7 +17,7 @@ use std::alloc::{AllocError, Global};
 
 /// Explains why a stimulus is refused, whose text shows the line, or a NAME=VALUE word, without a
 /// text. It takes the memory of two names and of the words of a line at a race, and of such words
-/// where an input is set twice; where that is refused, what went out is a beginning of the text.
+/// for the first of two lines; where that is refused, what went out is a beginning of the text.
 pub fn explain_stim<S: Sink>(
     alloc: Global,
     file: &[u8],
@@ -115,7 +115,7 @@ fn explain_plain<S: Sink>(
 ) -> Result<(), NoMemory>
     ensures printed { Prints result (S.state sink.old) (S.state sink.new)
         (spec.plain_explained file.now (option_map (λ t. t.now) text.entry) report.rule report.place) }
-    ensures memory { OnErr result (spec.sets_twice report.rule ≡ true) }
+    ensures memory { OnErr result (spec.is_of_two report.rule ≡ true) }
 {
     let line = line_of(report.place);
     let first = first_of(alloc, report.rule, line, text)?;
@@ -140,7 +140,7 @@ fn push_plain<S: Sink>(
     push_rest(file, text, rule, line, first, sink);
 }
 
-/// Where a line sets an input twice, the number of the line that sets it first.
+/// Where a line can't stand beside another of its input, the number of the first of the two.
 fn first_of(
     alloc: Global,
     rule: Rule,
@@ -148,9 +148,9 @@ fn first_of(
     text: Option<&[u8]>,
 ) -> Result<Option<usize>, AllocError>
     ensures first { IfOk result (λ first. first ≡ spec.first_of rule line (option_map (λ t. t.now) text.entry)) }
-    ensures memory { OnErr result (spec.sets_twice rule ≡ true) }
+    ensures memory { OnErr result (spec.is_of_two rule ≡ true) }
 {
-    if !sets_twice(rule) {
+    if !is_of_two(rule) {
         return Ok(None);
     }
     match (line, text) {
@@ -159,10 +159,10 @@ fn first_of(
     }
 }
 
-fn sets_twice(rule: Rule) -> bool
-    ensures { result ≡ spec.sets_twice rule }
+fn is_of_two(rule: Rule) -> bool
+    ensures { result ≡ spec.is_of_two rule }
 {
-    matches!(rule, Rule::Stim(StimRule::SetTwice))
+    matches!(rule, Rule::Stim(StimRule::SetTwice | StimRule::ClockAndSet))
 }
 
 fn line_of(place: Place) -> Option<usize>

@@ -7,6 +7,7 @@ ghost use Rattle.vhdl_slips.specs.Words.{read_of};
 ghost use Rattle.vhdl_source_files.specs.Files.{file_view, spot_view};
 ghost use Rattle.vhdl_expected.specs.Told.{expected_of};
 
+use crate::beside::{Notes, notes_at};
 use crate::explaining::{
     Site, help_of, push_below, push_head, push_refusal_sentence, push_rest, push_sentence,
     refusal_help, site_at,
@@ -26,6 +27,8 @@ pub struct Told<'a> {
     pub place: FilePlace<'a>,
     /// What is wrong.
     pub sentence: Vec<u8>,
+    /// Other places that have to be seen.
+    pub notes: Notes<'a>,
     /// What a designer does about it.
     pub help: &'static [u8],
     /// A line more that helps, or nothing.
@@ -72,7 +75,7 @@ pub fn told_source<'a>(
     match report.place {
         Place::Byte(at) => {
             let site = site_at(files, source, expected, at);
-            Ok(Some(seen_told(alloc, site, source, report)?))
+            Ok(Some(seen_told(alloc, files, site, source, report)?))
         }
         _ => Ok(None),
     }
@@ -88,6 +91,7 @@ fn refusal_told<'a>(alloc: Global, place: FilePlace<'a>, rule: Rule) -> Result<T
         rule,
         place,
         sentence: taken(sentence)?,
+        notes: Notes::none(),
         help: refusal_help(place, rule),
         below: Vec::new(alloc),
     })
@@ -96,12 +100,13 @@ fn refusal_told<'a>(alloc: Global, place: FilePlace<'a>, rule: Rule) -> Result<T
 /// What is told of a byte of a source that has tokens.
 fn seen_told<'a>(
     alloc: Global,
+    files: &[SourceFile<'a>],
     site: Site<'a, '_>,
     source: Lexed<'_>,
     report: Report,
 ) -> Result<Told<'a>, AllocError>
     ensures { IfOk result (λ told. spec.told_view told
-        ≡ spec.seen_told (spec.site_of site.entry) (read_of source.entry) report) }
+        ≡ spec.seen_told (map file_view files.now) (spec.site_of site.entry) (read_of source.entry) report) }
 {
     let mut sentence = Out::new(Vec::new(alloc));
     push_sentence(site, source, report, &mut sentence);
@@ -111,6 +116,7 @@ fn seen_told<'a>(
         rule: report.rule,
         place: site.place,
         sentence: taken(sentence)?,
+        notes: notes_at(files, site, source, report.rule),
         help: help_of(site, source, report),
         below: taken(below)?,
     })
@@ -134,6 +140,6 @@ pub fn push_paragraph<S: Sink>(told: &Told<'_>, sink: &mut S)
 {
     push_head(told.place, told.rule, sink);
     push_text(sink, &told.sentence);
-    push_rest(told.place, told.help, sink);
+    push_rest(told.place, told.notes, told.help, sink);
     push_text(sink, &told.below);
 }

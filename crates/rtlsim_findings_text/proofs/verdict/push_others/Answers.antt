@@ -4,6 +4,7 @@ use Rattle.byte_streams.proofs.Writing.{Goes-append}
 use Rattle.rtlsim_findings.specs.Findings.{finding_view}
 use Rattle.rtlsim_findings.specs.declared.finding.Finding.{Finding}
 use Rattle.rtlsim_listing.proofs.Printing.{next_text}
+use Rattle.vhdl_slips.specs.Words.{read_of}
 use Rattle.rtlsim_findings_text.specs.Json.{finding_text}
 use Rattle.rtlsim_findings_text.specs.Marks.{files_at}
 use Rattle.rtlsim_findings_text.specs.Values as values
@@ -12,13 +13,13 @@ use Rattle.rtlsim_findings_text.proofs.verdict.push_others.Goals as goal
 
 pub returns-in_err-text : goal.returns-in_err-text
 returns-in_err-text g c =
-    let text = values.next_text (finding_text (files_at c.args.site.now) c.args.site.now.net.now) in
+    let text = values.next_text (finding_text (files_at c.args.site.now) (read_of c.args.source) c.args.site.now.net.now) in
     written_part text finding_view c.from_residual.result _ _ _ c.args.found.now c.loop-finding.finding-index c.finding-item.result c.from_residual.ensures.1
     c.loop-finding-test.true c.loop-finding.invariant
 
 pub loop-finding-preserved : goal.loop-finding-preserved
 loop-finding-preserved g c =
-    let text = values.next_text (finding_text (files_at c.args.site.now) c.args.site.now.net.now) in
+    let text = values.next_text (finding_text (files_at c.args.site.now) (read_of c.args.source) c.args.site.now.net.now) in
     let each = λ (f : Finding). text (finding_view f) in
     let gone = subst (λ t. Goes (g.W.Sink.state c.push_text.new.sink) (g.W.Sink.state c.push_text-in-loop-finding.new.sink) t) (c.deref.ensures.value ∙ c.in_ok-text.ensures) c.push_text-in-loop-finding.ensures in
     next_text _ _ _ each c.args.found.now c.loop-finding.finding-index c.finding-item.result c.loop-finding-test.true c.loop-finding.invariant
@@ -26,5 +27,5 @@ loop-finding-preserved g c =
 
 pub returns : goal.returns
 returns g c =
-    let text = values.next_text (finding_text (files_at c.args.site.now) c.args.site.now.net.now) in
+    let text = values.next_text (finding_text (files_at c.args.site.now) (read_of c.args.source) c.args.site.now.net.now) in
     written_each text finding_view _ _ c.args.found.now c.loop-finding.finding-index c.loop-finding-test.false c.loop-finding.invariant

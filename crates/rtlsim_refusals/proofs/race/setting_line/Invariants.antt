@@ -5,7 +5,7 @@ use Rattle.rtlsim_refusals.proofs.race.setting_line.Given as goal
 
 -- the lines before those that are left don't set it
 abbrev pub invariant-loop-end : goal.invariant-loop-end
-invariant-loop-end l = (setting_line l.port l.time l.text ≡ line_among l.port l.time l.number (lines_of l.left)) × (l.number + length l.left ≤ length l.text + 1)
+invariant-loop-end l = (setting_line l.port l.asked l.text ≡ line_among l.port l.asked l.number (lines_of l.left)) × (l.number + length l.left ≤ length l.text + 1)
 
 abbrev pub decreases-loop-end : goal.decreases-loop-end
 decreases-loop-end l = length l.left
