@@ -7,7 +7,7 @@ ghost use Rattle.byte_streams.specs.Written.{SinkState, fails_at};
 use thiserror::Error;
 
 /// The sink took less than the whole text.
-#[derive(Clone, Copy, PartialEq, Eq, Debug, Error)]
+#[derive(Clone, Copy, Debug, Error)]
 #[error("the output failed")]
 pub struct WriteFailed;
 

@@ -29,7 +29,7 @@ pub trait Watch {
 }
 
 /// Looks at nothing.
-#[derive(Clone, Copy, Debug)]
+#[derive(Clone, Copy)]
 pub struct Unwatched;
 
 impl Watch for Unwatched {

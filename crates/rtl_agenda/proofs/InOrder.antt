@@ -108,10 +108,6 @@ in_order_insert (e ∷ es) k v in_order filled = by (nat_cmp k e.0) refl (in_ord
     by Equal is later = (filled, in_order.1, in_order.2)
     by Greater is later = (in_order.0, keys_insert (λ q. e.0 < q) es k v in_order.1 (above k e.0 is), later)
 
-pub in_order_none : Rises []
-unfolding Rises
-in_order_none = tt
-
 pub in_order_cons : (e : ℕ × List Change) (es : List (ℕ × List Change)) → 0 < length e.1 → AllByRecursion (λ k. e.0 < k) (keys_of es) → Rises es → Rises (e ∷ es)
 unfolding Rises
 in_order_cons e es filled above in_order = (filled, above, in_order)

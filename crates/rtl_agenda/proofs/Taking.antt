@@ -1,9 +1,7 @@
 -- What waits on a wheel once a time is taken or drawn near, or a change is pushed.
 use Rattle.std.proofs.Common.{◌≡◌, ℕ, ◌-◌, ◌%◌, ◌<◌, ◌≤◌, true, false, List, [], ◌∷◌, ◌++◌, length, get_or, set, Option, Result, sym, ap, subst, ◌∙◌, arith}
-use Rattle.std.specs.Prelude.{All, OnErr, OnOk, unwrap_or}
-use Rattle.std.specs.List.{AllByRecursion}
+use Rattle.std.specs.Prelude.{OnErr, OnOk, unwrap_or}
 use Rattle.std.specs.Map.{keys_of}
-use Rattle.std.proofs.lemmas.List.Elements.{All-from_recursion}
 use Rattle.rtl_agenda.specs.Agenda.{Change, IsAfter, IsOrderly, LeavesAlone, changes_at, with_change}
 use Rattle.rtl_agenda.specs.MapState.{IsInOrder}
 use Rattle.rtl_agenda.specs.Wheel.{IsAhead, IsFilled, IsParted, IsRing, entries_of, is_filled, slot_at, turned_to, waiting_in}
@@ -65,12 +63,6 @@ module _ (far rest slots new : List (ℕ × List Change)) (words : List ℕ) (fr
   drawn_ahead =
       let P : List (ℕ × List Change) → Type 0 = λ es. IsAhead rest es from in
       subst P (sym written) (ahead_drawn rest slots words from time changes ring before near rises)
-
--- all that is near has been drawn
-pub all_drawn : (far slots : List (ℕ × List Change)) (from turn : ℕ) → IsAhead far slots from → turn ≡ length slots → AllByRecursion (λ t. turn ≤ t - from) (keys_of far) → IsParted far slots from
-all_drawn far slots from turn ahead is left =
-    let P : ℕ → Type 0 = λ n. All (λ t. n ≤ t - from) (keys_of far) in
-    record { near = ahead.near; ahead = subst P is (All-from_recursion (λ t. turn ≤ t - from) (keys_of far) left) }
 
 -- ---- a change is pushed, or refused
 

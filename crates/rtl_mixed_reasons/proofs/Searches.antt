@@ -1,5 +1,5 @@
 -- Searches over statements and conditions, one further.
-use Rattle.std.proofs.Common.{◌≡◌, ℕ, ◌+◌, ◌-◌, ◌<◌, ◌≤◌, List, [], ◌∷◌, ◌++◌, length, get_or, drop, take, zero, suc, Bool, true, false, not, ◌&&◌, ◌||◌, ◌==◌, Option, Some, None, refl, sym, ap, ◌∙◌, arith}
+use Rattle.std.proofs.Common.{◌≡◌, ℕ, ◌+◌, ◌-◌, ◌<◌, ◌≤◌, List, [], ◌∷◌, ◌++◌, length, get_or, drop, take, zero, suc, Bool, true, false, not, ◌||◌, Option, Some, None, refl, sym, ap, ◌∙◌, arith}
 use Rattle.std.specs.Prelude.{is_some, if◌then◌else◌, option_map, option_and_then}
 use Rattle.std.specs.List.{list_any}
 use Rattle.std.proofs.lemmas.List.{at_drop_more, at_drop_all, take_all}
@@ -10,9 +10,8 @@ use Rattle.rtl_mixed_reasons.specs.declared.edges.EdgeTest.{EdgeTest}
 use Rattle.rtl_mixed_reasons.specs.declared.ifs.EdgeIf.{EdgeIf}
 use Rattle.std.specs.Option.{option_or}
 use Rattle.rtl_mixed_reasons.specs.declared.reason.Reason.{Reason}
-use Rattle.rtl_mixed_reasons.specs.declared.reason.ReasonKind.TheVariants.{EdgeInLoop, SecondEdge}
 use Rattle.rtl_net.specs.declared.process.Process.{Process}
-use Rattle.rtl_mixed_reasons.specs.Reasons.{at_of, if_branches, conditions, first_edge, edge_if, edge_in, first_in, first_net, assigns_in, same_edge, plain, other_edge, second_edge, second_if, first_that_fits}
+use Rattle.rtl_mixed_reasons.specs.Reasons.{at_of, if_branches, conditions, first_edge, edge_if, edge_in, first_in, second_edge, second_if, first_that_fits}
 
 -- one of two, by whether the first is there
 pub one-is : {A : Type 0} (a b : Option A) (x : A) → a ≡ Some x → (if is_some a then a else b) ≡ Some x
@@ -176,18 +175,3 @@ behind-is k xs ys e = take_all (length xs - k) (drop k xs) (drop-length k xs) �
 module _ (p : Process) (x y : Statement) (i : EdgeIf) where
   pub no-second : edge_if 0 y ≡ None → None ≡ second_if p x i y
   no-second e = sym (ap (option_map (second_edge p x y i)) e)
-
-  module _ (j : EdgeIf) (is : edge_if 0 y ≡ Some j) where
-    told : (r : Reason) → second_edge p x y i j ≡ r → Some r ≡ second_if p x i y
-    told r e = sym (ap (option_map (second_edge p x y i)) is ∙ ap (λ (a : Reason). Some a) e)
-
-    pub other-edge : (net : Option ℕ) → same_edge i.edge j.edge ≡ false → net ≡ first_net p (λ n. assigns_in p x n && assigns_in p y n)
-        → Some (other_edge j.at net) ≡ second_if p x i y
-    other-edge net e n =
-        told (other_edge j.at net)
-        ((λ k. if not (e k) then other_edge j.at (sym n k) else plain (if i.at == j.at then EdgeInLoop else SecondEdge) j.at))
-
-    pub the-same : (so : Bool) → same_edge i.edge j.edge ≡ true → (i.at == j.at) ≡ so → Some (plain (if so then EdgeInLoop else SecondEdge) j.at) ≡ second_if p x i y
-    the-same so e at =
-        told (plain (if so then EdgeInLoop else SecondEdge) j.at)
-        (λ k. if not (e k) then other_edge j.at (first_net p (λ n. assigns_in p x n && assigns_in p y n)) else plain (if at k then EdgeInLoop else SecondEdge) j.at)

@@ -18,7 +18,6 @@ pub enum Operator {
 
 /// An expression of one element or of a vector of the nine values. A natural number beside a vector
 /// stands here as a constant of that vector's length.
-#[derive(Drop)]
 #[cycle(expression)]
 pub enum Expr {
     /// The elements of a signal's name, slice or index, by their nets.
@@ -48,17 +47,44 @@ pub enum Expr {
     },
 }
 
+impl Drop for Expr {
+    #[cycle(expression)]
+    fn drop(self) {
+        match self {
+            Expr::Signal(_) => {}
+            Expr::Variable(_) => {}
+            Expr::Constant(_) => {}
+            Expr::Inverse(_) => {}
+            Expr::Filled { len: _, element: _ } => {}
+            Expr::Chain { first: _, rest: _ } => {}
+            Expr::Counted {
+                operator: _,
+                count: _,
+                operand: _,
+            } => {}
+        }
+    }
+}
+
 /// An operator and its right operand.
-#[derive(Drop)]
 #[cycle(expression)]
 pub struct Link {
     pub operator: Operator,
     pub operand: Expr,
 }
 
+impl Drop for Link {
+    #[cycle(expression)]
+    fn drop(self) {
+        let Link {
+            operator: _,
+            operand: _,
+        } = self;
+    }
+}
+
 /// What is assigned, and compared for equality: elements of the nine values, or one value of an
 /// enumeration.
-#[derive(Drop)]
 pub enum Value {
     Elements(Expr),
     /// A literal of an enumeration, by its position (5.2.2).
@@ -69,8 +95,18 @@ pub enum Value {
     PositionIn(u32),
 }
 
+impl Drop for Value {
+    fn drop(self) {
+        match self {
+            Value::Elements(_) => {}
+            Value::Position(_) => {}
+            Value::PositionOf(_) => {}
+            Value::PositionIn(_) => {}
+        }
+    }
+}
+
 /// A condition.
-#[derive(Drop)]
 #[cycle(condition)]
 pub enum Test {
     /// A condition of one element (9.2.9).
@@ -108,17 +144,49 @@ pub enum Test {
     },
 }
 
+impl Drop for Test {
+    #[cycle(condition)]
+    fn drop(self) {
+        match self {
+            Test::Condition(_) => {}
+            Test::Decided(_) => {}
+            Test::Equal(_, _) => {}
+            Test::Unequal(_, _) => {}
+            Test::Level {
+                plain: _,
+                net: _,
+                value: _,
+            } => {}
+            Test::Compared(_, _, _) => {}
+            Test::ComparedTo(_, _, _) => {}
+            Test::Rising(_) => {}
+            Test::Falling(_) => {}
+            Test::Event(_) => {}
+            Test::Negated(_) => {}
+            Test::Combined { first: _, rest: _ } => {}
+        }
+    }
+}
+
 /// A logical operator and its right operand.
-#[derive(Drop)]
 #[cycle(condition)]
 pub struct TestLink {
     pub operator: Logic,
     pub operand: Test,
 }
 
+impl Drop for TestLink {
+    #[cycle(condition)]
+    fn drop(self) {
+        let TestLink {
+            operator: _,
+            operand: _,
+        } = self;
+    }
+}
+
 /// A sequential statement. Drivers are told by their places in the process's `drives`, and elements
 /// of variables by their numbers, in order of declaration and from the left.
-#[derive(Drop)]
 #[cycle(statement)]
 pub enum Statement {
     /// `null` (10.14).
@@ -150,25 +218,79 @@ pub enum Statement {
     },
 }
 
+impl Drop for Statement {
+    #[cycle(statement)]
+    fn drop(self) {
+        match self {
+            Statement::Null => {}
+            Statement::Assign {
+                places: _,
+                value: _,
+            } => {}
+            Statement::Set {
+                elements: _,
+                value: _,
+            } => {}
+            Statement::If {
+                at: _,
+                branches: _,
+                otherwise: _,
+            } => {}
+            Statement::Case {
+                at: _,
+                selector: _,
+                alternatives: _,
+                others: _,
+            } => {}
+        }
+    }
+}
+
 /// A condition, and the statements that it guards.
-#[derive(Drop)]
 #[cycle(statement)]
 pub struct Branch {
     pub test: Test,
     pub statements: Vec<Statement>,
 }
 
+impl Drop for Branch {
+    #[cycle(statement)]
+    fn drop(self) {
+        let Branch {
+            test: _,
+            statements: _,
+        } = self;
+    }
+}
+
 /// Choices, and the statements that they guard.
-#[derive(Drop)]
 #[cycle(statement)]
 pub struct Alternative {
     pub choices: Vec<Choice>,
     pub statements: Vec<Statement>,
 }
 
+impl Drop for Alternative {
+    #[cycle(statement)]
+    fn drop(self) {
+        let Alternative {
+            choices: _,
+            statements: _,
+        } = self;
+    }
+}
+
 /// A choice of a case: the elements of a value, or the position of an enumeration's literal.
-#[derive(Drop)]
 pub enum Choice {
     Elements(Vec9),
     Position(u8),
+}
+
+impl Drop for Choice {
+    fn drop(self) {
+        match self {
+            Choice::Elements(_) => {}
+            Choice::Position(_) => {}
+        }
+    }
 }

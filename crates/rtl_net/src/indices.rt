@@ -4,10 +4,18 @@ use smallvec::SmallVec;
 
 /// Numbers from the left, as the elements of a name have them: mostly one after another, and else a
 /// list.
-#[derive(Drop)]
 pub enum Indices {
     /// So many numbers, each one above the one before it.
     Run { first: u32, len: u32 },
     /// Any numbers.
     List(SmallVec<u32, 4>),
+}
+
+impl Drop for Indices {
+    fn drop(self) {
+        match self {
+            Indices::Run { first: _, len: _ } => {}
+            Indices::List(_) => {}
+        }
+    }
 }

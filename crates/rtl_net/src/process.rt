@@ -12,15 +12,23 @@ pub struct Driver {
 }
 
 /// A variable of a process, and the values of its elements at the start of each run, from the left.
-#[derive(Drop)]
 pub struct Variable {
     pub name: Vec<u8>,
     pub kind: SignalKind,
     pub starts: SmallVec<u8, 8>,
 }
 
+impl Drop for Variable {
+    fn drop(self) {
+        let Variable {
+            name: _,
+            kind: _,
+            starts: _,
+        } = self;
+    }
+}
+
 /// A process of the elaborated design.
-#[derive(Drop)]
 pub struct Process {
     /// Its drivers, in order of declaration of what they drive. The places in its body's
     /// assignments count them.
@@ -40,4 +48,20 @@ pub struct Process {
     pub label: Option<Vec<u8>>,
     /// The byte of the source at which it starts, behind its label (IEEE 1076-2008, 11.3).
     pub at: u32,
+}
+
+impl Drop for Process {
+    fn drop(self) {
+        let Process {
+            drives: _,
+            reads: _,
+            wakes: _,
+            variables: _,
+            body: _,
+            scope: _,
+            generates: _,
+            label: _,
+            at: _,
+        } = self;
+    }
 }

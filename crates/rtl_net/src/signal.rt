@@ -5,11 +5,19 @@ use smallvec::SmallVec;
 /// An instance, or the top: its label and the scope in which it stands. The top's label is its
 /// entity's name, an instance's has the labels of the generates round it before its own, joined by
 /// dots.
-#[derive(Drop)]
 pub struct Scope {
     pub label: Vec<u8>,
     /// The number of the scope round it; `None` for the top.
     pub parent: Option<usize>,
+}
+
+impl Drop for Scope {
+    fn drop(self) {
+        let Scope {
+            label: _,
+            parent: _,
+        } = self;
+    }
 }
 
 /// The type of a signal or variable, and of a vector its bounds as declared.
@@ -23,7 +31,6 @@ pub enum SignalKind {
 }
 
 /// A signal, or a port as its scope names it.
-#[derive(Drop)]
 pub struct Signal {
     /// The number of the scope in which it is declared.
     pub scope: usize,
@@ -35,4 +42,17 @@ pub struct Signal {
     pub nets: SmallVec<usize, 1>,
     /// The byte of the source at which it is declared.
     pub at: u32,
+}
+
+impl Drop for Signal {
+    fn drop(self) {
+        let Signal {
+            scope: _,
+            name: _,
+            port: _,
+            kind: _,
+            nets: _,
+            at: _,
+        } = self;
+    }
 }

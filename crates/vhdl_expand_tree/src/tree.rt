@@ -18,7 +18,6 @@ pub enum Role {
 }
 
 /// A port or a signal (6.4.2.3, 6.5.2).
-#[derive(Drop)]
 pub struct Object {
     pub name: Vec<u8>,
     pub role: Role,
@@ -33,16 +32,38 @@ pub struct Object {
     pub at: usize,
 }
 
+impl Drop for Object {
+    fn drop(self) {
+        let Object {
+            name: _,
+            role: _,
+            kind: _,
+            is_resolved: _,
+            starts: _,
+            actual: _,
+            at: _,
+        } = self;
+    }
+}
+
 /// A variable of a process (6.4.2.4), and what its elements start with, from the left.
-#[derive(Drop)]
 pub struct Variable {
     pub name: Vec<u8>,
     pub kind: ObjectKind,
     pub starts: SmallVec<u8, 8>,
 }
 
+impl Drop for Variable {
+    fn drop(self) {
+        let Variable {
+            name: _,
+            kind: _,
+            starts: _,
+        } = self;
+    }
+}
+
 /// What resumes a process (11.3).
-#[derive(Drop)]
 pub enum Sensitivity {
     /// These elements, which a list names.
     Listed(Vec<usize>),
@@ -52,8 +73,17 @@ pub enum Sensitivity {
     AsRead,
 }
 
+impl Drop for Sensitivity {
+    fn drop(self) {
+        match self {
+            Sensitivity::Listed(_) => {}
+            Sensitivity::Every(_) => {}
+            Sensitivity::AsRead => {}
+        }
+    }
+}
+
 /// A process, or the process that a concurrent assignment is (11.3, 11.6).
-#[derive(Drop)]
 pub struct Process {
     /// The labels of the generates round it, each with a dot behind it.
     pub prefix: Vec<u8>,
@@ -71,8 +101,22 @@ pub struct Process {
     pub at: usize,
 }
 
+impl Drop for Process {
+    fn drop(self) {
+        let Process {
+            prefix: _,
+            label: _,
+            drives: _,
+            sensitivity: _,
+            variables: _,
+            body: _,
+            turns: _,
+            at: _,
+        } = self;
+    }
+}
+
 /// An instance of an entity with its architecture (14.3).
-#[derive(Drop)]
 #[cycle(instance)]
 pub struct Instance {
     /// Its ports and signals, in order of declaration.
@@ -83,8 +127,18 @@ pub struct Instance {
     pub parts: Vec<InstancePart>,
 }
 
+impl Drop for Instance {
+    #[cycle(instance)]
+    fn drop(self) {
+        let Instance {
+            objects: _,
+            turns: _,
+            parts: _,
+        } = self;
+    }
+}
+
 /// What stands in an instance.
-#[derive(Drop)]
 #[cycle(instance)]
 pub enum InstancePart {
     Process(Process),
@@ -92,9 +146,27 @@ pub enum InstancePart {
     Instance { label: Vec<u8>, instance: Instance },
 }
 
+impl Drop for InstancePart {
+    #[cycle(instance)]
+    fn drop(self) {
+        match self {
+            InstancePart::Process(_) => {}
+            InstancePart::Instance {
+                label: _,
+                instance: _,
+            } => {}
+        }
+    }
+}
+
 /// A design: the name of its top's entity, and the top.
-#[derive(Drop)]
 pub struct Design {
     pub name: Vec<u8>,
     pub top: Instance,
+}
+
+impl Drop for Design {
+    fn drop(self) {
+        let Design { name: _, top: _ } = self;
+    }
 }

@@ -9,15 +9,22 @@ use crate::instance::Instance;
 use crate::process::{Process, SelectedAssignment};
 
 /// `value when condition`.
-#[derive(Drop)]
 pub struct Branch {
     pub value: Value,
     pub condition: Expr,
 }
 
+impl Drop for Branch {
+    fn drop(self) {
+        let Branch {
+            value: _,
+            condition: _,
+        } = self;
+    }
+}
+
 /// A concurrent assignment. The first branch whose condition holds gives the value, else the
 /// last value, if there is one. A plain assignment has no branch.
-#[derive(Drop)]
 pub struct Assignment {
     pub label: Option<Identifier>,
     pub target: Name,
@@ -25,8 +32,18 @@ pub struct Assignment {
     pub otherwise: Option<Value>,
 }
 
+impl Drop for Assignment {
+    fn drop(self) {
+        let Assignment {
+            label: _,
+            target: _,
+            branches: _,
+            otherwise: _,
+        } = self;
+    }
+}
+
 /// A concurrent statement and its label. An assignment keeps its own.
-#[derive(Drop)]
 #[cycle(concurrent)]
 pub enum Concurrent {
     Assignment(Assignment),
@@ -45,16 +62,48 @@ pub enum Concurrent {
     Generate(Generate),
 }
 
+impl Drop for Concurrent {
+    #[cycle(concurrent)]
+    fn drop(self) {
+        match self {
+            Concurrent::Assignment(_) => {}
+            Concurrent::Selected {
+                label: _,
+                assignment: _,
+            } => {}
+            Concurrent::Process {
+                label: _,
+                process: _,
+            } => {}
+            Concurrent::Instance {
+                label: _,
+                instance: _,
+            } => {}
+            Concurrent::Generate(_) => {}
+        }
+    }
+}
+
 /// What a generate statement goes by: a parameter over a range, or a condition.
-#[derive(Drop)]
 pub enum Scheme {
     For { parameter: Identifier, range: Range },
     If { condition: Expr },
 }
 
+impl Drop for Scheme {
+    fn drop(self) {
+        match self {
+            Scheme::For {
+                parameter: _,
+                range: _,
+            } => {}
+            Scheme::If { condition: _ } => {}
+        }
+    }
+}
+
 /// A generate statement, and the byte at which its scheme starts. `begin_word` says whether
 /// `begin` stands before its statements.
-#[derive(Drop)]
 #[cycle(concurrent)]
 pub struct Generate {
     pub label: Identifier,
@@ -63,6 +112,20 @@ pub struct Generate {
     pub begin_word: bool,
     pub statements: Vec<Concurrent>,
     pub end_label: Option<Identifier>,
+}
+
+impl Drop for Generate {
+    #[cycle(concurrent)]
+    fn drop(self) {
+        let Generate {
+            label: _,
+            at: _,
+            scheme: _,
+            begin_word: _,
+            statements: _,
+            end_label: _,
+        } = self;
+    }
 }
 
 impl Concurrent {

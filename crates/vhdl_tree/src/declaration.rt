@@ -3,10 +3,15 @@
 use crate::expression::{Expr, Identifier, Range, Value};
 
 /// A type's name, and the range in parentheses after it.
-#[derive(Drop)]
 pub struct Subtype {
     pub mark: Identifier,
     pub range: Option<Range>,
+}
+
+impl Drop for Subtype {
+    fn drop(self) {
+        let Subtype { mark: _, range: _ } = self;
+    }
 }
 
 /// The mode of a port.
@@ -17,7 +22,6 @@ pub enum Mode {
 }
 
 /// Generics of one type. `constant_word` and `in_word` say whether these words stand there.
-#[derive(Drop)]
 pub struct Generic {
     pub constant_word: bool,
     pub names: Vec<Identifier>,
@@ -26,8 +30,19 @@ pub struct Generic {
     pub default: Option<Expr>,
 }
 
+impl Drop for Generic {
+    fn drop(self) {
+        let Generic {
+            constant_word: _,
+            names: _,
+            in_word: _,
+            mark: _,
+            default: _,
+        } = self;
+    }
+}
+
 /// Ports of one mode and subtype. `signal_word` says whether `signal` stands there.
-#[derive(Drop)]
 pub struct Port {
     pub signal_word: bool,
     pub names: Vec<Identifier>,
@@ -36,39 +51,85 @@ pub struct Port {
     pub default: Option<Value>,
 }
 
+impl Drop for Port {
+    fn drop(self) {
+        let Port {
+            signal_word: _,
+            names: _,
+            mode: _,
+            subtype: _,
+            default: _,
+        } = self;
+    }
+}
+
 /// Signals of one subtype.
-#[derive(Drop)]
 pub struct Signals {
     pub names: Vec<Identifier>,
     pub subtype: Subtype,
     pub default: Option<Value>,
 }
 
+impl Drop for Signals {
+    fn drop(self) {
+        let Signals {
+            names: _,
+            subtype: _,
+            default: _,
+        } = self;
+    }
+}
+
 /// Variables of a process, of one subtype (6.4.2.4).
-#[derive(Drop)]
 pub struct Variables {
     pub names: Vec<Identifier>,
     pub subtype: Subtype,
     pub default: Option<Value>,
 }
 
+impl Drop for Variables {
+    fn drop(self) {
+        let Variables {
+            names: _,
+            subtype: _,
+            default: _,
+        } = self;
+    }
+}
+
 /// Constants of one subtype and value.
-#[derive(Drop)]
 pub struct Constants {
     pub names: Vec<Identifier>,
     pub subtype: Subtype,
     pub value: Value,
 }
 
+impl Drop for Constants {
+    fn drop(self) {
+        let Constants {
+            names: _,
+            subtype: _,
+            value: _,
+        } = self;
+    }
+}
+
 /// An enumeration type and its literals in order.
-#[derive(Drop)]
 pub struct Enumeration {
     pub name: Identifier,
     pub literals: Vec<Identifier>,
 }
 
+impl Drop for Enumeration {
+    fn drop(self) {
+        let Enumeration {
+            name: _,
+            literals: _,
+        } = self;
+    }
+}
+
 /// A component. `is_word` says whether `is` stands after its name.
-#[derive(Drop)]
 pub struct Component {
     pub name: Identifier,
     pub is_word: bool,
@@ -77,11 +138,33 @@ pub struct Component {
     pub end_name: Option<Identifier>,
 }
 
+impl Drop for Component {
+    fn drop(self) {
+        let Component {
+            name: _,
+            is_word: _,
+            generics: _,
+            ports: _,
+            end_name: _,
+        } = self;
+    }
+}
+
 /// A declaration of an architecture.
-#[derive(Drop)]
 pub enum Declaration {
     Signals(Signals),
     Constants(Constants),
     Enumeration(Enumeration),
     Component(Component),
+}
+
+impl Drop for Declaration {
+    fn drop(self) {
+        match self {
+            Declaration::Signals(_) => {}
+            Declaration::Constants(_) => {}
+            Declaration::Enumeration(_) => {}
+            Declaration::Component(_) => {}
+        }
+    }
 }

@@ -8,22 +8,31 @@ use crate::operator::{Direction, Operator, Sign};
 use std::alloc::{AllocError, Global};
 
 /// An identifier in small letters, and the byte at which it starts.
-#[derive(Drop)]
 pub struct Identifier {
     pub at: usize,
     pub text: Vec<u8>,
 }
 
+impl Drop for Identifier {
+    fn drop(self) {
+        let Identifier { at: _, text: _ } = self;
+    }
+}
+
 /// The bytes of a literal as they stand in the source, and the byte at which it starts.
-#[derive(Drop)]
 pub struct Literal {
     pub at: usize,
     pub text: Vec<u8>,
 }
 
+impl Drop for Literal {
+    fn drop(self) {
+        let Literal { at: _, text: _ } = self;
+    }
+}
+
 /// An expression. Offsets are the bytes at which an operator, a sign, a literal or an opening
 /// parenthesis starts.
-#[derive(Drop)]
 #[cycle(tree)]
 pub enum Expr {
     Integer(Literal),
@@ -51,8 +60,28 @@ pub enum Expr {
     Chain(Box<Chain>),
 }
 
+impl Drop for Expr {
+    #[cycle(tree)]
+    fn drop(self) {
+        match self {
+            Expr::Integer(_) => {}
+            Expr::Character { at: _, code: _ } => {}
+            Expr::StringLiteral(_) => {}
+            Expr::BitString(_) => {}
+            Expr::Name(_) => {}
+            Expr::Parens { at: _, inner: _ } => {}
+            Expr::Not { at: _, operand: _ } => {}
+            Expr::Signed {
+                sign: _,
+                at: _,
+                operand: _,
+            } => {}
+            Expr::Chain(_) => {}
+        }
+    }
+}
+
 /// Operators of one level, grouped from the left: the first operand, and one link or more.
-#[derive(Drop)]
 #[cycle(tree)]
 pub struct Chain {
     pub first: Expr,
@@ -60,8 +89,18 @@ pub struct Chain {
     pub rest: Vec<Link>,
 }
 
+impl Drop for Chain {
+    #[cycle(tree)]
+    fn drop(self) {
+        let Chain {
+            first: _,
+            second: _,
+            rest: _,
+        } = self;
+    }
+}
+
 /// An operator and its right operand.
-#[derive(Drop)]
 #[cycle(tree)]
 pub struct Link {
     pub operator: Operator,
@@ -69,8 +108,18 @@ pub struct Link {
     pub operand: Expr,
 }
 
+impl Drop for Link {
+    #[cycle(tree)]
+    fn drop(self) {
+        let Link {
+            operator: _,
+            at: _,
+            operand: _,
+        } = self;
+    }
+}
+
 /// A name: an identifier, what stands in parentheses after it, and an attribute.
-#[derive(Drop)]
 #[cycle(tree)]
 pub struct Name {
     pub identifier: Identifier,
@@ -78,8 +127,18 @@ pub struct Name {
     pub attribute: Option<Identifier>,
 }
 
+impl Drop for Name {
+    #[cycle(tree)]
+    fn drop(self) {
+        let Name {
+            identifier: _,
+            suffix: _,
+            attribute: _,
+        } = self;
+    }
+}
+
 /// What stands in parentheses after a name's identifier.
-#[derive(Drop)]
 #[cycle(tree)]
 pub enum Suffix {
     Plain,
@@ -87,8 +146,18 @@ pub enum Suffix {
     Range(Box<Range>),
 }
 
+impl Drop for Suffix {
+    #[cycle(tree)]
+    fn drop(self) {
+        match self {
+            Suffix::Plain => {}
+            Suffix::Arguments(_) => {}
+            Suffix::Range(_) => {}
+        }
+    }
+}
+
 /// A range and its direction.
-#[derive(Drop)]
 #[cycle(tree)]
 pub struct Range {
     pub left: Expr,
@@ -96,33 +165,76 @@ pub struct Range {
     pub right: Expr,
 }
 
+impl Drop for Range {
+    #[cycle(tree)]
+    fn drop(self) {
+        let Range {
+            left: _,
+            direction: _,
+            right: _,
+        } = self;
+    }
+}
+
 /// What is assigned or a default: an expression, or `(others => e)` with the byte at which its
 /// parenthesis starts.
-#[derive(Drop)]
 pub enum Value {
     Expr(Expr),
     Others { at: usize, element: Expr },
 }
 
+impl Drop for Value {
+    fn drop(self) {
+        match self {
+            Value::Expr(_) => {}
+            Value::Others { at: _, element: _ } => {}
+        }
+    }
+}
+
 /// A choice of an alternative: an expression, or `others` with the byte at which it starts.
-#[derive(Drop)]
 pub enum Choice {
     Expr(Expr),
     Others { at: usize },
 }
 
+impl Drop for Choice {
+    fn drop(self) {
+        match self {
+            Choice::Expr(_) => {}
+            Choice::Others { at: _ } => {}
+        }
+    }
+}
+
 /// What is associated: an expression, or `open` with the byte at which it starts.
-#[derive(Drop)]
 pub enum Actual {
     Expr(Expr),
     Open { at: usize },
 }
 
+impl Drop for Actual {
+    fn drop(self) {
+        match self {
+            Actual::Expr(_) => {}
+            Actual::Open { at: _ } => {}
+        }
+    }
+}
+
 /// An actual for a formal, or for the formal of its position.
-#[derive(Drop)]
 pub struct Association {
     pub formal: Option<Identifier>,
     pub actual: Actual,
+}
+
+impl Drop for Association {
+    fn drop(self) {
+        let Association {
+            formal: _,
+            actual: _,
+        } = self;
+    }
 }
 
 impl Expr {

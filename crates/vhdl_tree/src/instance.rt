@@ -3,7 +3,6 @@
 use crate::expression::{Association, Identifier};
 
 /// What is instantiated.
-#[derive(Drop)]
 pub enum Instantiated {
     /// `entity library . name ( architecture )`.
     Entity {
@@ -18,10 +17,35 @@ pub enum Instantiated {
     },
 }
 
+impl Drop for Instantiated {
+    fn drop(self) {
+        match self {
+            Instantiated::Entity {
+                library: _,
+                name: _,
+                architecture: _,
+            } => {}
+            Instantiated::Component {
+                component_word: _,
+                name: _,
+            } => {}
+        }
+    }
+}
+
 /// An instance behind its label.
-#[derive(Drop)]
 pub struct Instance {
     pub unit: Instantiated,
     pub generics: Option<Vec<Association>>,
     pub ports: Option<Vec<Association>>,
+}
+
+impl Drop for Instance {
+    fn drop(self) {
+        let Instance {
+            unit: _,
+            generics: _,
+            ports: _,
+        } = self;
+    }
 }

@@ -2,21 +2,28 @@
 
 ghost use Rattle.std.specs.Prelude.{◌≡◌};
 ghost use Rattle.vhdl_tree.specs.Tree.{if_of, case_of, for_of, guarded_by, chosen_by, statements_of, conditionals_of, alternatives_of, otherwise_of};
-ghost use Rattle.vhdl_tree.specs.View.{view, ident_view, option_ident_view, range_view, choices_view, statement_view};
-ghost use Rattle.vhdl_tree.specs.View.{sequentials_view, option_sequentials_view, conditional_view, conditionals_view, alternative_view, alternatives_view};
+ghost use Rattle.vhdl_tree.specs.View.{view, ident_view, option_ident_view, range_view, choices_view, statement_view, sequentials_view, option_sequentials_view, conditional_view, conditionals_view, alternative_view, alternatives_view};
 
 use crate::expression::{Choice, Expr, Identifier, Name, Range, Value};
 
 /// A sequential statement and its label.
-#[derive(Drop)]
 #[cycle(statement)]
 pub struct Sequential {
     pub label: Option<Identifier>,
     pub statement: Statement,
 }
 
+impl Drop for Sequential {
+    #[cycle(statement)]
+    fn drop(self) {
+        let Sequential {
+            label: _,
+            statement: _,
+        } = self;
+    }
+}
+
 /// A sequential statement without its label.
-#[derive(Drop)]
 #[cycle(statement)]
 pub enum Statement {
     /// `null`, and the byte at which it starts.
@@ -30,9 +37,28 @@ pub enum Statement {
     For(For),
 }
 
+impl Drop for Statement {
+    #[cycle(statement)]
+    fn drop(self) {
+        match self {
+            Statement::Null { at: _ } => {}
+            Statement::SignalAssignment {
+                target: _,
+                value: _,
+            } => {}
+            Statement::VariableAssignment {
+                target: _,
+                value: _,
+            } => {}
+            Statement::If(_) => {}
+            Statement::Case(_) => {}
+            Statement::For(_) => {}
+        }
+    }
+}
+
 /// An if statement, and the byte at which it starts. Each branch but the first stands after
 /// `elsif`.
-#[derive(Drop)]
 #[cycle(statement)]
 pub struct If {
     pub at: usize,
@@ -41,16 +67,36 @@ pub struct If {
     pub end_label: Option<Identifier>,
 }
 
+impl Drop for If {
+    #[cycle(statement)]
+    fn drop(self) {
+        let If {
+            at: _,
+            branches: _,
+            otherwise: _,
+            end_label: _,
+        } = self;
+    }
+}
+
 /// A condition, and the statements that it guards.
-#[derive(Drop)]
 #[cycle(statement)]
 pub struct Conditional {
     pub condition: Expr,
     pub statements: Vec<Sequential>,
 }
 
+impl Drop for Conditional {
+    #[cycle(statement)]
+    fn drop(self) {
+        let Conditional {
+            condition: _,
+            statements: _,
+        } = self;
+    }
+}
+
 /// A case statement, and the byte at which it starts.
-#[derive(Drop)]
 #[cycle(statement)]
 pub struct Case {
     pub at: usize,
@@ -59,16 +105,36 @@ pub struct Case {
     pub end_label: Option<Identifier>,
 }
 
+impl Drop for Case {
+    #[cycle(statement)]
+    fn drop(self) {
+        let Case {
+            at: _,
+            selector: _,
+            alternatives: _,
+            end_label: _,
+        } = self;
+    }
+}
+
 /// Choices, and the statements that they guard.
-#[derive(Drop)]
 #[cycle(statement)]
 pub struct Alternative {
     pub choices: Vec<Choice>,
     pub statements: Vec<Sequential>,
 }
 
+impl Drop for Alternative {
+    #[cycle(statement)]
+    fn drop(self) {
+        let Alternative {
+            choices: _,
+            statements: _,
+        } = self;
+    }
+}
+
 /// A for loop, and the byte at which it starts.
-#[derive(Drop)]
 #[cycle(statement)]
 pub struct For {
     pub at: usize,
@@ -76,6 +142,19 @@ pub struct For {
     pub range: Range,
     pub statements: Vec<Sequential>,
     pub end_label: Option<Identifier>,
+}
+
+impl Drop for For {
+    #[cycle(statement)]
+    fn drop(self) {
+        let For {
+            at: _,
+            parameter: _,
+            range: _,
+            statements: _,
+            end_label: _,
+        } = self;
+    }
 }
 
 impl Conditional {

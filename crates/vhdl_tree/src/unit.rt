@@ -6,7 +6,6 @@ use crate::expression::Identifier;
 
 /// An entity, and the byte at which it starts. `end_word` says whether `entity` stands after
 /// `end`.
-#[derive(Drop)]
 pub struct Entity {
     pub at: usize,
     pub name: Identifier,
@@ -16,9 +15,21 @@ pub struct Entity {
     pub end_name: Option<Identifier>,
 }
 
+impl Drop for Entity {
+    fn drop(self) {
+        let Entity {
+            at: _,
+            name: _,
+            generics: _,
+            ports: _,
+            end_word: _,
+            end_name: _,
+        } = self;
+    }
+}
+
 /// An architecture, and the byte at which it starts. `end_word` says whether `architecture`
 /// stands after `end`.
-#[derive(Drop)]
 pub struct Architecture {
     pub at: usize,
     pub name: Identifier,
@@ -29,32 +40,78 @@ pub struct Architecture {
     pub end_name: Option<Identifier>,
 }
 
+impl Drop for Architecture {
+    fn drop(self) {
+        let Architecture {
+            at: _,
+            name: _,
+            entity: _,
+            declarations: _,
+            statements: _,
+            end_word: _,
+            end_name: _,
+        } = self;
+    }
+}
+
 /// `library . name . all` of a use clause.
-#[derive(Drop)]
 pub struct Selected {
     pub library: Identifier,
     pub name: Identifier,
 }
 
+impl Drop for Selected {
+    fn drop(self) {
+        let Selected {
+            library: _,
+            name: _,
+        } = self;
+    }
+}
+
 /// A library clause or a use clause.
-#[derive(Drop)]
 pub enum ContextItem {
     Library(Vec<Identifier>),
     Use(Vec<Selected>),
 }
 
+impl Drop for ContextItem {
+    fn drop(self) {
+        match self {
+            ContextItem::Library(_) => {}
+            ContextItem::Use(_) => {}
+        }
+    }
+}
+
 /// An entity or an architecture.
-#[derive(Drop)]
 pub enum LibraryUnit {
     Entity(Entity),
     Architecture(Architecture),
 }
 
+impl Drop for LibraryUnit {
+    fn drop(self) {
+        match self {
+            LibraryUnit::Entity(_) => {}
+            LibraryUnit::Architecture(_) => {}
+        }
+    }
+}
+
 /// An entity or architecture after its context clause.
-#[derive(Drop)]
 pub struct DesignUnit {
     pub context: Vec<ContextItem>,
     pub unit: LibraryUnit,
+}
+
+impl Drop for DesignUnit {
+    fn drop(self) {
+        let DesignUnit {
+            context: _,
+            unit: _,
+        } = self;
+    }
 }
 
 /// The design units of a file in order.

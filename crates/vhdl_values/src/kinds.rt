@@ -16,7 +16,7 @@ pub enum Edge {
 }
 
 /// A relation of two numbers: `=`, `/=`, `<`, `<=`, `>` and `>=`.
-#[derive(Clone, Copy, PartialEq, Eq)]
+#[derive(Clone, Copy)]
 pub enum Cmp {
     Eq,
     Ne,
@@ -104,6 +104,6 @@ impl Cmp {
     pub(crate) fn holds_of_unknowns(self) -> bool
         ensures { result ≡ holds_of_unknowns self }
     {
-        self == Cmp::Ne
+        matches!(self, Cmp::Ne)
     }
 }

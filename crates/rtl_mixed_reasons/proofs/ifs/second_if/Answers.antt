@@ -1,5 +1,5 @@
-use Rattle.std.proofs.Common.{not, ap, sym, ◌∙◌}
-use Rattle.rtl_mixed_reasons.proofs.Searches.{no-second, other-edge, the-same}
+use Rattle.std.proofs.Common.{sym, ◌∙◌}
+use Rattle.rtl_mixed_reasons.proofs.Searches.{no-second}
 use Rattle.rtl_mixed_reasons.proofs.ifs.second_if.Goals as goal
 
 pub returns-in_default : goal.returns-in_default
