@@ -25,12 +25,12 @@ use crate::faults::{earlier_of, first_of};
 use crate::statements::concurrents;
 use crate::tables::Given;
 use std::alloc::Global;
-use vhdl_names_declarations::{declare_label, ends};
+use vhdl_names_declarations::declare_label;
 use vhdl_names_instances::InstanceEntities;
 use vhdl_names_interfaces::{EntityInterface, architecture_sight, declarations};
 use vhdl_names_rules::NameFault;
 use vhdl_names_sight::{Region, Sight, names_are_apart};
-use vhdl_names_units::{Architecture, Declaration, copied};
+use vhdl_names_units::{Architecture, Declaration, copied, ends};
 use vhdl_tree as syntax;
 
 /// Each label, also those behind one that stands twice: the first of those is told.

@@ -22,7 +22,7 @@ use vhdl_names_expressions::signal;
 use vhdl_names_rules::{NameFault, NameProblem, SignalPart};
 use vhdl_names_sight::Sight;
 use vhdl_names_statements::analysed;
-use vhdl_names_units::{Process, Sensitivity, Statement, copied_label, earlier_in, label_ends};
+use vhdl_names_units::{Process, Sensitivity, Statement, copied_label, earlier_in, ended};
 use vhdl_tree as syntax;
 use vhdl_tree::Identifier;
 
@@ -100,7 +100,8 @@ pub fn process(
     let variables = variables(sight, &process.variables)?;
     let statements = body(sight, &process.statements)?;
     leave_process(sight);
-    label_ends(label, &process.end_label)?;
+    let found = (sensitivity, variables, statements);
+    let (sensitivity, variables, statements) = ended(label, &process.end_label, found)?;
     let label = copied_label(sight.alloc, label)?;
     Ok(Process {
         at: process.at,

@@ -20,6 +20,5 @@ pub use class::{ObjectClass, copied_values};
 pub use context::{Context, context_after};
 pub use counts::Counts;
 pub use labels::{declare_label, declare_labels, labels_are_distinct};
-pub use names::ends;
 pub use packages::{sight_of, visible};
 pub use region::{declare, declare_name, hide, settle};

@@ -19,9 +19,10 @@ use crate::entities::{Entities, entity_named};
 use crate::interface::interface_of;
 use crate::interfaces::has_interface;
 use std::mem;
-use vhdl_names_declarations::{declare, ends};
+use vhdl_names_declarations::declare;
 use vhdl_names_rules::{NameFault, NameProblem};
 use vhdl_names_sight::{Meaning, Sight, names_are_apart};
+use vhdl_names_units::ends;
 use vhdl_tree::{Component, Entity, Identifier};
 
 /// A name that stands in the region is Twice in it if it is declared once more.

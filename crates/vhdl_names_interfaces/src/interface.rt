@@ -20,10 +20,10 @@ use std::alloc::Global;
 use std::mem;
 use vhdl_names_declarations::generics::generics;
 use vhdl_names_declarations::ports::ports;
-use vhdl_names_declarations::{Context, context_after, ends, sight_of};
+use vhdl_names_declarations::{Context, context_after, sight_of};
 use vhdl_names_rules::NameFault;
 use vhdl_names_sight::{Region, Sight};
-use vhdl_names_units::{Generics, Ports};
+use vhdl_names_units::{Generics, Ports, ends};
 use vhdl_tree::{ContextItem, Entity, Generic, Identifier, Port};
 
 /// An entity as its architecture and its instances see it.

@@ -10,7 +10,7 @@ use crate::instances::instance;
 use vhdl_lexer::TokenKind;
 use vhdl_parser_expressions::{Parser, Stop, below, followed};
 use vhdl_parser_statements::{
-    conditional_waveforms, end_of, optional_label, process, selected_assignment,
+    conditional_waveforms, ended, optional_label, process, selected_assignment,
 };
 use vhdl_tree::{Assignment, Concurrent, Identifier, Scheme};
 
@@ -34,15 +34,16 @@ fn assignment(
     ensures { Reads assignment_view (read.assign levels (option_ident_view label) parser.old) result parser.new }
 {
     let target = parser.name(levels)?;
-    let target = followed(parser, target, TokenKind::LessEqual)?;
-    let waveforms = conditional_waveforms(parser, levels)?;
-    let (branches, otherwise) = followed(parser, waveforms, TokenKind::Semicolon)?;
-    Ok(Assignment {
+    let front = followed(parser, (label, target), TokenKind::LessEqual)?;
+    let (branches, otherwise) = conditional_waveforms(parser, levels)?;
+    let (label, target) = front;
+    let found = Assignment {
         label,
         target,
         branches,
         otherwise,
-    })
+    };
+    followed(parser, found, TokenKind::Semicolon)
 }
 
 fn selected(
@@ -235,6 +236,6 @@ fn generate_body(
     parser.expect(TokenKind::Generate)?;
     let begin_word = parser.eat(TokenKind::Begin)?;
     let statements = concurrents(parser, levels)?;
-    let end_label = end_of(parser, TokenKind::Generate)?;
+    let (statements, end_label) = ended(parser, statements, TokenKind::Generate)?;
     Ok((begin_word, statements, end_label))
 }

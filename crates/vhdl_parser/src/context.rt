@@ -28,9 +28,8 @@ fn selected(parser: &mut Parser<'_>) -> Result<Selected, Stop>
     let library = parser.identifier()?;
     let library = followed(parser, library, TokenKind::Dot)?;
     let name = parser.identifier()?;
-    parser.expect(TokenKind::Dot)?;
-    parser.expect(TokenKind::All)?;
-    Ok(Selected { library, name })
+    let found = followed(parser, Selected { library, name }, TokenKind::Dot)?;
+    followed(parser, found, TokenKind::All)
 }
 
 fn selecteds(parser: &mut Parser<'_>) -> Result<Vec<Selected>, Stop>

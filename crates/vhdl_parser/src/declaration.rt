@@ -9,7 +9,7 @@ ghost use Rattle.vhdl_parser_expressions.specs.reader.Input.{Reads};
 use crate::interface::{optional_generics, optional_ports};
 use vhdl_lexer::TokenKind;
 use vhdl_parser_expressions::{Parser, Stop, below, followed, many};
-use vhdl_parser_statements::{end_of, identifiers, object_declaration, subtype};
+use vhdl_parser_statements::{ended, identifiers, object_declaration, subtype};
 use vhdl_tree::{Component, Constants, Declaration, Enumeration, Signals, Value};
 
 #[tactic(auto, unfolding(crate::specs::reader::Declarations::signals_of))]
@@ -74,7 +74,8 @@ fn component(parser: &mut Parser<'_>, levels: usize) -> Result<Component, Stop>
     let is_word = parser.eat(TokenKind::Is)?;
     let generics = optional_generics(parser, levels)?;
     let ports = optional_ports(parser, levels)?;
-    let end_name = end_of(parser, TokenKind::Component)?;
+    let found = (name, generics, ports);
+    let ((name, generics, ports), end_name) = ended(parser, found, TokenKind::Component)?;
     Ok(Component {
         name,
         is_word,

@@ -96,10 +96,10 @@ pub fn instance(parser: &mut Parser<'_>, levels: usize) -> Result<Instance, Stop
     let unit = instantiated(parser, levels)?;
     let generics = optional_map(parser, levels, TokenKind::Generic)?;
     let ports = optional_map(parser, levels, TokenKind::Port)?;
-    parser.expect(TokenKind::Semicolon)?;
-    Ok(Instance {
+    let found = Instance {
         unit,
         generics,
         ports,
-    })
+    };
+    followed(parser, found, TokenKind::Semicolon)
 }

@@ -11,7 +11,7 @@ use crate::context::context_clause;
 use crate::declaration::declarations;
 use crate::interface::{optional_generics, optional_ports};
 use vhdl_lexer::TokenKind;
-use vhdl_parser_expressions::{Parser, Stop, many};
+use vhdl_parser_expressions::{Parser, Stop, followed, many};
 use vhdl_tree::{Architecture, DesignUnit, Entity, File, LibraryUnit, MAX_OPEN};
 
 #[tactic(auto, unfolding(crate::specs::reader::Units::entity_unit))]
@@ -20,21 +20,21 @@ fn entity(parser: &mut Parser<'_>) -> Result<Entity, Stop>
 {
     let at = parser.expect(TokenKind::Entity)?;
     let name = parser.identifier()?;
-    parser.expect(TokenKind::Is)?;
+    let name = followed(parser, name, TokenKind::Is)?;
     let generics = optional_generics(parser, MAX_OPEN)?;
     let ports = optional_ports(parser, MAX_OPEN)?;
-    parser.expect(TokenKind::End)?;
+    let (name, generics, ports) = followed(parser, (name, generics, ports), TokenKind::End)?;
     let end_word = parser.eat(TokenKind::Entity)?;
     let end_name = parser.optional_identifier()?;
-    parser.expect(TokenKind::Semicolon)?;
-    Ok(Entity {
+    let found = Entity {
         at,
         name,
         generics,
         ports,
         end_word,
         end_name,
-    })
+    };
+    followed(parser, found, TokenKind::Semicolon)
 }
 
 #[tactic(auto, unfolding(crate::specs::reader::Units::architecture_unit))]
@@ -43,17 +43,17 @@ fn architecture(parser: &mut Parser<'_>) -> Result<Architecture, Stop>
 {
     let at = parser.expect(TokenKind::Architecture)?;
     let name = parser.identifier()?;
-    parser.expect(TokenKind::Of)?;
+    let name = followed(parser, name, TokenKind::Of)?;
     let entity = parser.identifier()?;
-    parser.expect(TokenKind::Is)?;
+    let names = followed(parser, (name, entity), TokenKind::Is)?;
     let declarations = declarations(parser, MAX_OPEN)?;
-    parser.expect(TokenKind::Begin)?;
+    let front = followed(parser, (names, declarations), TokenKind::Begin)?;
     let statements = concurrents(parser, MAX_OPEN)?;
-    parser.expect(TokenKind::End)?;
+    let (front, statements) = followed(parser, (front, statements), TokenKind::End)?;
     let end_word = parser.eat(TokenKind::Architecture)?;
     let end_name = parser.optional_identifier()?;
-    parser.expect(TokenKind::Semicolon)?;
-    Ok(Architecture {
+    let ((name, entity), declarations) = front;
+    let found = Architecture {
         at,
         name,
         entity,
@@ -61,7 +61,8 @@ fn architecture(parser: &mut Parser<'_>) -> Result<Architecture, Stop>
         statements,
         end_word,
         end_name,
-    })
+    };
+    followed(parser, found, TokenKind::Semicolon)
 }
 
 #[tactic(auto, unfolding(crate::specs::reader::Units::library_unit))]

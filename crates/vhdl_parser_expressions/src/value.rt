@@ -5,6 +5,7 @@ ghost use Rattle.vhdl_tree.specs.View.{ident_view, range_view, value_view, choic
 ghost use Rattle.vhdl_parser_expressions.specs.reader.Input.{Reads};
 ghost use Rattle.vhdl_parser_expressions.specs.reader.Expressions as read;
 
+use crate::behind::followed;
 use crate::list::separated;
 use crate::operator::direction_at;
 use crate::parser::Parser;
@@ -35,7 +36,7 @@ impl Parser<'_> {
         match direction_at(self.peek()) {
             None => Err(self.refuse()),
             Some(direction) => {
-                self.expect(direction.kind())?;
+                let left = followed(self, left, direction.kind())?;
                 let right = self.expr(levels)?;
                 Ok(Range {
                     left,
@@ -67,7 +68,7 @@ impl Parser<'_> {
         self.expect(TokenKind::Others)?;
         self.expect(TokenKind::Arrow)?;
         let element = self.inside(levels)?;
-        self.expect(TokenKind::RightParen)?;
+        let element = followed(self, element, TokenKind::RightParen)?;
         Ok(Value::Others { at, element })
     }
 
@@ -111,8 +112,7 @@ impl Parser<'_> {
             return Ok(None);
         }
         let formal = self.identifier()?;
-        self.expect(TokenKind::Arrow)?;
-        Ok(Some(formal))
+        Ok(Some(followed(self, formal, TokenKind::Arrow)?))
     }
 
     #[tactic(auto, unfolding(crate::specs::reader::Expressions::actual_of))]

@@ -8,7 +8,8 @@ mod processes;
 mod sequential;
 mod waveforms;
 
+pub use behind::ended;
 pub use objects::{identifiers, object_declaration, optional_default, subtype};
 pub use processes::process;
-pub use sequential::{end_of, optional_label};
+pub use sequential::optional_label;
 pub use waveforms::{conditional_waveforms, selected_assignment};

@@ -33,10 +33,10 @@ returns-in_err-statements-clause-told c =
     (ap (λ xs. steps.variables_in c.args.sight.now (map tree.variables_view xs)) (sym c.deref.ensures.value) ∙ c.in_ok-variables.ensures.given)
     (told_same _ _ _ (ap (λ xs. broken.body c.variables.new.sight (t.statements_of (map tree.sequential_view xs))) c.deref-2.ensures.value) c.in_err-statements.ensures.told))
 
-pub returns-in_err-label_ends-clause-told : goal.returns-in_err-label_ends-clause-told
-returns-in_err-label_ends-clause-told c =
-    passed_err _ _ _ c.from_residual-in_err-label_ends.result c.from_residual-in_err-label_ends.ensures.1 (λ e p. p)
+pub returns-in_err-sensitivity-2-clause-told : goal.returns-in_err-sensitivity-2-clause-told
+returns-in_err-sensitivity-2-clause-told c =
+    passed_err _ _ _ c.from_residual-in_err-sensitivity-2.result c.from_residual-in_err-sensitivity-2.ensures.1 (λ e p. p)
     (process_ends c.args.sight.now (tree.option_ident_view c.args.label.now) (tree.process_view c.args.process.now) _ _ c.in_ok-sensitivity.ensures.given _ _
     (ap (λ xs. steps.variables_in c.args.sight.now (map tree.variables_view xs)) (sym c.deref.ensures.value) ∙ c.in_ok-variables.ensures.given) _
     (ap (λ xs. steps.body c.variables.new.sight (map tree.sequential_view xs)) (sym c.deref-2.ensures.value) ∙ c.in_ok-statements.ensures.given)
-    c.in_err-label_ends.ensures.told)
+    c.in_err-sensitivity-2.ensures.told)
