@@ -25,12 +25,14 @@ pub enum LexRule {
 /// What is said of each, in their order.
 static LEXING: [Words<&str>; 6] = [
     rule! { lex 1 BadByte: WORD "begins nothing that is read here"
-        => "write printable ASCII alone, in strings too: no accents, no typographic quotes, no byte order mark; ?=, @, \
-            ^ and names in backslashes aren't read" },
+        => "write printable ASCII alone, in strings too: no accents, no typographic quotes, no byte order mark; ?=, ^ \
+            and names in backslashes aren't read; for @(posedge clk) write process (clk), and if rising_edge(clk) \
+            then in it" },
     rule! { lex 2 OpenComment: WORD "opens a comment that isn't closed"
         => "close it by */, or begin each line of it with --" },
     rule! { lex 3 OpenString: WORD "opens a string that isn't closed on its line"
-        => "put the closing quotation mark on the same line, and join long strings by &" },
+        => "put the closing quotation mark on the same line, and join long strings by &; one element stands between \
+            two ticks, as '0'" },
     rule! { lex 4 BadIdentifier: WORD "is no name: an underscore stands alone, between letters or digits"
         => "drop the underscore at the beginning or end, or the second of two" },
     rule! { lex 5 BadNumber: WORD "begins a number that isn't read"

@@ -24,8 +24,8 @@ static STIMULI: [Words<&str>; 8] = [
             small letters; each sets one input, with no comma; a time is a whole number alone, in ns; a comment is a \
             line of its own that begins with #" },
     rule! { stim 2 NotAnInput: "the name is no in port of the top"
-        => "see the spelling of the port; in ports of the top alone are set, each as a whole, and no out port and no \
-            signal inside" },
+        => "see the spelling of the port, which in a line stands alone before its value, as in at 20 en 1; in ports of \
+            the top alone are set, each as a whole, and no out port and no signal inside" },
     rule! { stim 3 BadValue: "the value doesn't fit the input"
         => "write for each element one of U X 0 1 Z W L H -, the leftmost first, with no quotation mark and no x; a \
             clock has one element" },

@@ -4,15 +4,16 @@ use crate::help::{
     ALL, CLOSE_LIST, END, END_CASE, END_COMPONENT, END_GENERATE, END_IF, END_LOOP, END_PROCESS,
     END_UNIT, LABEL, OUTSIDE,
 };
-use crate::row::{Row, before, before_name, row};
+use crate::reading::MOST_TOKENS;
+use crate::row::{Row, before, before_name, here, row};
 use crate::texts::{
-    ELSE_BEGUN, MODE_IN, MODE_OUT, NO_CASE, NO_END, NO_IF, NO_PORT, NO_PROCESS, OPEN_PROCESS,
-    PARTED, SPARE, SPARE_BEFORE,
+    ELSE_BEGUN, MODE_IN, MODE_OUT, NO_CASE, NO_DECLARATION, NO_END, NO_IF, NO_PORT, NO_PROCESS,
+    OPEN_PROCESS, PARTED, SPARE, SPARE_BEFORE,
 };
 use vhdl_lexer::TokenKind;
 
 /// What is closed or ended too early, or isn't.
-pub static CLOSED: [Row; 25] = [
+pub static CLOSED: [Row; 26] = [
     row!(SPARE_BEFORE, 1, [Semicolon And] 1, []),
     row!(SPARE_BEFORE, 1, [Semicolon Or] 1, []),
     row!(SPARE_BEFORE, 1, [Semicolon Ampersand] 1, []),
@@ -24,6 +25,7 @@ pub static CLOSED: [Row; 25] = [
     row!(("can't stand here: the `)` before the `;` before it closes the list too early",
         "leave that `)` out, and close the list behind its last declaration"),
         2, [RightParen Semicolon Identifier] 1, []),
+    row!(("can't stand here: a list of ports is closed by `);`", "write ); for end port;"), 0, [End Port] 2, [RightParen]),
     before!("`end`", END, [] End),
     row!(NO_END, 1, [If Semicolon] 0, [End]),
     row!(NO_END, 1, [Case Semicolon] 0, [End]),
@@ -46,7 +48,7 @@ pub static CLOSED: [Row; 25] = [
 ];
 
 /// What stands in another place than its own.
-pub static PLACES: [Row; 33] = [
+pub static PLACES: [Row; 38] = [
     row!(OPEN_PROCESS, 0, [Process] 0, [Null Semicolon End Process Semicolon]),
     row!(OPEN_PROCESS, 0, [Entity] 0, [Null Semicolon End Process Semicolon Identifier Colon]),
     row!(OPEN_PROCESS, 0, [Component] 0, [Null Semicolon End Process Semicolon Identifier Colon]),
@@ -72,6 +74,8 @@ pub static PLACES: [Row; 33] = [
     row!(NO_CASE, 1, [Then When] 1, [Then Case Identifier Is]),
     row!(MODE_IN, 1, [Identifier In] 2, [In Identifier]),
     row!(MODE_OUT, 1, [Identifier Out] 2, [Out Identifier]),
+    here!(NO_PORT, 1, [RightParen In] [RightParen Semicolon Type]),
+    here!(NO_PORT, 1, [RightParen Out] [RightParen Semicolon Type]),
     row!(MODE_IN, 1, [RightParen In] 2, [RightParen]),
     row!(MODE_OUT, 1, [RightParen Out] 2, [RightParen]),
     row!(NO_PORT, 1, [Colon In] 2, [Colon]),
@@ -83,4 +87,7 @@ pub static PLACES: [Row; 33] = [
     row!(MODE_OUT, 0, [Out] 1, [Identifier Colon Out Identifier Semicolon]),
     row!(NO_PORT, 0, [In] 1, [Signal]),
     row!(NO_PORT, 0, [Out] 1, [Signal]),
+    here!(NO_DECLARATION, 0, [Constant] [End Entity Semicolon]),
+    here!(NO_DECLARATION, 0, [Signal] [End Entity Semicolon]),
+    here!(NO_DECLARATION, 0, [Type] [End Entity Semicolon]),
 ];

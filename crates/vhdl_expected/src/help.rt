@@ -1,6 +1,7 @@
 //! What helps with a change.
 
-pub const THEN: &str = "an if and each elsif go on with then behind the condition";
+pub const THEN: &str =
+    "an if and each elsif go on with then behind the condition; where there is none, write else for elsif";
 
 pub const IS: &str = "write entity e is, architecture a of e is, case s is, type t is";
 

@@ -1,6 +1,8 @@
 //! What stands in place of another word or delimiter, with what is told of each.
 
-use crate::help::{ARROW, ASSIGN, CLOSE, COMMA, COMPARE, CONDITIONAL, END_STATEMENT, IS, SELECT};
+use crate::help::{
+    ARROW, ASSIGN, CLOSE, COMMA, COMPARE, CONDITIONAL, END_STATEMENT, IS, SELECT, THEN,
+};
 use crate::reading::MOST_TOKENS;
 use crate::row::{Row, before, here, in_place, in_place_here, row};
 use crate::texts::{SPARE, SPARE_BEFORE, STEP, Said};
@@ -68,9 +70,13 @@ pub static INSTEAD: [Row; 19] = [
 ];
 
 /// What parts values, statements and declarations otherwise than it has to, or lacks between them.
-pub static PARTS: [Row; 31] = [
+pub static PARTS: [Row; 40] = [
     row!((LAST_COMMA, END_STATEMENT), 8, [Comma Identifier LessEqual] 1, [Semicolon]),
     row!((LAST_COMMA, END_STATEMENT), 4, [Comma Identifier LessEqual] 1, [Semicolon]),
+    row!((LAST_COMMA, END_STATEMENT), 5, [Comma Identifier LessEqual] 1, [Semicolon]),
+    row!((LAST_COMMA, END_STATEMENT), 6, [Comma Identifier LessEqual] 1, [Semicolon]),
+    row!((LAST_COMMA, END_STATEMENT), 7, [Comma Identifier LessEqual] 1, [Semicolon]),
+    row!((LAST_COMMA, END_STATEMENT), 7, [Comma Identifier LeftParen] 1, [Semicolon]),
     in_place_here!("`,`", SELECT, [Else] Comma Integer When Others Semicolon),
     in_place_here!("`else`", CONDITIONAL, [Then] Else Integer Semicolon),
     in_place_here!("`else`", CONDITIONAL, [Colon] Else Integer Semicolon),
@@ -98,12 +104,21 @@ pub static PARTS: [Row; 31] = [
     here!(("can't stand here: `)` is expected before the comma before it", CLOSE),
         2, [Comma Identifier Arrow] [RightParen Comma Identifier Arrow Identifier RightParen Semicolon]),
     in_place!("`;`", END_STATEMENT, [Comma Identifier] Semicolon),
+    in_place!("`then`", THEN, [Comma] Then),
+    here!(("can't stand here: `and` is expected in its place", "join conditions by and: a = '1' and b = '0'"),
+        0, [Comma] [And Integer Then]),
     in_place_here!("`else`", CONDITIONAL, [Comma] Else Integer Semicolon),
     row!(("can't stand here: the target of an assignment is one name",
         "assign each by a statement of its own: y <= a; z <= a;"),
         0, [Comma Identifier LessEqual] 1, [LessEqual Integer Semicolon]),
     here!(("can't stand here: a selected assignment begins with it, and its target stands behind select", SELECT),
         2, [Identifier LessEqual With] [With Identifier Select Identifier LessEqual]),
+    here!(("can't stand here: behind select a choice follows its value", SELECT),
+        0, [Others Arrow] [Integer When Others Semicolon]),
+    row!(("can't stand here: one when begins an alternative, and | parts its choices", "write when a | b =>"),
+        1, [Bar When] 2, [Bar]),
+    row!(("can't stand here: the `)` before it closes what is open", "leave one of the two out"),
+        1, [RightParen RightParen Semicolon] 2, [RightParen]),
     row!(UNCHANGED, 0, [Unaffected] 1, [Integer]),
     row!(UNCHANGED, 1, [Else Null] 2, [Else Integer]),
     row!(("can't stand here: a name alone is no statement, and procedures aren't served here",

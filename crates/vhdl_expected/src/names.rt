@@ -1,6 +1,6 @@
 //! What is wrong with a name, a type, a range or an instance, with what is told of each.
 
-use crate::help::{ALL, ENTITY, LIBRARY, MAP, OBJECT, SIGNAL, TO, TYPE, VARIABLE};
+use crate::help::{ALL, ENTITY, IN, LIBRARY, MAP, OBJECT, SIGNAL, TO, TYPE, VARIABLE};
 use crate::reading::MOST_TOKENS;
 use crate::row::{Row, here, in_place, row};
 use crate::texts::{SPARE, Said};
@@ -41,7 +41,7 @@ const RANGE: Said = (
 );
 
 /// What is wrong with a name, an end, a library, or what is mapped; and a word too many.
-pub static NAMES: [Row; 26] = [
+pub static NAMES: [Row; 28] = [
     here!(HYPHEN, 1, [Identifier Minus Identifier] [Identifier Colon Identifier Assign Integer]),
     here!(HYPHEN, 1, [Identifier Minus Identifier] [Identifier RightParen Semicolon]),
     row!(HYPHEN, 1, [Identifier Minus Identifier Minus Identifier] 5, [Identifier]),
@@ -58,6 +58,9 @@ pub static NAMES: [Row; 26] = [
     row!(USE_NAMES, 3, [Comma Identifier Dot All] 1, [Comma Identifier Dot]),
     row!(("can't stand here: `all` is expected in its place", "write process (all), or the names that it reads"),
         1, [LeftParen Star] 2, [LeftParen All]),
+    here!(("can't stand here: all stands alone in a sensitivity list", "write process (all), or each name that is read"),
+        1, [All] [All RightParen Begin]),
+    row!(("can't stand here: the index of a loop has no type", IN), 0, [Colon Identifier In] 3, [In]),
     in_place!("`all`", ALL, [Star] All),
     row!(("can't stand here: parentheses are expected around it", "write process (all)"),
         0, [All] 1, [LeftParen All RightParen]),
@@ -79,7 +82,7 @@ pub static NAMES: [Row; 26] = [
 ];
 
 /// What is wrong with a type, a range, or the value in a declaration.
-pub static TYPES: [Row; 20] = [
+pub static TYPES: [Row; 21] = [
     here!(("can't stand here: `(` is expected before it", TYPE),
         1, [Is Identifier Comma] [Is LeftParen Identifier RightParen Semicolon]),
     here!(("can't stand here: a type is declared by its values, and not by another type",
@@ -97,6 +100,9 @@ pub static TYPES: [Row; 20] = [
     // Behind another constant: so a name alone isn't taken for one.
     row!(("can't stand here: `:=` and a value are expected before it", "write constant n : integer := 9;"),
         0, [Semicolon] 0, [Assign Integer Semicolon Constant Identifier Colon Identifier Assign Integer]),
+    // Before another signal: so a name alone isn't taken for one.
+    row!(("can't stand here: `:` and a type are expected before it", "write signal s : std_logic;"),
+        0, [Semicolon] 0, [Colon Identifier Semicolon Signal Identifier Colon Identifier]),
     in_place!("`signal` or `constant`", OBJECT, [Identifier Identifier Colon] Constant),
     in_place!("`signal`", SIGNAL, [Identifier Identifier Colon] Signal),
     in_place!("`variable`", VARIABLE, [Identifier Identifier Colon] Variable),

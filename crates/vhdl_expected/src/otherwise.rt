@@ -8,12 +8,12 @@ use crate::help::{
     OUTSIDE_IF, THEN, TO,
 };
 use crate::reading::MOST_TOKENS;
-use crate::row::{Row, before, here, in_place, row};
+use crate::row::{Row, before, here, in_place, in_place_here, row};
 use crate::texts::{COMMENT, MERGE, OPERATOR, SPARE, UNREAD};
 use vhdl_lexer::TokenKind;
 
 /// What else the token may be: the first counts with which the text goes on.
-pub static OTHERWISE: [Row; 55] = [
+pub static OTHERWISE: [Row; 59] = [
     row!(("can't stand here: no unit is read behind a number, and no name without an operator",
         "leave out what is a time or a delay; else write what joins the two, as + or &"),
         1, [Integer Identifier] 1, [Integer Ampersand]),
@@ -47,10 +47,14 @@ pub static OTHERWISE: [Row; 55] = [
     in_place!("`:=`", ASSIGN, [LessEqual] Assign),
     in_place!("`:=`", ASSIGN, [Colon] Assign),
     in_place!("`:=`", ASSIGN, [Equal] Assign),
+    in_place_here!("`<=` or `:=`", ASSIGN, [Is] Assign Integer Semicolon Null Semicolon),
+    in_place!("`:=`", ASSIGN, [Is] Assign),
     in_place!("`=`", COMPARE, [Assign] Equal),
     in_place!("`<=`", ASSIGN, [Assign] LessEqual LeftParen Others Arrow Integer RightParen When Integer Else Integer Equal),
     in_place!("`;`", END_STATEMENT, [] Semicolon),
     in_place!("`:`", COLON, [Equal] Colon),
+    in_place!("`:`", COLON, [Semicolon In] Colon),
+    in_place!("`:`", COLON, [Semicolon Out] Colon),
     in_place!("`:`", COLON, [Is] Colon),
     in_place!("`of`", OF, [] Of),
     before!("`when`", CONDITIONAL, [] When),

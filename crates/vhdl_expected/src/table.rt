@@ -61,7 +61,7 @@ pub static SLIPS: [Row; 30] = [
 ];
 
 /// What lacks at an end, or is one too many.
-pub static ENDED: [Row; 23] = [
+pub static ENDED: [Row; 24] = [
     bare!("`end if;`", END_IF, If),
     bare!("`end loop;`", END_LOOP, Loop),
     bare!("`end case;`", END_CASE, Case),
@@ -88,10 +88,11 @@ pub static ENDED: [Row; 23] = [
     spare_end!("case", Case),
     spare_end!("process", Process),
     spare_end!("generate", Generate),
+    spare_end!("port list", Port),
 ];
 
 /// What is wrong with an operand, an operator or a value.
-pub static OPERANDS: [Row; 25] = [
+pub static OPERANDS: [Row; 27] = [
     row!(TWICE, 1, [And And] 1, []),
     row!(TWICE, 1, [Or Or] 1, []),
     row!(TWICE, 1, [Xor Xor] 1, []),
@@ -120,7 +121,11 @@ pub static OPERANDS: [Row; 25] = [
     row!(STEP, 0, [Plus Equal] 2, [LessEqual]),
     row!(STEP, 0, [Minus Equal] 2, [LessEqual]),
     row!(("can't stand here: an assignment begins with its target, and no word before that", "write y <= a;"),
-        1, [Identifier Identifier Equal] 3, [Identifier LessEqual Integer Semicolon Identifier LessEqual]),
+        1, [Identifier Identifier Equal] 3, [Identifier LessEqual LeftParen Others Arrow Integer RightParen Semicolon Identifier LessEqual]),
+    row!(("can't stand here: an operator is expected before the tick before it, or quotation marks in place of both ticks",
+        "write rst = '1' of one element, and x\"07\" of several"), 2, [Identifier Tick Integer Tick] 4, [BitString]),
+    row!(("can't stand here: no range follows a value", "write h >= 656 and h <= 751 for h in 656 to 751"),
+        0, [In Integer To] 3, [GreaterEqual]),
 ];
 
 /// What lacks between two parts.
@@ -189,12 +194,10 @@ pub static DECLARED: [Row; 26] = [
 ];
 
 /// What lacks at the beginning of a statement, a list or a unit.
-pub static HEADS: [Row; 25] = [
+pub static HEADS: [Row; 24] = [
     before!("`if`", IF, [] If),
     row!(("can't stand here: `elsif` is expected in place of the else before it", "write elsif b = '1' then"),
         2, [Else Identifier] 1, [Elsif]),
-    row!(("can't stand here: `then` is expected in its place, or `else` in place of the elsif before it", THEN),
-        4, [Elsif Identifier LessEqual] 1, [Else]),
     row!(("can't stand here: `else` is expected in place of the elsif before it", THEN), 2, [Elsif Identifier Assign] 1, [Else]),
     row!(("can't stand here: `if` or `elsif` is expected before the name before it", IF),
         0, [] 0, [LessEqual Integer Semicolon If Identifier]),

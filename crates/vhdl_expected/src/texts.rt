@@ -108,6 +108,11 @@ pub const NO_PORT: Said = (
     "declare it in the port list of the entity, or as a signal without a mode: signal a : std_logic;",
 );
 
+pub const NO_DECLARATION: Said = (
+    "can't stand here: an entity has generics and ports alone here",
+    "declare it in the architecture, before its begin; what the range of a port names is a generic",
+);
+
 pub const TWO_MODES: Said = (
     "can't stand here: a port has one mode, in or out",
     "take an in port and an out port in place of one that is both; an out port can be read",

@@ -13,7 +13,7 @@ use Rattle.vhdl_slips.specs.Words.{Read, text_of, text_of_first, with_tokens}
 use Rattle.vhdl_misfits.specs.Bounds.{architecture, bounds_of, is_empty, is_declared, known_object, listed_bounds, ports_of, range_at}
 use Rattle.vhdl_slips.specs.Choices.{choices, is_among, type_of}
 use Rattle.vhdl_hints.specs.Ends.{but_last_two, end_word, last_begun, last_two}
-use Rattle.vhdl_hints.specs.Hinted.{Actual, Differs, Empty, Form, Hint, Measured, NoFormal, NoPosition, Nothing, OpenPort, OtherName, OtherType, Outside, form, or_else}
+use Rattle.vhdl_hints.specs.Hinted.{Actual, Differs, Empty, Form, Hint, Measured, NoFormal, NoPosition, Nothing, OpenPort, OtherName, OtherType, Outside, form, is_nothing, or_else}
 use Rattle.vhdl_misfits.specs.Lengths.{Measure, measured}
 use Rattle.vhdl_misfits.specs.Misfits.{foreign, misfit}
 use Rattle.vhdl_misfits.specs.Places.{begins_one_of, begins_statement, behind_name, is_inside_loop}
@@ -24,12 +24,12 @@ use Rattle.vhdl_slips.specs.Interfaces.{formal_at, formals, interface_of}
 use Rattle.vhdl_slips.specs.Parts.{begins, behind_last, first_of, from, has, in_parentheses, up_to}
 use Rattle.vhdl_hints.specs.declared.end_name.Begun.{Begun}
 use Rattle.vhdl_hints.specs.declared.end_name.Begun.TheVariants as begun_as
-use Rattle.vhdl_hints.specs.declared.form.TheConstants.{ARCHITECTURE, BELOW, CAST, ELSEWHERE, FORMAL_ARROW, FORMAL_TWICE, INDEX, ITSELF, LIBRARY, LISTED, LITERALS, NO_NAME, NO_SIGNAL, NO_VARIABLE, OTHERS, PORT_TWICE}
+use Rattle.vhdl_hints.specs.declared.form.TheConstants.{ARCHITECTURE, BELOW, CAST, ELSEWHERE, FORMAL_ARROW, FORMAL_TWICE, INDEX, ITSELF, LIBRARY, LISTED, LITERALS, NO_NAME, NO_SIGNAL, NO_VARIABLE, OTHERS, PORT_TWICE, WORDS}
 use Rattle.vhdl_lexer.specs.declared.token.Token.{Token}
 use Rattle.vhdl_lexer.specs.declared.token.TokenKind.{TokenKind}
 use Rattle.vhdl_lexer.specs.declared.token.TokenKind.TheVariants as k
 use Rattle.vhdl_tree.specs.Lexeme.{same_kind}
-pub use Rattle.vhdl_hints.specs.NearNames.{meant_among, is_for_word, meant, begins_near, near_entity, is_of_instance, near_hint, misspelt}
+pub use Rattle.vhdl_hints.specs.NearNames.{meant_among, is_for_word, begins_near, near_entity, is_of_instance, near_hint, misspelt}
 
 -- ---- a formal that isn't declared
 
@@ -71,10 +71,11 @@ is_itself text (name ∷ colon ∷ []) tokens =
     && not (begins_one_of (k.Port ∷ k.Generic ∷ []) (drop 1 tokens))
 is_itself text _ tokens = false
 
--- a use clause begins with a library
+-- a use clause begins with a library, and so does the name of an entity
 abbrev pub unknown : (text : List ℕ) → (last_two from : List Token) → Hint
 unknown text last_two tokens =
-    if has k.Use last_two then form LIBRARY else if is_itself text last_two tokens then form ITSELF else Nothing
+    if has k.Use last_two || has k.Entity last_two then form LIBRARY
+    else if is_itself text last_two tokens then form ITSELF else Nothing
 
 -- what is left of the declarations among which these tokens stand, if they do
 abbrev pub region : List Token → List Token
@@ -344,12 +345,18 @@ abbrev pub told_hint : Option Said → Hint
 told_hint None = Nothing
 told_hint (Some said) = Form said
 
+-- a word of the packages may be meant, where nothing is assigned to
+abbrev pub meant : (text : List ℕ) → (before from : List Token) → Hint
+meant text before tokens =
+    if is_for_word (last_two before) tokens && is_nothing (no_target before tokens)
+    then meant_among (map (λ w. w.now) WORDS) (text_of_first text tokens) else Nothing
+
 abbrev pub undeclared : (source : Read) → (before from : List Token) → Hint
 undeclared source before from =
     or_else (or_else (or_else (or_else (or_else (or_else (no_formal source before from) (assigned source before from))
     (unknown source.text (last_two before) from))
     (misspelt source (last_two before) from)) (elsewhere source.text before from))
-    (told_hint (foreign source.text from))) (meant source.text (last_two before) from)
+    (told_hint (foreign source.text from))) (meant source.text before from)
 
 -- of a value, an operator or a call
 abbrev pub mismatch : (source : Read) → (before from : List Token) → Subject → Hint

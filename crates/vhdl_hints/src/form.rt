@@ -24,8 +24,8 @@ pub const BELOW: Said = (
 
 pub const ELSEWHERE: Said = (
     "is declared in this file, but not within sight of this place",
-    "declare it as a signal of this architecture: a variable is known in its process alone, and a signal or constant \
-     in its architecture alone; what the range of a port names is a generic",
+    "declare it above this place as a signal of this architecture: a variable is known in its process alone, and a \
+     signal or constant in its architecture alone; what the range of a port names is a generic",
 );
 
 pub const FORMAL_TWICE: Said = (
@@ -55,7 +55,7 @@ pub const ITSELF: Said = (
 
 pub const LIBRARY: Said = (
     "is a library that no library clause of this unit names",
-    "write library ieee; above it, and see its spelling",
+    "see its spelling, and write library ieee; above a use of ieee; an entity is one of library work: entity work.stage",
 );
 
 pub const FORMAL_ARROW: Said = (
@@ -65,7 +65,8 @@ pub const FORMAL_ARROW: Said = (
 
 pub const LISTED: Said = (
     "is no signal or port, and a sensitivity list names these alone",
-    "leave it out: what is no signal doesn't change in a run, or is known in a process alone",
+    "name the signal alone, as process (clk) for process (rising_edge(clk)), or leave it out: a constant or generic \
+     doesn't change in a run, and a variable is known in its process alone",
 );
 
 pub const CAST: Said = (

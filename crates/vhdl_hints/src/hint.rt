@@ -118,12 +118,9 @@ fn undeclared<'a>(source: Lexed<'a>, before: &[Token], from: &[Token]) -> Hint<'
     ensures { hint_view result ≡ spec.undeclared (read_of source.entry) before.now from.now }
 {
     let text = source.text;
-    let meant = if begins_one_of(&[TokenKind::LeftParen, TokenKind::Arrow], past(1, from))
-        || begins_one_of(
-            &[TokenKind::Colon, TokenKind::In, TokenKind::Out],
-            past(1, last_two(before)),
-        )
-    {
+    let is_for_word = has(TokenKind::Colon, last_two(before))
+        || begins_one_of(&[TokenKind::LeftParen, TokenKind::Arrow], past(1, from));
+    let meant = if is_for_word && no_target(before, from).is_nothing() {
         meant_among(&WORDS, first_text(Lexed { text, tokens: from }))
     } else {
         Hint::Nothing

@@ -21,7 +21,7 @@ use vhdl_slips::{
 pub(crate) fn unknown(text: &[u8], last_two: &[Token], from: &[Token]) -> Hint<'static>
     ensures { hint_view result ≡ spec.unknown text.now last_two.now from.now }
 {
-    if has(TokenKind::Use, last_two) {
+    if has(TokenKind::Use, last_two) || has(TokenKind::Entity, last_two) {
         Hint::Form(LIBRARY)
     } else if is_itself(text, last_two, from) {
         Hint::Form(ITSELF)

@@ -103,7 +103,7 @@ pub(crate) fn meant_among(mut words: &[&'static str], word: &[u8]) -> Hint<'stat
     Hint::Nothing
 }
 
-/// Of the entity of an instance, where the source has one of nearly the same name.
+/// Of the entity of an instance or architecture, where the source has one of nearly the same name.
 pub(crate) fn misspelt(source: Lexed<'_>, last_two: &[Token], from: &[Token]) -> Hint<'static>
     ensures { hint_view result ≡ spec.misspelt (read_of source.entry) last_two.now from.now }
 {
@@ -116,11 +116,11 @@ pub(crate) fn misspelt(source: Lexed<'_>, last_two: &[Token], from: &[Token]) ->
     }
 }
 
-/// Whether an entity is named: behind a library, or before a map.
+/// Whether an entity is named: behind a library or `of`, or before a map.
 fn is_of_instance(last_two: &[Token], from: &[Token]) -> bool
     ensures { result ≡ spec.is_of_instance last_two.now from.now }
 {
-    begins(TokenKind::Dot, past(1, last_two))
+    begins_one_of(&[TokenKind::Dot, TokenKind::Of], past(1, last_two))
         || begins_one_of(&[TokenKind::Port, TokenKind::Generic], past(1, from))
 }
 
@@ -147,7 +147,7 @@ fn near_entity(text: &[u8], word: &[u8], tokens: &[Token]) -> Option<Token>
     None
 }
 
-/// Whether the tokens begin with `entity NAME is`, of nearly this name.
+/// Whether the tokens begin with `entity NAME is`, of nearly this name, and not the same.
 fn begins_near(text: &[u8], word: &[u8], tokens: &[Token]) -> bool
     ensures { result ≡ spec.begins_near text.now word.now tokens.now }
 {
@@ -156,6 +156,7 @@ fn begins_near(text: &[u8], word: &[u8], tokens: &[Token]) -> bool
             is_same_kind(first.kind, TokenKind::Entity)
                 && is_same_kind(third.kind, TokenKind::Is)
                 && is_near(word, text_of(text, *second))
+                && !is_same_word(word, text_of(text, *second))
         }
         _ => false,
     }

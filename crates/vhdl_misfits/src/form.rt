@@ -29,9 +29,9 @@ pub const EXCHANGED: Said = (
 );
 
 pub const CONVERTED: Said = (
-    "takes a value of another kind, or gives one that doesn't fit here",
-    "unsigned(v) takes a vector, std_logic_vector(n) a number as unsigned, to_unsigned(5, 8) two whole numbers, \
-     and rising_edge(clk) one element; declare as unsigned what counts",
+    "takes other arguments, or gives a value that doesn't fit here",
+    "unsigned(v) takes a vector alone, std_logic_vector(n) a number as unsigned (of n resize(n, 8) changes the length), \
+     to_unsigned(5, 8) two whole numbers, and rising_edge(clk) one element; declare as unsigned what counts",
 );
 
 pub const LACKING: Said = (

@@ -27,8 +27,8 @@ pub const SIDES: Measure = (
 pub const TARGET: Measure = (
     "is assigned a value of length ",
     ", and needs one of length ",
-    "write both with one length: a slice, a & at the end, or resize(n, 8); (width - 1 downto 0) has width \
-     elements",
+    "write both with one length: a slice, a & at the end, or resize(n, 8); a shift keeps the length of its operand, \
+     and (width - 1 downto 0) has width elements",
 );
 
 pub const SUM: Measure = (

@@ -9,7 +9,7 @@ use crate::sort::Sort;
 use vhdl_lexer::TokenKind;
 
 /// Of what is no value, a condition or what is assigned; of all rows the first that fits counts.
-pub static VALUES: [Row; 20] = [
+pub static VALUES: [Row; 23] = [
     // a literal that is no value, and what fills no vector
     row!(b"" [] [Is(String)] NoElements (
         "has a character in it that is none of U X 0 1 Z W L H -",
@@ -18,7 +18,7 @@ pub static VALUES: [Row; 20] = [
     )),
     row!(b"" [] [Is(Character)] NoValue (
         "is none of the nine values U X 0 1 Z W L H -",
-        "write them in capitals, as 'Z'; a literal of an enumeration has no ticks",
+        "write them in capitals, as 'Z'; a number, as n = 5, and a literal of an enumeration have no ticks",
     )),
     row!(b"" [] [Is(LeftParen) Is(Others)] Always (
         "begins (others => ..), which fills a vector, and what gets it is none",
@@ -37,13 +37,19 @@ pub static VALUES: [Row; 20] = [
     row!(b"" [Any Condition] [Is(Not)] NoTest BEGINS),
     row!(b"" [Any Condition] [Any Operator] NoTest BEGINS),
     row!(b"" [Any Condition] [Is(Identifier) Is(LeftParen)] Slice BEGINS),
+    row!(b"unsigned" [Any Condition] [Any Is(LeftParen)] NoTest BEGINS),
+    row!(b"resize" [Any Condition] [Any Is(LeftParen)] NoTest BEGINS),
     // what is assigned to, or assigned
     row!(b"" [Any Statement] [Is(Identifier) Is(LeftParen)] Target (
-        "can't be assigned to so: it has no elements, or its index isn't static here",
-        "leave out the index of one element; for v(p) compare in a loop: for i in 0 to 3 loop if p = i then v(i) <= \
-         d; end if; end loop;",
+        "can't be assigned to so: it has no elements, or its parentheses have no static index or slice",
+        "leave out the index of one element, and write (3 downto 0) for (3, 0); for v(p) compare in a loop: for i in 0 \
+         to 3 loop if p = i then v(i) <= d; end if; end loop;",
     )),
-    row!(b"" [Any Given] [] Test (
+    row!(b"" [Is(Others) Is(Arrow)] [] Test (
+        "begins a test, and others fills a vector with a single element",
+        "write (others => '1') when en = '1' else (others => '0'); in a process write an if",
+    )),
+    row!(b"" [Any Begun] [] Test (
         "begins a test, and a value stands here",
         "write y <= '1' when n = 5 else '0'; in a process write an if",
     )),
@@ -82,11 +88,7 @@ pub static VALUES: [Row; 20] = [
 ];
 
 /// Of a name and its parentheses.
-pub static CALLS: [Row; 23] = [
-    row!(b"" [Is(Others) Is(Arrow)] [] Test (
-        "begins a test, and others fills a vector with a single element",
-        "write (others => '1') when en = '1' else (others => '0'); in a process write an if",
-    )),
+pub static CALLS: [Row; 22] = [
     row!(b"resize" [] [Any Is(LeftParen)] OneArgument LACKING),
     row!(b"shift_left" [] [Any Is(LeftParen)] OneArgument LACKING),
     row!(b"shift_right" [] [Any Is(LeftParen)] OneArgument LACKING),
@@ -114,14 +116,14 @@ pub static CALLS: [Row; 23] = [
          <= v(i); end if; end loop;",
     )),
     row!(b"" [Is(Identifier) Is(Arrow)] [Is(Identifier) Is(LeftParen)] Slice (
-        "has no such slice, or is of another type than the formal before =>",
+        "has no such slice, or is of another type than its formal",
         "a conversion is no actual: assign the slice to a signal of the formal's type, as s <= unsigned(v(3 downto 0)), \
          and give that signal's name",
     )),
     row!(b"" [] [Is(Identifier) Is(LeftParen)] Slice (
         "has no such slice, or begins a value of another type than is needed here",
-        "write unsigned(v(3 downto 0)) where unsigned is needed, and std_logic_vector(n(3 downto 0)) where a vector is; \
-         v(3) is one element",
+        "write unsigned(v(3 downto 0)) where unsigned is needed, and std_logic_vector(n(3 downto 0)) where a vector is, \
+         in a map the name of a signal that this is assigned to; v(3) is one element",
     )),
     row!(b"" [Is(Identifier) Assignment] [Is(Identifier) Is(LeftParen)] Value (
         "has no such index, or begins a value of another type than the whole target",
@@ -138,8 +140,8 @@ pub static CALLS: [Row; 23] = [
 
 /// Of a name in another place, or a literal.
 pub static PLACES: [Row; 7] = [
-    row!(b"" [Is(Others) Any] [Is(Identifier) End] Always (
-        "is no single element, and others fills each element with one",
+    row!(b"" [Is(Others) Any] [Is(Identifier) Plain] Always (
+        "is or begins no single element, and others fills each element with one",
         "write (others => '0'), or (others => v(0)) for one element of v",
     )),
     row!(b"" [Any Bound] [Is(Identifier) Plain] Always BOUND),
@@ -203,7 +205,7 @@ pub static OPERATORS: [Row; 15] = [
         "joins here two tests, or two elements, vectors or unsigned of one type",
         "write a whole test on both sides, as op = \"00\" or op = \"01\", en = '1' and n = 5; convert a value by \
          unsigned(v) or std_logic_vector(n); for v and en, v a vector and en one element, write v when en = '1' else (others \
-         => '0'), or in a process an if",
+         => '0'), for v or en (others => '1') when en = '1' else v, or in a process an if",
     )),
     row!(b"" [] [Is(Ampersand) Is(Integer)] Always JOINED_NUMBER),
     row!(b"" [Arithmetic Is(Integer)] [Is(Ampersand)] Always JOINED),
@@ -211,8 +213,8 @@ pub static OPERATORS: [Row; 15] = [
     row!(b"" [] [Is(Ampersand)] Always JOINED),
     row!(b"" [] [Sum] Always (
         "computes with unsigned and whole numbers alone here, and unsigned has no sign",
-        "write n + 1 for n + '1', n + ('0' & en) for one element en, 0 - n for -n, and unsigned(v) + 1 for a vector \
-         v, with std_logic_vector(..) round it where a vector stands, or declare as unsigned what counts; of an \
+        "write n + 1 for n + '1', n + ('0' & en) for one element en, 0 - n for -n of unsigned, and unsigned(v) + 1 \
+         for a vector v, with std_logic_vector(..) round it where a vector stands, or declare as unsigned what counts; of an \
          enumeration name the next literal",
     )),
     row!(b"" [] [Arithmetic] Always (

@@ -36,7 +36,8 @@ pub type FormWord = (&'static [u8], Behind, Said);
 
 pub const WHOLE_NUMBERS: Said = (
     "isn't read here: signals, ports and variables of whole numbers aren't served",
-    "declare it as unsigned(7 downto 0), as wide as it needs, and write n + 1 or n = 5 as before",
+    "declare it as unsigned(7 downto 0), as wide as it needs, and write n + 1 or n = 5 as before; leave out the index \
+     of a loop, which its for declares",
 );
 
 pub const NUMBER_RANGE: Said = (
@@ -57,7 +58,7 @@ pub const ARRAY: Said = (
 
 pub const RECORD: Said = (
     "isn't read here: records and selected names aren't served",
-    "declare a signal for each element of the record, and write names without a library or package before them",
+    "write a name alone, with no type, library or package before it; declare a signal for each element of a record",
 );
 
 /// A point behind the name with which an instance or a type begins.
@@ -166,9 +167,10 @@ pub const SECOND_INDEX: Said = (
 
 /// Values in maps, and other values than literals in a default.
 pub const ACTUAL: Said = (
-    "can't stand here: a port map gives names of signals, a generic map whole numbers, a default (others => \
-     '0') or (others => '1')",
-    "give a generic a whole number; of a port assign the value to a signal first, and give that signal's name",
+    "begins what is no actual or default: a port map gives names of signals, a generic map whole numbers, a default \
+     (others => '0') or (others => '1')",
+    "give a generic a whole number; of a port assign the value to a signal first, and give that signal's name; a formal \
+     has => behind it",
 );
 
 pub const DEFAULT: Said = (
@@ -203,8 +205,15 @@ pub const ORDER: Said = (
 
 pub const DYNAMIC_INDEX: Said = (
     "isn't served: a number stays unsigned, and indices are static",
-    "write n = 5 for to_integer(n) = 5; for v(to_integer(p)) compare in a loop: for i in 0 to 3 loop if p = i \
-     then y <= v(i); end if; end loop;",
+    "write n = 5 for to_integer(n) = 5, and case v is, with choices as \"011\", for case to_integer(unsigned(v)) is; \
+     for v(to_integer(p)) compare in a loop: for i in 0 to 3 loop if p = i then y <= v(i); end if; end loop;",
+);
+
+/// Functions of numeric_std that are left out.
+pub const FUNCTION: Said = (
+    "is a function that isn't served here",
+    "write n(5 downto 0) & n(7 downto 6) for rotate_left(n, 2) of 8 elements, a when a < b else b for minimum(a, b), and \
+     v(3) = '1' and v(0) = '0' for std_match(v, \"1--0\")",
 );
 
 pub const SIGNED: Said = (
@@ -221,7 +230,8 @@ pub const TRUTH: Said = (
 /// A library, or a package of one.
 pub const LIBRARY: Said = (
     "is no library or package that is read here",
-    "see its spelling: library ieee; use ieee.std_logic_1164.all; and use ieee.numeric_std.all; are read",
+    "library ieee; use ieee.std_logic_1164.all; and use ieee.numeric_std.all; are read: see the spelling, or write what \
+     another one gives by hand, as 4 for log2 of 16",
 );
 
 /// What else is left out.

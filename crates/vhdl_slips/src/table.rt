@@ -2,8 +2,8 @@
 
 use crate::form::{
     ABSOLUTE, ACTUAL, AGGREGATE, ALIAS, ARRAY, ATTRIBUTE, BLOCK, Behind, CHOICE, DEFAULT, DELAY,
-    DYNAMIC_INDEX, ELEMENT, FormWord, INSTANCE, LIBRARY, MESSAGE, MODE, NUMBER_RANGE, ORDER,
-    OTHER_LOOP, OTHER_TYPE, PACKAGE, POWER, QUALIFIED, RANGE_ATTRIBUTE, RECORD, REDUCTION,
+    DYNAMIC_INDEX, ELEMENT, FUNCTION, FormWord, INSTANCE, LIBRARY, MESSAGE, MODE, NUMBER_RANGE,
+    ORDER, OTHER_LOOP, OTHER_TYPE, PACKAGE, POWER, QUALIFIED, RANGE_ATTRIBUTE, RECORD, REDUCTION,
     SECOND_INDEX, SHIFT, SIGNED, SUBPROGRAM, SUBTYPE, TRUTH, VECTOR, WAIT, WHOLE_NUMBERS,
 };
 use crate::slip::{
@@ -163,7 +163,7 @@ pub static UNREAD: [FormWord; 73] = [
 ];
 
 /// The names of packages, types and attributes that are left out.
-pub static LEFT_OUT: [FormWord; 36] = [
+pub static LEFT_OUT: [FormWord; 41] = [
     (b"true", Behind::Anything, TRUTH),
     (b"false", Behind::Anything, TRUTH),
     (b"", Behind::Kind(TokenKind::Arrow), ACTUAL),
@@ -183,6 +183,11 @@ pub static LEFT_OUT: [FormWord; 36] = [
     (b">", Behind::Anything, ORDER),
     (b">=", Behind::Anything, ORDER),
     (b"to_integer", Behind::Anything, DYNAMIC_INDEX),
+    (b"rotate_left", Behind::Anything, FUNCTION),
+    (b"rotate_right", Behind::Anything, FUNCTION),
+    (b"minimum", Behind::Anything, FUNCTION),
+    (b"maximum", Behind::Anything, FUNCTION),
+    (b"std_match", Behind::Anything, FUNCTION),
     (b"signed", Behind::Anything, SIGNED),
     (b"integer", Behind::Anything, WHOLE_NUMBERS),
     (b"natural", Behind::Anything, WHOLE_NUMBERS),
