@@ -6,7 +6,7 @@ use Rattle.rtl_progress.specs.Stops.{stop_of}
 use Rattle.byte_streams.proofs.Writing.{Goes-append}
 use Rattle.byte_streams.specs.Written.{SinkState, Goes}
 use Rattle.byte_streams.specs.Stands.{Stand}
-use Rattle.rtlsim.specs.Served.{ServesBy, ServesEvents, ServesLevels, ServesMachine}
+use Rattle.rtlsim.specs.Served.{ServesBy}
 use Rattle.rtlsim.specs.Sinks.{Sinks, ShowsIf, outputs}
 use Rattle.rtlsim_commands.specs.Served.{Outputs, Serves}
 use Rattle.rtlsim_commands.specs.Told.{Done}
@@ -34,24 +34,14 @@ serves_more {o = o} f s = record {
   ends = s.ends;
 }
 
-module _ {P Q : List Stand → Type 0} (f : (stands : List Stand) → P stands → Q stands) where
-  module _ (telling : Telling) (source top : List ℕ) (outcome : Status) (o : Outputs) where
-    serves_machine : (text : List ℕ) (expected : Option (List ℕ)) → ServesMachine telling source top outcome o P text expected → ServesMachine telling source top outcome o Q text expected
-    serves_machine text expected s = serves_more (λ net. of_machine_so text net P Q f) s
-
-    serves_events : (text : List ℕ) (expected : Option (List ℕ)) → ServesEvents telling source top outcome o P text expected → ServesEvents telling source top outcome o Q text expected
-    serves_events text expected s = serves_more (λ net. of_events_so text net P Q f) s
-
-    serves_levels : (text : List ℕ) (expected : Option (List ℕ)) → ServesLevels telling source top outcome o P text expected → ServesLevels telling source top outcome o Q text expected
-    serves_levels text expected s = serves_more (λ net. of_machine_so text net P Q f) s
-
-    -- this holds of what was seen, and so that does
-    pub serves_by : (request : Request) (sets : List (List ℕ)) (text : List ℕ) (expected : Option (List ℕ))
-        → ServesBy telling source top outcome o P request sets text expected → ServesBy telling source top outcome o Q request sets text expected
-    serves_by (Run true order) sets text expected s = serves_events text expected s
-    serves_by (Run false order) sets text expected s = serves_machine text expected s
-    serves_by Levels sets text expected s = serves_levels text expected s
-    serves_by _ sets text expected s = s
+module _ {P Q : List Stand → Type 0} (f : (stands : List Stand) → P stands → Q stands) (telling : Telling) (source top : List ℕ) (outcome : Status) (o : Outputs) where
+  -- this holds of what was seen, and so that does
+  pub serves_by : (request : Request) (sets : List (List ℕ)) (text : List ℕ) (expected : Option (List ℕ))
+      → ServesBy telling source top outcome o P request sets text expected → ServesBy telling source top outcome o Q request sets text expected
+  serves_by (Run true order) sets text expected s = serves_more (λ net. of_events_so text net P Q f) s
+  serves_by (Run false order) sets text expected s = serves_more (λ net. of_machine_so text net P Q f) s
+  serves_by Levels sets text expected s = serves_more (λ net. of_machine_so text net P Q f) s
+  serves_by _ sets text expected s = s
 
 -- what is served by these texts is served by texts that are the same
 pub serves_same : (telling : Telling) (outcome : Status) (shows : Bool) (s : Sinks) (request : Request) (source given top called : List ℕ) (sets words : List (List ℕ)) (text read : List ℕ)

@@ -1,6 +1,6 @@
 -- The names of nets that still change.
-use Rattle.std.proofs.Common.{◌≡◌, ◌≢◌, ℕ, zero, suc, ◌-◌, ◌≤◌, Bool, false, List, [], ◌∷◌, ◌++◌, length, Result, Ok, Err, refl, sym, ap, subst, ◌∙◌, append_assoc, arith, codes}
-use Rattle.std.specs.Prelude.{if◌then◌else◌, OnOk, slice_index, drop, take}
+use Rattle.std.proofs.Common.{◌≡◌, ◌≢◌, ℕ, zero, suc, ◌-◌, ◌≤◌, Bool, false, List, [], ◌∷◌, ◌++◌, length, refl, sym, ap, subst, ◌∙◌, append_assoc, arith, codes}
+use Rattle.std.specs.Prelude.{if◌then◌else◌, slice_index, drop, take}
 use Rattle.std.proofs.Math.Seq.{take-length}
 use Rattle.rtl_net.specs.Names.{net_name}
 use Rattle.rtl_net.specs.Nets.{NetlistView}
@@ -47,7 +47,3 @@ module _ (net : NetlistView) (first : List ℕ) (last room : ℕ) (numbers : Lis
       ∙ ap (λ (text : List ℕ). before ++ (range_text first (net_name net last) ++ codes ", " ++ others text)) behind_is
       ∙ ap (λ (rest : List ℕ). before ++ (range_text first (net_name net last) ++ codes ", " ++ names_from net (net_name net number) number (room - 1) rest)) (all_but_first numbers more)
       ∙ ap (λ (text : List ℕ). before ++ text) (sym (goes_on net first last room numbers more some apart_named))
-
-pub on_ok_so : {X F : Type 0} (P Q : Type 0) (r : Result X F) → (P → Q) → OnOk r P → OnOk r Q
-on_ok_so P Q (Ok x) go h = go h
-on_ok_so P Q (Err f) go h = tt

@@ -1,6 +1,6 @@
 -- What is told of a fault.
-use Rattle.std.proofs.Common.{◌≡◌, ℕ, Bool, true, false, List, [], ◌++◌, Option, Some, None, inl, inr, length, Result, Ok, Err, refl, ap, sym, ◌∙◌, subst, append-nil, true≢false}
-use Rattle.std.specs.Prelude.{OnErr, if◌then◌else◌}
+use Rattle.std.proofs.Common.{◌≡◌, ℕ, Bool, true, false, List, [], ◌++◌, Option, Some, None, inl, inr, refl, ap, sym, ◌∙◌, subst, append-nil, true≢false}
+use Rattle.std.specs.Prelude.{if◌then◌else◌}
 use Rattle.rtl_net.specs.Nets.{NetlistView}
 use Rattle.fault_rules.specs.declared.report.Report.{Report}
 use Rattle.byte_streams.proofs.Writing.{Goes-append}
@@ -71,12 +71,7 @@ report_takes (Some report) = refusing.takes_memory report
 pub fault_takes : (fault : StimFault) → report_takes (stim_report fault) ≡ true → takes_memory (f.Stim fault) ≡ true
 fault_takes (stim.Race time input clock) takes = refl
 fault_takes (stim.InLine its_rule line) takes = takes
-fault_takes stim.NoStop takes = absurd (true≢false (sym takes))
-fault_takes stim.NoMemory takes = absurd (true≢false (sym takes))
-
-pub takes_along : {T E : Type 0} (r : Result T E) (P Q : Type 0) → (P → Q) → OnErr r P → OnErr r Q
-takes_along (Ok x) P Q so h = tt
-takes_along (Err e) P Q so h = so h
+fault_takes _ takes = absurd (true≢false (sym takes))
 
 -- a fault of a stimulus without names
 pub nameless_stim : (files : List FileView) (net : NetlistView) (fault : StimFault) → has_names (f.Stim fault) ≡ false

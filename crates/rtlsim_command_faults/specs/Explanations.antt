@@ -5,12 +5,13 @@ use Rattle.rtl_check.specs.declared.checking.Verdict.TheVariants as verdict
 use Rattle.rtl_net.specs.Nets.{NetlistView}
 use Rattle.fault_rules.specs.declared.report.Report.{Report}
 use Rattle.rtlsim_command_faults.specs.Expecting.{IsExpectedBy}
+use Rattle.rtlsim_command_faults.specs.Further.{told_of}
 use Rattle.rtlsim_command_faults.specs.Lines.{fault_lines}
 use Rattle.rtlsim_command_faults.specs.Reports.{lex_report, syntax_report, name_report, elab_report, stim_report}
 use Rattle.rtlsim_command_faults.specs.declared.faults.Fault.{Fault}
 use Rattle.rtlsim_command_faults.specs.declared.faults.Fault.TheVariants.{Lex, Syntax, Name, Elab, Rejected, Stim, NoSettling}
 use Rattle.rtlsim_command_faults.specs.declared.telling.Telling.{Telling}
-use Rattle.rtlsim_refusals.specs.Explained.{refusal_explained, source_explained}
+use Rattle.rtlsim_refusals.specs.Explained.{explained, refusal_explained}
 use Rattle.rtlsim_refusals.specs.Stimuli.{stim_explained, settle_explained}
 use Rattle.vhdl_slips.specs.Words.{Read, read_of}
 use Rattle.rtlsim_findings_text.specs.Explained.{rejection_explained}
@@ -47,7 +48,7 @@ abbrev pub refusal_said : List FileView → Option Report → List ℕ
 refusal_said files report = reported (refusal_explained files) report
 
 abbrev pub source_said : List FileView → Source → Option Report → List ℕ
-source_said files source report = reported (source_explained files source.read source.expected) report
+source_said files source report = explained (told_of files source.read source.expected report)
 
 -- ---- each fault
 

@@ -13,8 +13,7 @@ use Rattle.vhdl_front_rules.specs.declared.fault.SourceFault.TheVariants.{Name}
 -- this is found in what is left of the source; None where nothing was taken out
 abbrev pub Finds : (top : List ℕ) → (left : Option (List ℕ)) → Next → Type 0
 Finds top None n.Nothing = Unit {0}
-Finds top None (n.Found text fault) = ⊥
-Finds top None n.NoMemory = ⊥
+Finds top None _ = ⊥
 Finds top (Some left) n.Nothing = HasNames left top
 Finds top (Some left) (n.Found text fault) = (text.items ≡ left) × Refuses left top (Name fault)
 Finds top (Some left) n.NoMemory = Unit {0}

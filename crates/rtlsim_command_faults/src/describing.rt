@@ -116,7 +116,7 @@ fn told_of_lexer<'f>(
 }
 
 /// What is told of a report on a source, which is cut into tokens once more.
-fn told_read<'f>(
+pub(crate) fn told_read<'f>(
     alloc: Global,
     files: &[SourceFile<'f>],
     source: &[u8],

@@ -1,16 +1,15 @@
 //! What stands below the lines of a fault.
 
-ghost use Rattle.std.specs.Prelude.{◌≡◌, [], if◌then◌else◌, false, true, OnErr, map};
+ghost use Rattle.std.specs.Prelude.{◌≡◌, [], if◌then◌else◌, false, true, OnErr, map, option_map};
 ghost use Rattle.byte_streams.specs.Written.{Goes};
-ghost use Rattle.vhdl_slips.specs.Words.{read_of};
 ghost use Rattle.rtlsim_command_faults.specs.Explanations as spec;
 ghost use Rattle.rtlsim_command_faults.specs.Faults.{is_of_names, takes_memory};
 ghost use Rattle.rtlsim_command_faults.specs.Told.{Explains, ExplainsRead};
 ghost use Rattle.vhdl_source_files.specs.Files.{file_view};
 ghost use Rattle.rtlsim_listing.specs.Printing.{Prints};
-ghost use Rattle.vhdl_expected.specs.Told.{expected_of};
+ghost use Rattle.rtlsim_refusals.specs.Explained.{explained, told_view};
 
-use crate::expecting::expected_by;
+use crate::describing::told_read;
 use crate::faults::Fault;
 use crate::reports::{elab_report, lex_report, name_report, stim_report, syntax_report};
 use crate::telling::{Site, Telling};
@@ -19,10 +18,8 @@ use fault_rules::Report;
 use rtl_net::NoMemory;
 use rtl_stim::StimFault;
 use rtlsim_findings_text::explain_rejection;
-use rtlsim_refusals::{Lexed, explain_refusal, explain_source, explain_stim, explain_unsettled};
+use rtlsim_refusals::{Told, explain_refusal, explain_stim, explain_unsettled, push_paragraph};
 use std::alloc::Global;
-use vhdl_expected::Expected;
-use vhdl_lexer::lex;
 use vhdl_source_files::{SourceFile, joined, source_name};
 
 /// Explains a fault of the checker or of a stimulus, where that is asked for.
@@ -87,8 +84,8 @@ fn explain_stimulus<S: Sink>(
 }
 
 /// Explains any other fault. One of grammar, of names or of elaboration takes the memory of the
-/// source and of its tokens. Answers whether memory sufficed; where it is refused, nothing is
-/// written.
+/// source, of its tokens and of what is told. Answers whether memory sufficed; where it is refused,
+/// nothing is written.
 pub(crate) fn explain_nameless<S: Sink>(
     alloc: Global,
     telling: &Telling<'_>,
@@ -139,34 +136,19 @@ fn explain_read<S: Sink>(
     let Ok(source) = joined(alloc, files) else {
         return false;
     };
-    let Ok(tokens) = lex(alloc, &source) else {
+    let Ok(told) = told_read(alloc, files, &source, report) else {
         return false;
     };
-    let Ok(expected) = expected_by(alloc, &source, &tokens, report) else {
-        return false;
-    };
-    let source = Lexed {
-        text: &source,
-        tokens: &tokens,
-    };
-    explain_report(files, source, expected, report, sink);
+    push_told(&told, sink);
     true
 }
 
-/// Explains which rule of a source is broken, by its text and tokens. Of want of memory nothing is
-/// said.
-fn explain_report<S: Sink>(
-    files: &[SourceFile<'_>],
-    source: Lexed<'_>,
-    expected: Expected,
-    report: Option<Report>,
-    sink: &mut S,
-)
-    ensures { Goes (S.state sink.old) (S.state sink.new) (spec.source_said (map file_view files.now)
-        (record { read = read_of source.entry; expected = expected_of expected }) report) }
+/// Writes the paragraph of what is told, if something is.
+fn push_told<S: Sink>(told: &Option<Told<'_>>, sink: &mut S)
+    ensures { Goes (S.state sink.old) (S.state sink.new) (explained (option_map told_view told.now)) }
 {
-    match report {
-        Some(report) => explain_source(files, source, expected, report, sink),
+    match told {
+        Some(told) => push_paragraph(told, sink),
         None => push_text(sink, b""),
     }
 }

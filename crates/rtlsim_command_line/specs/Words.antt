@@ -1,6 +1,6 @@
 -- Which words of the command line say which call: the command, and behind it its operands in their order, with its
 -- options anywhere between them. `PARTS` is the table of what each command takes.
-use Rattle.std.specs.Prelude.{◌≡◌, ℕ, ◌+◌, Bool, true, false, not, ◌&&◌, ◌||◌, ◌==◌, if◌then◌else◌, List, [], ◌∷◌, ◌++◌, Option, Some, None, is_some, option_and_then, option_map, bytes_eq, codes, drop, map, take, length}
+use Rattle.std.specs.Prelude.{◌≡◌, ℕ, Bool, true, false, not, ◌&&◌, ◌||◌, ◌==◌, if◌then◌else◌, List, [], ◌∷◌, ◌++◌, Option, Some, None, is_some, option_and_then, option_map, bytes_eq, codes, count_by, drop, map, take, length}
 use Rattle.std.specs.Borrow.{Bor}
 use Rattle.clap.specs.Lexer.{name_and_value}
 use Rattle.rtlsim_command_line.specs.declared.call.Call.{Call}
@@ -13,7 +13,7 @@ use Rattle.rtlsim_command_line.specs.declared.call.Request.TheVariants.{Eval, Ne
 use Rattle.rtlsim_command_line.specs.declared.parsed.Parsed.{Parsed}
 use Rattle.rtlsim_command_line.specs.declared.parsed.Use.{Use}
 use Rattle.rtlsim_command_line.specs.declared.parts.Form.{Form}
-use Rattle.rtlsim_command_line.specs.declared.parts.Form.TheVariants.{Operand, Operands, Flag, File, Files, Order as OrderOption}
+use Rattle.rtlsim_command_line.specs.declared.parts.Form.TheVariants.{Operand, Operands, Flag, Files}
 use Rattle.rtlsim_command_line.specs.declared.parts.Part.{Part}
 use Rattle.rtlsim_command_line.specs.declared.parts.TheConstants.{PARTS}
 
@@ -87,9 +87,7 @@ abbrev pub takes_value : Form → Option Bool
 takes_value Operand = None
 takes_value Operands = None
 takes_value Flag = Some false
-takes_value File = Some true
-takes_value Files = Some true
-takes_value OrderOption = Some true
+takes_value _ = Some true
 
 -- the same of the option of a name; none where there is no such option
 abbrev pub is_valued : List Row → (name : Word) → Option Bool
@@ -141,8 +139,7 @@ module _ (parts : List Row) where
 -- ---- options that are given
 
 abbrev pub count : List Used → (name : Word) → ℕ
-count [] name = 0
-count (used ∷ uses) name = if bytes_eq used.0 name then 1 + count uses name else count uses name
+count uses name = count_by (λ used. bytes_eq used.0 name) uses
 
 abbrev pub values : List Used → (name : Word) → List Word
 values [] name = []
@@ -211,17 +208,13 @@ abbrev pub parted : Request → List Word → Option Parted
 parted Eval rest = Some (rest, None)
 parted (Run is_event order) rest = run_parted rest
 parted Levels rest = run_parted rest
-parted Net rest = none_parted rest
-parted Check rest = none_parted rest
-parted Dot rest = none_parted rest
-parted Json rest = none_parted rest
+parted _ rest = none_parted rest
 
 -- ---- the standard input
 
 -- how many of these names are its
 abbrev pub standard_count : List Word → ℕ
-standard_count [] = 0
-standard_count (name ∷ names) = if bytes_eq name (codes "@") then 1 + standard_count names else standard_count names
+standard_count names = count_by (λ name. bytes_eq name (codes "@")) names
 
 -- the files beside FILE and STIM
 abbrev pub files_beside : (with : List Word) → (expected : Option Word) → List Word

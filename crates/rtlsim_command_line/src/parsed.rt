@@ -118,27 +118,17 @@ impl<'a> Parsed<'a> {
     fn count(&self, name: &str) -> usize
         ensures { result ≡ words.count (map use_view self.now.uses.items) name.now }
     {
-        let mut count = 0;
-        let mut left = self.uses.as_slice();
-        while let [given, others @ ..] = left {
-            if given.name == name {
-                count += 1;
-            }
-            left = others;
-        }
-        count
+        self.uses.iter().filter(|given| given.name == name).count()
     }
 
     /// The value of the option of this name, where it is first given.
     pub(crate) fn value(&self, name: &str) -> Option<&'a str>
         ensures { option_map text_of result ≡ words.value (map use_view self.now.uses.items) name.now }
     {
-        let mut left = self.uses.as_slice();
-        while let [given, others @ ..] = left {
+        for given in &self.uses {
             if given.name == name {
                 return Some(given.value);
             }
-            left = others;
         }
         None
     }
@@ -149,12 +139,10 @@ impl<'a> Parsed<'a> {
             map text_of values.items ≡ words.values (map use_view self.now.uses.items) name.now) }
     {
         let mut values = Vec::new(alloc);
-        let mut left = self.uses.as_slice();
-        while let [given, others @ ..] = left {
+        for given in &self.uses {
             if given.name == name {
                 values.push(given.value)?;
             }
-            left = others;
         }
         Ok(values)
     }
@@ -171,12 +159,10 @@ impl<'a> Parsed<'a> {
     pub(crate) fn fits(&self, parts: &[Part<&str>], command: &str) -> bool
         ensures { result ≡ words.fits (map use_view self.now.uses.items) command.now (map row_of parts.now) }
     {
-        let mut left = parts;
-        while let [part, others @ ..] = left {
+        for part in parts {
             if self.has(part.name) && !self.may_have(part, command) {
                 return false;
             }
-            left = others;
         }
         true
     }

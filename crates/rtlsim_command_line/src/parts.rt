@@ -99,12 +99,10 @@ pub(crate) fn table() -> &'static [Part<&'static str>]
 pub(crate) fn is_valued(parts: &[Part<&str>], name: &str) -> Option<bool>
     ensures { result ≡ words.is_valued (map row_of parts.now) name.now }
 {
-    let mut left = parts;
-    while let [part, others @ ..] = left {
+    for part in parts {
         if part.name == name {
             return part.form.takes_value();
         }
-        left = others;
     }
     None
 }

@@ -173,15 +173,7 @@ fn standard_count(names: &[&str]) -> usize
     ensures count { result ≡ words.standard_count (map text_of names.now) }
     ensures within { result ≤ length names.now }
 {
-    let mut count = 0;
-    let mut left = names;
-    while let [name, others @ ..] = left {
-        if *name == "@" {
-            count += 1;
-        }
-        left = others;
-    }
-    count
+    names.iter().filter(|name| **name == "@").count()
 }
 
 /// What clap tells of words that say no request: a mistake, or the help that is asked for.

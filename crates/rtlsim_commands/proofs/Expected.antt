@@ -1,7 +1,7 @@
 -- Runs that are compared with what is expected.
 use Rattle.std.proofs.Common.{◌≡◌, ℕ, List, Option, Some, None, Result, Ok, Err, inl, refl, sym, subst}
 use Rattle.std.specs.Prelude.{IsErrAnd, option_map}
-use Rattle.rtlsim_commands.specs.Expected.{Comparing, IsOfRun, RunsExpecting, unless_differs}
+use Rattle.rtlsim_commands.specs.Expected.{Comparing, IsOfRun, RunsComparing, RunsExpecting, unless_differs}
 use Rattle.rtlsim_commands.specs.Sights.{Sight, Seen, Seeing}
 use Rattle.rtlsim_commands.specs.Watched.{IfWhole}
 use Rattle.rtlsim_commands.proofs.Sights.{seeing_of}
@@ -42,29 +42,15 @@ module _ {A : Type 0} (Runs : NetlistView → Result A Fault → (old new : Sink
       pub whole : (x : A) (d : Option Difference) (answer : Result A Fault) (Told Seen : List Stand → Type 0) → answer ≡ unless_differs (Ok x) d → Runs net (Ok x) old new → Sees Told net
           → ((stands : List Stand) → Told stands → option_map difference_view d ≡ first_difference stands es) → ((stands : List Stand) → Told stands → Seen stands)
           → RunsExpecting Runs Sees expected net answer old new × IfWhole answer (Sees Seen net)
-      whole x None answer Told Seen is runs sees first seen =
-          let P : Result A Fault → Type 0 = λ r. RunsExpecting Runs Sees expected net r old new × IfWhole r (Sees Seen net) in
-          subst P (sym is) (
-            record {
-              expectations = es;
-              read = read;
-              holds = record { runs = runs; first = so Told (λ stands. first_difference stands es ≡ None) (λ stands told. sym (first stands told)) sees };
-            },
-            so Told Seen seen sees,
-          )
-      whole x (Some d) answer Told Seen is runs sees first seen =
-          let P : Result A Fault → Type 0 = λ r. RunsExpecting Runs Sees expected net r old new × IfWhole r (Sees Seen net) in
-          subst P (sym is) (
-            record {
-              expectations = es;
-              read = read;
-              holds = (
-                x,
-                record { runs = runs; first = so Told (λ stands. first_difference stands es ≡ Some (difference_view d)) (λ stands told. sym (first stands told)) sees },
-              );
-            },
-            so Told Seen seen sees,
-          )
+      whole x d answer Told Seen is runs sees first seen =
+          let compared : RunsComparing Runs Sees net x old new es (option_map difference_view d) =
+          record { runs = runs; first = so Told (λ stands. first_difference stands es ≡ option_map difference_view d) (λ stands told. sym (first stands told)) sees } in
+          subst (λ (r : Result A Fault). RunsExpecting Runs Sees expected net r old new × IfWhole r (Sees Seen net)) (sym is) (by d compared)
+        where
+          by : (d : Option Difference) → RunsComparing Runs Sees net x old new es (option_map difference_view d)
+              → RunsExpecting Runs Sees expected net (unless_differs (Ok x) d) old new × IfWhole (unless_differs (Ok x) d) (Sees Seen net)
+          by None run = (record { expectations = es; read = read; holds = run }, so Told Seen seen sees)
+          by (Some d) run = (record { expectations = es; read = read; holds = (x, run) }, so Told Seen seen sees)
 
 is_fault : {A : Type 0} (result : Result A Fault) (fault : Fault) → result ≡ Err fault → IsErrAnd result (λ f. f ≡ fault)
 is_fault {A} result fault is = subst (λ (r : Result A Fault). IsErrAnd r (λ f. f ≡ fault)) (sym is) refl

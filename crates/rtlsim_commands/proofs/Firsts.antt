@@ -5,6 +5,7 @@ use Rattle.std.specs.Prelude.{take, IsOk, OnOk, OnErr}
 use Rattle.std.specs.List.{range_with_len}
 use Rattle.std.proofs.lemmas.List.Elements.{filter-append}
 use Rattle.rtl_model.specs.basics.Valuations.{has_event}
+use Rattle.rtlsim_listing.proofs.Printing.{counted}
 
 -- ---- the first of a list with one more
 
@@ -21,29 +22,20 @@ no_room (suc k) (y ∷ xs) x all = ap (λ (l : List ℕ). y ∷ l) (no_room k xs
 
 -- ---- the nets up to a number
 
-counting : (a n : ℕ) → range_with_len a (suc n) ≡ range_with_len a n ++ (a + n) ∷ []
-counting a zero = ap (λ (k : ℕ). k ∷ []) (omega arith)
-counting a (suc n) =
-    ap (λ (l : List ℕ). a ∷ l) (counting (a + 1) n ∙ ap (λ (k : ℕ). range_with_len (a + 1) n ++ k ∷ []) (omega arith))
-
 module _ (before now : List ℕ) where
   abbrev pub so_far : ℕ → List ℕ
   so_far n = filter (has_event before now) (range_with_len 0 n)
 
-  one_more : (n : ℕ) → so_far (suc n) ≡ so_far n ++ cond (has_event before now n) (n ∷ []) []
-  one_more n = ap (filter (has_event before now)) (counting 0 n ∙ ap (λ (k : ℕ). range_with_len 0 n ++ k ∷ []) (omega arith)) ∙ filter-append (has_event before now) (range_with_len 0 n) (n ∷ [])
+  more_if : (n : ℕ) (b : Bool) → has_event before now n ≡ b → so_far (n + 1) ≡ so_far n ++ cond b (n ∷ []) []
+  more_if n b is =
+      ap (filter (has_event before now)) (counted n) ∙ filter-append (has_event before now) (range_with_len 0 n) (n ∷ [])
+      ∙ ap (λ (c : Bool). so_far n ++ cond c (n ∷ []) []) is
 
-  more_if : (n : ℕ) (b : Bool) → has_event before now n ≡ b → so_far (suc n) ≡ so_far n ++ cond b (n ∷ []) []
-  more_if n b is = one_more n ∙ ap (λ (c : Bool). so_far n ++ cond c (n ∷ []) []) is
-
-  kept : (n : ℕ) → has_event before now n ≡ true → length (take 17 (so_far n)) < 17 → take 17 (so_far (suc n)) ≡ take 17 (so_far n) ++ n ∷ []
+  kept : (n : ℕ) → has_event before now n ≡ true → length (take 17 (so_far n)) < 17 → take 17 (so_far (n + 1)) ≡ take 17 (so_far n) ++ n ∷ []
   kept n is less = ap (take 17) (more_if n true is) ∙ room_left 17 (so_far n) n less
 
-  not_kept : (n : ℕ) → has_event before now n ≡ true → length (take 17 (so_far n)) ≡ 17 → take 17 (so_far (suc n)) ≡ take 17 (so_far n)
+  not_kept : (n : ℕ) → has_event before now n ≡ true → length (take 17 (so_far n)) ≡ 17 → take 17 (so_far (n + 1)) ≡ take 17 (so_far n)
   not_kept n is all = ap (take 17) (more_if n true is) ∙ no_room 17 (so_far n) n all
-
-  same : (n : ℕ) → has_event before now n ≡ false → take 17 (so_far (suc n)) ≡ take 17 (so_far n)
-  same n is = ap (take 17) (more_if n false is ∙ append-nil (so_far n))
 
   -- a number is added where there is room
   pub noted : {A F : Type 0} (n : ℕ) → has_event before now n ≡ true → (old new : ArrayVec ℕ) → old.items ≡ take 17 (so_far n) → (added : Result A F)
@@ -51,14 +43,11 @@ module _ (before now : List ℕ) where
       → new.items ≡ take 17 (so_far (n + 1))
   noted n is old new old_is (Ok x) ok err full room =
       let less : length (take 17 (so_far n)) < 17 = subst (λ (xs : List ℕ). length xs < 17) old_is (room refl) in
-      let more : n + 1 ≡ suc n = omega arith in
-      ok ∙ ap (λ (xs : List ℕ). xs ++ n ∷ []) old_is ∙ sym (kept n is less) ∙ ap (λ (k : ℕ). take 17 (so_far k)) (sym more)
+      ok ∙ ap (λ (xs : List ℕ). xs ++ n ∷ []) old_is ∙ sym (kept n is less)
   noted n is old new old_is (Err f) ok err full room =
       let all : length (take 17 (so_far n)) ≡ 17 = subst (λ (xs : List ℕ). length xs ≡ 17) old_is full in
-      let more : n + 1 ≡ suc n = omega arith in
-      ap (λ (v : ArrayVec ℕ). v.items) err ∙ old_is ∙ sym (not_kept n is all) ∙ ap (λ (k : ℕ). take 17 (so_far k)) (sym more)
+      ap (λ (v : ArrayVec ℕ). v.items) err ∙ old_is ∙ sym (not_kept n is all)
 
   pub unnoted : (n : ℕ) → has_event before now n ≡ false → (old new : ArrayVec ℕ) → old.items ≡ take 17 (so_far n) → new ≡ old → new.items ≡ take 17 (so_far (n + 1))
   unnoted n is old new old_is new_is =
-      let more : n + 1 ≡ suc n = omega arith in
-      ap (λ (v : ArrayVec ℕ). v.items) new_is ∙ old_is ∙ sym (same n is) ∙ ap (λ (k : ℕ). take 17 (so_far k)) (sym more)
+      ap (λ (v : ArrayVec ℕ). v.items) new_is ∙ old_is ∙ ap (take 17) (sym (more_if n false is ∙ append-nil (so_far n)))

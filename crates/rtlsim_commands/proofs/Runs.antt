@@ -49,8 +49,7 @@ watched_machine {A} Does Sees net (Err fault) answer old new does is told = reco
 pub run_fault : (Holds : List Stand → (before now : List ℕ) → (time : ℕ) → Type 0) (net : NetlistView) (text : List ℕ) (s : StimulusView) (Told : List Stand → Type 0) (fault : RunFault)
     → IsRead net text (Ok s) → WasTold net s most_deltas Told Holds fault → IsOfNet (events text) Holds net (of_run fault)
 run_fault Holds net text s Told (run.NoSettling time) said h = record { stimulus = s; said = said; first = h }
-run_fault Holds net text s Told run.Memory said h = tt
-run_fault Holds net text s Told run.Output said h = tt
+run_fault Holds net text s Told _ said h = tt
 
 -- no variable is stored
 pub none_stored : (net : NetlistView) (faults : List CheckFault) (count : ℕ) → AreStored (core net) (map fault_view faults) → count ≡ length faults → count ≡ 0 → HasNoneStored net

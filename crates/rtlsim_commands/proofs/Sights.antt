@@ -28,20 +28,17 @@ module _ {A : Type 0} where
   pub seeing_does : (sight : Sight) (Does : NetlistView → Result A Fault → SinkState → SinkState → Type 0) (P : List Stand → Type 0) (net : NetlistView) (answer : Result A Fault) (old new : SinkState)
       → Seeing sight Does P net answer old new → Does net answer old new
   seeing_does nothing Does P net answer old new h = h
-  seeing_does (machine text) Does P net answer old new h = h.does
-  seeing_does (events text) Does P net answer old new h = h.does
+  seeing_does _ Does P net answer old new h = h.does
 
   pub seeing_sees : (sight : Sight) (Does : NetlistView → Result A Fault → SinkState → SinkState → Type 0) (P : List Stand → Type 0) (net : NetlistView) (answer : Result A Fault) (old new : SinkState)
       → Seeing sight Does P net answer old new → IfWhole answer (Seen sight P net)
   seeing_sees nothing Does P net answer old new h = if_unseen answer net P
-  seeing_sees (machine text) Does P net answer old new h = h.sees
-  seeing_sees (events text) Does P net answer old new h = h.sees
+  seeing_sees _ Does P net answer old new h = h.sees
 
   pub seeing_of : (sight : Sight) (Does : NetlistView → Result A Fault → SinkState → SinkState → Type 0) (P : List Stand → Type 0) (net : NetlistView) (answer : Result A Fault) (old new : SinkState)
       → Does net answer old new × IfWhole answer (Seen sight P net) → Seeing sight Does P net answer old new
   seeing_of nothing Does P net answer old new h = h.0
-  seeing_of (machine text) Does P net answer old new h = record { does = h.0; sees = h.1 }
-  seeing_of (events text) Does P net answer old new h = record { does = h.0; sees = h.1 }
+  seeing_of _ Does P net answer old new h = record { does = h.0; sees = h.1 }
 
   pub seeing_so : (sight : Sight) (Does : NetlistView → Result A Fault → SinkState → SinkState → Type 0) (P Q : List Stand → Type 0) (net : NetlistView) (answer : Result A Fault) (old new : SinkState)
       → ((stands : List Stand) → P stands → Q stands) → Seeing sight Does P net answer old new → Seeing sight Does Q net answer old new
@@ -71,9 +68,8 @@ of_unsettled_so text time net P Q go h = record {
 
 stuck_so : (sight : Sight) (time : ℕ) (net : NetlistView) (P Q : List Stand → (before now : List ℕ) → (time : ℕ) → Type 0)
     → ((stands : List Stand) (before now : List ℕ) (at : ℕ) → P stands before now at → Q stands before now at) → StuckIn sight time P net → StuckIn sight time Q net
-stuck_so nothing time net P Q go h = absurd h
-stuck_so (machine text) time net P Q go h = absurd h
 stuck_so (events text) time net P Q go h = of_unsettled_so text time net P Q go h
+stuck_so _ time net P Q go h = absurd h
 
 pub of_net_so : {A : Type 0} (sight : Sight) (net : NetlistView) (P Q : List Stand → (before now : List ℕ) → (time : ℕ) → Type 0) (answer : Result A Fault)
     → ((stands : List Stand) (before now : List ℕ) (at : ℕ) → P stands before now at → Q stands before now at)

@@ -1,14 +1,19 @@
 -- What a run answers that is compared with what is expected of it.
-use Rattle.std.specs.Prelude.{◌≡◌, ◌⊎◌, ℕ, List, Option, Some, None, Result, Ok, Err}
+use Rattle.std.specs.Prelude.{◌≡◌, ◌⊎◌, ℕ, List, Option, Some, None, Result, Ok, Err, IfErr}
+use Rattle.std.proofs.Common.{sym, subst}
 use Rattle.rtlsim_command_faults.specs.declared.faults.Fault.{Fault}
 use Rattle.rtlsim_command_faults.specs.declared.faults.Fault.TheVariants.{Expect, Differs, Memory}
+use Rattle.rtlsim_commands.specs.Machine.{as_answer}
 use Rattle.rtlsim_commands.specs.Sights.{Sight, Seen}
+use Rattle.rtlsim_commands.specs.Simulated.{RunsEvents}
 use Rattle.rtl_expect.specs.Differences.{Difference, first_difference}
 use Rattle.rtl_expect.specs.Expected.{Expectation}
 use Rattle.rtl_expect.specs.Lines.{expectations_of}
 use Rattle.rtl_expect.specs.Watching.{difference_view}
 use Rattle.rtl_expect.specs.declared.difference.Difference.{Difference as KeptDifference}
 use Rattle.rtl_expect.specs.declared.faults.ExpectFault.TheVariants.{NoMemory}
+use Rattle.rtl_run.specs.declared.fault.MachineFault.{MachineFault}
+use Rattle.rtl_run.specs.declared.fault.MachineFault.TheVariants as machine
 use Rattle.rtl_net.specs.Nets.{NetlistView}
 use Rattle.byte_streams.specs.Written.{SinkState}
 use Rattle.byte_streams.specs.Stands.{Stand}
@@ -60,3 +65,19 @@ abbrev pub IsOfRun : Fault → Type 0
 IsOfRun (Expect fault) = ⊥
 IsOfRun (Differs difference) = ⊥
 IsOfRun fault = Unit {0}
+
+-- ---- the runs that aren't compared answer such faults alone
+
+machine_of_run : {A : Type 0} (given : Result A MachineFault) → IfErr (as_answer given) IsOfRun
+machine_of_run (Err (machine.Rejected faults)) = tt
+machine_of_run _ = tt
+
+pub machine_unexpecting : {A : Type 0} (given : Result A MachineFault) (fault : Fault)
+    → Err fault ≡ as_answer given → IsOfRun fault
+machine_unexpecting {A} given fault is = subst (λ (r : Result A Fault). IfErr r IsOfRun) (sym is) (machine_of_run given)
+
+pub events_unexpecting : (text : List ℕ) (net : NetlistView) (fault : Fault) (old new : SinkState)
+    → RunsEvents text net (Err fault) old new → IsOfRun fault
+events_unexpecting text net (Expect x) old new h = absurd h
+events_unexpecting text net (Differs x) old new h = absurd h
+events_unexpecting text net _ old new h = tt

@@ -8,7 +8,6 @@ pub mod Machine
 pub mod Watched
 pub mod Sights
 pub mod Expected
-pub mod Runs
 pub mod Opened
 -- what is told of it
 pub mod Unsettled

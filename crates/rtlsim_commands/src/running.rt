@@ -4,7 +4,7 @@ ghost use Rattle.std.specs.Prelude.{◌≡◌};
 ghost use Rattle.rtlsim_commands.specs.Machine.{RunsMachine, RunsMachineByLevels, as_answer};
 ghost use Rattle.rtlsim_commands.specs.Simulated.{RefusesStored, RunsEvents};
 ghost use Rattle.rtlsim_commands.specs.Sights.{machine, events};
-ghost use Rattle.rtlsim_commands.specs.Runs.{machine_unexpecting, events_unexpecting};
+ghost use Rattle.rtlsim_commands.specs.Expected.{machine_unexpecting, events_unexpecting};
 
 use crate::command::{Command, Run, Site};
 use byte_streams::{Sink, Watch};

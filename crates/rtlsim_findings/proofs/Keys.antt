@@ -28,9 +28,8 @@ omissions _ _ = refl
 
 some-omissions : (a b : Option Omission) → option_eq omission.ghosts.eq a b ≡ omitted.are_same a b
 some-omissions None None = refl
-some-omissions None (Some y) = refl
-some-omissions (Some x) None = refl
 some-omissions (Some x) (Some y) = omissions x y
+some-omissions _ _ = refl
 
 obstacles : (a b : Option Obstacle) → option_eq obstacle.ghosts.eq a b ≡ is_same_obstacle a b
 obstacles None None = refl

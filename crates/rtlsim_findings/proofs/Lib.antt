@@ -2,5 +2,4 @@ pub mod Keys
 pub mod Joining
 pub mod Lists
 pub mod News
-pub mod Numbered
 pub mod Sentences

@@ -24,8 +24,5 @@ none_is (x ∷ xs) none = absurd (omega (arith, none))
 pub map_same : {A B : Type 0} (xs ys : List A) → xs ≡ ys → (f : A → B) → map f xs ≡ map f ys
 map_same xs ys are f = ap (map f) are
 
-pub map_more : {A B : Type 0} (xs ys : List A) (x : A) → xs ≡ ys ++ x ∷ [] → (f : A → B) → map f xs ≡ map f ys ++ f x ∷ []
-map_more xs ys x are f = ap (map f) are ∙ map-append f ys (x ∷ [])
-
 pub one_more : {A B : Type 0} (xs ys : List A) (x : A) (told : B) → xs ≡ ys ++ x ∷ [] → (f : A → B) → f x ≡ told → map f xs ≡ map f ys ++ told ∷ []
-one_more xs ys x told are f is = map_more xs ys x are f ∙ ap (λ t. map f ys ++ t ∷ []) is
+one_more xs ys x told are f is = ap (map f) are ∙ map-append f ys (x ∷ []) ∙ ap (λ t. map f ys ++ t ∷ []) is

@@ -1,5 +1,5 @@
 -- A circle's processes, and the nets on the way from each to the next.
-use Rattle.std.specs.Prelude.{ℕ, if◌then◌else◌, List, [], ◌∷◌, ◌++◌, slice_get, Option, Some, None, codes}
+use Rattle.std.specs.Prelude.{ℕ, List, [], ◌∷◌, ◌++◌, find, slice_get, Option, Some, None, codes}
 use Rattle.rtl_net.specs.Names.{net_name, process_name}
 use Rattle.rtl_net.specs.Nets.{NetlistView}
 use Rattle.rtl_net.specs.declared.process.Process.{Process}
@@ -8,8 +8,7 @@ use Rattle.rtl_body_facts.specs.Reading.{is_in}
 
 -- the first of these nets that is one of the others
 abbrev pub first_among : (others : List ℕ) → (nets : List ℕ) → Option ℕ
-first_among others [] = None
-first_among others (n ∷ nets) = if is_in n others then Some n else first_among others nets
+first_among others nets = find (λ n. is_in n others) nets
 
 -- the lowest net to which a process is sensitive and that another drives
 abbrev pub link_net : (process next : Option Process) → Option ℕ

@@ -113,10 +113,8 @@ fn push_names(
         ≡ map (λ t. t.items) names.old.items
         ++ flat_map (spec.own_name net.now (fault_view first.now)) (map (λ f. fault_view f.now) faults.now)) }
 {
-    let mut left = faults;
-    while let [fault, rest @ ..] = left {
+    for fault in faults {
         push_own(alloc, net, first, fault, names)?;
-        left = rest;
     }
     Ok(())
 }

@@ -65,11 +65,9 @@ fn listed(alloc: Global, texts: &[Vec<u8>]) -> Result<Vec<u8>, NoMemory>
 fn push_others(texts: &[Vec<u8>], text: &mut Vec<u8>) -> Result<(), NoMemory>
     ensures { OnOk result (text.new.items ≡ text.old.items ++ flat_map spec.another (map (λ t. t.items) texts.now)) }
 {
-    let mut left = texts;
-    while let [next, rest @ ..] = left {
+    for next in texts {
         text.extend_from_slice(b", ")?;
         text.extend_from_slice(next)?;
-        left = rest;
     }
     Ok(())
 }
@@ -133,10 +131,8 @@ fn push_each(faults: &[&CheckFault], processes: &mut Vec<Option<usize>>) -> Resu
     ensures { OnOk result (processes.new.items
         ≡ processes.old.items ++ flat_map spec.processes_in (map (λ f. fault_view f.now) faults.now)) }
 {
-    let mut left = faults;
-    while let [fault, rest @ ..] = left {
+    for fault in faults {
         push_processes(fault, processes)?;
-        left = rest;
     }
     Ok(())
 }
@@ -161,10 +157,8 @@ fn push_processes(fault: &CheckFault, processes: &mut Vec<Option<usize>>) -> Res
 fn push_circle(circle: &[usize], processes: &mut Vec<Option<usize>>) -> Result<(), NoMemory>
     ensures { OnOk result (processes.new.items ≡ processes.old.items ++ map spec.one circle.now) }
 {
-    let mut left = circle;
-    while let [process, rest @ ..] = left {
+    for process in circle {
         processes.push(Some(*process))?;
-        left = rest;
     }
     Ok(())
 }

@@ -1,6 +1,7 @@
 -- Texts of what a view shows, and of parts one behind another.
-use Rattle.std.proofs.Common.{◌≡◌, ℕ, ◌<◌, ◌≤◌, List, [], ◌∷◌, ◌++◌, append_assoc, length, map, take, Result, refl, sym, ap, subst, ◌∙◌}
+use Rattle.std.proofs.Common.{◌≡◌, ℕ, ◌<◌, ◌≤◌, List, [], ◌++◌, append_assoc, length, map, take, Result, refl, sym, ap, subst, ◌∙◌}
 use Rattle.std.proofs.lemmas.List.{take_all}
+use Rattle.std.proofs.lemmas.List.Folds.{flat_map-map}
 use Rattle.std.specs.Prelude.{IsErrAnd, flat_map}
 use Rattle.byte_streams.specs.Written.{SinkState, Goes}
 use Rattle.rtlsim_listing.specs.Printing.{GoesInPart, Prints}
@@ -9,27 +10,16 @@ use Rattle.vhdl_source_files.specs.Files.{FileView}
 use Rattle.rtlsim_findings_text.specs.Marks.{view}
 use Rattle.rtlsim_findings_text.specs.declared.places.MarkedFile.{MarkedFile}
 
-pub texts_of : {A B : Type 0} (text : B → List ℕ) (view : A → B) (xs : List A) → flat_map (λ x. text (view x)) xs ≡ flat_map text (map view xs)
-texts_of text view [] = refl
-texts_of text view (x ∷ xs) = ap (λ t. text (view x) ++ t) (texts_of text view xs)
-
 -- these texts are written one after another, and the next isn't had
 pub written_part : {A V T E : Type 0} (text : V → List ℕ) (seen : A → V) (r : Result T E) (Q : E → Type 0) (old new : SinkState) (xs : List A) (i : ℕ) (d : A) → IsErrAnd r Q
     → i < length xs → Goes old new (flat_map (λ x. text (seen x)) (take i xs)) → Prints r old new (flat_map text (map seen xs))
 written_part text seen r Q old new xs i d failed lt goes =
-    refused r Q old new _ failed (subst (GoesInPart old new) (texts_of text seen xs) (part_of_text old new new (λ x. text (seen x)) xs i d lt goes (none new _)))
+    refused r Q old new _ failed (subst (GoesInPart old new) (sym (flat_map-map text seen xs)) (part_of_text old new new (λ x. text (seen x)) xs i d lt goes (none new _)))
 
 -- they were written to the last
 pub written_each : {A V : Type 0} (text : V → List ℕ) (seen : A → V) (old new : SinkState) (xs : List A) (i : ℕ) → length xs ≤ i
     → Goes old new (flat_map (λ x. text (seen x)) (take i xs)) → Goes old new (flat_map text (map seen xs))
-written_each text seen old new xs i end goes = subst (Goes old new) (ap (flat_map (λ x. text (seen x))) (take_all i xs end) ∙ texts_of text seen xs) goes
-
--- the text of the first behind those before, and then those of the others
-pub one_text_more : {A V : Type 0} (left others : List A) (x : A) (old new all : List (List ℕ)) → left ≡ x ∷ others → (seen : A → V) (text : V → List ℕ)
-    → new ≡ old ++ text (seen x) ∷ [] → old ++ map text (map seen left) ≡ all → new ++ map text (map seen others) ≡ all
-one_text_more left others x old new all are seen text pushed so_far =
-    ap (λ t. t ++ map text (map seen others)) pushed ∙ append_assoc old (text (seen x) ∷ []) (map text (map seen others))
-    ∙ sym (ap (λ ls. old ++ map text (map seen ls)) are) ∙ so_far
+written_each text seen old new xs i end goes = subst (Goes old new) (ap (flat_map (λ x. text (seen x))) (take_all i xs end) ∙ sym (flat_map-map text seen xs)) goes
 
 -- what is written of what was found, with marks, is what the definition writes of it
 pub told_of : {A V : Type 0} (write : List FileView → List V → List ℕ) (seen : A → V) (files : List FileView) (marked given : List MarkedFile) (told passed : List A) (found : List V)

@@ -1,6 +1,7 @@
 -- What is written of a rejection: a paragraph for each finding, and a line about what simulates the netlist all
 -- the same.
-use Rattle.std.specs.Prelude.{ℕ, ◌-◌, ◌==◌, ◌||◌, Bool, true, false, if◌then◌else◌, List, [], ◌∷◌, ◌++◌, length, take, drop, flat_map, Some, codes, decimal}
+use Rattle.std.specs.Prelude.{ℕ, ◌-◌, ◌==◌, Bool, true, false, if◌then◌else◌, List, [], ◌∷◌, ◌++◌, length, take, drop, flat_map, Some, codes, decimal}
+use Rattle.std.specs.List.{list_any}
 use Rattle.rtl_check.specs.Views.{fault_view}
 use Rattle.rtl_check.specs.declared.fault.CheckFault.{CheckFault}
 use Rattle.rtl_model.specs.simulation.Accepted.{Fault}
@@ -58,8 +59,7 @@ is_element (Element process variable place) = true
 is_element _ = false
 
 abbrev pub any_stored : List CheckFault → Bool
-any_stored [] = false
-any_stored (fault ∷ faults) = is_element (report_of (fault_view fault)).subject || any_stored faults
+any_stored faults = list_any (λ fault. is_element (report_of (fault_view fault)).subject) faults
 
 -- where no variable keeps its value, the simulation cycle itself runs what is rejected
 abbrev pub ending : List CheckFault → List ℕ

@@ -152,10 +152,8 @@ fn push_notes(site: &Site<'_>, notes: &[Note], texts: &mut Vec<Vec<u8>>) -> Resu
         ≡ map (λ t. t.items) texts.old.items
         ++ map (spec.noted_text (files_at site.now)) (map note_view notes.now)) }
 {
-    let mut left = notes;
-    while let [note, rest @ ..] = left {
+    for note in notes {
         texts.push(noted_text(site, note)?)?;
-        left = rest;
     }
     Ok(())
 }

@@ -64,10 +64,8 @@ fn push_notes(files: &[MarkedFile<'_>], notes: &[Note], text: &mut Vec<u8>) -> R
     ensures { OnOk result (text.new.items
         ≡ text.old.items ++ flat_map (spec.noted (map view files.now)) (map note_view notes.now)) }
 {
-    let mut left = notes;
-    while let [note, rest @ ..] = left {
+    for note in notes {
         push_noted(files, note, text)?;
-        left = rest;
     }
     Ok(())
 }

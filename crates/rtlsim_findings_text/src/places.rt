@@ -183,10 +183,8 @@ fn last_name<'a>(files: &[MarkedFile<'a>]) -> &'a [u8]
     ensures { result.now ≡ spots.source_name (map view files.now) }
 {
     let mut name: &[u8] = &[];
-    let mut left = files;
-    while let [file, others @ ..] = left {
+    for file in files {
         name = file.file.name;
-        left = others;
     }
     name
 }

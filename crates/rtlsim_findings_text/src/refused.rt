@@ -40,10 +40,8 @@ fn objects(alloc: Global, faults: &[Told<'_>]) -> Result<Vec<Vec<u8>>, NoMemory>
         ≡ map spec.fault_text (map told_view faults.now)) }
 {
     let mut texts = Vec::new(alloc);
-    let mut left = faults;
-    while let [told, others @ ..] = left {
+    for told in faults {
         texts.push(fault_text(alloc, told)?)?;
-        left = others;
     }
     Ok(texts)
 }

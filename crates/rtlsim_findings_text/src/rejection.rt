@@ -75,12 +75,24 @@ pub fn explain_rejection<S: Sink>(
     let marked = mark_files(alloc, files)?;
     let files = marked.as_slice();
     let site = Site { alloc, files, net };
-    let first = first_placed(&found);
-    let others = not_placed(&found);
-    push_paragraphs(&site, source, first, sink)?;
-    push_paragraphs(&site, without_tokens(source), others, sink)?;
+    push_found(&site, source, &found, sink)?;
     push_ending(faults, sink);
     Ok(())
+}
+
+/// Writes the paragraphs of all findings: of the first with places, and of the others without.
+fn push_found<S: Sink>(
+    site: &Site<'_>,
+    source: Lexed<'_>,
+    found: &[Finding<'_>],
+    sink: &mut S,
+) -> Result<(), NoMemory>
+    requires marked { All IsMarked site.now.files.now }
+    ensures { Prints result (S.state sink.old) (S.state sink.new)
+        (spec.paragraphs (files_at site.now) (read_of source.entry) site.now.net.now (map finding_view found.now)) }
+{
+    push_paragraphs(site, source, first_placed(found), sink)?;
+    push_paragraphs(site, without_tokens(source), not_placed(found), sink)
 }
 
 /// Writes the paragraphs of these findings.
@@ -118,14 +130,9 @@ fn push_ending<S: Sink>(faults: &[CheckFault], sink: &mut S)
 pub(crate) fn any_stored(faults: &[CheckFault]) -> bool
     ensures { result ≡ spec.any_stored faults.now }
 {
-    let mut left = faults;
-    while let [fault, rest @ ..] = left {
-        if is_element(report_of(fault).subject) {
-            return true;
-        }
-        left = rest;
-    }
-    false
+    faults
+        .iter()
+        .any(|fault| is_element(report_of(fault).subject))
 }
 
 /// Whether something is told of an element of a variable.

@@ -74,10 +74,8 @@ fn push_lines(site: &Site<'_>, found: &[RemarkFinding], text: &mut Vec<u8>) -> R
     ensures { OnOk result (text.new.items
         ≡ text.old.items ++ flat_map (spec.line (files_at site.now) site.now.net.now) (map remark_view found.now)) }
 {
-    let mut left = found;
-    while let [remark, others @ ..] = left {
+    for remark in found {
         push_line(site, remark, text)?;
-        left = others;
     }
     Ok(())
 }

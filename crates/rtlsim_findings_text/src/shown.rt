@@ -48,10 +48,8 @@ fn push_marked(before: &[u8], after: &[u8], text: &mut Vec<u8>) -> Result<(), No
 fn push_blanks(bytes: &[u8], text: &mut Vec<u8>) -> Result<(), NoMemory>
     ensures { OnOk result (text.new.items ≡ text.old.items ++ flat_map places.blank bytes.now) }
 {
-    let mut left = bytes;
-    while let [byte, others @ ..] = left {
+    for byte in bytes {
         push_blank(*byte, text)?;
-        left = others;
     }
     Ok(())
 }

@@ -23,10 +23,8 @@ pub(crate) fn push_string(bytes: &[u8], text: &mut Vec<u8>) -> Result<(), NoMemo
 fn push_bytes(bytes: &[u8], text: &mut Vec<u8>) -> Result<(), NoMemory>
     ensures { OnOk result (text.new.items ≡ text.old.items ++ flat_map spec.byte_text bytes.now) }
 {
-    let mut left = bytes;
-    while let [byte, others @ ..] = left {
+    for byte in bytes {
         push_byte(*byte, text)?;
-        left = others;
     }
     Ok(())
 }
@@ -109,11 +107,9 @@ fn push_next(items: &[Vec<u8>], are_strings: bool, text: &mut Vec<u8>) -> Result
         ++ flat_map (spec.next_text (if are_strings then spec.string_text else itself))
         (map (λ t. t.items) items.now)) }
 {
-    let mut left = items;
-    while let [item, others @ ..] = left {
+    for item in items {
         text.extend_from_slice(b",")?;
         push_item(item, are_strings, text)?;
-        left = others;
     }
     Ok(())
 }
@@ -165,11 +161,9 @@ fn push_next_processes(
     ensures { OnOk result (text.new.items
         ≡ text.old.items ++ flat_map (spec.next_text (process_text site.now.net.now)) items.now) }
 {
-    let mut left = items;
-    while let [item, others @ ..] = left {
+    for item in items {
         text.extend_from_slice(b",")?;
         push_process(site, *item, text)?;
-        left = others;
     }
     Ok(())
 }

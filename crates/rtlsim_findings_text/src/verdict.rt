@@ -48,10 +48,7 @@ pub fn show_check_json<S: Sink>(
     let end = end_text(&site)?;
     push_text(out, &begin);
     push_text(out, b",\"faults\":[");
-    let first = first_placed(&found);
-    let others = not_placed(&found);
-    push_findings(&site, source, first, out)?;
-    push_others(&site, without_tokens(source), others, out)?;
+    push_found(&site, source, &found, out)?;
     push_text(out, b"]");
     push_text(out, &end);
     Ok(())
@@ -101,6 +98,21 @@ fn no_text(alloc: Global, stored: bool) -> Result<Vec<u8>, NoMemory>
         text.extend_from_slice(b"\"run --event\"")?;
     }
     Ok(text)
+}
+
+/// Writes the objects of all findings: of the first with places, and of the others without.
+fn push_found<W: Sink>(
+    site: &Site<'_>,
+    source: Lexed<'_>,
+    found: &[Finding<'_>],
+    out: &mut W,
+) -> Result<(), NoMemory>
+    requires marked { All IsMarked site.now.files.now }
+    ensures { Prints result (W.state out.old) (W.state out.new)
+        (spec.findings_text (files_at site.now) (read_of source.entry) site.now.net.now (map finding_view found.now)) }
+{
+    push_findings(site, source, first_placed(found), out)?;
+    push_others(site, without_tokens(source), not_placed(found), out)
 }
 
 /// Writes the objects of findings, with a comma between two.
@@ -164,10 +176,8 @@ fn objects(site: &Site<'_>, found: &[RemarkFinding]) -> Result<Vec<Vec<u8>>, NoM
         ≡ map (spec.remark_text (files_at site.now) site.now.net.now) (map remarked.remark_view found.now)) }
 {
     let mut texts = Vec::new(site.alloc);
-    let mut left = found;
-    while let [remark, others @ ..] = left {
+    for remark in found {
         texts.push(remark_text(site, remark)?)?;
-        left = others;
     }
     Ok(texts)
 }

@@ -1,7 +1,7 @@
 -- Names without an index, and the nets that a process is sensitive to.
-use Rattle.std.proofs.Common.{◌≡◌, ℕ, zero, suc, ◌<◌, false, List, [], ◌∷◌, ◌++◌, Some, All, length, take, drop, get_or, refl, sym, ap, ◌∙◌, arith}
+use Rattle.std.proofs.Common.{◌≡◌, ℕ, zero, suc, ◌<◌, false, List, [], ◌∷◌, ◌++◌, Some, All, length, take, drop, refl, sym, ap, arith}
 use Rattle.std.specs.Prelude.{if◌then◌else◌, bytes_eq, slice_get, slice_index}
-use Rattle.std.proofs.lemmas.Option.{slice_get_within, slice_get-get_or, get_or_from_slice_get}
+use Rattle.std.proofs.lemmas.Option.{slice_get_within, get_or_from_slice_get}
 use Rattle.rtl_check.proofs.Rows.{nets_of_wakes}
 use Rattle.rtl_net.specs.declared.process.Process.{Process}
 use Rattle.rtl_net.specs.Elaborated.{IsNet}
@@ -9,10 +9,7 @@ use Rattle.rtl_net.specs.Nets.{NetlistView}
 use Rattle.byte_streams.specs.Written.{SinkState, Goes}
 use Rattle.rtlsim_listing.specs.DotText.{is_index, without_index, arrow_by, arrow_before}
 
--- a process that is found, and what it is sensitive to
-pub process_there : {A : Type 0} (xs : List A) (i : ℕ) (x : A) → i < length xs → x ≡ get_or xs i x → slice_get xs i ≡ Some x
-process_there xs i x lt at = slice_get-get_or xs i x lt ∙ ap (λ y. Some y) (sym at)
-
+-- what a process is sensitive to
 pub wakes_there : (net : NetlistView) → IsNet net → (p : ℕ) (x : Process) → slice_get net.processes p ≡ Some x → All (λ n. n < length net.types) x.wakes.items
 wakes_there net is p x at k d lt =
     nets_of_wakes net is p x (slice_get_within net.processes p x at) (sym (get_or_from_slice_get net.processes p x x at)) k d lt

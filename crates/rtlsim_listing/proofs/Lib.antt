@@ -1,4 +1,5 @@
 pub mod Absent
 pub mod ArrowTexts
 pub mod Greatest
+pub mod Numbered
 pub mod Printing

@@ -1,9 +1,10 @@
 -- Parts of a text, one after another.
-use Rattle.std.proofs.Common.{◌≡◌, ℕ, zero, suc, ◌+◌, ◌<◌, List, [], ◌∷◌, ◌++◌, Result, Ok, Err, refl, sym, ap, ◌∙◌, arith, length, take, drop, get_or, append_assoc, append-nil, ◌⊎◌, inl, inr}
+use Rattle.std.proofs.Common.{◌≡◌, ℕ, ◌+◌, ◌<◌, List, [], ◌∷◌, ◌++◌, Result, Ok, Err, refl, sym, ap, subst, ◌∙◌, arith, length, take, drop, get_or, append_assoc, append-nil}
 use Rattle.std.specs.Prelude.{flat_map}
 use Rattle.std.specs.List.{range_with_len}
 use Rattle.std.proofs.lemmas.Grind.{flat_map-append}
-use Rattle.std.proofs.lemmas.List.{take_more, take-append-drop}
+use Rattle.std.proofs.lemmas.List.{map-id, take_more, take-append-drop}
+use Rattle.std.proofs.lemmas.List.FromFn.{get_or-range_with_len, length-range_with_len, map-range_with_len_more, take-map-range_with_len}
 use Rattle.std.specs.Result.{IsErrAnd}
 use Rattle.std.proofs.lemmas.Result.{err_from_is_err_and}
 use Rattle.byte_streams.specs.Written.{SinkState, Goes, IsIntact, TakesBeginning}
@@ -47,43 +48,6 @@ pub beginning : (a b : SinkState) (text : List ℕ) → IsIntact a → GoesInPar
 beginning a b text intact p =
     rw (← p.is) (TakesBeginning-append a b p.part p.rest (p.goes.beginning intact))
 
--- ---- lines
-
-range_more : (a n : ℕ) → range_with_len a (suc n) ≡ range_with_len a n ++ (a + n) ∷ []
-range_more a zero = let e : a ≡ a + 0 = omega arith in ap (λ k. k ∷ []) e
-range_more a (suc n) =
-    let e : a + 1 + n ≡ a + suc n = omega arith in
-    ap (λ t. a ∷ t) (range_more (a + 1) n) ∙ ap (λ k. a ∷ range_with_len (a + 1) n ++ k ∷ []) e
-
-pub lines_more : (line : ℕ → List ℕ) (n : ℕ) → lines line (suc n) ≡ lines line n ++ line n
-lines_more line n =
-    let e : 0 + n ≡ n = omega arith in
-    ap (flat_map line) (range_more 0 n ∙ ap (λ k. range_with_len 0 n ++ k ∷ []) e) ∙ flat_map-append line (range_with_len 0 n) (n ∷ [])
-    ∙ ap (λ t. lines line n ++ t) (append-nil (line n))
-
--- one line more
-pub next_line : (a b c : SinkState) (line : ℕ → List ℕ) (n m : ℕ) → m ≡ suc n → Goes a b (lines line n) → Goes b c (line n) → Goes a c (lines line m)
-next_line a b c line n m e p q = rw (e, lines_more line n) (Goes-append a b c (lines line n) (line n) p q)
-
--- a part of a line, behind the lines before it
-pub part_of_line : (a b c : SinkState) (line : ℕ → List ℕ) (n count : ℕ) → n < count → Goes a b (lines line n) → GoesInPart b c (line n)
-    → GoesInPart a c (lines line count)
-part_of_line a b c line n zero lt p q = absurd (let no : ⊥ = omega (arith, lt) in no)
-part_of_line a b c line n (suc count) lt p q = rw (lines_more line count) (by_place (before n count lt) (λ l. part_of_line a b c line n count l p q))
-  where
-    before : (n count : ℕ) → n < suc count → (n < count) ⊎ (n ≡ count)
-    before n zero l = inr (omega (arith, l))
-    before zero (suc count) l = inl (omega arith)
-    before (suc n) (suc count) l = later (before n count (omega (arith, l)))
-      where
-        later : (n < count) ⊎ (n ≡ count) → (suc n < suc count) ⊎ (suc n ≡ suc count)
-        later (inl x) = inl (omega (arith, x))
-        later (inr x) = inr (omega (arith, x))
-
-    by_place : (n < count) ⊎ (n ≡ count) → (n < count → GoesInPart a c (lines line count)) → GoesInPart a c (lines line count ++ line count)
-    by_place (inl l) further = longer a c (lines line count) (line count) (further l)
-    by_place (inr e) further = rw (← e) (behind a b c (lines line n) (line n) p q)
-
 -- ---- the texts of a list's elements
 
 -- one element more
@@ -99,3 +63,24 @@ part_of_text a b c text xs i d lt p q =
     let apart : flat_map text xs ≡ flat_map text (take (i + 1) xs) ++ flat_map text (drop (i + 1) xs) =
     ap (flat_map text) (sym (take-append-drop (i + 1) xs)) ∙ flat_map-append text (take (i + 1) xs) (drop (i + 1) xs) in
     rw (apart, take_more xs i d lt, flat_map-append, append-nil) (longer a c _ _ (behind a b c _ _ p q))
+
+-- ---- lines
+
+pub counted : (n : ℕ) → range_with_len 0 (n + 1) ≡ range_with_len 0 n ++ n ∷ []
+counted n =
+    let from : 0 + n ≡ n = omega arith in
+    sym (map-id (range_with_len 0 (n + 1))) ∙ map-range_with_len_more (λ (k : ℕ). k) 0 n n from ∙ ap (λ t. t ++ n ∷ []) (map-id (range_with_len 0 n))
+
+-- one line more
+pub next_line : (a b c : SinkState) (line : ℕ → List ℕ) (n m : ℕ) → m ≡ n + 1 → Goes a b (lines line n) → Goes b c (line n) → Goes a c (lines line m)
+next_line a b c line n m e p q = rw (e, counted n, flat_map-append, append-nil) (Goes-append a b c _ _ p q)
+
+-- a part of a line, behind the lines before it
+pub part_of_line : (a b c : SinkState) (line : ℕ → List ℕ) (n count : ℕ) → n < count → Goes a b (lines line n) → GoesInPart b c (line n)
+    → GoesInPart a c (lines line count)
+part_of_line a b c line n count lt p q =
+    let long : n < length (range_with_len 0 count) = rw length-range_with_len lt in
+    let from : 0 + n ≡ n = omega arith in
+    let before = sym (take-map-range_with_len (λ (k : ℕ). k) 0 count n (omega (arith, lt)) ∙ map-id (range_with_len 0 n)) ∙ ap (take n) (map-id (range_with_len 0 count)) in
+    part_of_text a b c line (range_with_len 0 count) n 0 long (subst (λ ks. Goes a b (flat_map line ks)) before p)
+    (subst (λ k. GoesInPart b c (line k)) (sym (get_or-range_with_len 0 count n 0 lt ∙ from)) q)

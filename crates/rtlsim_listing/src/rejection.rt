@@ -141,10 +141,8 @@ fn push_members(
 ) -> Result<(), NoMemory>
     ensures { OnOk result (line.new.items ≡ line.old.items ++ flat_map (spec.member_text net.now) processes.now) }
 {
-    let mut left = processes;
-    while let [process, others @ ..] = left {
+    for process in processes {
         push_member(alloc, net, *process, line)?;
-        left = others;
     }
     Ok(())
 }

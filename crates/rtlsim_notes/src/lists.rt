@@ -74,10 +74,8 @@ pub(crate) fn push_lists(
     ensures { OnOk result (map note_view notes.new.items ≡ map note_view notes.old.items
         ++ flat_map (spec.list_notes (read_of source.entry) net.now) processes.now) }
 {
-    let mut left = processes;
-    while let [process, rest @ ..] = left {
+    for process in processes {
         push_list(alloc, source, net, *process, notes)?;
-        left = rest;
     }
     Ok(())
 }

@@ -28,12 +28,10 @@ pub(crate) fn push_note(at: usize, text: Vec<u8>, notes: &mut Vec<Note>) -> Resu
 fn has_beside(notes: &[Note], note: &Note) -> bool
     ensures { result ≡ list_any (spec.is_beside (note_view note.now)) (map note_view notes.now) }
 {
-    let mut left = notes;
-    while let [other, rest @ ..] = left {
+    for other in notes {
         if note.at == other.at {
             return true;
         }
-        left = rest;
     }
     false
 }

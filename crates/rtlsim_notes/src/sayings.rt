@@ -15,7 +15,8 @@ pub(crate) fn inside_text(alloc: Global) -> Result<Vec<u8>, NoMemory>
 {
     Ok(Vec::from_slice(
         alloc,
-        b"this edge or 'event stands inside another statement; a register has one edge, as its if's whole condition, and tests another signal's edge by its last value: s = '1' and last = '0'",
+        b"this edge or 'event stands inside another statement; a register has one edge, as its if's whole \
+          condition, and tests another signal's edge by its last value: s = '1' and last = '0'",
     )?)
 }
 

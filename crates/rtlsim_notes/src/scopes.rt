@@ -28,12 +28,11 @@ pub(crate) fn names_in<'a>(
     ensures { IfOk result (λ names. map (λ n. n.now) names.items ≡ spec.names_in net.now scope number) }
 {
     let mut names = Vec::new(alloc);
-    let mut left = net.signals();
-    while let [signal, rest @ ..] = left {
+    let signals = net.signals();
+    for signal in signals {
         if signal.scope == scope && has_net(number, signal) {
             names.push(signal.name.as_slice())?;
         }
-        left = rest;
     }
     Ok(names)
 }
@@ -42,12 +41,11 @@ pub(crate) fn names_in<'a>(
 pub(crate) fn scope_of_net(net: &Net, number: usize) -> Option<usize>
     ensures { result ≡ spec.scope_of_net net.now number }
 {
-    let mut left = net.signals();
-    while let [signal, rest @ ..] = left {
+    let signals = net.signals();
+    for signal in signals {
         if has_net(number, signal) {
             return Some(signal.scope);
         }
-        left = rest;
     }
     None
 }

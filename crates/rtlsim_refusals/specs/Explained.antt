@@ -252,7 +252,3 @@ explained (Some t) = paragraph t
 -- why a source has no tokens
 abbrev pub refusal_explained : List FileView → Report → List ℕ
 refusal_explained files r = explained (told_of_refusal files r)
-
--- which rule it breaks
-abbrev pub source_explained : List FileView → (source : Read) → Expected → Report → List ℕ
-source_explained files source expected r = explained (told_of_source files source expected r)

@@ -8,7 +8,7 @@ ghost use Rattle.vhdl_source_files.specs.Files.{file_view, spot_view};
 ghost use Rattle.vhdl_hints.specs.Hinted.{hint_view};
 ghost use Rattle.vhdl_expected.specs.Told.{expected_of};
 
-use crate::beside::{Notes, notes_at, push_notes};
+use crate::beside::{Notes, push_notes};
 use crate::place::{begins_line, push_position, push_shown};
 use crate::refused::{push_refused, said_of, said_refused};
 use byte_streams::{Sink, push_number, push_text};
@@ -44,28 +44,6 @@ pub fn explain_refusal<S: Sink>(files: &[SourceFile<'_>], report: Report, sink: 
     }
 }
 
-/// Explains which rule of grammar, on names or of elaboration a source of these files breaks, by
-/// its text and tokens, and by what was expected where the parser refuses one; below stands what
-/// helps with that rule.
-pub fn explain_source<S: Sink>(
-    files: &[SourceFile<'_>],
-    source: Lexed<'_>,
-    expected: Expected,
-    report: Report,
-    sink: &mut S,
-)
-    ensures { Goes (S.state sink.old) (S.state sink.new)
-        (spec.source_explained (map file_view files.now) (read_of source.entry) (expected_of expected) report) }
-{
-    match report.place {
-        Place::Byte(at) => {
-            let site = site_at(files, source, expected, at);
-            push_seen(files, site, source, report, sink);
-        }
-        _ => push_text(sink, b""),
-    }
-}
-
 /// A byte of a source of these files.
 pub(crate) fn site_at<'f, 's>(
     files: &[SourceFile<'f>],
@@ -94,24 +72,6 @@ fn push_refusal<S: Sink>(place: FilePlace<'_>, rule: Rule, sink: &mut S)
     push_refusal_sentence(place, rule, sink);
     push_rest(place, Notes::none(), refusal_help(place, rule), sink);
     push_text(sink, b"");
-}
-
-/// Writes which rule is broken.
-fn push_seen<S: Sink>(
-    files: &[SourceFile<'_>],
-    site: Site<'_, '_>,
-    source: Lexed<'_>,
-    report: Report,
-    sink: &mut S,
-)
-    ensures { Goes (S.state sink.old) (S.state sink.new) (spec.paragraph
-        (spec.seen_told (map file_view files.now) (spec.site_of site.entry) (read_of source.entry) report)) }
-{
-    push_head(site.place, report.rule, sink);
-    push_sentence(site, source, report, sink);
-    let notes = notes_at(files, site, source, report.rule);
-    push_rest(site.place, notes, help_of(site, source, report), sink);
-    push_below(site, source, report.rule, sink);
 }
 
 /// Writes what is wrong where a source has no tokens.

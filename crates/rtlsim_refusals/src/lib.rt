@@ -18,7 +18,7 @@ mod stimulus;
 mod told;
 
 pub use beside::{Noted, Notes};
-pub use explaining::{explain_refusal, explain_source};
+pub use explaining::explain_refusal;
 pub use place::{Position, line_after, line_before, position_behind, position_from};
 pub use stimulus::{explain_stim, explain_unsettled};
 pub use told::{Told, push_paragraph, told_refusal, told_source};

@@ -1,11 +1,12 @@
 use Rattle.std.proofs.Common.{◌≡◌, ◌≢◌, ℕ, zero, suc, ◌-◌, ◌<◌, ◌≤◌, Bool, true, List, [], ◌∷◌, ◌++◌, length, refl, ap, sym, subst, ◌∙◌, append_assoc, arith, codes}
 use Rattle.std.specs.Prelude.{if◌then◌else◌, slice_index, drop, take}
 use Rattle.std.proofs.Math.Seq.{take-length}
+use Rattle.std.proofs.lemmas.Result.{on_ok_weaker}
 use Rattle.rtl_net.specs.Names.{net_name}
 use Rattle.rtl_net.specs.Nets.{NetlistView}
 use Rattle.rtlsim_findings.specs.Ranges.{follows, range_text}
 use Rattle.rtlsim_command_faults.specs.Changing.{names_from}
-use Rattle.rtlsim_command_faults.proofs.Names.{on_ok_so, ends_range}
+use Rattle.rtlsim_command_faults.proofs.Names.{ends_range}
 use Rattle.rtlsim_command_faults.proofs.changing.+push_names.Goals as goal
 
 module _ (net : NetlistView) (first : List ℕ) (last : ℕ) where
@@ -44,13 +45,13 @@ module _ (net : NetlistView) (first : List ℕ) (last : ℕ) where
 
 pub returns-in_default : goal.returns-in_default
 returns-in_default t c =
-    on_ok_so _ _ c.push_range.result
+    on_ok_weaker c.push_range.result
     (ends c.args.net.now c.args.first.now c.args.last c.args.room c.args.numbers.now c.deref.result.now c.args.line.now.items c.push_range.new.text.items c.in_default.len_below (c.deref.ensures.value ∙ c.in_ok-end.ensures))
     c.push_range.ensures
 
 pub returns-then-follows : goal.returns-then-follows
 returns-then-follows t c =
-    on_ok_so _ _ c.push_names.result
+    on_ok_weaker c.push_names.result
     (goes c.args.net.now c.args.first.now c.args.last c.args.room c.args.numbers.now c.deref-2.result.now c.deref-3.result.now c.args.line.now.items c.push_names.new.line.items
     c.in-len1-up.len_at_least c.if-room-eq0.false (c.deref-2.ensures.value ∙ c.in_ok-end.ensures) (c.deref-3.ensures.value ∙ c.in_ok-next.ensures) (sym c.follows.ensures ∙ c.if-follows.true))
     c.push_names.ensures
@@ -62,7 +63,7 @@ returns-then-room-eq0 t c =
 
 pub returns : goal.returns
 returns t c =
-    on_ok_so _ _ c.push_names-2.result
+    on_ok_weaker c.push_names-2.result
     (ends_range c.args.net.now c.args.first.now c.args.last c.args.room c.args.numbers.now c.in-len1-up.len_at_least c.if-room-eq0.false
     c.deref-2.result.now c.deref-3.result.now (c.deref-2.ensures.value ∙ c.in_ok-end.ensures) (c.deref-3.ensures.value ∙ c.in_ok-next.ensures) (sym c.follows.ensures ∙ c.if-follows.false)
     c.deref-4.result.now c.deref-5.result.now c.args.line.now.items c.push_before.new.line.items c.push_names-2.new.line.items

@@ -1,14 +1,13 @@
-use Rattle.std.proofs.Common.{◌∙◌}
-use Rattle.vhdl_expected.specs.Told.{expected_of}
+use Rattle.std.proofs.Common.{Option, subst, ◌∙◌}
+use Rattle.byte_streams.specs.Written.{Goes}
+use Rattle.rtlsim_refusals.specs.Explained.{Told, explained}
 use Rattle.rtlsim_command_faults.proofs.explaining.explain_read.Goals as goal
 
 pub returns : goal.returns
-returns g c = (
-  record { read = record { text = c.deref-4.result.now; tokens = c.deref-5.result.now }; expected = expected_of c.in-Ok-expected_by.expected },
-  (
-    c.deref-4.ensures.value ∙ c.in-Ok.ensures,
-    rw (c.deref-4.ensures.value, c.deref-5.ensures.value) (rw c.deref.ensures.value at c.in-Ok-lex.ensures.cuts),
-    rw (c.deref-4.ensures.value, c.deref-5.ensures.value) (rw (c.deref-2.ensures.value, c.deref-3.ensures.value) at c.in-Ok-expected_by.ensures),
-  ),
-  c.explain_report.ensures,
-)
+returns g c =
+    let state = g.S.Sink.state in
+    let told = c.in-Ok-told_read.ensures in (
+      record { read = record { text = c.deref.result.now; tokens = told.0 }; expected = told.1 },
+      (c.deref.ensures.value ∙ c.in-Ok.ensures, told.2, told.3),
+      subst (λ (t : Option Told). Goes (state c.args.sink.now) (state c.push_told.new.sink) (explained t)) told.4 c.push_told.ensures,
+    )

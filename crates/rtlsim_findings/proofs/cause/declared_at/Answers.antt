@@ -1,6 +1,6 @@
 use Rattle.std.proofs.Common.{sym, ap}
 use Rattle.rtlsim_findings.specs.Causes.{declared_at}
-use Rattle.rtlsim_findings.proofs.Numbered.{there, missing}
+use Rattle.rtlsim_listing.proofs.Numbered.{there, missing}
 use Rattle.rtlsim_findings.proofs.cause.declared_at.Goals as goal
 
 pub returns-in-Some : goal.returns-in-Some

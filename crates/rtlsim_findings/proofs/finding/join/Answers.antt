@@ -14,7 +14,7 @@ use Rattle.indexmap.specs.IndexSet.{insert_key}
 use Rattle.std.specs.List.{position_or_len}
 use Rattle.rtlsim_findings.proofs.Joining.{joined_at, joined_end, joined_causes}
 use Rattle.rtlsim_findings.proofs.Keys.{placed}
-use Rattle.rtlsim_findings.proofs.Lists.{map_more}
+use Rattle.rtlsim_findings.proofs.Lists.{one_more}
 use Rattle.rtlsim_findings.proofs.finding.join.Goals as goal
 
 view_at : (items : List Finding) (n : ℕ) (d : Finding) → n < length items → get_or (map finding_view items) n (finding_view d) ≡ finding_view (get_or items n d)
@@ -64,7 +64,7 @@ returns-then-number-len c =
     let e = at_place net fault (map finding_view items) _ _ c.in_ok-number.number c.in_ok-cause.ensures.is are c.in_ok-number.ensures.index in
     let old = c.index_mut-finding.result.now in
     let is = put_in net fault items c.in_ok-number.number old _ e (grind (arith, nat_tests, c.if-number-len.true, c.len.ensures)) c.index_mut-finding.ensures.value
-    (ap (made old.cause (fault_view old.first.now)) (map_more _ _ _ c.in_ok-push.ensures.items (λ o. fault_view o.now))) in
+    (ap (made old.cause (fault_view old.first.now)) (one_more _ _ _ _ c.in_ok-push.ensures.items (λ o. fault_view o.now) refl)) in
     record {
       are = c.in_ok-cause.ensures.are;
       causes = causes_then net fault (map finding_view items) _ _ _ _ c.in_ok-cause.ensures.is are c.in_ok-number.ensures.keys is;

@@ -3,7 +3,7 @@ use Rattle.std.specs.Map.{lookup}
 use Rattle.rtl_latches.specs.Omissions.{omission_of}
 use Rattle.rtl_body_facts.specs.Paths.{to_net}
 use Rattle.rtlsim_findings.specs.Omitted.{omission_at}
-use Rattle.rtlsim_findings.proofs.Numbered.{there, missing}
+use Rattle.rtlsim_listing.proofs.Numbered.{there, missing}
 use Rattle.rtlsim_findings.proofs.omitted.places_of.Goals as goal
 
 pub returns-in_ok-omissions-in-Some : goal.returns-in_ok-omissions-in-Some

@@ -2,7 +2,7 @@ use Rattle.std.proofs.Common.{Option, Some, sym, ap, ◌∙◌}
 use Rattle.std.specs.Prelude.{slice_get}
 use Rattle.rtl_net.specs.declared.process.Process.{Process}
 use Rattle.rtlsim_findings.specs.Circles.{link_net}
-use Rattle.rtlsim_findings.proofs.Numbered.{there, missing}
+use Rattle.rtlsim_listing.proofs.Numbered.{there, missing}
 use Rattle.rtlsim_findings.proofs.rounds.link_net.Goals as goal
 
 pub returns-in_default : goal.returns-in_default

@@ -1,6 +1,5 @@
-use Rattle.std.proofs.Common.{◌≡◌, ℕ, suc, ◌+◌, ◌-◌, ◌<◌, ◌∷◌, List, length, drop, map, get_or, inl, inr, ap, sym, ◌∙◌, arith}
-use Rattle.std.proofs.Math.Seq.{drop-cons}
-use Rattle.std.proofs.lemmas.List.{length-drop, length-map}
+use Rattle.std.proofs.Common.{◌≡◌, ℕ, ◌+◌, ◌-◌, ◌<◌, ◌∷◌, List, length, drop, map, get_or, inl, inr, ap, sym, ◌∙◌, arith}
+use Rattle.std.proofs.lemmas.List.{drop_more, length-drop, length-map}
 use Rattle.vhdl_source_files.specs.Files.{spot, spot_in}
 use Rattle.rtlsim_findings_text.specs.declared.places.MarkedFile.{MarkedFile}
 use Rattle.rtlsim_findings_text.specs.Marks.{view}
@@ -9,9 +8,7 @@ use Rattle.rtlsim_findings_text.proofs.places.place_at.Goals as goal
 
 -- the files from this one on
 apart : (files : List MarkedFile) (i : ℕ) (f : MarkedFile) → i < length files → f ≡ get_or files i f → drop i files ≡ f ∷ drop (i + 1) files
-apart files i f there is =
-    let next : suc i ≡ i + 1 = omega arith in
-    drop-cons files i f there ∙ ap (λ k. get_or files i f ∷ drop k files) next ∙ ap (λ (x : MarkedFile). x ∷ drop (i + 1) files) (sym is)
+apart files i f there is = drop_more files i f there ∙ ap (λ (x : MarkedFile). x ∷ drop (i + 1) files) (sym is)
 
 pub returns-then-number-files-clause-is : goal.returns-then-number-files-clause-is
 returns-then-number-files-clause-is c =

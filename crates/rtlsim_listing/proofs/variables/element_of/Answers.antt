@@ -1,20 +1,11 @@
-use Rattle.std.proofs.Common.{◌≡◌, ℕ, ◌<◌, ◌≤◌, false, ltb, List, Option, Some, None, All, length, get_or, refl, arith, sym, ap, subst, ◌∙◌}
+use Rattle.std.proofs.Common.{◌≡◌, ℕ, ◌<◌, List, Option, Some, All, length, get_or, sym, ap, subst, ◌∙◌}
 use Rattle.std.specs.Prelude.{IfOk, slice_get}
-use Rattle.std.proofs.lemmas.Bool.Decides.{nat_tests}
-use Rattle.std.proofs.lemmas.Option.{slice_get_past, slice_get_read}
 use Rattle.rtl_net.specs.declared.process.Process.{Process}
 use Rattle.rtl_net.specs.declared.process.Variable.{Variable}
 use Rattle.rtl_net.specs.Elaborated.{ProcessIsNamed, VariableIsNamed}
 use Rattle.rtlsim_listing.specs.CheckText.{element_name, variable_of}
+use Rattle.rtlsim_listing.proofs.Numbered.{missing, there}
 use Rattle.rtlsim_listing.proofs.variables.element_of.Goals as goal
-
-there : {A : Type 0} (xs ys : List A) (i : ℕ) (x : A) → xs ≡ ys → i < length xs → x ≡ get_or xs i x → slice_get ys i ≡ Some x
-there {A} xs ys i x are l is = ap (λ (l : List A). slice_get l i) (sym are) ∙ slice_get_read xs (length xs) i x refl l is
-
-missing : {A : Type 0} (xs ys : List A) (i : ℕ) → xs ≡ ys → false ≡ ltb i (length xs) → slice_get ys i ≡ None
-missing {A} xs ys i are is =
-    let past : length xs ≤ i = grind (arith, nat_tests, is) in
-    ap (λ (l : List A). slice_get l i) (sym are) ∙ slice_get_past xs i past
 
 named : (scopes : ℕ) (ps : List Process) (i : ℕ) (x : Process) (vs : List Variable) (j : ℕ) (v : Variable) → All (ProcessIsNamed scopes) ps
     → i < length ps → x ≡ get_or ps i x → vs ≡ x.variables.items → j < length vs → v ≡ get_or vs j v → VariableIsNamed v
