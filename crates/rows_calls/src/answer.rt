@@ -7,12 +7,23 @@ use byte_streams::Sink;
 use std::alloc::Global;
 
 /// The status of a call, what went to its two outputs, and what showed how far a run was.
-#[derive(Drop)]
 pub struct Answer {
     pub status: u8,
     pub out: Text,
     pub err: Text,
     pub progress: Text,
+}
+
+/// Written out, since many functions let answers go.
+impl Drop for Answer {
+    fn drop(self) {
+        let Answer {
+            status: _,
+            out: _,
+            err: _,
+            progress: _,
+        } = self;
+    }
 }
 
 impl Answer {

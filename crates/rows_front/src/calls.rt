@@ -1,6 +1,8 @@
 //! The calls of the values, by their names in rows.
 
-use crate::answers::{changed, combined, computed, joined, moved, part, related, resolved};
+use crate::answers::{
+    changed, combined, computed, inverted, joined, moved, part, related, resolved,
+};
 use crate::operands::{coded, natural, value, vector};
 use vhdl_values::{Cmp, Edge, Logic, Nine, Vec9, edge};
 
@@ -102,7 +104,7 @@ pub fn vector_of(kind: &Made, left: &str, right: &str, third: &str) -> Option<Ve
     match kind {
         Made::Logic(kind) => combined(*kind, &vector(left)?, &vector(right)?),
         Made::Joined => joined(&vector(left)?, &vector(right)?),
-        Made::Not => Some(vector(left)?.not()),
+        Made::Not => inverted(&vector(left)?),
         Made::Sum(kind) => computed(kind, left, right),
         Made::Move(kind) => moved(kind, left, right),
         Made::Slice => part(left, right, third),

@@ -6,7 +6,7 @@ use crate::problems::rule_of;
 use crate::source::{push_written, source_of};
 use fault_rules::{Place, Report, Rule, Subject};
 use rows_calls::Text;
-use rtlsim_refusals::{Lexed, explain_refusal, explain_source};
+use rtlsim_refusals::{Lexed, explain_refusal, push_paragraph, told_source};
 use std::alloc::Global;
 use vhdl_expected::{Expected, expected_at};
 use vhdl_lexer::{LexFault, Token, lex};
@@ -64,13 +64,14 @@ fn push_refused(
     if let Some(rule) = rule_of("syntax", fault.number()) {
         let report = report_of(rule, at, Subject::Word);
         let expected = expected.unwrap_or(Expected::Nothing);
-        explain_at(source, tokens, expected, report, &mut out);
+        explain_at(alloc, source, tokens, expected, report, &mut out);
     }
     push_written(found, &out);
 }
 
-/// Explains a report on a source with these tokens, as the file `d.vhd`.
+/// Explains a report on a source with these tokens, as the file `d.vhd`, unless memory is refused.
 pub fn explain_at(
+    alloc: Global,
     source: &[u8],
     tokens: &[Token],
     expected: Expected,
@@ -81,7 +82,9 @@ pub fn explain_at(
         text: source,
         tokens,
     };
-    explain_source(&file_of(source), lexed, expected, report, out);
+    if let Ok(Some(told)) = told_source(alloc, &file_of(source), lexed, expected, report) {
+        push_paragraph(&told, out);
+    }
 }
 
 /// A source as the file `d.vhd`.

@@ -45,6 +45,7 @@ pub fn push_problem(found: &mut Text, alloc: Global, written: &str) {
         if let Some(rule) = rule_of(layer, number.parse::<u8>().unwrap_or(0)) {
             let report = report_of(rule, at, subject_of(rule));
             explain_at(
+                alloc,
                 source.as_bytes(),
                 &tokens,
                 Expected::Nothing,

@@ -3,7 +3,7 @@
 use crate::declarations::push_variables;
 use crate::expressions::{push_choices, push_expr, push_map, push_name, push_range, push_value};
 use crate::sequential::push_sequentials;
-use crate::words::{push_at, push_end, push_identifier, push_if, push_label, push_list};
+use crate::words::{Piece, push_at, push_end, push_identifier, push_if, push_label, push_list};
 use rows_calls::Text;
 use vhdl_tree::{
     Assignment, Concurrent, Generate, Instance, Instantiated, Process, Scheme, SelectedAssignment,
@@ -64,14 +64,16 @@ fn push_selected(out: &mut Text, selected: &SelectedAssignment) {
     push_expr(out, &selected.selector);
     out.push(" select ");
     push_name(out, &selected.target);
-    push_list(out, [" <= ", ", "], &selected.waveforms, push_waveform);
+    push_list(out, [" <= ", ", "], &selected.waveforms);
     out.push(";");
 }
 
-fn push_waveform(out: &mut Text, waveform: &Waveform) {
-    push_value(out, &waveform.value);
-    out.push(" when ");
-    push_choices(out, &waveform.choices);
+impl Piece for Waveform {
+    fn push(&self, out: &mut Text) {
+        push_value(out, &self.value);
+        out.push(" when ");
+        push_choices(out, &self.choices);
+    }
 }
 
 fn push_sensitivity(out: &mut Text, sensitivity: &Sensitivity) {
@@ -79,7 +81,7 @@ fn push_sensitivity(out: &mut Text, sensitivity: &Sensitivity) {
         Sensitivity::Absent => {}
         Sensitivity::All => out.push(" (all)"),
         Sensitivity::Names(names) => {
-            push_list(out, [" (", ", "], names, push_name);
+            push_list(out, [" (", ", "], names);
             out.push(")");
         }
     }

@@ -1,7 +1,7 @@
 //! Declarations and interfaces.
 
 use crate::expressions::{push_default, push_expr, push_slice, push_value};
-use crate::words::{push_end, push_identifier, push_identifiers, push_if, push_list};
+use crate::words::{Piece, push_end, push_identifier, push_identifiers, push_if, push_list};
 use rows_calls::Text;
 use vhdl_tree::{
     Component, Constants, Declaration, Enumeration, Generic, Identifier, Port, Subtype, Value,
@@ -18,37 +18,41 @@ fn push_subtype(out: &mut Text, subtype: &Subtype) {
 /// Adds the generics and the ports of an entity or a component, if it has them.
 pub fn push_interface(out: &mut Text, generics: &Option<Vec<Generic>>, ports: &Option<Vec<Port>>) {
     if let Some(generics) = generics {
-        push_list(out, [" generic (", "; "], generics, push_generic);
+        push_list(out, [" generic (", "; "], generics);
         out.push(");");
     }
     if let Some(ports) = ports {
-        push_list(out, [" port (", "; "], ports, push_port);
+        push_list(out, [" port (", "; "], ports);
         out.push(");");
     }
 }
 
-fn push_generic(out: &mut Text, generic: &Generic) {
-    push_if(out, generic.constant_word, "constant ");
-    push_identifiers(out, &generic.names);
-    out.push(" : ");
-    push_if(out, generic.in_word, "in ");
-    push_identifier(out, &generic.mark);
-    if let Some(default) = &generic.default {
-        out.push(" := ");
-        push_expr(out, default);
+impl Piece for Generic {
+    fn push(&self, out: &mut Text) {
+        push_if(out, self.constant_word, "constant ");
+        push_identifiers(out, &self.names);
+        out.push(" : ");
+        push_if(out, self.in_word, "in ");
+        push_identifier(out, &self.mark);
+        if let Some(default) = &self.default {
+            out.push(" := ");
+            push_expr(out, default);
+        }
     }
 }
 
-fn push_port(out: &mut Text, port: &Port) {
-    push_if(out, port.signal_word, "signal ");
-    push_identifiers(out, &port.names);
-    out.push(" : ");
-    if let Some(mode) = port.mode {
-        out.push_named(&mode);
-        out.push(" ");
+impl Piece for Port {
+    fn push(&self, out: &mut Text) {
+        push_if(out, self.signal_word, "signal ");
+        push_identifiers(out, &self.names);
+        out.push(" : ");
+        if let Some(mode) = self.mode {
+            out.push_named(&mode);
+            out.push(" ");
+        }
+        push_subtype(out, &self.subtype);
+        push_default(out, &self.default);
     }
-    push_subtype(out, &port.subtype);
-    push_default(out, &port.default);
 }
 
 /// Adds `names : subtype` behind a word.

@@ -1,6 +1,6 @@
 //! Names and expressions.
 
-use crate::words::{push_at, push_identifier, push_list};
+use crate::words::{Piece, push_at, push_identifier, push_list};
 use rows_calls::Text;
 use vhdl_tree::{Actual, Association, Chain, Choice, Expr, Link, Name, Range, Suffix, Value};
 
@@ -58,6 +58,12 @@ pub fn push_name(out: &mut Text, name: &Name) {
     if let Some(attribute) = &name.attribute {
         out.push("'");
         push_identifier(out, attribute);
+    }
+}
+
+impl Piece for Name {
+    fn push(&self, out: &mut Text) {
+        push_name(out, self);
     }
 }
 
@@ -120,13 +126,15 @@ pub fn push_default(out: &mut Text, value: &Option<Value>) {
 
 /// Adds choices with bars between.
 pub fn push_choices(out: &mut Text, choices: &[Choice]) {
-    push_list(out, ["", " | "], choices, push_choice);
+    push_list(out, ["", " | "], choices);
 }
 
-fn push_choice(out: &mut Text, choice: &Choice) {
-    match choice {
-        Choice::Expr(expr) => push_expr(out, expr),
-        Choice::Others { at } => push_at(out, b"others", *at),
+impl Piece for Choice {
+    fn push(&self, out: &mut Text) {
+        match self {
+            Choice::Expr(expr) => push_expr(out, expr),
+            Choice::Others { at } => push_at(out, b"others", *at),
+        }
     }
 }
 
@@ -134,18 +142,20 @@ fn push_choice(out: &mut Text, choice: &Choice) {
 pub fn push_map(out: &mut Text, words: &str, map: &Option<Vec<Association>>) {
     if let Some(all) = map {
         out.push(words);
-        push_list(out, [" (", ", "], all, push_association);
+        push_list(out, [" (", ", "], all);
         out.push(")");
     }
 }
 
-fn push_association(out: &mut Text, association: &Association) {
-    if let Some(formal) = &association.formal {
-        push_identifier(out, formal);
-        out.push(" => ");
-    }
-    match &association.actual {
-        Actual::Expr(expr) => push_expr(out, expr),
-        Actual::Open { at } => push_at(out, b"open", *at),
+impl Piece for Association {
+    fn push(&self, out: &mut Text) {
+        if let Some(formal) = &self.formal {
+            push_identifier(out, formal);
+            out.push(" => ");
+        }
+        match &self.actual {
+            Actual::Expr(expr) => push_expr(out, expr),
+            Actual::Open { at } => push_at(out, b"open", *at),
+        }
     }
 }

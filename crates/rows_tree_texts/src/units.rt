@@ -2,22 +2,26 @@
 
 use crate::concurrent::push_concurrents;
 use crate::declarations::{push_declaration, push_interface};
-use crate::words::{push_at, push_end, push_identifier, push_identifiers, push_if, push_list};
+use crate::words::{
+    Piece, push_at, push_end, push_identifier, push_identifiers, push_if, push_list,
+};
 use rows_calls::Text;
 use vhdl_tree::{Architecture, ContextItem, DesignUnit, Entity, File, LibraryUnit, Selected};
 
 /// Adds the units of a file, with a space between.
 pub fn push_file(out: &mut Text, file: &File) {
-    push_list(out, ["", " "], &file.units, push_unit);
+    push_list(out, ["", " "], &file.units);
 }
 
-fn push_unit(out: &mut Text, unit: &DesignUnit) {
-    for item in &unit.context {
-        push_context_item(out, item);
-    }
-    match &unit.unit {
-        LibraryUnit::Entity(entity) => push_entity(out, entity),
-        LibraryUnit::Architecture(body) => push_architecture(out, body),
+impl Piece for DesignUnit {
+    fn push(&self, out: &mut Text) {
+        for item in &self.context {
+            push_context_item(out, item);
+        }
+        match &self.unit {
+            LibraryUnit::Entity(entity) => push_entity(out, entity),
+            LibraryUnit::Architecture(body) => push_architecture(out, body),
+        }
     }
 }
 
@@ -27,16 +31,18 @@ fn push_context_item(out: &mut Text, item: &ContextItem) {
             out.push("library ");
             push_identifiers(out, names);
         }
-        ContextItem::Use(names) => push_list(out, ["use ", ", "], names, push_selected),
+        ContextItem::Use(names) => push_list(out, ["use ", ", "], names),
     }
     out.push("; ");
 }
 
-fn push_selected(out: &mut Text, selected: &Selected) {
-    push_identifier(out, &selected.library);
-    out.push(".");
-    push_identifier(out, &selected.name);
-    out.push(".all");
+impl Piece for Selected {
+    fn push(&self, out: &mut Text) {
+        push_identifier(out, &self.library);
+        out.push(".");
+        push_identifier(out, &self.name);
+        out.push(".all");
+    }
 }
 
 fn push_entity(out: &mut Text, entity: &Entity) {

@@ -3,6 +3,18 @@
 use rows_calls::Text;
 use vhdl_tree::Identifier;
 
+/// What stands in lists.
+pub trait Piece {
+    /// Adds it to a text.
+    fn push(&self, out: &mut Text);
+}
+
+impl Piece for Identifier {
+    fn push(&self, out: &mut Text) {
+        push_identifier(out, self);
+    }
+}
+
 /// Adds a text and the byte at which it starts.
 pub fn push_at(out: &mut Text, text: &[u8], at: usize) {
     out.push_bytes(text);
@@ -22,22 +34,15 @@ pub fn push_identifier(out: &mut Text, identifier: &Identifier) {
 }
 
 pub fn push_identifiers(out: &mut Text, identifiers: &[Identifier]) {
-    push_list(out, ["", ", "], identifiers, push_identifier);
+    push_list(out, ["", ", "], identifiers);
 }
 
 /// Adds each of some parts, the first behind one text and every other behind another.
-pub fn push_list<T, F: Fn(&mut Text, &T) + Drop>(
-    out: &mut Text,
-    delimiters: [&str; 2],
-    parts: &[T],
-    push: F,
-)
-    requires { F.IsAlwaysCallable push }
-{
+pub fn push_list<P: Piece>(out: &mut Text, delimiters: [&str; 2], parts: &[P]) {
     let [mut before, between] = delimiters;
     for part in parts {
         out.push(before);
-        push(out, part);
+        part.push(out);
         before = between;
     }
 }
