@@ -4,6 +4,7 @@ ghost use Rattle.byte_streams.specs.Written.{IsIntact};
 
 use crate::text::Text;
 use byte_streams::Sink;
+use drops::take_apart;
 use std::alloc::Global;
 
 /// The status of a call, what went to its two outputs, and what showed how far a run was.
@@ -17,12 +18,7 @@ pub struct Answer {
 /// Written out, since many functions let answers go.
 impl Drop for Answer {
     fn drop(self) {
-        let Answer {
-            status: _,
-            out: _,
-            err: _,
-            progress: _,
-        } = self;
+        take_apart!(self: { status, out, err, progress });
     }
 }
 

@@ -20,6 +20,7 @@ use crate::drivers::Drivers;
 use crate::nets::Nets;
 use crate::pick::Pick;
 use crate::resumed::Resumed;
+use drops::take_apart;
 use rtl_awaited_edges::{ClockEdge, first_awaited, is_asleep};
 use rtl_eval::Exec;
 use rtl_net::Net;
@@ -46,16 +47,7 @@ pub struct Kernel<'a, E: Exec> {
 
 impl<E: Exec> Drop for Kernel<'_, E> {
     fn drop(self) {
-        let Kernel {
-            bodies: _,
-            nets: _,
-            cuts: _,
-            drivers: _,
-            resumed: _,
-            awaited: _,
-            await_it: _,
-            ahead: _,
-        } = self;
+        take_apart!(self: { bodies, nets, cuts, drivers, resumed, awaited, await_it, ahead });
     }
 }
 

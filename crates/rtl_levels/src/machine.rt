@@ -24,6 +24,7 @@ use crate::inputs::{changes_to, set_inputs, take_inputs};
 use crate::schedule::Schedule;
 use crate::state::State;
 use crate::sweep::sweep;
+use drops::take_apart;
 use rtl_eval::{Drives, Exec};
 use rtl_kernel::{fresh_outcomes, starting_codes};
 use rtl_net::Net;
@@ -53,16 +54,7 @@ pub struct Machine<'a, E: Exec> {
 
 impl<E: Exec> Drop for Machine<'_, E> {
     fn drop(self) {
-        let Machine {
-            net: _,
-            bodies: _,
-            schedule: _,
-            before: _,
-            state: _,
-            runs: _,
-            woken: _,
-            ahead: _,
-        } = self;
+        take_apart!(self: { net, bodies, schedule, before, state, runs, woken, ahead });
     }
 }
 

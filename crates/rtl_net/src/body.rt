@@ -3,6 +3,7 @@
 //! computed.
 
 use crate::indices::Indices;
+use drops::take_apart;
 use vhdl_values::{Cmp, Counted, Logic, Nine, Vec9};
 
 /// An operator on two vectors (9.2; numeric_std for the arithmetic ones).
@@ -50,19 +51,9 @@ pub enum Expr {
 impl Drop for Expr {
     #[cycle(expression)]
     fn drop(self) {
-        match self {
-            Expr::Signal(_) => {}
-            Expr::Variable(_) => {}
-            Expr::Constant(_) => {}
-            Expr::Inverse(_) => {}
-            Expr::Filled { len: _, element: _ } => {}
-            Expr::Chain { first: _, rest: _ } => {}
-            Expr::Counted {
-                operator: _,
-                count: _,
-                operand: _,
-            } => {}
-        }
+        take_apart!(self: Signal(_) | Variable(_) | Constant(_) | Inverse(_)
+            | Filled { len, element } | Chain { first, rest }
+            | Counted { operator, count, operand });
     }
 }
 
@@ -76,10 +67,7 @@ pub struct Link {
 impl Drop for Link {
     #[cycle(expression)]
     fn drop(self) {
-        let Link {
-            operator: _,
-            operand: _,
-        } = self;
+        take_apart!(self: { operator, operand });
     }
 }
 
@@ -97,12 +85,7 @@ pub enum Value {
 
 impl Drop for Value {
     fn drop(self) {
-        match self {
-            Value::Elements(_) => {}
-            Value::Position(_) => {}
-            Value::PositionOf(_) => {}
-            Value::PositionIn(_) => {}
-        }
+        take_apart!(self: Elements(_) | Position(_) | PositionOf(_) | PositionIn(_));
     }
 }
 
@@ -147,24 +130,9 @@ pub enum Test {
 impl Drop for Test {
     #[cycle(condition)]
     fn drop(self) {
-        match self {
-            Test::Condition(_) => {}
-            Test::Decided(_) => {}
-            Test::Equal(_, _) => {}
-            Test::Unequal(_, _) => {}
-            Test::Level {
-                plain: _,
-                net: _,
-                value: _,
-            } => {}
-            Test::Compared(_, _, _) => {}
-            Test::ComparedTo(_, _, _) => {}
-            Test::Rising(_) => {}
-            Test::Falling(_) => {}
-            Test::Event(_) => {}
-            Test::Negated(_) => {}
-            Test::Combined { first: _, rest: _ } => {}
-        }
+        take_apart!(self: Condition(_) | Decided(_) | Equal(_, _) | Unequal(_, _)
+            | Level { plain, net, value } | Compared(_, _, _) | ComparedTo(_, _, _) | Rising(_)
+            | Falling(_) | Event(_) | Negated(_) | Combined { first, rest });
     }
 }
 
@@ -178,10 +146,7 @@ pub struct TestLink {
 impl Drop for TestLink {
     #[cycle(condition)]
     fn drop(self) {
-        let TestLink {
-            operator: _,
-            operand: _,
-        } = self;
+        take_apart!(self: { operator, operand });
     }
 }
 
@@ -221,28 +186,8 @@ pub enum Statement {
 impl Drop for Statement {
     #[cycle(statement)]
     fn drop(self) {
-        match self {
-            Statement::Null => {}
-            Statement::Assign {
-                places: _,
-                value: _,
-            } => {}
-            Statement::Set {
-                elements: _,
-                value: _,
-            } => {}
-            Statement::If {
-                at: _,
-                branches: _,
-                otherwise: _,
-            } => {}
-            Statement::Case {
-                at: _,
-                selector: _,
-                alternatives: _,
-                others: _,
-            } => {}
-        }
+        take_apart!(self: Null | Assign { places, value } | Set { elements, value }
+            | If { at, branches, otherwise } | Case { at, selector, alternatives, others });
     }
 }
 
@@ -256,10 +201,7 @@ pub struct Branch {
 impl Drop for Branch {
     #[cycle(statement)]
     fn drop(self) {
-        let Branch {
-            test: _,
-            statements: _,
-        } = self;
+        take_apart!(self: { test, statements });
     }
 }
 
@@ -273,10 +215,7 @@ pub struct Alternative {
 impl Drop for Alternative {
     #[cycle(statement)]
     fn drop(self) {
-        let Alternative {
-            choices: _,
-            statements: _,
-        } = self;
+        take_apart!(self: { choices, statements });
     }
 }
 
@@ -288,9 +227,6 @@ pub enum Choice {
 
 impl Drop for Choice {
     fn drop(self) {
-        match self {
-            Choice::Elements(_) => {}
-            Choice::Position(_) => {}
-        }
+        take_apart!(self: Elements(_) | Position(_));
     }
 }

@@ -1,5 +1,6 @@
 //! Numbers of nets, of a process's drivers, or of its variable elements.
 
+use drops::take_apart;
 use smallvec::SmallVec;
 
 /// Numbers from the left, as the elements of a name have them: mostly one after another, and else a
@@ -13,9 +14,6 @@ pub enum Indices {
 
 impl Drop for Indices {
     fn drop(self) {
-        match self {
-            Indices::Run { first: _, len: _ } => {}
-            Indices::List(_) => {}
-        }
+        take_apart!(self: Run { first, len } | List(_));
     }
 }

@@ -7,6 +7,7 @@ ghost use Rattle.rtl_net.specs.Elaborated.{IsNet};
 
 use crate::process::Process;
 use crate::signal::{Scope, Signal};
+use drops::take_apart;
 use smallvec::SmallVec;
 use std::alloc::AllocError;
 use std::marker::Model;
@@ -64,16 +65,7 @@ pub struct Net {
 /// Written out, so that a crate that lets a netlist go proves nothing of what is in it.
 impl Drop for Net {
     fn drop(self) {
-        let Net {
-            kinds: _,
-            starts: _,
-            sources: _,
-            owners: _,
-            inputs: _,
-            processes: _,
-            scopes: _,
-            signals: _,
-        } = self;
+        take_apart!(self: { kinds, starts, sources, owners, inputs, processes, scopes, signals });
     }
 }
 

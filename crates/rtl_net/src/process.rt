@@ -2,6 +2,7 @@
 
 use crate::body::Statement;
 use crate::signal::SignalKind;
+use drops::take_apart;
 use smallvec::SmallVec;
 
 /// A driver of a process: its net, and the value that it starts with (IEEE 1076-2008, 14.7.2).
@@ -20,11 +21,7 @@ pub struct Variable {
 
 impl Drop for Variable {
     fn drop(self) {
-        let Variable {
-            name: _,
-            kind: _,
-            starts: _,
-        } = self;
+        take_apart!(self: { name, kind, starts });
     }
 }
 
@@ -52,16 +49,6 @@ pub struct Process {
 
 impl Drop for Process {
     fn drop(self) {
-        let Process {
-            drives: _,
-            reads: _,
-            wakes: _,
-            variables: _,
-            body: _,
-            scope: _,
-            generates: _,
-            label: _,
-            at: _,
-        } = self;
+        take_apart!(self: { drives, reads, wakes, variables, body, scope, generates, label, at });
     }
 }

@@ -1,5 +1,6 @@
 //! Scopes and signals: the design as it is named.
 
+use drops::take_apart;
 use smallvec::SmallVec;
 
 /// An instance, or the top: its label and the scope in which it stands. The top's label is its
@@ -13,10 +14,7 @@ pub struct Scope {
 
 impl Drop for Scope {
     fn drop(self) {
-        let Scope {
-            label: _,
-            parent: _,
-        } = self;
+        take_apart!(self: { label, parent });
     }
 }
 
@@ -46,13 +44,6 @@ pub struct Signal {
 
 impl Drop for Signal {
     fn drop(self) {
-        let Signal {
-            scope: _,
-            name: _,
-            port: _,
-            kind: _,
-            nets: _,
-            at: _,
-        } = self;
+        take_apart!(self: { scope, name, port, kind, nets, at });
     }
 }

@@ -3,6 +3,7 @@
 ghost use Rattle.std.specs.Prelude.{◌≡◌, ◌<◌, ◌++◌, ◌∷◌, [], length, slice_index_or, IfOk, OnOk, OnErr};
 ghost use Rattle.rtl_net_groups.specs.Lists.{rows};
 
+use drops::take_apart;
 use std::alloc::{AllocError, Global};
 use std::marker::Model;
 
@@ -16,10 +17,7 @@ pub struct Lists<T> {
 
 impl<T: Drop> Drop for Lists<T> {
     fn drop(self) {
-        let Lists {
-            starts: _,
-            items: _,
-        } = self;
+        take_apart!(self: { starts, items });
     }
 }
 

@@ -2,6 +2,7 @@
 //! instance's ports and signals are numbered from 0 in order of declaration, ports before signals,
 //! and from the left; those of a process's variables in the same way.
 
+use drops::take_apart;
 use rtl_net::Statement;
 use smallvec::SmallVec;
 use vhdl_expand_rules::ObjectKind;
@@ -34,15 +35,7 @@ pub struct Object {
 
 impl Drop for Object {
     fn drop(self) {
-        let Object {
-            name: _,
-            role: _,
-            kind: _,
-            is_resolved: _,
-            starts: _,
-            actual: _,
-            at: _,
-        } = self;
+        take_apart!(self: { name, role, kind, is_resolved, starts, actual, at });
     }
 }
 
@@ -55,11 +48,7 @@ pub struct Variable {
 
 impl Drop for Variable {
     fn drop(self) {
-        let Variable {
-            name: _,
-            kind: _,
-            starts: _,
-        } = self;
+        take_apart!(self: { name, kind, starts });
     }
 }
 
@@ -75,11 +64,7 @@ pub enum Sensitivity {
 
 impl Drop for Sensitivity {
     fn drop(self) {
-        match self {
-            Sensitivity::Listed(_) => {}
-            Sensitivity::Every(_) => {}
-            Sensitivity::AsRead => {}
-        }
+        take_apart!(self: Listed(_) | Every(_) | AsRead);
     }
 }
 
@@ -103,16 +88,7 @@ pub struct Process {
 
 impl Drop for Process {
     fn drop(self) {
-        let Process {
-            prefix: _,
-            label: _,
-            drives: _,
-            sensitivity: _,
-            variables: _,
-            body: _,
-            turns: _,
-            at: _,
-        } = self;
+        take_apart!(self: { prefix, label, drives, sensitivity, variables, body, turns, at });
     }
 }
 
@@ -130,11 +106,7 @@ pub struct Instance {
 impl Drop for Instance {
     #[cycle(instance)]
     fn drop(self) {
-        let Instance {
-            objects: _,
-            turns: _,
-            parts: _,
-        } = self;
+        take_apart!(self: { objects, turns, parts });
     }
 }
 
@@ -149,13 +121,7 @@ pub enum InstancePart {
 impl Drop for InstancePart {
     #[cycle(instance)]
     fn drop(self) {
-        match self {
-            InstancePart::Process(_) => {}
-            InstancePart::Instance {
-                label: _,
-                instance: _,
-            } => {}
-        }
+        take_apart!(self: Process(_) | Instance { label, instance });
     }
 }
 
@@ -167,6 +133,6 @@ pub struct Design {
 
 impl Drop for Design {
     fn drop(self) {
-        let Design { name: _, top: _ } = self;
+        take_apart!(self: { name, top });
     }
 }

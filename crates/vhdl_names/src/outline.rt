@@ -17,6 +17,7 @@ ghost use Rattle.vhdl_tree.specs.Tree as t;
 ghost use Rattle.vhdl_tree.specs.View as view;
 
 use crate::faults::first_of;
+use drops::take_apart;
 use indexmap::{IndexMap, IndexSet};
 use std::alloc::Global;
 use vhdl_names_instances::{Names, add_name};
@@ -41,10 +42,7 @@ pub struct Outline<'a> {
 
 impl Drop for Outline<'_> {
     fn drop(self) {
-        let Outline {
-            entities: _,
-            architectures: _,
-        } = self;
+        take_apart!(self: { entities, architectures });
     }
 }
 

@@ -23,6 +23,7 @@ ghost use Rattle.vhdl_names_units.specs.views.Concurrent.{instance_view};
 use crate::actuals::{PortType, generic_actuals, port_actuals};
 use crate::associations::{Names, associated};
 use crate::maps::maps;
+use drops::take_apart;
 use vhdl_names_rules::{NameFault, NameProblem};
 use vhdl_names_sight::{Meaning, Sight, meaning_of};
 use vhdl_names_units::{Instance, copied, is_text};
@@ -40,12 +41,7 @@ pub struct Formals {
 
 impl Drop for Formals {
     fn drop(self) {
-        let Formals {
-            architecture: _,
-            generics: _,
-            ports: _,
-            port_types: _,
-        } = self;
+        take_apart!(self: { architecture, generics, ports, port_types });
     }
 }
 
@@ -57,10 +53,7 @@ pub struct InstanceEntities {
 
 impl Drop for InstanceEntities {
     fn drop(self) {
-        let InstanceEntities {
-            names: _,
-            formals: _,
-        } = self;
+        take_apart!(self: { names, formals });
     }
 }
 

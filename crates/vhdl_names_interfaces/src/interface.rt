@@ -15,6 +15,7 @@ ghost use Rattle.vhdl_names_rules.specs.problems.Broken.{Tells, ◌▸◌};
 ghost use Rattle.vhdl_names_rules.specs.problems.Declarations.{end_name};
 ghost use Rattle.vhdl_names_rules.specs.problems.Interfaces as broken;
 
+use drops::take_apart;
 use indexmap::IndexMap;
 use std::alloc::Global;
 use std::mem;
@@ -42,14 +43,7 @@ pub struct EntityInterface<'a> {
 
 impl Drop for EntityInterface<'_> {
     fn drop(self) {
-        let EntityInterface {
-            tree: _,
-            context: _,
-            region: _,
-            generics: _,
-            ports: _,
-            architecture: _,
-        } = self;
+        take_apart!(self: { tree, context, region, generics, ports, architecture });
     }
 }
 

@@ -5,6 +5,7 @@ ghost use Rattle.vhdl_names_rules.specs.units.Expressions as units;
 ghost use Rattle.vhdl_names_rules.specs.views.Integers.{static_view, start_view, static_chained};
 
 use crate::operator::Arithmetic;
+use drops::take_apart;
 use std::alloc::{AllocError, Global};
 use vhdl_tree::Direction;
 
@@ -27,15 +28,8 @@ pub enum Static {
 impl Drop for Static {
     #[cycle(integer)]
     fn drop(self) {
-        match self {
-            Static::Number(_) => {}
-            Static::Generic(_) => {}
-            Static::Constant(_) => {}
-            Static::GenerateParameter(_) => {}
-            Static::LoopParameter(_) => {}
-            Static::Negated(_, _) => {}
-            Static::Chain(_, _) => {}
-        }
+        take_apart!(self: Number(_) | Generic(_) | Constant(_) | GenerateParameter(_)
+            | LoopParameter(_) | Negated(_, _) | Chain(_, _));
     }
 }
 
@@ -50,11 +44,7 @@ pub struct StaticLink {
 impl Drop for StaticLink {
     #[cycle(integer)]
     fn drop(self) {
-        let StaticLink {
-            operator: _,
-            at: _,
-            operand: _,
-        } = self;
+        take_apart!(self: { operator, at, operand });
     }
 }
 
@@ -68,7 +58,7 @@ pub struct StaticStart {
 impl Drop for StaticStart {
     #[cycle(integer)]
     fn drop(self) {
-        let StaticStart { first: _, link: _ } = self;
+        take_apart!(self: { first, link });
     }
 }
 
@@ -81,11 +71,7 @@ pub struct StaticRange {
 
 impl Drop for StaticRange {
     fn drop(self) {
-        let StaticRange {
-            left: _,
-            direction: _,
-            right: _,
-        } = self;
+        take_apart!(self: { left, direction, right });
     }
 }
 

@@ -9,6 +9,7 @@ ghost use Rattle.vhdl_names_rules.specs.views.Tests.{static_test_view, static_st
 
 use crate::integer::Static;
 use crate::vector::{SignalPart, Value, Vector};
+use drops::take_apart;
 use std::alloc::{AllocError, Global};
 use vhdl_values::{Cmp, Edge, Logic};
 
@@ -24,11 +25,7 @@ pub enum StaticTest {
 impl Drop for StaticTest {
     #[cycle(static_test)]
     fn drop(self) {
-        match self {
-            StaticTest::Compared(_, _, _, _) => {}
-            StaticTest::Not(_) => {}
-            StaticTest::Chain(_, _) => {}
-        }
+        take_apart!(self: Compared(_, _, _, _) | Not(_) | Chain(_, _));
     }
 }
 
@@ -42,10 +39,7 @@ pub struct StaticTestLink {
 impl Drop for StaticTestLink {
     #[cycle(static_test)]
     fn drop(self) {
-        let StaticTestLink {
-            operator: _,
-            operand: _,
-        } = self;
+        take_apart!(self: { operator, operand });
     }
 }
 
@@ -59,7 +53,7 @@ pub struct StaticTestStart {
 impl Drop for StaticTestStart {
     #[cycle(static_test)]
     fn drop(self) {
-        let StaticTestStart { first: _, link: _ } = self;
+        take_apart!(self: { first, link });
     }
 }
 
@@ -87,19 +81,9 @@ pub enum Test {
 impl Drop for Test {
     #[cycle(truth)]
     fn drop(self) {
-        match self {
-            Test::Holds(_) => {}
-            Test::Fixed(_) => {}
-            Test::Alike(_, _, _) => {}
-            Test::Unlike(_, _, _) => {}
-            Test::Compared(_, _, _, _) => {}
-            Test::ComparedTo(_, _, _, _) => {}
-            Test::ComparedWith(_, _, _, _) => {}
-            Test::Edge(_, _) => {}
-            Test::Event(_) => {}
-            Test::Not(_) => {}
-            Test::Chain(_, _) => {}
-        }
+        take_apart!(self: Holds(_) | Fixed(_) | Alike(_, _, _) | Unlike(_, _, _)
+            | Compared(_, _, _, _) | ComparedTo(_, _, _, _) | ComparedWith(_, _, _, _) | Edge(_, _)
+            | Event(_) | Not(_) | Chain(_, _));
     }
 }
 
@@ -113,10 +97,7 @@ pub struct TestLink {
 impl Drop for TestLink {
     #[cycle(truth)]
     fn drop(self) {
-        let TestLink {
-            operator: _,
-            operand: _,
-        } = self;
+        take_apart!(self: { operator, operand });
     }
 }
 
@@ -130,7 +111,7 @@ pub struct TestStart {
 impl Drop for TestStart {
     #[cycle(truth)]
     fn drop(self) {
-        let TestStart { first: _, link: _ } = self;
+        take_apart!(self: { first, link });
     }
 }
 

@@ -9,6 +9,7 @@ ghost use Rattle.vhdl_names_rules.specs.views.Vectors.{vector_view, start_view, 
 
 use crate::integer::{Static, StaticRange};
 use crate::operator::{Numeric, VectorOperator};
+use drops::take_apart;
 use std::alloc::{AllocError, Global};
 use vhdl_values::{Counted, Nine};
 
@@ -28,11 +29,7 @@ pub enum Part {
 
 impl Drop for Part {
     fn drop(self) {
-        match self {
-            Part::Whole => {}
-            Part::Element(_) => {}
-            Part::Slice(_) => {}
-        }
+        take_apart!(self: Whole | Element(_) | Slice(_));
     }
 }
 
@@ -45,11 +42,7 @@ pub struct SignalPart {
 
 impl Drop for SignalPart {
     fn drop(self) {
-        let SignalPart {
-            at: _,
-            signal: _,
-            part: _,
-        } = self;
+        take_apart!(self: { at, signal, part });
     }
 }
 
@@ -82,19 +75,9 @@ pub enum Vector {
 impl Drop for Vector {
     #[cycle(vector)]
     fn drop(self) {
-        match self {
-            Vector::Signal(_) => {}
-            Vector::Variable(_, _, _) => {}
-            Vector::Constant(_, _, _) => {}
-            Vector::Character(_, _) => {}
-            Vector::EnclosedCharacter(_, _) => {}
-            Vector::Literal(_, _) => {}
-            Vector::Not(_, _) => {}
-            Vector::Chain(_, _) => {}
-            Vector::IntegerWith(_, _, _, _) => {}
-            Vector::Encoded(_, _, _) => {}
-            Vector::Counted(_, _, _, _) => {}
-        }
+        take_apart!(self: Signal(_) | Variable(_, _, _) | Constant(_, _, _) | Character(_, _)
+            | EnclosedCharacter(_, _) | Literal(_, _) | Not(_, _) | Chain(_, _)
+            | IntegerWith(_, _, _, _) | Encoded(_, _, _) | Counted(_, _, _, _));
     }
 }
 
@@ -108,10 +91,7 @@ pub enum VectorLink {
 impl Drop for VectorLink {
     #[cycle(vector)]
     fn drop(self) {
-        match self {
-            VectorLink::Vector(_, _, _) => {}
-            VectorLink::Integer(_, _, _) => {}
-        }
+        take_apart!(self: Vector(_, _, _) | Integer(_, _, _));
     }
 }
 
@@ -125,7 +105,7 @@ pub struct VectorStart {
 impl Drop for VectorStart {
     #[cycle(vector)]
     fn drop(self) {
-        let VectorStart { first: _, link: _ } = self;
+        take_apart!(self: { first, link });
     }
 }
 

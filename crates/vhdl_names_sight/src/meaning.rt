@@ -1,5 +1,6 @@
 //! What names are declared to be (IEEE 1076-2008, 6.1).
 
+use drops::take_apart;
 use vhdl_names_rules::{ElementKind, Function, IntegerType, ObjectType};
 use vhdl_tree::Mode;
 use vhdl_values::Nine;
@@ -41,32 +42,11 @@ pub enum Meaning {
 
 impl Drop for Meaning {
     fn drop(self) {
-        match self {
-            Meaning::Generic(_) => {}
-            Meaning::IntegerConstant(_) => {}
-            Meaning::GenerateParameter(_) => {}
-            Meaning::LoopParameter(_) => {}
-            Meaning::Port(_, _, _) => {}
-            Meaning::Signal(_, _) => {}
-            Meaning::Variable(_, _) => {}
-            Meaning::Constant(_, _, _) => {}
-            Meaning::Literal {
-                number: _,
-                count: _,
-                position: _,
-            } => {}
-            Meaning::IntegerType(_) => {}
-            Meaning::ElementType { is_resolved: _ } => {}
-            Meaning::VectorType(_, _) => {}
-            Meaning::EnumerationType {
-                number: _,
-                count: _,
-            } => {}
-            Meaning::Function(_) => {}
-            Meaning::Component(_) => {}
-            Meaning::Label => {}
-            Meaning::Unfinished => {}
-        }
+        take_apart!(self: Generic(_) | IntegerConstant(_) | GenerateParameter(_) | LoopParameter(_)
+            | Port(_, _, _) | Signal(_, _) | Variable(_, _) | Constant(_, _, _)
+            | Literal { number, count, position } | IntegerType(_) | ElementType { is_resolved }
+            | VectorType(_, _) | EnumerationType { number, count } | Function(_) | Component(_)
+            | Label | Unfinished);
     }
 }
 
@@ -78,9 +58,6 @@ pub struct Declared {
 
 impl Drop for Declared {
     fn drop(self) {
-        let Declared {
-            name: _,
-            meaning: _,
-        } = self;
+        take_apart!(self: { name, meaning });
     }
 }

@@ -13,6 +13,7 @@ ghost use Rattle.vhdl_names_sight.specs.Sights.{found};
 ghost use Rattle.vhdl_tree.specs.View.{ident_view};
 
 use crate::meaning::{Declared, Meaning};
+use drops::take_apart;
 use indexmap::IndexMap;
 use std::alloc::Global;
 use std::marker::Model;
@@ -62,16 +63,9 @@ impl Model for Sight {
 
 impl Drop for Sight {
     fn drop(self) {
-        let Sight {
-            alloc: _,
-            loops: _,
-            variables: _,
-            generates: _,
-            region: _,
-            enclosing: _,
-            packages: _,
-            has_numbers: _,
-        } = self;
+        take_apart!(self: {
+            alloc, loops, variables, generates, region, enclosing, packages, has_numbers
+        });
     }
 }
 

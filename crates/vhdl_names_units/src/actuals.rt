@@ -3,6 +3,7 @@
 ghost use Rattle.std.specs.Prelude.{◌≡◌, ◌<◌, ◌+◌, ◌^◌, ◌++◌, ◌∷◌, [], length, map, None, option_map, replicate, IfOk, OnOk};
 ghost use Rattle.vhdl_names_units.specs.views.Actuals.{each_actual};
 
+use drops::take_apart;
 use std::alloc::{AllocError, Global};
 
 /// An actual, behind so many formals that have none.
@@ -13,7 +14,7 @@ pub struct Actual<T> {
 
 impl<T: Drop> Drop for Actual<T> {
     fn drop(self) {
-        let Actual { open: _, value: _ } = self;
+        take_apart!(self: { open, value });
     }
 }
 
@@ -27,7 +28,7 @@ pub struct Actuals<T> {
 
 impl<T: Drop> Drop for Actuals<T> {
     fn drop(self) {
-        let Actuals { given: _, open: _ } = self;
+        take_apart!(self: { given, open });
     }
 }
 

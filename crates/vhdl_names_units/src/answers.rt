@@ -1,5 +1,6 @@
 //! What is analysed of names, values, choices and subtype indications.
 
+use drops::take_apart;
 use vhdl_names_rules::{ObjectType, Part, SignalPart, Static, StaticRange, Value, Vector};
 use vhdl_tree::Mode;
 use vhdl_values::Nine;
@@ -12,10 +13,7 @@ pub enum Given {
 
 impl Drop for Given {
     fn drop(self) {
-        match self {
-            Given::Single(_) => {}
-            Given::Filled(_) => {}
-        }
+        take_apart!(self: Single(_) | Filled(_));
     }
 }
 
@@ -27,10 +25,7 @@ pub enum Choice {
 
 impl Drop for Choice {
     fn drop(self) {
-        match self {
-            Choice::Values(_) => {}
-            Choice::Position(_) => {}
-        }
+        take_apart!(self: Values(_) | Position(_));
     }
 }
 

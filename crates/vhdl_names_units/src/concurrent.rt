@@ -6,6 +6,7 @@ ghost use Rattle.vhdl_names_units.specs.views.Concurrent as views;
 use crate::actuals::Actuals;
 use crate::declaration::Objects;
 use crate::sequential::Statement;
+use drops::take_apart;
 use vhdl_names_rules::{SignalPart, Static, StaticRange, StaticTest};
 use vhdl_tree::Identifier;
 
@@ -20,11 +21,7 @@ pub enum Sensitivity {
 
 impl Drop for Sensitivity {
     fn drop(self) {
-        match self {
-            Sensitivity::Listed(_) => {}
-            Sensitivity::All => {}
-            Sensitivity::AsRead => {}
-        }
+        take_apart!(self: Listed(_) | All | AsRead);
     }
 }
 
@@ -39,13 +36,7 @@ pub struct Process {
 
 impl Drop for Process {
     fn drop(self) {
-        let Process {
-            at: _,
-            label: _,
-            variables: _,
-            sensitivity: _,
-            statements: _,
-        } = self;
+        take_apart!(self: { at, label, variables, sensitivity, statements });
     }
 }
 
@@ -59,12 +50,7 @@ pub struct Instance {
 
 impl Drop for Instance {
     fn drop(self) {
-        let Instance {
-            label: _,
-            unit: _,
-            generics: _,
-            ports: _,
-        } = self;
+        take_apart!(self: { label, unit, generics, ports });
     }
 }
 
@@ -79,11 +65,7 @@ pub enum Concurrent {
 impl Drop for Concurrent {
     #[cycle(concurrent)]
     fn drop(self) {
-        match self {
-            Concurrent::Process(_) => {}
-            Concurrent::Instance(_) => {}
-            Concurrent::Generate(_) => {}
-        }
+        take_apart!(self: Process(_) | Instance(_) | Generate(_));
     }
 }
 
@@ -95,10 +77,7 @@ pub enum Scheme {
 
 impl Drop for Scheme {
     fn drop(self) {
-        match self {
-            Scheme::For(_) => {}
-            Scheme::If(_) => {}
-        }
+        take_apart!(self: For(_) | If(_));
     }
 }
 
@@ -114,12 +93,7 @@ pub struct Generate {
 impl Drop for Generate {
     #[cycle(concurrent)]
     fn drop(self) {
-        let Generate {
-            label: _,
-            at: _,
-            scheme: _,
-            statements: _,
-        } = self;
+        take_apart!(self: { label, at, scheme, statements });
     }
 }
 

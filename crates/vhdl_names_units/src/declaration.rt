@@ -2,6 +2,7 @@
 //! names stands once, with its names in order: its range and default are computed once.
 
 use crate::answers::{Fixed, Form};
+use drops::take_apart;
 use vhdl_names_rules::{IntegerType, Static};
 use vhdl_tree::{Identifier, Mode};
 
@@ -14,11 +15,7 @@ pub struct Generics {
 
 impl Drop for Generics {
     fn drop(self) {
-        let Generics {
-            names: _,
-            integer_type: _,
-            default: _,
-        } = self;
+        take_apart!(self: { names, integer_type, default });
     }
 }
 
@@ -33,12 +30,7 @@ pub struct Objects {
 
 impl Drop for Objects {
     fn drop(self) {
-        let Objects {
-            names: _,
-            form: _,
-            is_resolved: _,
-            default: _,
-        } = self;
+        take_apart!(self: { names, form, is_resolved, default });
     }
 }
 
@@ -50,10 +42,7 @@ pub struct Ports {
 
 impl Drop for Ports {
     fn drop(self) {
-        let Ports {
-            mode: _,
-            objects: _,
-        } = self;
+        take_apart!(self: { mode, objects });
     }
 }
 
@@ -76,18 +65,7 @@ pub enum Declaration {
 
 impl Drop for Declaration {
     fn drop(self) {
-        match self {
-            Declaration::Integers {
-                names: _,
-                integer_type: _,
-                value: _,
-            } => {}
-            Declaration::Constants {
-                names: _,
-                form: _,
-                value: _,
-            } => {}
-            Declaration::Signals(_) => {}
-        }
+        take_apart!(self: Integers { names, integer_type, value } | Constants { names, form, value }
+            | Signals(_));
     }
 }

@@ -9,6 +9,7 @@ ghost use Rattle.vhdl_names_units.specs.views.Answers.{choices_view};
 ghost use Rattle.vhdl_names_units.specs.views.Sequential as views;
 
 use crate::answers::{Choice, Given};
+use drops::take_apart;
 use vhdl_names_rules::{Part, SignalPart, StaticRange, Test, Value};
 
 /// A sequential statement.
@@ -35,22 +36,8 @@ pub enum Statement {
 impl Drop for Statement {
     #[cycle(statement)]
     fn drop(self) {
-        match self {
-            Statement::Null => {}
-            Statement::Assign {
-                target: _,
-                value: _,
-            } => {}
-            Statement::Set {
-                at: _,
-                variable: _,
-                part: _,
-                value: _,
-            } => {}
-            Statement::If(_) => {}
-            Statement::Case(_) => {}
-            Statement::Loop(_) => {}
-        }
+        take_apart!(self: Null | Assign { target, value } | Set { at, variable, part, value }
+            | If(_) | Case(_) | Loop(_));
     }
 }
 
@@ -65,11 +52,7 @@ pub struct If {
 impl Drop for If {
     #[cycle(statement)]
     fn drop(self) {
-        let If {
-            at: _,
-            branches: _,
-            otherwise: _,
-        } = self;
+        take_apart!(self: { at, branches, otherwise });
     }
 }
 
@@ -83,10 +66,7 @@ pub struct Branch {
 impl Drop for Branch {
     #[cycle(statement)]
     fn drop(self) {
-        let Branch {
-            condition: _,
-            statements: _,
-        } = self;
+        take_apart!(self: { condition, statements });
     }
 }
 
@@ -103,12 +83,7 @@ pub struct Case {
 impl Drop for Case {
     #[cycle(statement)]
     fn drop(self) {
-        let Case {
-            at: _,
-            selector: _,
-            alternatives: _,
-            others: _,
-        } = self;
+        take_apart!(self: { at, selector, alternatives, others });
     }
 }
 
@@ -122,10 +97,7 @@ pub struct Alternative {
 impl Drop for Alternative {
     #[cycle(statement)]
     fn drop(self) {
-        let Alternative {
-            choices: _,
-            statements: _,
-        } = self;
+        take_apart!(self: { choices, statements });
     }
 }
 
@@ -141,11 +113,7 @@ pub struct Loop {
 impl Drop for Loop {
     #[cycle(statement)]
     fn drop(self) {
-        let Loop {
-            at: _,
-            range: _,
-            statements: _,
-        } = self;
+        take_apart!(self: { at, range, statements });
     }
 }
 

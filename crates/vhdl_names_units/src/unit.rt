@@ -2,6 +2,7 @@
 
 use crate::concurrent::Concurrent;
 use crate::declaration::{Declaration, Generics, Ports};
+use drops::take_apart;
 use vhdl_tree::Identifier;
 
 /// An architecture.
@@ -13,11 +14,7 @@ pub struct Architecture {
 
 impl Drop for Architecture {
     fn drop(self) {
-        let Architecture {
-            name: _,
-            declarations: _,
-            statements: _,
-        } = self;
+        take_apart!(self: { name, declarations, statements });
     }
 }
 
@@ -31,12 +28,7 @@ pub struct Entity {
 
 impl Drop for Entity {
     fn drop(self) {
-        let Entity {
-            name: _,
-            generics: _,
-            ports: _,
-            architecture: _,
-        } = self;
+        take_apart!(self: { name, generics, ports, architecture });
     }
 }
 
@@ -47,6 +39,6 @@ pub struct Units {
 
 impl Drop for Units {
     fn drop(self) {
-        let Units { entities: _ } = self;
+        take_apart!(self: { entities });
     }
 }

@@ -7,6 +7,7 @@ ghost use Rattle.vhdl_tree.specs.View.{ident_view, option_ident_view, scheme_vie
 use crate::expression::{Expr, Identifier, Name, Range, Value};
 use crate::instance::Instance;
 use crate::process::{Process, SelectedAssignment};
+use drops::take_apart;
 
 /// `value when condition`.
 pub struct Branch {
@@ -16,10 +17,7 @@ pub struct Branch {
 
 impl Drop for Branch {
     fn drop(self) {
-        let Branch {
-            value: _,
-            condition: _,
-        } = self;
+        take_apart!(self: { value, condition });
     }
 }
 
@@ -34,12 +32,7 @@ pub struct Assignment {
 
 impl Drop for Assignment {
     fn drop(self) {
-        let Assignment {
-            label: _,
-            target: _,
-            branches: _,
-            otherwise: _,
-        } = self;
+        take_apart!(self: { label, target, branches, otherwise });
     }
 }
 
@@ -65,22 +58,8 @@ pub enum Concurrent {
 impl Drop for Concurrent {
     #[cycle(concurrent)]
     fn drop(self) {
-        match self {
-            Concurrent::Assignment(_) => {}
-            Concurrent::Selected {
-                label: _,
-                assignment: _,
-            } => {}
-            Concurrent::Process {
-                label: _,
-                process: _,
-            } => {}
-            Concurrent::Instance {
-                label: _,
-                instance: _,
-            } => {}
-            Concurrent::Generate(_) => {}
-        }
+        take_apart!(self: Assignment(_) | Selected { label, assignment }
+            | Process { label, process } | Instance { label, instance } | Generate(_));
     }
 }
 
@@ -92,13 +71,7 @@ pub enum Scheme {
 
 impl Drop for Scheme {
     fn drop(self) {
-        match self {
-            Scheme::For {
-                parameter: _,
-                range: _,
-            } => {}
-            Scheme::If { condition: _ } => {}
-        }
+        take_apart!(self: For { parameter, range } | If { condition });
     }
 }
 
@@ -117,14 +90,7 @@ pub struct Generate {
 impl Drop for Generate {
     #[cycle(concurrent)]
     fn drop(self) {
-        let Generate {
-            label: _,
-            at: _,
-            scheme: _,
-            begin_word: _,
-            statements: _,
-            end_label: _,
-        } = self;
+        take_apart!(self: { label, at, scheme, begin_word, statements, end_label });
     }
 }
 

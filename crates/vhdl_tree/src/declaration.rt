@@ -1,6 +1,7 @@
 //! Declarations (IEEE 1076-2008 clause 6).
 
 use crate::expression::{Expr, Identifier, Range, Value};
+use drops::take_apart;
 
 /// A type's name, and the range in parentheses after it.
 pub struct Subtype {
@@ -10,7 +11,7 @@ pub struct Subtype {
 
 impl Drop for Subtype {
     fn drop(self) {
-        let Subtype { mark: _, range: _ } = self;
+        take_apart!(self: { mark, range });
     }
 }
 
@@ -32,13 +33,7 @@ pub struct Generic {
 
 impl Drop for Generic {
     fn drop(self) {
-        let Generic {
-            constant_word: _,
-            names: _,
-            in_word: _,
-            mark: _,
-            default: _,
-        } = self;
+        take_apart!(self: { constant_word, names, in_word, mark, default });
     }
 }
 
@@ -53,13 +48,7 @@ pub struct Port {
 
 impl Drop for Port {
     fn drop(self) {
-        let Port {
-            signal_word: _,
-            names: _,
-            mode: _,
-            subtype: _,
-            default: _,
-        } = self;
+        take_apart!(self: { signal_word, names, mode, subtype, default });
     }
 }
 
@@ -72,11 +61,7 @@ pub struct Signals {
 
 impl Drop for Signals {
     fn drop(self) {
-        let Signals {
-            names: _,
-            subtype: _,
-            default: _,
-        } = self;
+        take_apart!(self: { names, subtype, default });
     }
 }
 
@@ -89,11 +74,7 @@ pub struct Variables {
 
 impl Drop for Variables {
     fn drop(self) {
-        let Variables {
-            names: _,
-            subtype: _,
-            default: _,
-        } = self;
+        take_apart!(self: { names, subtype, default });
     }
 }
 
@@ -106,11 +87,7 @@ pub struct Constants {
 
 impl Drop for Constants {
     fn drop(self) {
-        let Constants {
-            names: _,
-            subtype: _,
-            value: _,
-        } = self;
+        take_apart!(self: { names, subtype, value });
     }
 }
 
@@ -122,10 +99,7 @@ pub struct Enumeration {
 
 impl Drop for Enumeration {
     fn drop(self) {
-        let Enumeration {
-            name: _,
-            literals: _,
-        } = self;
+        take_apart!(self: { name, literals });
     }
 }
 
@@ -140,13 +114,7 @@ pub struct Component {
 
 impl Drop for Component {
     fn drop(self) {
-        let Component {
-            name: _,
-            is_word: _,
-            generics: _,
-            ports: _,
-            end_name: _,
-        } = self;
+        take_apart!(self: { name, is_word, generics, ports, end_name });
     }
 }
 
@@ -160,11 +128,6 @@ pub enum Declaration {
 
 impl Drop for Declaration {
     fn drop(self) {
-        match self {
-            Declaration::Signals(_) => {}
-            Declaration::Constants(_) => {}
-            Declaration::Enumeration(_) => {}
-            Declaration::Component(_) => {}
-        }
+        take_apart!(self: Signals(_) | Constants(_) | Enumeration(_) | Component(_));
     }
 }

@@ -5,6 +5,7 @@ ghost use Rattle.vhdl_tree.specs.Tree.{parens, negation, signed, chained, argume
 ghost use Rattle.vhdl_tree.specs.View.{view, suffix_view, exprs_view, pair_view, pairs_view};
 
 use crate::operator::{Direction, Operator, Sign};
+use drops::take_apart;
 use std::alloc::{AllocError, Global};
 
 /// An identifier in small letters, and the byte at which it starts.
@@ -15,7 +16,7 @@ pub struct Identifier {
 
 impl Drop for Identifier {
     fn drop(self) {
-        let Identifier { at: _, text: _ } = self;
+        take_apart!(self: { at, text });
     }
 }
 
@@ -27,7 +28,7 @@ pub struct Literal {
 
 impl Drop for Literal {
     fn drop(self) {
-        let Literal { at: _, text: _ } = self;
+        take_apart!(self: { at, text });
     }
 }
 
@@ -63,21 +64,9 @@ pub enum Expr {
 impl Drop for Expr {
     #[cycle(tree)]
     fn drop(self) {
-        match self {
-            Expr::Integer(_) => {}
-            Expr::Character { at: _, code: _ } => {}
-            Expr::StringLiteral(_) => {}
-            Expr::BitString(_) => {}
-            Expr::Name(_) => {}
-            Expr::Parens { at: _, inner: _ } => {}
-            Expr::Not { at: _, operand: _ } => {}
-            Expr::Signed {
-                sign: _,
-                at: _,
-                operand: _,
-            } => {}
-            Expr::Chain(_) => {}
-        }
+        take_apart!(self: Integer(_) | Character { at, code } | StringLiteral(_) | BitString(_)
+            | Name(_) | Parens { at, inner } | Not { at, operand } | Signed { sign, at, operand }
+            | Chain(_));
     }
 }
 
@@ -92,11 +81,7 @@ pub struct Chain {
 impl Drop for Chain {
     #[cycle(tree)]
     fn drop(self) {
-        let Chain {
-            first: _,
-            second: _,
-            rest: _,
-        } = self;
+        take_apart!(self: { first, second, rest });
     }
 }
 
@@ -111,11 +96,7 @@ pub struct Link {
 impl Drop for Link {
     #[cycle(tree)]
     fn drop(self) {
-        let Link {
-            operator: _,
-            at: _,
-            operand: _,
-        } = self;
+        take_apart!(self: { operator, at, operand });
     }
 }
 
@@ -130,11 +111,7 @@ pub struct Name {
 impl Drop for Name {
     #[cycle(tree)]
     fn drop(self) {
-        let Name {
-            identifier: _,
-            suffix: _,
-            attribute: _,
-        } = self;
+        take_apart!(self: { identifier, suffix, attribute });
     }
 }
 
@@ -149,11 +126,7 @@ pub enum Suffix {
 impl Drop for Suffix {
     #[cycle(tree)]
     fn drop(self) {
-        match self {
-            Suffix::Plain => {}
-            Suffix::Arguments(_) => {}
-            Suffix::Range(_) => {}
-        }
+        take_apart!(self: Plain | Arguments(_) | Range(_));
     }
 }
 
@@ -168,11 +141,7 @@ pub struct Range {
 impl Drop for Range {
     #[cycle(tree)]
     fn drop(self) {
-        let Range {
-            left: _,
-            direction: _,
-            right: _,
-        } = self;
+        take_apart!(self: { left, direction, right });
     }
 }
 
@@ -185,10 +154,7 @@ pub enum Value {
 
 impl Drop for Value {
     fn drop(self) {
-        match self {
-            Value::Expr(_) => {}
-            Value::Others { at: _, element: _ } => {}
-        }
+        take_apart!(self: Expr(_) | Others { at, element });
     }
 }
 
@@ -200,10 +166,7 @@ pub enum Choice {
 
 impl Drop for Choice {
     fn drop(self) {
-        match self {
-            Choice::Expr(_) => {}
-            Choice::Others { at: _ } => {}
-        }
+        take_apart!(self: Expr(_) | Others { at });
     }
 }
 
@@ -215,10 +178,7 @@ pub enum Actual {
 
 impl Drop for Actual {
     fn drop(self) {
-        match self {
-            Actual::Expr(_) => {}
-            Actual::Open { at: _ } => {}
-        }
+        take_apart!(self: Expr(_) | Open { at });
     }
 }
 
@@ -230,10 +190,7 @@ pub struct Association {
 
 impl Drop for Association {
     fn drop(self) {
-        let Association {
-            formal: _,
-            actual: _,
-        } = self;
+        take_apart!(self: { formal, actual });
     }
 }
 

@@ -1,6 +1,7 @@
 //! Instances (IEEE 1076-2008 clause 11.7).
 
 use crate::expression::{Association, Identifier};
+use drops::take_apart;
 
 /// What is instantiated.
 pub enum Instantiated {
@@ -19,17 +20,8 @@ pub enum Instantiated {
 
 impl Drop for Instantiated {
     fn drop(self) {
-        match self {
-            Instantiated::Entity {
-                library: _,
-                name: _,
-                architecture: _,
-            } => {}
-            Instantiated::Component {
-                component_word: _,
-                name: _,
-            } => {}
-        }
+        take_apart!(self: Entity { library, name, architecture }
+            | Component { component_word, name });
     }
 }
 
@@ -42,10 +34,6 @@ pub struct Instance {
 
 impl Drop for Instance {
     fn drop(self) {
-        let Instance {
-            unit: _,
-            generics: _,
-            ports: _,
-        } = self;
+        take_apart!(self: { unit, generics, ports });
     }
 }

@@ -3,6 +3,7 @@
 use crate::declaration::Variables;
 use crate::expression::{Choice, Expr, Identifier, Name, Value};
 use crate::sequential::Sequential;
+use drops::take_apart;
 
 /// The names whose events resume a process.
 pub enum Sensitivity {
@@ -15,11 +16,7 @@ pub enum Sensitivity {
 
 impl Drop for Sensitivity {
     fn drop(self) {
-        match self {
-            Sensitivity::Absent => {}
-            Sensitivity::All => {}
-            Sensitivity::Names(_) => {}
-        }
+        take_apart!(self: Absent | All | Names(_));
     }
 }
 
@@ -36,14 +33,7 @@ pub struct Process {
 
 impl Drop for Process {
     fn drop(self) {
-        let Process {
-            at: _,
-            sensitivity: _,
-            is_word: _,
-            variables: _,
-            statements: _,
-            end_label: _,
-        } = self;
+        take_apart!(self: { at, sensitivity, is_word, variables, statements, end_label });
     }
 }
 
@@ -55,10 +45,7 @@ pub struct Waveform {
 
 impl Drop for Waveform {
     fn drop(self) {
-        let Waveform {
-            value: _,
-            choices: _,
-        } = self;
+        take_apart!(self: { value, choices });
     }
 }
 
@@ -72,11 +59,6 @@ pub struct SelectedAssignment {
 
 impl Drop for SelectedAssignment {
     fn drop(self) {
-        let SelectedAssignment {
-            at: _,
-            selector: _,
-            target: _,
-            waveforms: _,
-        } = self;
+        take_apart!(self: { at, selector, target, waveforms });
     }
 }

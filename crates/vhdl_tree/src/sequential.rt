@@ -2,9 +2,11 @@
 
 ghost use Rattle.std.specs.Prelude.{◌≡◌};
 ghost use Rattle.vhdl_tree.specs.Tree.{if_of, case_of, for_of, guarded_by, chosen_by, statements_of, conditionals_of, alternatives_of, otherwise_of};
-ghost use Rattle.vhdl_tree.specs.View.{view, ident_view, option_ident_view, range_view, choices_view, statement_view, sequentials_view, option_sequentials_view, conditional_view, conditionals_view, alternative_view, alternatives_view};
+ghost use Rattle.vhdl_tree.specs.View.{view, ident_view, option_ident_view, range_view, choices_view, statement_view};
+ghost use Rattle.vhdl_tree.specs.View.{sequentials_view, option_sequentials_view, conditional_view, conditionals_view, alternative_view, alternatives_view};
 
 use crate::expression::{Choice, Expr, Identifier, Name, Range, Value};
+use drops::take_apart;
 
 /// A sequential statement and its label.
 #[cycle(statement)]
@@ -16,10 +18,7 @@ pub struct Sequential {
 impl Drop for Sequential {
     #[cycle(statement)]
     fn drop(self) {
-        let Sequential {
-            label: _,
-            statement: _,
-        } = self;
+        take_apart!(self: { label, statement });
     }
 }
 
@@ -40,20 +39,8 @@ pub enum Statement {
 impl Drop for Statement {
     #[cycle(statement)]
     fn drop(self) {
-        match self {
-            Statement::Null { at: _ } => {}
-            Statement::SignalAssignment {
-                target: _,
-                value: _,
-            } => {}
-            Statement::VariableAssignment {
-                target: _,
-                value: _,
-            } => {}
-            Statement::If(_) => {}
-            Statement::Case(_) => {}
-            Statement::For(_) => {}
-        }
+        take_apart!(self: Null { at } | SignalAssignment { target, value }
+            | VariableAssignment { target, value } | If(_) | Case(_) | For(_));
     }
 }
 
@@ -70,12 +57,7 @@ pub struct If {
 impl Drop for If {
     #[cycle(statement)]
     fn drop(self) {
-        let If {
-            at: _,
-            branches: _,
-            otherwise: _,
-            end_label: _,
-        } = self;
+        take_apart!(self: { at, branches, otherwise, end_label });
     }
 }
 
@@ -89,10 +71,7 @@ pub struct Conditional {
 impl Drop for Conditional {
     #[cycle(statement)]
     fn drop(self) {
-        let Conditional {
-            condition: _,
-            statements: _,
-        } = self;
+        take_apart!(self: { condition, statements });
     }
 }
 
@@ -108,12 +87,7 @@ pub struct Case {
 impl Drop for Case {
     #[cycle(statement)]
     fn drop(self) {
-        let Case {
-            at: _,
-            selector: _,
-            alternatives: _,
-            end_label: _,
-        } = self;
+        take_apart!(self: { at, selector, alternatives, end_label });
     }
 }
 
@@ -127,10 +101,7 @@ pub struct Alternative {
 impl Drop for Alternative {
     #[cycle(statement)]
     fn drop(self) {
-        let Alternative {
-            choices: _,
-            statements: _,
-        } = self;
+        take_apart!(self: { choices, statements });
     }
 }
 
@@ -147,13 +118,7 @@ pub struct For {
 impl Drop for For {
     #[cycle(statement)]
     fn drop(self) {
-        let For {
-            at: _,
-            parameter: _,
-            range: _,
-            statements: _,
-            end_label: _,
-        } = self;
+        take_apart!(self: { at, parameter, range, statements, end_label });
     }
 }
 

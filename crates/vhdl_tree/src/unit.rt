@@ -3,6 +3,7 @@
 use crate::concurrent::Concurrent;
 use crate::declaration::{Declaration, Generic, Port};
 use crate::expression::Identifier;
+use drops::take_apart;
 
 /// An entity, and the byte at which it starts. `end_word` says whether `entity` stands after
 /// `end`.
@@ -17,14 +18,7 @@ pub struct Entity {
 
 impl Drop for Entity {
     fn drop(self) {
-        let Entity {
-            at: _,
-            name: _,
-            generics: _,
-            ports: _,
-            end_word: _,
-            end_name: _,
-        } = self;
+        take_apart!(self: { at, name, generics, ports, end_word, end_name });
     }
 }
 
@@ -42,15 +36,7 @@ pub struct Architecture {
 
 impl Drop for Architecture {
     fn drop(self) {
-        let Architecture {
-            at: _,
-            name: _,
-            entity: _,
-            declarations: _,
-            statements: _,
-            end_word: _,
-            end_name: _,
-        } = self;
+        take_apart!(self: { at, name, entity, declarations, statements, end_word, end_name });
     }
 }
 
@@ -62,10 +48,7 @@ pub struct Selected {
 
 impl Drop for Selected {
     fn drop(self) {
-        let Selected {
-            library: _,
-            name: _,
-        } = self;
+        take_apart!(self: { library, name });
     }
 }
 
@@ -77,10 +60,7 @@ pub enum ContextItem {
 
 impl Drop for ContextItem {
     fn drop(self) {
-        match self {
-            ContextItem::Library(_) => {}
-            ContextItem::Use(_) => {}
-        }
+        take_apart!(self: Library(_) | Use(_));
     }
 }
 
@@ -92,10 +72,7 @@ pub enum LibraryUnit {
 
 impl Drop for LibraryUnit {
     fn drop(self) {
-        match self {
-            LibraryUnit::Entity(_) => {}
-            LibraryUnit::Architecture(_) => {}
-        }
+        take_apart!(self: Entity(_) | Architecture(_));
     }
 }
 
@@ -107,10 +84,7 @@ pub struct DesignUnit {
 
 impl Drop for DesignUnit {
     fn drop(self) {
-        let DesignUnit {
-            context: _,
-            unit: _,
-        } = self;
+        take_apart!(self: { context, unit });
     }
 }
 
@@ -122,6 +96,6 @@ pub struct File {
 /// Written out, so that a crate that lets a file go proves nothing of what is in it.
 impl Drop for File {
     fn drop(self) {
-        let File { units: _ } = self;
+        take_apart!(self: { units });
     }
 }
