@@ -7,54 +7,81 @@ import tempfile
 from pathlib import Path
 
 TOP = Path(__file__).resolve().parents[2]
-sys.path[:0] = [str(TOP / "bench"), str(TOP / "bridge")]
-import vcd  # noqa: E402
+sys.path.insert(0, str(TOP / "bridge"))
+from dump import vcd  # noqa: E402
 from raw.ghdl import called  # noqa: E402
 
 PERIOD, STEPS = 10, 40
+NINE = "UX01ZWLH-"
 STATES = {"0": "0", "l": "0", "1": "1", "h": "1"}
 TYPES = {"std_logic": "std_logic", "std_ulogic": "std_logic", "bit": "bit", "std_logic_vector": "std_logic_vector", "std_ulogic_vector": "std_logic_vector",
          "unsigned": "unsigned", "u_unsigned": "unsigned", "signed": "signed", "u_signed": "signed", "bit_vector": "bit_vector"}
+# what is no word of a statement
+QUOTED = r"""\"[^"\n]*"|'.'|\\[^\\\n]*\\|--[^\n]*|/\*.*?\*/"""
+# a time, up to a comma or its end; a waveform of several elements is kept
+TIME = r"(?:\((?:[^()]|\([^()]*\))*\)|(?!--|\bwhen\b|\belse\b)[^(),;])*"
+DELAY = re.compile(rf"(?is)({QUOTED}|\bafter\b{TIME},[^;]*?(?=;|\bwhen\b))|\breject\b[^;]*?\binertial\b|\bafter\b{TIME}(?=;|--|\bwhen\b|\belse\b)")
 HEAD = "library ieee;\nuse ieee.std_logic_1164.all;\nuse ieee.numeric_std.all;\n"
 
 
 def ports_of(text, top):
-    """The names, modes and type marks of an entity's ports by its own words."""
+    """The names, modes, type marks and whole subtypes of an entity's ports by its own words."""
     it = re.search(rf"(?is)\bentity\s+{top}\s+is\b(.*?)\bend\b", re.sub(r"--[^\n]*", "", text))
     ports = it and re.search(r"(?is)\bport\s*\((.*)\)\s*;", it[1])
     for part in ports[1].split(";") if ports else ():
         names, _, rest = part.partition(":")
-        word = re.match(r"(?is)\s*(in\b|out\b|inout\b|buffer\b)?\s*(\w*)", rest)
+        word = re.match(r"(?is)\s*(in\b|out\b|inout\b|buffer\b)?\s*((\w*).*?)\s*(:=.*)?$", rest)
         for name in names.split(","):
             if name.split():
-                yield name.split()[-1].lower(), (word[1] or "in").lower(), word[2].lower()
+                yield name.split()[-1].lower(), (word[1] or "in").lower(), word[3].lower(), word[2]
 
 
 def kinds(text, top):
     """The type of each port of an entity, or None where one isn't of the standard packages' elements and vectors."""
-    found = {name: TYPES.get(word) for name, _, word in ports_of(text, top)}
+    found = {name: TYPES.get(word) for name, _, word, _ in ports_of(text, top)}
     return None if None in found.values() else found
 
 
+def undelayed(text):
+    """A source without its delays, which synthesis leaves out."""
+    return DELAY.sub(lambda it: it[1] or "", text)
+
+
 def modes(text, top):
-    return {name: mode for name, mode, _ in ports_of(text, top)}
+    return {name: mode for name, mode, _, _ in ports_of(text, top)}
 
 
-def stimulus(ports, clocks, resets, seed):
-    """Changes of the inputs, each a time, a name and its value: clocks have their edges apart from all else."""
+def drawn(r, width, nine):
+    """A random value: of 0 and 1, or, if `nine`, by turns so, with one element of the nine values, and of them all."""
+    bits = "".join(r.choice("01") for _ in range(width))
+    if not nine or r.random() < 0.4:
+        return bits
+    if r.random() < 0.5:
+        at = r.randrange(width)
+        return bits[:at] + r.choice(NINE) + bits[at + 1 :]
+    return "".join(r.choice(NINE) for _ in range(width))
+
+
+def stimulus(ports, clocks, resets, seed, nine=(), left_out=(), others=()):
+    """Changes of the inputs, each a time, a name and its value: clocks have their edges apart from all else.
+
+    The inputs in `nine` have all nine values, a clock one of them in place of its 1 now and then; those left out have no line. Those in `others` have
+    kinds of their own.
+    """
     r, changes = random.Random(seed), []
     for at, clock in enumerate(clocks):
         changes.append((0, clock, "0"))
         for step in range(STEPS):
-            changes.append((step * PERIOD + 5 + at % 3, clock, "1"))
+            high = r.choice(NINE) if clock in nine and r.random() < 0.1 else "1"
+            changes.append((step * PERIOD + 5 + at % 3, clock, high))
             changes.append((step * PERIOD + 9 if at % 3 == 2 else step * PERIOD + 10 + at % 3, clock, "0"))
-    inputs = [it for it in ports if it.kind == "in" and it.name not in clocks and it.shape.width()]
+    inputs = [it for it in ports if it.kind == "in" and it.name not in clocks and it.name not in left_out and it.shape.width()]
     for it in inputs:
         for step in range(STEPS + 1):
             time = step * PERIOD + 3 if step else 0
             if it.name in resets and step not in (0, 2, 20, 22):
                 continue
-            bits = "".join(r.choice("01") for _ in range(it.shape.width()))
+            bits = others[it.name].drawn(r, it.name in nine) if it.name in others else drawn(r, it.shape.width(), it.name in nine)
             if it.name in resets:
                 active = resets[it.name]
                 bits = active if step in (0, 20) else "10"[int(active)]
@@ -80,18 +107,29 @@ def whole(values, parts):
     return values
 
 
-def testbench(top, ports, types, changes):
-    value = lambda name, bits: f"'{bits}'" if by_name[name].shape.is_bit and types.get(name, "std_logic") in ("std_logic", "bit") else f'"{bits}"'
+def testbench(top, ports, types, changes, others=(), packages=()):
+    """A testbench for GHDL. `others` are the kinds of ports that aren't of the types in `types`; the elements of an output of those have its name."""
+
+    def value(name, bits):
+        if name in others:
+            return others[name].literal(bits)
+        return f"'{bits}'" if by_name[name].shape.is_bit and types.get(name, "std_logic") in ("std_logic", "bit") else f'"{bits}"'
+
+    def kind(it):
+        found = types.get(it.name, "std_logic" if it.shape.is_bit else "std_logic_vector")
+        return found if found.endswith(("logic", "bit")) else f"{found}({it.shape.width() - 1} downto 0)"
+
     by_name = {it.name: it for it in ports}
-    lines = [HEAD, "entity tb is end;", "architecture t of tb is"]
+    lines = [HEAD, *(f"use work.{it}.all;" for it in packages), "entity tb is end;", "architecture t of tb is"]
     first = {name: bits for time, name, bits in changes if time == 0}
     for it in ports:
-        kind = types.get(it.name, "std_logic" if it.shape.is_bit else "std_logic_vector")
-        if not kind.endswith(("logic", "bit")):
-            kind += f"({it.shape.width() - 1} downto 0)"
-        lines.append(f"signal {it.name} : {kind}{' := ' + value(it.name, first[it.name]) if it.name in first else ''};")
-    connected = f" port map ({', '.join(f'{it.name} => {it.name}' for it in ports)})" if ports else ""
-    lines += ["begin", f"dut: entity work.{top}{connected};", "process begin"]
+        start = f" := {value(it.name, first[it.name])}" if it.name in first else ""
+        lines.append(f"signal {it.name} : {others[it.name].subtype if it.name in others and it.kind == 'in' else kind(it)}{start};")
+    made = [it.name for it in ports if it.name in others and it.kind == "out"]
+    lines += [f"signal {name}_made : {others[name].subtype};" for name in made]
+    lines += ["begin", *(f"{name} <= {others[name].image(f'{name}_made')};" for name in made)]
+    connected = f" port map ({', '.join(f'{it.name} => {it.name}' + '_made' * (it.name in made) for it in ports)})" if ports else ""
+    lines += [f"dut: entity work.{top}{connected};", "process begin"]
     last = 0
     for time in sorted({time for time, _, _ in changes if time}):
         sets = " ".join(f"{name} <= {value(name, bits)};" for at, name, bits in changes if at == time)
@@ -121,7 +159,7 @@ def ghdl(text, bench, stop):
             file.write(text + "\n" + bench)
         words = ["-c", "--std=08", "t.vhd", "-r", "tb", "--ieee-asserts=disable", f"--stop-time={stop}ns", "--vcd=t.vcd"]
         done = called(work, *words, seconds=60)
-        if done.returncode:
+        if done.returncode or "--stop-delta" in done.stdout + done.stderr:
             return None, (done.stderr or done.stdout).strip().split("\n")[0]
         with open(f"{work}/t.vcd") as file:
             return trace(file.read(), "tb"), ""
@@ -142,7 +180,7 @@ def own(program, command, text, top, changes, stop, parts):
 def differences(theirs, ours, outputs, is_strict=False):
     """How many values of outputs there are, and those that differ (strictly: also where GHDL's is unknown): time, name, theirs, ours."""
     count, found, a, b = 0, [], theirs.get(0, {}), ours.get(0, {})
-    for time in sorted((theirs.keys() | ours.keys()) - {0}):
+    for time in sorted((theirs.keys() | ours.keys()) - {0}) or [0]:
         a, b = theirs.get(time, a), ours.get(time, b)
         for it in outputs:
             width = it.shape.width()

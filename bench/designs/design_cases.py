@@ -27,8 +27,8 @@ import designs
 from designs import HEAD, Design, Signal, beside
 
 TOP = Path(__file__).resolve().parents[2]
-sys.path[:0] = [str(TOP / "bench"), str(TOP / "bridge")]
-import vcd  # noqa: E402
+sys.path.insert(0, str(TOP / "bridge"))
+from dump import vcd  # noqa: E402
 from raw.ghdl import called  # noqa: E402
 
 NINE = "01010101010101LHXUZW-"

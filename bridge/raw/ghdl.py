@@ -6,13 +6,19 @@ import tempfile
 
 def called(folder, *words, seconds=None):
     """What GHDL answers to these words in a folder, within so many seconds if that is asked."""
-    return subprocess.run(["ghdl", *words], cwd=folder, capture_output=True, text=True, timeout=seconds)
+    return subprocess.run(["ghdl", *words], cwd=folder, capture_output=True, text=True, errors="replace", timeout=seconds)
 
 
 def printed(files, top, standard, folder=None, seconds=None):
     """What GHDL answers where it prints a design in these files as plain VHDL."""
     with tempfile.TemporaryDirectory() as work:
         return called(folder, "--synth", f"--std={standard}", f"--workdir={work}", "--out=raw-vhdl", *files, "-e", top, seconds=seconds)
+
+
+def tree(files, standard, folder=None, seconds=None):
+    """What GHDL answers where it prints its tree of these files, as XML."""
+    with tempfile.TemporaryDirectory() as work:
+        return called(folder, "--file-to-xml", f"--std={standard}", f"--workdir={work}", *files, seconds=seconds)
 
 
 def synthesized(files, top, standard, folder=None):

@@ -129,8 +129,10 @@ class Numbers:
     def absolute(self, it):
         name = self.named(it.operand)
         width = self.width(it.operand)
-        found = self.fresh(Shape(width - 1, 0))
-        self.assign(found, (self.negated(name, width), Binary("=", self.sign(name), Literal("'1'"))), (name, None))
+        found, negated = self.fresh(Shape(width - 1, 0)), self.negated(name, width)
+        levels = [(negated, Binary("=", self.sign(name), Literal(level))) for level in ("'1'", "'H'")]
+        # undefined where one element is (numeric_std, TO_01)
+        self.assign(found, *levels, (vector(Binary("+", unsigned(name), unsigned(zeros(width)))), None))
         return found
 
     def product(self, left, right, width, is_signed):
@@ -205,6 +207,9 @@ class Numbers:
     # comparisons
 
     def relation(self, it):
+        width = max(self.width(it.left), self.width(it.right))
+        if self.is_signed(it) and self.width(it.left) != self.width(it.right):
+            it = Binary(it.operator, *(Call("signed", (self.extended(side, width, True),)) for side in (it.left, it.right)))
         left, right = self.compared(it.left), self.compared(it.right)
         if it.operator in ("=", "/=") and not (self.is_number(it.left) or self.is_number(it.right)):
             return Binary(it.operator, self.value(it.left), self.value(it.right))

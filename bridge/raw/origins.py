@@ -3,16 +3,24 @@ from dataclasses import replace
 
 from .tree import Assign, Binary, Call, Literal, Name, Qualified, Unary
 
+LEVELS = ("'0'", "'1'")
 EDGES = {"rising_edge": "falling_edge", "falling_edge": "rising_edge"}
 
 
 class Origins:
-    def origin(self, name):
-        """The signal that this one copies, and whether it is turned round on the way."""
+    def test(self, it):
+        """Remembers an assignment that tests the level of a signal: as a level it is a copy, or turns it round."""
+        match it:
+            case Assign(target=Name(text=name), parts=[(Literal(text=value), Binary(operator="=", left=Name() as other, right=Literal(text=level))), (Literal(), None)]):
+                if value in LEVELS and level in LEVELS:
+                    self.tested[name] = other if value == level else Unary("not", other)
+
+    def origin(self, name, is_level=False):
+        """The signal that this one copies, and whether it is turned round on the way; of a level also what it tests."""
         is_turned, seen = False, set()
         while name not in seen:
             seen.add(name)
-            match self.sources.get(name):
+            match self.sources.get(name) or is_level and self.tested.get(name):
                 case Name(text=other):
                     name = other
                 case Unary(operator="not", operand=Name(text=other)):
@@ -34,8 +42,8 @@ class Origins:
     def level(self, it):
         """A reset's condition: the input that it comes from has this level."""
         match it:
-            case Binary(operator="=", left=Name(text=name), right=Literal(text=text)) if text in ("'0'", "'1'"):
-                other, is_turned = self.origin(name)
+            case Binary(operator="=", left=Name(text=name), right=Literal(text=text)) if text in LEVELS:
+                other, is_turned = self.origin(name, is_level=True)
                 if self.ports.get(other) == "in":
                     return Binary("=", Name(other), Literal({"'0'": "'1'", "'1'": "'0'"}[text] if is_turned else text))
         return self.condition(it)

@@ -76,7 +76,7 @@ class Reader:
 
     def entity(self):
         self.take("entity")
-        it = Entity(self.name(), [])
+        it = Entity(self.name(), [], is_box=True)
         self.take("is")
         if self.text == "generic":
             self.refuse(f"generics of {it.name}")
@@ -116,6 +116,7 @@ class Reader:
         self.name()
         self.take("of")
         it = found[self.name()]
+        it.is_box = False
         self.take("is")
         while self.text != "begin":
             declared = self.declaration()
@@ -165,10 +166,11 @@ class Reader:
 
     def concurrent(self):
         place = self.place
+        source = place if self.words[self.at].is_named else ""
         if self.text == "with":
-            return self.select(place)
+            return self.select(place, source)
         if self.text == "process":
-            return self.process(place)
+            return self.process(place, source)
         if self.words[self.at + 1].text == ":":
             label = self.name()
             self.take(":")
@@ -177,9 +179,9 @@ class Reader:
                     pass
                 return Check(label, place)
             return self.instance(label, place)
-        return self.assign(place)
+        return self.assign(place, source)
 
-    def select(self, place):
+    def select(self, place, source):
         self.take("with")
         selector = self.expression()
         self.take("select")
@@ -191,7 +193,7 @@ class Reader:
             self.take("when")
             parts.append((value, self.choices()))
             if self.take(",", ";") == ";":
-                return Select(selector, target, parts, place)
+                return Select(selector, target, parts, place, source)
 
     def choices(self):
         if self.takes("others"):
@@ -221,7 +223,7 @@ class Reader:
         self.take(";")
         return Instance(label, entity, ports, place)
 
-    def assign(self, place):
+    def assign(self, place, source=""):
         target = self.primary()
         is_variable = self.take("<=", ":=") == ":="
         parts = []
@@ -230,9 +232,9 @@ class Reader:
             condition = self.expression() if self.takes("when") else None
             parts.append((value, condition))
             if self.take("else", ";") == ";":
-                return Assign(target, parts, place, is_variable)
+                return Assign(target, parts, place, is_variable, self.words[self.at - 1].gate, source)
 
-    def process(self, place):
+    def process(self, place, source):
         self.take("process")
         sensitive, types, variables = [], [], []
         if self.takes("("):
@@ -249,7 +251,7 @@ class Reader:
         self.take("end")
         self.take("process")
         self.take(";")
-        return Process(sensitive, types, variables, body, place)
+        return Process(sensitive, types, variables, body, place, source)
 
     # sequential statements
 

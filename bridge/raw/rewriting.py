@@ -1,9 +1,11 @@
 """Writes GHDL's plain VHDL anew within the language."""
+from .lists import listed
 from .loops import looped, parts_of
+from .meaning import meant
 from .memories import Memories
 from .numbers import Numbers
 from .origins import Origins
-from .tree import (Aggregate, Assign, Binary, Call, Check, Declared, Entity, If, Index, Instance, Literal, Name, Process, Qualified, Refused, Select, Shape,
+from .tree import (Aggregate, Assign, Binary, Call, Check, Declared, Entity, Event, If, Index, Instance, Literal, Name, Process, Qualified, Refused, Select, Shape,
                    Slice, Unary)
 from .wide import split
 
@@ -20,7 +22,7 @@ class Scope(Numbers, Memories, Origins):
         self.shapes = {it.name: it.shape for it in entity.ports}
         self.shapes |= {it.name: it.shape for it in entity.declared if isinstance(it, Declared)}
         self.ports = {it.name: it.kind for it in entity.ports}
-        self.sources = {}
+        self.sources, self.tested = {}, {}
         self.declared, self.body, self.notes, self.fresh_names = [], [], [], 0
         self.place = ""
 
@@ -32,9 +34,9 @@ class Scope(Numbers, Memories, Origins):
     def fresh(self, shape, value=None):
         """A new signal."""
         self.fresh_names += 1
+        while f"made{self.fresh_names}" in self.shapes:
+            self.fresh_names += 1
         name = f"made{self.fresh_names}"
-        while name in self.shapes:
-            name += "_"
         self.shapes[name] = shape
         self.declared.append(Declared("signal", name, shape, value))
         return Name(name)
@@ -191,6 +193,7 @@ class Scope(Numbers, Memories, Origins):
         for it in self.entity.body:
             if isinstance(it, Assign) and isinstance(it.target, Name) and len(it.parts) == 1:
                 self.sources[it.target.text] = it.parts[0][0]
+            self.test(it)
         self.looped = looped(self.entity.body, self.entities)
         for it in self.entity.declared:
             self.declare(it)
@@ -295,7 +298,8 @@ class Scope(Numbers, Memories, Origins):
     def process(self, it):
         body = [self.sequential(part) for part in it.body]
         if len(body) == 1 and isinstance(body[0], If) and any(self.has_edge(condition) for condition, _ in body[0].parts):
-            self.body.append(Process(self.wakes(body[0]), [], [], body, it.place))
+            wakes = self.wakes(body[0])
+            self.body.append(Process(wakes, [], [], [by_event(body[0])] if it.is_event else body, it.place))
         else:
             self.body.append(Process([Name("all")], [], [], body, it.place))
 
@@ -347,17 +351,27 @@ class Scope(Numbers, Memories, Origins):
         return self.condition(condition), body
 
 
-def rewritten(entities):
-    """The entities anew, and what was left out: places and sentences."""
+def by_event(it):
+    """A register's if, with its edge by 'event."""
+    level = {"rising_edge": "'1'", "falling_edge": "'0'"}
+    edge = lambda condition: Event(condition.arguments[0], Literal(level[condition.function])) if isinstance(condition, Call) else condition
+    return If([(edge(condition), body) for condition, body in it.parts])
+
+
+def rewritten(entities, facts=None):
+    """The entities anew, and what was left out: places and sentences. `facts` are those of the sources, by place."""
     by_name = {it.name: it for it in entities}
-    found, notes, narrow = [], [], []
+    found, narrow, facts = [], [], facts or {}
+    meanings = [meant(Scope(it, by_name), facts) for it in entities]
+    entities = [entity for entity, _, _ in meanings]
+    notes = [note for _, _, said in meanings for note in said]
     for it in entities:
         entity, said = split(it, Scope(it, by_name))
         narrow.append(entity)
         notes += said
     by_name = {it.name: it for it in narrow}
-    for it in narrow:
+    for it, (_, signals, _) in zip(narrow, meanings):
         scope = Scope(it, by_name)
         found.append(scope.write())
-        notes += scope.notes
+        notes += scope.notes + listed(found[-1], signals, facts)
     return found, notes

@@ -92,6 +92,8 @@ class Assign:
     parts: list  # pairs of a value and its condition; the last condition is None
     place: str = ""
     is_variable: bool = False
+    gate: str = ""  # what GHDL calls it: signal, uext ..
+    source: str = ""  # the place that GHDL names right before it
 
 
 @dataclass
@@ -100,11 +102,20 @@ class Select:
     target: object
     parts: list  # pairs of a value and its choices; no choice is others
     place: str = ""
+    source: str = ""
 
 
 @dataclass
 class If:
     parts: list  # pairs of a condition (None: else) and statements
+
+
+@dataclass(frozen=True)
+class Event:
+    """An edge as 'event and a level: from any other value to this one."""
+
+    signal: object
+    level: object
 
 
 @dataclass
@@ -114,6 +125,8 @@ class Process:
     variables: list
     body: list
     place: str = ""
+    source: str = ""
+    is_event: bool = False  # its edge is written by 'event
 
 
 @dataclass
@@ -139,6 +152,7 @@ class Entity:
     ports: list
     declared: list = field(default_factory=list)
     body: list = field(default_factory=list)
+    is_box: bool = False  # GHDL prints no architecture of it
 
 
 class Refused(Exception):

@@ -1,6 +1,6 @@
 """Words of GHDL's plain VHDL."""
 import re
-from dataclasses import dataclass
+from dataclasses import dataclass, replace
 
 from .tree import Refused
 
@@ -9,6 +9,7 @@ WORD = re.compile(
     r"""|(?P<name>[A-Za-z]\w*)|(?P<number>\d[\d_]*)|(?P<sign>:=|<=|>=|/=|=>|\*\*|[-+*/&=<>():;,.'|])"""
 )
 PLACE = re.compile(r"^ (\S.*:\d+:\d+)\s*$")
+GATE = re.compile(r"^ +\(?(signal|isignal|port|output|uext|sext|trunc)\)?\s*$")
 
 
 @dataclass(frozen=True)
@@ -16,6 +17,8 @@ class Word:
     kind: str
     text: str
     place: str
+    is_named: bool = False  # whether the place is named right before this word
+    gate: str = ""  # what a comment right behind it calls the gate
 
 
 RESERVED = ("when", "else", "elsif", "if", "is", "select", "and", "or", "xor", "nand", "nor", "xnor", "not", "abs", "mod", "rem")
@@ -28,7 +31,7 @@ def is_named(word):
 
 def words(text):
     """The words, each with the place that the last comment before it names."""
-    found, at, place = [], 0, ""
+    found, at, place, is_new = [], 0, "", False
     while at < len(text):
         it = WORD.match(text, at)
         if text[at] == "'" and found and is_named(found[-1]):
@@ -39,10 +42,13 @@ def words(text):
             raise Refused(f"a word that isn't known: {text[at : at + 20]!r}", place)
         at = it.end()
         if it.lastgroup == "comment":
-            named = PLACE.match(it["comment"])
-            place = named[1] if named else place
+            named, gate = PLACE.match(it["comment"]), GATE.match(it["comment"])
+            place, is_new = (named[1], True) if named else (place, is_new)
+            if gate and found:
+                found[-1] = replace(found[-1], gate=gate[1])
         elif it.lastgroup != "space":
             kind = it.lastgroup
-            found.append(Word(kind, it[0].lower() if kind == "name" else it[0], place))
+            found.append(Word(kind, it[0].lower() if kind == "name" else it[0], place, is_new))
+            is_new = False
     found.append(Word("end", "", place))
     return found

@@ -1,5 +1,5 @@
 """Prints the tree as VHDL."""
-from .tree import Aggregate, Assign, Binary, Call, If, Index, Instance, Literal, Name, Process, Select, Slice, Unary
+from .tree import Aggregate, Assign, Binary, Call, Event, If, Index, Instance, Literal, Name, Process, Select, Slice, Unary
 
 HEAD = "library ieee;\nuse ieee.std_logic_1164.all;\nuse ieee.numeric_std.all;\n"
 
@@ -13,6 +13,8 @@ def expression(it, is_inner=False):
             return f"{expression(it.base)}({expression(it.high)} downto {expression(it.low)})"
         case Call():
             return f"{it.function}({', '.join(map(expression, it.arguments))})"
+        case Event():
+            return f"{expression(it.signal)}'event and {expression(it.signal)} = {expression(it.level)}"
         case Aggregate():
             return f"(others => {expression(it.parts[0][1])})"
         case Unary():
@@ -45,7 +47,7 @@ def choices(them):
 def statement(it, indent):
     match it:
         case Assign():
-            return [f"{indent}{expression(it.target)} <= {values(it.parts)};"]
+            return [f"{indent}{expression(it.target)} {':=' if it.is_variable else '<='} {values(it.parts)};"]
         case Select():
             parts = ",\n".join(f"{indent}  {expression(value)} when {choices(them)}" for value, them in it.parts)
             return [f"{indent}with {expression(it.selector)} select {expression(it.target)} <=\n{parts};"]
@@ -55,7 +57,7 @@ def statement(it, indent):
         case If():
             return conditional(it, indent)
         case Process():
-            lines = [f"{indent}process ({', '.join(map(expression, it.sensitive))})", f"{indent}begin"]
+            lines = [f"{indent}process ({', '.join(map(expression, it.sensitive))})", *(f"{indent}{declared(part)}" for part in it.variables), f"{indent}begin"]
             for part in it.body:
                 lines += statement(part, indent + "  ")
             return lines + [f"{indent}end process;"]
@@ -67,11 +69,13 @@ def conditional(it, indent):
         lines.append(f"{indent}else" if condition is None else f"{indent}{'elsif' if at else 'if'} {expression(condition)} then")
         for part in body:
             lines += statement(part, indent + "  ")
+        lines += [] if body else [f"{indent}  null;"]
     return lines + [f"{indent}end if;"]
 
 
 def entity(it):
-    ports = ";\n".join(f"    {port.name} : {port.kind} {shape(port.shape)}" for port in it.ports)
+    start = lambda port: f" := {expression(port.value)}" if port.value else ""
+    ports = ";\n".join(f"    {port.name} : {port.kind} {shape(port.shape)}{start(port)}" for port in it.ports)
     lines = [HEAD, f"entity {it.name} is"] + ([f"  port (\n{ports});"] if ports else []) + ["end entity;", "", f"architecture rtl of {it.name} is"]
     lines += [declared(part) for part in it.declared] + ["begin"]
     place = ""

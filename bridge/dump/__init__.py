@@ -1,0 +1,1 @@
+"""Dumps that other simulators wrote, as stimuli and expected values."""
