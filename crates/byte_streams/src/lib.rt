@@ -6,12 +6,14 @@
 //! contracts say what was written, read and told.
 #![tactic(auto)]
 
+mod nowhere;
 mod reader;
 mod sink;
 mod texts;
 mod watch;
 mod writer;
 
+pub use nowhere::Nowhere;
 pub use reader::{In, Reader};
 pub use sink::{Sink, WriteFailed};
 pub use texts::{finish, push_line, push_number, push_text};

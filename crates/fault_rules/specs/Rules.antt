@@ -123,6 +123,7 @@ expecting_words expecting.TimeTooLarge = row EXPECTING 6
 
 abbrev pub settling_words : RunRule → Words Text
 settling_words settling.NoSettling = row SETTLING 1
+settling_words settling.NotTraced = row SETTLING 2
 
 abbrev pub remarking_words : RemarkRule → Words Text
 remarking_words remarking.Undriven = row REMARKING 1

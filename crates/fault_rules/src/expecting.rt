@@ -1,10 +1,10 @@
-//! The rules on expected values. They have no sentence and no help yet.
+//! The rules on expected values. One alone has a sentence and a help.
 
 ghost use Rattle.fault_rules.specs.Rules.{AreWords, expecting_words};
 
 use crate::words::{Words, rule};
 
-/// The rules on expected values. They have no sentence and no help yet.
+/// The rules on expected values. One alone has a sentence and a help.
 #[derive(Clone, Copy, Debug)]
 pub enum ExpectRule {
     /// A value isn't the expected one.
@@ -26,7 +26,8 @@ static EXPECTING: [Words<&str>; 6] = [
     rule! { expect 1 Differs },
     rule! { expect 2 AfterStop },
     rule! { expect 3 BadLine },
-    rule! { expect 4 NotASignal },
+    rule! { expect 4 NotASignal: "no port or signal has this name"
+        => "write it behind the top's name: a signal of the top alone, another one behind its instances' labels, as u1.q" },
     rule! { expect 5 BadValue },
     rule! { expect 6 TimeTooLarge },
 ];

@@ -149,7 +149,7 @@ fn simulate<P: Pick, W: Sink>(
 {
     let trees = trees(alloc, net)?;
     let simulation = Simulation {
-        net,
+        shown: net.shown(),
         bodies: &trees,
         stimulus,
         limit,

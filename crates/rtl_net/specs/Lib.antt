@@ -6,6 +6,7 @@ pub mod Core
 pub mod Names
 pub mod Limits
 pub mod Elaborated
+pub mod Showing
 pub mod NetOf
 pub mod Parts
 pub mod steps

@@ -35,6 +35,8 @@ pub record SignalView : Type 0 where
   pub port : Bool
   pub kind : SignalKind
   pub nets : List ℕ
+  -- the byte of the source at which it is declared
+  pub at : ℕ
 
 -- Nets, processes, scopes and signals are numbered by their places in these lists.
 pub record NetlistView : Type 0 where
@@ -85,7 +87,14 @@ abbrev pub scope_view : Scope → ScopeView
 scope_view s = record { label = s.label.items; parent = s.parent }
 
 abbrev pub signal_view : Signal → SignalView
-signal_view s = record { scope = s.scope; name = s.name.items; port = s.port; kind = s.kind; nets = s.nets.items }
+signal_view s = record {
+  scope = s.scope;
+  name = s.name.items;
+  port = s.port;
+  kind = s.kind;
+  nets = s.nets.items;
+  at = s.at;
+}
 
 -- ---- the flat netlist
 

@@ -13,6 +13,7 @@ mod laws;
 mod names;
 mod net;
 mod process;
+mod shown;
 mod signal;
 mod walk;
 
@@ -24,5 +25,6 @@ pub use indices::Indices;
 pub use laws::nets_meet_the_laws;
 pub use net::{Net, NetKind, NoMemory, Source};
 pub use process::{Driver, Process, Variable};
+pub use shown::Shown;
 pub use signal::{Scope, Signal, SignalKind};
 pub use walk::{Leaf, Visit, walk_body, walk_test, walk_value};

@@ -1,7 +1,11 @@
 //! Scopes and signals: the design as it is named.
 
+ghost use Rattle.std.specs.Prelude.{◌≡◌, IfOk};
+ghost use Rattle.rtl_net.specs.Nets.{signal_view};
+
 use drops::take_apart;
 use smallvec::SmallVec;
+use std::alloc::{AllocError, Global};
 
 /// An instance, or the top: its label and the scope in which it stands. The top's label is its
 /// entity's name, an instance's has the labels of the generates round it before its own, joined by
@@ -40,6 +44,24 @@ pub struct Signal {
     pub nets: SmallVec<usize, 1>,
     /// The byte of the source at which it is declared.
     pub at: u32,
+}
+
+impl Signal {
+    /// A copy. It takes the memory of its name, and of its nets where it has several.
+    pub fn copied(&self, alloc: Global) -> Result<Signal, AllocError>
+        ensures { IfOk result (λ copy. signal_view copy ≡ signal_view self.now) }
+    {
+        let name = Vec::from_slice(alloc, &self.name)?;
+        let nets = SmallVec::from_slice(alloc, &self.nets)?;
+        Ok(Signal {
+            scope: self.scope,
+            name,
+            port: self.port,
+            kind: self.kind,
+            nets,
+            at: self.at,
+        })
+    }
 }
 
 impl Drop for Signal {

@@ -5,7 +5,7 @@ use Rattle.std.proofs.lemmas.Bool.{cases_lt}
 use Rattle.rtl_model.specs.simulation.Cycle.{State}
 use Rattle.rtl_model.specs.simulation.Laws.{EveryOrderIsOne}
 use Rattle.rtl_model.specs.simulation.Moments.{HasSettled, SettlesIn, IsMost}
-use Rattle.rtl_net.specs.Nets.{NetlistView}
+use Rattle.rtl_net.specs.Nets.{NetlistView, SignalView}
 use Rattle.byte_streams.specs.Written.{SinkState, TakesAll}
 use Rattle.rtl_stim.specs.Stimuli.{StimulusView, moments, inputs_at}
 use Rattle.rtl_run.specs.declared.summary.Summary.{Summary}
@@ -62,13 +62,13 @@ module _ (agree : EveryOrderIsOne) (net : NetlistView) (s : StimulusView) (limit
   at_most : (last a b : ℕ) → IsMost (core net) (inputs_at s) last a → IsMost (core net) (inputs_at s) last b → a ≤ b
   at_most last a b A B = let (m, within, takes) = A.met in B.at_most m a within takes
 
-  module _ (old one other : SinkState) where
-    whole : (summary also : Summary) → IsWhole net s limit old one summary → IsWhole net s limit old other also → AreAlike old one other (Ok summary) (Ok also)
+  module _ (names : List SignalView) (old one other : SinkState) where
+    whole : (summary also : Summary) → IsWhole net names s limit old one summary → IsWhole net names s limit old other also → AreAlike old one other (Ok summary) (Ok also)
     whole summary also A B = record {
       same = λ i. Ok (record { moments = count i; most_deltas = most i });
-      text = whole_text net s A.all.settled;
+      text = whole_text net names s A.all.settled;
       one_took = (A.all.text.whole A.all.intact).1;
-      other_took = subst (λ (settled : List Settled). TakesAll old other (whole_text net s settled)) (sym same) (B.all.text.whole B.all.intact).1;
+      other_took = subst (λ (settled : List Settled). TakesAll old other (whole_text net names s settled)) (sym same) (B.all.text.whole B.all.intact).1;
     }
       where
         same : A.all.settled ≡ B.all.settled
@@ -85,13 +85,13 @@ module _ (agree : EveryOrderIsOne) (net : NetlistView) (s : StimulusView) (limit
             let down = at_most last also.most_deltas summary.most_deltas other_most A.most in
             omega (arith, up, down)
 
-    stops : (time also : ℕ) → StopsAt net s limit old one time → StopsAt net s limit old other also
+    stops : (time also : ℕ) → StopsAt net names s limit old one time → StopsAt net names s limit old other also
         → AreAlike old one other (Err (NoSettling time)) (Err (NoSettling also))
     stops time also A B = record {
       same = λ i. Err (NoSettling (times i));
-      text = text_so_far net s A.settled;
+      text = text_so_far net names s A.settled;
       one_took = (A.text.whole A.intact).1;
-      other_took = subst (λ (settled : List Settled). TakesAll old other (text_so_far net s settled)) (sym same) (B.text.whole B.intact).1;
+      other_took = subst (λ (settled : List Settled). TakesAll old other (text_so_far net names s settled)) (sym same) (B.text.whole B.intact).1;
     }
       where
         none_less : length A.settled < length B.settled → ⊥
@@ -112,7 +112,7 @@ module _ (agree : EveryOrderIsOne) (net : NetlistView) (s : StimulusView) (limit
         times : time ≡ also
         times = sym A.is_at ∙ ap (λ (settled : List Settled). slice_index (moments s) (length settled)) same ∙ B.is_at
 
-    alike : (answer also : Result Summary RunFault) → Answers net s limit old one answer → Answers net s limit old other also
+    alike : (answer also : Result Summary RunFault) → Answers net names s limit old one answer → Answers net names s limit old other also
         → IsComplete answer → IsComplete also → AreAlike old one other answer also
     alike (Ok summary) (Ok also) A B is too = whole summary also A B
     alike (Err (NoSettling time)) (Err (NoSettling also)) A B is too = stops time also A B
@@ -126,4 +126,4 @@ module _ (agree : EveryOrderIsOne) (net : NetlistView) (s : StimulusView) (limit
     alike (Err (NoSettling time)) (Err Output) A B is too = absurd too
 
 pub each_order_is_written_alike : EveryOrderIsOne → EachOrderIsWrittenAlike
-each_order_is_written_alike agree net s limit old one other answer also A B is too = alike agree net s limit old one other answer also A B is too
+each_order_is_written_alike agree net names s limit old one other answer also A B is too = alike agree net s limit names old one other answer also A B is too

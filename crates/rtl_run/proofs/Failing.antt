@@ -3,6 +3,7 @@ use Rattle.std.proofs.Common.{◌≡◌, ℕ, ◌<◌, List, length, sym, subst,
 use Rattle.std.specs.Prelude.{slice_index}
 use Rattle.rtl_model.specs.simulation.Moments.{Begun}
 use Rattle.rtl_net.specs.Core.{core}
+use Rattle.rtl_net.specs.Nets.{SignalView}
 use Rattle.rtl_stim.specs.Stimuli.{moments, inputs_at}
 use Rattle.byte_streams.specs.Stands.{Stand}
 use Rattle.rtl_run.specs.declared.summary.RunFault.{RunFault}
@@ -31,5 +32,5 @@ module _ (r : CourseView) (m time : ℕ) (Tells : (before now : List ℕ) → Ty
         stuck = stuck S.never.state.before S.never.state.now S.tells;
       })
 
-  pub stops_stuck : (old new : SinkState) → StopsAt r.net r.stimulus r.limit old new time → Fails r.net r.stimulus r.limit old new fault
-  stops_stuck old new stops = subst (λ (f : RunFault). Fails r.net r.stimulus r.limit old new f) (sym S.is) stops
+  pub stops_stuck : (names : List SignalView) (old new : SinkState) → StopsAt r.net names r.stimulus r.limit old new time → Fails r.net names r.stimulus r.limit old new fault
+  stops_stuck names old new stops = subst (λ (f : RunFault). Fails r.net names r.stimulus r.limit old new f) (sym S.is) stops

@@ -10,17 +10,17 @@ use Rattle.rtl_run.specs.simulations.Simulated.{Settled}
 use Rattle.rtl_run.specs.simulations.Traced.{behind_first, at_times, changes_text, text_so_far, whole_text}
 use Rattle.rtl_run.specs.simulations.Progress.{last_values, last_printed, last_printed_of}
 
--- of the same netlist and the same values
-module _ (own net : NetlistView) (same : own ≡ net) (was before is now : List ℕ) (was_before : was ≡ before) (is_now : is ≡ now) where
-  pub moment_goes : (out new : SinkState) (time : ℕ) → Goes out new (moment_text own.signals time was is) → Goes out new (moment_text net.signals time before now)
+-- of the same signals and the same values
+module _ (own names : List SignalView) (same : own ≡ names) (was before is now : List ℕ) (was_before : was ≡ before) (is_now : is ≡ now) where
+  pub moment_goes : (out new : SinkState) (time : ℕ) → Goes out new (moment_text own time was is) → Goes out new (moment_text names time before now)
   moment_goes out new time goes =
-      subst (λ (vs : List ℕ). Goes out new (moment_text net.signals time before vs)) is_now
-      (subst (λ (vs : List ℕ). Goes out new (moment_text net.signals time vs is)) was_before (subst (λ (n : NetlistView). Goes out new (moment_text n.signals time was is)) same goes))
+      subst (λ (vs : List ℕ). Goes out new (moment_text names time before vs)) is_now
+      (subst (λ (vs : List ℕ). Goes out new (moment_text names time vs is)) was_before (subst (λ (ns : List SignalView). Goes out new (moment_text ns time was is)) same goes))
 
-  pub some_change : (printed : Bool) → printed ≡ are_some (changes own.signals was is) → printed ≡ are_some (changes net.signals before now)
+  pub some_change : (printed : Bool) → printed ≡ are_some (changes own was is) → printed ≡ are_some (changes names before now)
   some_change printed some =
-      some ∙ ap (λ (n : NetlistView). are_some (changes n.signals was is)) same ∙ ap (λ (vs : List ℕ). are_some (changes net.signals vs is)) was_before
-      ∙ ap (λ (vs : List ℕ). are_some (changes net.signals before vs)) is_now
+      some ∙ ap (λ (ns : List SignalView). are_some (changes ns was is)) same ∙ ap (λ (vs : List ℕ). are_some (changes names vs is)) was_before
+      ∙ ap (λ (vs : List ℕ). are_some (changes names before vs)) is_now
 
 module _ (signals : List SignalView) where
   -- the changes at one more moment stand behind those before it
@@ -64,37 +64,37 @@ pub values_more : (before : List ℕ) (xs : List Settled) (y : Settled) → last
 values_more before [] y = refl
 values_more before (x ∷ xs) y = values_more x.values xs y
 
-module _ (net : NetlistView) (s : StimulusView) where
+pub last_more : (names : List SignalView) (s : StimulusView) (x : Settled) (xs : List Settled) (y : Settled) → suc (length xs) < length (moments s)
+    → last_printed_of names s (x ∷ (xs ++ y ∷ []))
+    ≡ (if are_some (changes names (last_values x.values xs) y.values) then get_or (moments s) (suc (length xs)) 0 else last_printed_of names s (x ∷ xs))
+last_more names s x xs y less =
+    let ts = behind_first (moments s) in
+    let more = printed_more names 0 x.values xs ts y (fewer (moments s) (length xs) less) in
+    subst (λ (t : ℕ). last_printed names 0 x.values (at_times (xs ++ y ∷ []) ts)
+    ≡ (if are_some (changes names (last_values x.values xs) y.values) then t else last_printed_of names s (x ∷ xs))) (behind (moments s) (length xs)) more
+
+module _ (net : NetlistView) (names : List SignalView) (s : StimulusView) where
   pub text_more : (x : Settled) (xs : List Settled) (y : Settled) → suc (length xs) < length (moments s)
-      → text_so_far net s (x ∷ (xs ++ y ∷ []))
-      ≡ text_so_far net s (x ∷ xs) ++ moment_text net.signals (get_or (moments s) (suc (length xs)) 0) (last_values x.values xs) y.values
+      → text_so_far net names s (x ∷ (xs ++ y ∷ []))
+      ≡ text_so_far net names s (x ∷ xs) ++ moment_text names (get_or (moments s) (suc (length xs)) 0) (last_values x.values xs) y.values
   text_more x xs y less =
       let ts = behind_first (moments s) in
-      let head = header_text net.scopes net.signals in
-      let first = first_text net.signals x.values in
-      let was = changes_text net.signals x.values (at_times xs ts) in
+      let head = header_text net.scopes names in
+      let first = first_text names x.values in
+      let was = changes_text names x.values (at_times xs ts) in
       let at = behind (moments s) (length xs) in
-      let more = changes_more net.signals x.values xs ts y (fewer (moments s) (length xs) less) in
-      let said = subst (λ (t : ℕ). changes_text net.signals x.values (at_times (xs ++ y ∷ []) ts) ≡ was ++ moment_text net.signals t (last_values x.values xs) y.values) at more in
-      let now = moment_text net.signals (get_or (moments s) (suc (length xs)) 0) (last_values x.values xs) y.values in
+      let more = changes_more names x.values xs ts y (fewer (moments s) (length xs) less) in
+      let said = subst (λ (t : ℕ). changes_text names x.values (at_times (xs ++ y ∷ []) ts) ≡ was ++ moment_text names t (last_values x.values xs) y.values) at more in
+      let now = moment_text names (get_or (moments s) (suc (length xs)) 0) (last_values x.values xs) y.values in
       ap (λ (text : List ℕ). (head ++ first) ++ text) said ∙ sym (append_assoc (head ++ first) was now)
 
-  pub last_more : (x : Settled) (xs : List Settled) (y : Settled) → suc (length xs) < length (moments s)
-      → last_printed_of net s (x ∷ (xs ++ y ∷ []))
-      ≡ (if are_some (changes net.signals (last_values x.values xs) y.values) then get_or (moments s) (suc (length xs)) 0 else last_printed_of net s (x ∷ xs))
-  last_more x xs y less =
-      let ts = behind_first (moments s) in
-      let more = printed_more net.signals 0 x.values xs ts y (fewer (moments s) (length xs) less) in
-      subst (λ (t : ℕ). last_printed net.signals 0 x.values (at_times (xs ++ y ∷ []) ts)
-      ≡ (if are_some (changes net.signals (last_values x.values xs) y.values) then t else last_printed_of net s (x ∷ xs))) (behind (moments s) (length xs)) more
-
   pub text_end : (x : Settled) (xs : List Settled)
-      → whole_text net s (x ∷ xs) ≡ text_so_far net s (x ∷ xs) ++ end_text (last_printed_of net s (x ∷ xs)) s.schedule.stop
+      → whole_text net names s (x ∷ xs) ≡ text_so_far net names s (x ∷ xs) ++ end_text (last_printed_of names s (x ∷ xs)) s.schedule.stop
   text_end x xs =
       let ms = at_times xs (behind_first (moments s)) in
-      let head = header_text net.scopes net.signals in
-      let first = first_text net.signals x.values in
-      let was = changes_text net.signals x.values ms in
-      let last = end_text (last_printed_of net s (x ∷ xs)) s.schedule.stop in
-      ap (λ (text : List ℕ). (head ++ first) ++ text) (changes_end net.signals 0 x.values ms s.schedule.stop)
+      let head = header_text net.scopes names in
+      let first = first_text names x.values in
+      let was = changes_text names x.values ms in
+      let last = end_text (last_printed_of names s (x ∷ xs)) s.schedule.stop in
+      ap (λ (text : List ℕ). (head ++ first) ++ text) (changes_end names 0 x.values ms s.schedule.stop)
       ∙ sym (append_assoc (head ++ first) was last)

@@ -42,14 +42,14 @@ long_behind : (ts : List ℕ) (n : ℕ) → suc n ≡ length ts → n ≡ length
 long_behind [] n long = absurd (omega (arith, long))
 long_behind (t ∷ ts) n long = omega (arith, long)
 
-pub whole_is : (net : NetlistView) (s : StimulusView) (run : ℕ → List ℕ) (xs : List Settled) → 0 < length (moments s) → length xs ≡ length (moments s) → AreOfRun run xs
-    → whole_text net s xs ≡ machine_text net s run
-whole_is net s run [] some long of_run = absurd (omega (arith, some, long))
-whole_is net s run (x ∷ xs) some long of_run =
+pub whole_is : (net : NetlistView) (names : List SignalView) (s : StimulusView) (run : ℕ → List ℕ) (xs : List Settled) → 0 < length (moments s) → length xs ≡ length (moments s) → AreOfRun run xs
+    → whole_text net names s xs ≡ machine_text net names s run
+whole_is net names s run [] some long of_run = absurd (omega (arith, some, long))
+whole_is net names s run (x ∷ xs) some long of_run =
     let times = behind_first (moments s) in
     let tail = same_moments (λ m. run (suc m)) xs times (long_behind (moments s) (length xs) long) (later run x xs of_run) in
-    ap (λ (v : List ℕ). trace_text net.scopes net.signals v (at_times xs times) s.schedule.stop) (of_run 0 x refl)
-    ∙ ap (λ (ms : List Moment). trace_text net.scopes net.signals (run 0) ms s.schedule.stop) tail
+    ap (λ (v : List ℕ). trace_text net.scopes names v (at_times xs times) s.schedule.stop) (of_run 0 x refl)
+    ∙ ap (λ (ms : List Moment). trace_text net.scopes names (run 0) ms s.schedule.stop) tail
 
 -- ---- the first of them
 
@@ -77,29 +77,29 @@ short_behind : (ts : List ℕ) (n : ℕ) → suc n ≤ length ts → n ≤ lengt
 short_behind [] n less = absurd (omega (arith, less))
 short_behind (t ∷ ts) n less = omega (arith, less)
 
-so_far_begins : (net : NetlistView) (s : StimulusView) (run : ℕ → List ℕ) (xs : List Settled) → length xs ≤ length (moments s) → AreOfRun run xs
-    → Begins (text_so_far net s xs) (machine_text net s run)
-so_far_begins net s run [] less of_run =
-    let first = first_text net.signals (run 0) in
-    let rest = moments_text net.signals 0 (run 0) (run_at (λ m. run (suc m)) (behind_first (moments s))) s.schedule.stop in
-    record { rest = first ++ rest; is = append_assoc (header_text net.scopes net.signals) first rest }
-so_far_begins net s run (x ∷ xs) less of_run =
+so_far_begins : (net : NetlistView) (names : List SignalView) (s : StimulusView) (run : ℕ → List ℕ) (xs : List Settled) → length xs ≤ length (moments s) → AreOfRun run xs
+    → Begins (text_so_far net names s xs) (machine_text net names s run)
+so_far_begins net names s run [] less of_run =
+    let first = first_text names (run 0) in
+    let rest = moments_text names 0 (run 0) (run_at (λ m. run (suc m)) (behind_first (moments s))) s.schedule.stop in
+    record { rest = first ++ rest; is = append_assoc (header_text net.scopes names) first rest }
+so_far_begins net names s run (x ∷ xs) less of_run =
     let times = behind_first (moments s) in
-    let head = header_text net.scopes net.signals in
-    let more = changes_begin net.signals 0 (run 0) (λ m. run (suc m)) xs times s.schedule.stop (short_behind (moments s) (length xs) less) (later run x xs of_run) in
-    subst (λ (v : List ℕ). Begins (head ++ first_text net.signals v ++ changes_text net.signals v (at_times xs times)) (machine_text net s run)) (sym (of_run 0 x refl))
-    (begins_more (head ++ first_text net.signals (run 0)) (changes_text net.signals (run 0) (at_times xs times)) (moments_text net.signals 0 (run 0) (run_at (λ m. run (suc m)) times) s.schedule.stop) more)
+    let head = header_text net.scopes names in
+    let more = changes_begin names 0 (run 0) (λ m. run (suc m)) xs times s.schedule.stop (short_behind (moments s) (length xs) less) (later run x xs of_run) in
+    subst (λ (v : List ℕ). Begins (head ++ first_text names v ++ changes_text names v (at_times xs times)) (machine_text net names s run)) (sym (of_run 0 x refl))
+    (begins_more (head ++ first_text names (run 0)) (changes_text names (run 0) (at_times xs times)) (moments_text names 0 (run 0) (run_at (λ m. run (suc m)) times) s.schedule.stop) more)
 
-text_begins : (net : NetlistView) (s : StimulusView) (run : ℕ → List ℕ) (xs : List Settled) (text : List ℕ) → 0 < length (moments s) → length xs ≤ length (moments s) → AreOfRun run xs
-    → IsTextOf net s xs text → Begins text (machine_text net s run)
-text_begins net s run xs text some less of_run is =
-    ⊎_elim (λ so_far. subst (λ (t : List ℕ). Begins t (machine_text net s run)) (sym so_far) (so_far_begins net s run xs less of_run))
-    (λ all. record { rest = []; is = sym (whole_is net s run xs some all.0 of_run) ∙ sym all.1 ∙ sym (append-nil text) }) is
+text_begins : (net : NetlistView) (names : List SignalView) (s : StimulusView) (run : ℕ → List ℕ) (xs : List Settled) (text : List ℕ) → 0 < length (moments s) → length xs ≤ length (moments s) → AreOfRun run xs
+    → IsTextOf net names s xs text → Begins text (machine_text net names s run)
+text_begins net names s run xs text some less of_run is =
+    ⊎_elim (λ so_far. subst (λ (t : List ℕ). Begins t (machine_text net names s run)) (sym so_far) (so_far_begins net names s run xs less of_run))
+    (λ all. record { rest = []; is = sym (whole_is net names s run xs some all.0 of_run) ∙ sym all.1 ∙ sym (append-nil text) }) is
 
 -- a beginning of the trace of some moments is one of the whole
-pub beginning_is : (net : NetlistView) (s : StimulusView) (run : ℕ → List ℕ) (xs : List Settled) (text : List ℕ) (old new : SinkState)
+pub beginning_is : (net : NetlistView) (names : List SignalView) (s : StimulusView) (run : ℕ → List ℕ) (xs : List Settled) (text : List ℕ) (old new : SinkState)
     → 0 < length (moments s) → length xs ≤ length (moments s) → AreOfRun run xs
-    → IsTextOf net s xs text → TakesBeginning old new text → TakesBeginning old new (machine_text net s run)
-beginning_is net s run xs text old new some less of_run is taken =
-    let b = text_begins net s run xs text some less of_run is in
+    → IsTextOf net names s xs text → TakesBeginning old new text → TakesBeginning old new (machine_text net names s run)
+beginning_is net names s run xs text old new some less of_run is taken =
+    let b = text_begins net names s run xs text some less of_run is in
     subst (λ (t : List ℕ). TakesBeginning old new t) (sym b.is) (TakesBeginning-append old new text b.rest taken)

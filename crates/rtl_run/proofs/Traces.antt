@@ -2,7 +2,7 @@
 use Rattle.std.proofs.Common.{◌≡◌, ℕ, pred, ◌≤◌, List, length, refl, sym, ap, subst, ◌∙◌}
 use Rattle.rtl_model.specs.simulation.Moments.{HasSettled, IsMost}
 use Rattle.rtl_model.specs.simulation.Laws.{OneGreatestCount}
-use Rattle.rtl_net.specs.Nets.{NetlistView, flat}
+use Rattle.rtl_net.specs.Nets.{NetlistView, SignalView, flat}
 use Rattle.rtl_net.specs.Elaborated.{IsNet}
 use Rattle.rtl_net.specs.Core.{core}
 use Rattle.byte_streams.specs.Stands.{Stand}
@@ -24,9 +24,6 @@ use Rattle.rtl_run.specs.simulations.Watched.{AreStands, IsToldAll, IsToldFirst,
 use Rattle.rtl_run.proofs.Texts.{are_of_run, whole_is, beginning_is}
 
 module _ (net : NetlistView) (s : StimulusView) (limit : ℕ) (run : ℕ → List ℕ) (synchronous : IsSynchronous (core net) limit (inputs_at s) run) where
-  is_trace : IsTrace net s limit (machine_text net s run)
-  is_trace = record { run = run; synchronous = synchronous; is = refl }
-
   -- each moment settles
   pub never_settles : (m : ℕ) → NeverSettles net s limit m → ⊥
   never_settles m never =
@@ -47,37 +44,40 @@ module _ (net : NetlistView) (s : StimulusView) (limit : ℕ) (run : ℕ → Lis
 
   -- ---- what went out
 
-  beginning : (old new : SinkState) → LeavesBeginning net s limit old new → TracesBeginning net s limit old new
-  beginning old new leaves = record {
-    text = machine_text net s run;
-    trace = is_trace;
-    taken = beginning_is net s run leaves.settled leaves.text old new (each_begins_at_zero s).0 leaves.are.there
-        (are_of_run net s limit run leaves.settled synchronous.is_machine leaves.are) leaves.is leaves.taken;
-  }
+  module _ (names : List SignalView) (old new : SinkState) where
+    is_trace : IsTrace net names s limit (machine_text net names s run)
+    is_trace = record { run = run; synchronous = synchronous; is = refl }
 
-  module _ (old new : SinkState) where
-    pub leaves : (fault : RunFault) → Fails net s limit old new fault → Leaves net s limit old new (of_run fault)
+    beginning : LeavesBeginning net names s limit old new → TracesBeginning net names s limit old new
+    beginning leaves = record {
+      text = machine_text net names s run;
+      trace = is_trace;
+      taken = beginning_is net names s run leaves.settled leaves.text old new (each_begins_at_zero s).0 leaves.are.there
+          (are_of_run net s limit run leaves.settled synchronous.is_machine leaves.are) leaves.is leaves.taken;
+    }
+
+    pub leaves : (fault : RunFault) → Fails net names s limit old new fault → Leaves net names s limit old new (of_run fault)
     leaves (NoSettling time) stops = absurd (never_settles (length stops.settled) stops.never)
-    leaves Memory (left, intact) = (beginning old new left, intact)
-    leaves Output (left, failed) = (beginning old new left, failed)
+    leaves Memory (left, intact) = (beginning left, intact)
+    leaves Output (left, failed) = (beginning left, failed)
 
-    pub is_another : (fault : RunFault) → Fails net s limit old new fault → (time : ℕ) → fault ≡ NoSettling time → ⊥
+    pub is_another : (fault : RunFault) → Fails net names s limit old new fault → (time : ℕ) → fault ≡ NoSettling time → ⊥
     is_another fault fails time is =
-        let stops = subst (λ (f : RunFault). Fails net s limit old new f) is fails in
+        let stops = subst (λ (f : RunFault). Fails net names s limit old new f) is fails in
         never_settles (length stops.settled) stops.never
 
-    pub traces_moments : (count : ℕ) → WritesAll net s limit old new count → TracesMoments net s limit old new count
+    pub traces_moments : (count : ℕ) → WritesAll net names s limit old new count → TracesMoments net names s limit old new count
     traces_moments count all =
-        let text = whole_is net s run all.settled (each_begins_at_zero s).0 all.all (are_of_run net s limit run all.settled synchronous.is_machine all.are) in
+        let text = whole_is net names s run all.settled (each_begins_at_zero s).0 all.all (are_of_run net s limit run all.settled synchronous.is_machine all.are) in
         record {
-          text = machine_text net s run;
+          text = machine_text net names s run;
           trace = is_trace;
           taken = subst (λ (t : List ℕ). TakesAll old new t) text (all.text.whole all.intact).1;
           intact = all.intact;
           count_is = all.count_is ∙ all.all;
         }
 
-    pub whole : (summary : Summary) → IsNet net → OneGreatestCount → SaysYes (core net) limit → IsWhole net s limit old new summary → TracesAll net s limit old new summary
+    pub whole : (summary : Summary) → IsNet net → OneGreatestCount → SaysYes (core net) limit → IsWhole net names s limit old new summary → TracesAll net names s limit old new summary
     whole summary is_net one said is_whole =
         let moments_are = is_whole.all.count_is ∙ is_whole.all.all in
         let most = subst (λ (k : ℕ). IsMost (core net) (inputs_at s) k summary.most_deltas) (ap pred moments_are) is_whole.most in

@@ -1,7 +1,7 @@
 -- What `run_watched` and `eval` answer on a netlist: nothing is written before the checker, the stimulus and the search
 -- for a race have passed.
 use Rattle.std.specs.Prelude.{◌≡◌, ℕ, ◌⊎◌, List, Result, Err}
-use Rattle.rtl_net.specs.Nets.{NetlistView}
+use Rattle.rtl_net.specs.Nets.{NetlistView, SignalView}
 use Rattle.byte_streams.specs.Written.{SinkState}
 use Rattle.rtl_stim.specs.Stimuli.{StimulusView}
 use Rattle.rtl_run.specs.declared.summary.Summary.{Summary}
@@ -24,8 +24,10 @@ pub record IsNetRefused {A : Type 0} (net : NetlistView) (text : List ℕ) (old 
   pub why : RefusesNet net text fault
   pub nothing : new ≡ old
 
--- Where the checker says yes with a bound and the stimulus has no race, the trace of the synchronous machine's run is
--- written, and each moment settles within the bound, whatever the orders of processes. Else the refusal says why.
-abbrev pub RunsNet : NetlistView → (text : List ℕ) → (old new : SinkState) → Result Summary MachineFault → Type 0
-RunsNet net text old new answer =
-    Admits net text (λ s bound. Traces net s bound old new answer) ⊎ IsNetRefused net text old new answer
+-- Where the checker says yes with a bound and the stimulus has no race, the trace of these signals of the synchronous
+-- machine's run is written, and each moment settles within the bound, whatever the orders of processes. Else the
+-- refusal says why.
+abbrev pub RunsNet : NetlistView → (names : List SignalView) → (text : List ℕ) → (old new : SinkState)
+    → Result Summary MachineFault → Type 0
+RunsNet net names text old new answer =
+    Admits net text (λ s bound. Traces net names s bound old new answer) ⊎ IsNetRefused net text old new answer

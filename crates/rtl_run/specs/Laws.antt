@@ -1,6 +1,6 @@
 -- Whatever the order of processes (IEEE 1076-2008, 14.7.5.3), a simulation answers alike and writes the same.
 use Rattle.std.specs.Prelude.{◌≡◌, ⊤, ℕ, List, Result, Ok, Err}
-use Rattle.rtl_net.specs.Nets.{NetlistView}
+use Rattle.rtl_net.specs.Nets.{NetlistView, SignalView}
 use Rattle.byte_streams.specs.Written.{SinkState, TakesAll}
 use Rattle.rtl_stim.specs.Stimuli.{StimulusView}
 use Rattle.rtl_run.specs.declared.summary.Summary.{Summary}
@@ -23,10 +23,11 @@ pub record AreAlike (old one other : SinkState) (one_answer other_answer : Resul
   pub one_took : TakesAll old one text
   pub other_took : TakesAll old other text
 
--- Of one netlist, stimulus and limit, two runs into sinks that are alike before, by whatever orders.
+-- Of one netlist, its signals that are shown, stimulus and limit, two runs into sinks that are alike before, by
+-- whatever orders.
 abbrev pub EachOrderIsWrittenAlike : Type 0
 EachOrderIsWrittenAlike =
-    (net : NetlistView) (s : StimulusView) (limit : ℕ) (old one other : SinkState)
+    (net : NetlistView) (names : List SignalView) (s : StimulusView) (limit : ℕ) (old one other : SinkState)
     (one_answer other_answer : Result Summary RunFault)
-    → Answers net s limit old one one_answer → Answers net s limit old other other_answer
+    → Answers net names s limit old one one_answer → Answers net names s limit old other other_answer
     → IsComplete one_answer → IsComplete other_answer → AreAlike old one other one_answer other_answer

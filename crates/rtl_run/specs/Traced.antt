@@ -1,7 +1,7 @@
 -- What a simulation of an accepted netlist under a stimulus without a race answers, and what it has written by then.
 use Rattle.std.specs.Prelude.{◌≡◌, ℕ, suc, pred, ◌≤◌, List, [], ◌∷◌, length, Result, Ok, Err}
 use Rattle.rtl_model.specs.simulation.Moments.{IsMost}
-use Rattle.rtl_net.specs.Nets.{NetlistView}
+use Rattle.rtl_net.specs.Nets.{NetlistView, SignalView}
 use Rattle.byte_streams.specs.Written.{SinkState, IsIntact, HasFailed, TakesAll, TakesBeginning}
 use Rattle.rtl_vcd.specs.Trace.{Moment, trace_text}
 use Rattle.rtl_stim.specs.Stimuli.{StimulusView, moments, inputs_at}
@@ -17,17 +17,17 @@ abbrev pub run_at : (run : ℕ → List ℕ) → (times : List ℕ) → List Mom
 run_at run [] = []
 run_at run (t ∷ times) = record { time = t; values = run 0 } ∷ run_at (λ m. run (suc m)) times
 
--- the whole trace of a machine's run under a stimulus (IEEE 1364-2005, clause 18)
-abbrev pub machine_text : NetlistView → StimulusView → (run : ℕ → List ℕ) → List ℕ
-machine_text net s run =
-    trace_text net.scopes net.signals (run 0) (run_at (λ m. run (suc m)) (behind_first (moments s))) s.schedule.stop
+-- the whole trace of these signals of a machine's run under a stimulus (IEEE 1364-2005, clause 18)
+abbrev pub machine_text : NetlistView → (names : List SignalView) → StimulusView → (run : ℕ → List ℕ) → List ℕ
+machine_text net names s run =
+    trace_text net.scopes names (run 0) (run_at (λ m. run (suc m)) (behind_first (moments s))) s.schedule.stop
 
-module _ (net : NetlistView) (s : StimulusView) (bound : ℕ) where
-  -- the netlist is a synchronous machine under the stimulus, and this is the trace of its run
+module _ (net : NetlistView) (names : List SignalView) (s : StimulusView) (bound : ℕ) where
+  -- the netlist is a synchronous machine under the stimulus, and this is the trace of these signals of its run
   pub record IsTrace (text : List ℕ) : Type 0 where
     pub run : ℕ → List ℕ
     pub synchronous : IsSynchronous (core net) bound (inputs_at s) run
-    pub is : text ≡ machine_text net s run
+    pub is : text ≡ machine_text net names s run
 
   -- the whole trace went out, of so many moments
   pub record TracesMoments (old new : SinkState) (count : ℕ) : Type 0 where

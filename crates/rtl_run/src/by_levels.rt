@@ -1,6 +1,7 @@
 //! The levelized simulation of a netlist under a text.
 
-ghost use Rattle.std.specs.Prelude.{IfErr, IfOk};
+ghost use Rattle.std.specs.Prelude.{IfErr, IfOk, map};
+ghost use Rattle.rtl_net.specs.Nets.{signal_view};
 ghost use Rattle.rtl_stim.specs.Ports.{HasOwnPorts};
 ghost use Rattle.byte_streams.specs.Written.{IsIntact};
 ghost use Rattle.rtl_run.specs.Answered.{Admits};
@@ -12,7 +13,7 @@ use crate::level_summary::LevelSummary;
 use crate::prepared::{Prepared, prepare};
 use crate::stepping::Stepping;
 use byte_streams::{Sink, Watch};
-use rtl_net::Net;
+use rtl_net::Shown;
 use std::alloc::Global;
 
 /// Simulates a netlist under the stimulus that a text says, as the synchronous machine that it is:
@@ -30,26 +31,28 @@ use std::alloc::Global;
 /// the earliest race. `Memory` and `Output` leave a beginning of the trace.
 pub fn run_levels_watched<V: Watch, W: Sink>(
     alloc: Global,
-    net: &Net,
+    shown: Shown<'_>,
     text: &[u8],
     watch: &mut V,
     out: &mut W,
 ) -> Result<LevelSummary, MachineFault>
-    requires ports { HasOwnPorts net.now }
+    requires ports { HasOwnPorts shown.net.now }
     requires intact { IsIntact (W.state out.old) }
-    ensures runs { RunsLevels net.now text.now (W.state out.old) (W.state out.new) result }
-    ensures told { IfOk result (λ _. Admits net.now text.now
-        (λ s bound. IsToldRun net.now s bound (λ stands. V.told watch.old stands watch.new))) }
-    ensures failing { IfErr result (λ _. WasToldRun net.now text.now (λ stands. V.told watch.old stands watch.new)) }
+    ensures runs { RunsLevels shown.entry.net.now (map signal_view shown.entry.signals.now) text.now
+        (W.state out.old) (W.state out.new) result }
+    ensures told { IfOk result (λ _. Admits shown.entry.net.now text.now
+        (λ s bound. IsToldRun shown.entry.net.now s bound (λ stands. V.told watch.old stands watch.new))) }
+    ensures failing { IfErr result (λ _. WasToldRun shown.entry.net.now text.now
+        (λ stands. V.told watch.old stands watch.new)) }
 {
-    net.is_elaborated();
+    shown.net.is_elaborated();
     let Prepared {
         admitted,
         bodies,
         mut agenda,
-    } = prepare(alloc, net, text)?;
+    } = prepare(alloc, shown.net, text)?;
     let stepping = Stepping {
-        net,
+        shown,
         bodies: &bodies,
         levels: &admitted.levels,
         stimulus: &admitted.stimulus,

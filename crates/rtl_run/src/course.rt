@@ -3,7 +3,8 @@
 ghost use Rattle.std.specs.Prelude.{◌≡◌, ℕ, pred, ◌<◌, [], length, None, MatchResult, OnOk};
 ghost use Rattle.rtl_net_groups.specs.Touching.{KeepsLeft};
 ghost use Rattle.byte_streams.specs.Written.{SinkState, IsIntact};
-ghost use Rattle.rtl_run.specs.simulations.Engines.{course_of};
+ghost use Rattle.rtl_vcd.specs.Shown.{shown_of};
+ghost use Rattle.rtl_run.specs.simulations.Engines.{course_of, names_of};
 ghost use Rattle.rtl_run.specs.simulations.Ended.{EndsAll, EndsBefore};
 ghost use Rattle.rtl_run.specs.simulations.Progress.{HasCome, IsNextMoment, GoesOn};
 
@@ -11,15 +12,16 @@ use crate::engine::Engine;
 use crate::progress::Progress;
 use crate::summary::RunFault;
 use byte_streams::{Sink, Watch};
-use rtl_net::Net;
+use rtl_net::Shown;
 use rtl_stim::{Agenda, Stimulus};
 use rtl_vcd::{Blocks, VcdFault, end, first, header};
 use std::alloc::Global;
 
-/// A netlist under a stimulus, with so many delta cycles at most in each moment.
+/// A netlist under a stimulus, with so many delta cycles at most in each moment, and the signals
+/// that its trace shows.
 #[derive(Drop)]
 pub(crate) struct Course<'a> {
-    pub(crate) net: &'a Net,
+    pub(crate) shown: Shown<'a>,
     pub(crate) stimulus: &'a Stimulus,
     pub(crate) limit: u32,
 }
@@ -41,19 +43,20 @@ impl Course<'_> {
         requires waiting { (A.state agenda.old).waiting ≡ [] }
         requires last { (A.state agenda.old).last ≡ None }
         requires intact { IsIntact (W.state out.old) }
-        ensures { let r = course_of self.now in let old = W.state out.old in let new = W.state out.new in
+        ensures { let r = course_of self.now in let names = names_of self.now in
+            let old = W.state out.old in let new = W.state out.new in
             MatchResult result
             (λ moments. G.is_at engine.new r (pred moments)
-            × EndsAll r old new (λ stands. V.told watch.old stands watch.new) moments)
-            (EndsBefore r old new (λ stands. V.told watch.old stands watch.new)
+            × EndsAll r names old new (λ stands. V.told watch.old stands watch.new) moments)
+            (EndsBefore r names old new (λ stands. V.told watch.old stands watch.new)
             (λ stands before now time. V.stuck watch.old stands before now time watch.new)) }
     {
         self.stimulus.load(agenda)?;
-        let blocks = Blocks::new(alloc, self.net)?;
+        let blocks = Blocks::new(alloc, self.shown)?;
         let stop = self.stimulus.stop();
-        header(self.net, out)?;
+        header(self.shown, out)?;
         engine.start(watch)?;
-        first(self.net, engine.values(), out)?;
+        first(self.shown, engine.values(), out)?;
         let mut progress = Progress {
             now: 0,
             shown: Vec::from_slice(alloc, engine.values())?,
@@ -80,17 +83,19 @@ impl Course<'_> {
         progress: &mut Progress,
         out: &mut W,
     ) -> Result<(), VcdFault>
-        requires blocks { blocks.now ≡ self.now.net.now }
+        requires blocks { blocks.now ≡ shown_of self.now.shown }
         requires intact { IsIntact (W.state out.old) }
-        requires as_many { length progress.old.shown.items ≡ length self.now.net.now.types }
+        requires as_many { length progress.old.shown.items ≡ length self.now.shown.net.now.types }
         requires left { KeepsLeft (G.chunks engine.now) progress.old.shown.items (G.valuation engine.now) }
         requires settled { G.is_at engine.now (course_of self.now) progress.old.moments }
         requires room { progress.old.moments < 18446744073709551615 }
-        ensures as_many { length progress.new.shown.items ≡ length self.now.net.now.types }
+        ensures as_many { length progress.new.shown.items ≡ length self.now.shown.net.now.types }
         ensures shown { OnOk result (progress.new.shown.items ≡ G.valuation engine.now) }
-        ensures goes_on { (start : SinkState) → HasCome (course_of self.now) start (W.state out.old) progress.old
+        ensures goes_on { (start : SinkState)
+            → HasCome (course_of self.now) (names_of self.now) start (W.state out.old) progress.old
             → IsNextMoment (course_of self.now) progress.old time
-            → GoesOn (course_of self.now) start (W.state out.new) progress.old time progress.new result }
+            → GoesOn (course_of self.now) (names_of self.now) start (W.state out.new) progress.old time progress.new
+            result }
     {
         let touched = engine.touched();
         let is_printed = blocks.moment(time, touched, &progress.shown, engine.values(), out)?;

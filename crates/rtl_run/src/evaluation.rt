@@ -18,7 +18,7 @@ use crate::ports::push_ports;
 use byte_streams::{Sink, Unwatched, finish};
 use rtl_eval_code::codes;
 use rtl_kernel::Forward;
-use rtl_net::Net;
+use rtl_net::{Net, Shown};
 use std::alloc::{AllocError, Global};
 
 /// Writes, for each out port of the top in order of declaration, the line `NAME=VALUE` with its
@@ -51,7 +51,11 @@ pub fn eval<W: Sink>(
 }
 
 /// The values of all nets once the first moment has settled, as codes.
-fn first_values(alloc: Global, net: &Net, admitted: &Admitted) -> Result<Vec<u8>, AllocError>
+fn first_values<'a>(
+    alloc: Global,
+    net: &'a Net,
+    admitted: &'a Admitted,
+) -> Result<Vec<u8>, AllocError>
     requires ports { HasOwnPorts net.now }
     requires accepted { SaysYes (core net.now) admitted.now.bound }
     requires inputs { admitted.now.stimulus.inputs ≡ inputs_of net.now }
@@ -63,7 +67,7 @@ fn first_values(alloc: Global, net: &Net, admitted: &Admitted) -> Result<Vec<u8>
     net.is_elaborated();
     let bodies = codes(alloc, net)?;
     let course = Course {
-        net,
+        shown: Shown { net, signals: &[] },
         stimulus: &admitted.stimulus,
         limit: admitted.bound,
     };

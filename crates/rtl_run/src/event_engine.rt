@@ -43,15 +43,16 @@ impl<'a, E: Exec, P: Pick> EventEngine<'a, E, P> {
         bodies: &'a [E],
         pick: &'a mut P,
     ) -> Result<EventEngine<'a, E, P>, AllocError>
-        requires bodies { RunBodies E.process E.types (flat course.now.net.now) bodies.now }
-        requires ports { HasOwnPorts course.now.net.now }
-        requires inputs { course.now.stimulus.now.inputs ≡ inputs_of course.now.net.now }
+        requires bodies { RunBodies E.process E.types (flat course.now.shown.net.now) bodies.now }
+        requires ports { HasOwnPorts course.now.shown.net.now }
+        requires inputs { course.now.stimulus.now.inputs ≡ inputs_of course.now.shown.net.now }
         ensures { IfOk result (λ e. KernelBegins (course_of course.now) e.kernel e.limit e.touched) }
     {
-        course.net.is_elaborated();
-        let mut kernel = Kernel::new(alloc, course.net, bodies, course.stimulus.initial())?;
+        let net = course.shown.net;
+        net.is_elaborated();
+        let mut kernel = Kernel::new(alloc, net, bodies, course.stimulus.initial())?;
         kernel.start(pick);
-        let touched = Touched::new(alloc, course.net.nets())?;
+        let touched = Touched::new(alloc, net.nets())?;
         Ok(EventEngine {
             kernel,
             pick,

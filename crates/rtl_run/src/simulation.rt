@@ -1,8 +1,8 @@
 //! Simulations by events.
 
-ghost use Rattle.std.specs.Prelude.{◌≡◌, [], None, IfErr, IfOk};
+ghost use Rattle.std.specs.Prelude.{◌≡◌, [], None, IfErr, IfOk, map};
 ghost use Rattle.rtl_kernel.specs.kernel.Kept.{RunBodies};
-ghost use Rattle.rtl_net.specs.Nets.{flat};
+ghost use Rattle.rtl_net.specs.Nets.{flat, signal_view};
 ghost use Rattle.byte_streams.specs.Written.{IsIntact};
 ghost use Rattle.rtl_stim.specs.Ports.{HasOwnPorts, inputs_of};
 ghost use Rattle.rtl_run.specs.simulations.Answered.{Answers};
@@ -14,15 +14,15 @@ use crate::summary::{RunFault, Summary};
 use byte_streams::{Sink, Watch};
 use rtl_eval::Exec;
 use rtl_kernel::Pick;
-use rtl_net::Net;
+use rtl_net::Shown;
 use rtl_stim::{Agenda, Stimulus};
 use std::alloc::Global;
 
 /// What is simulated: a netlist, whose k-th process the k-th body runs, under a stimulus, with so
-/// many delta cycles at most in each moment.
+/// many delta cycles at most in each moment; and the signals that the trace shows.
 #[derive(Drop)]
 pub struct Simulation<'a, E: Exec> {
-    pub net: &'a Net,
+    pub shown: Shown<'a>,
     pub bodies: &'a [E],
     pub stimulus: &'a Stimulus,
     pub limit: u32,
@@ -49,22 +49,22 @@ impl<E: Exec> Simulation<'_, E> {
         watch: &mut V,
         out: &mut W,
     ) -> Result<Summary, RunFault>
-        requires bodies { RunBodies E.process E.types (flat self.now.net.now) self.now.bodies.now }
-        requires ports { HasOwnPorts self.now.net.now }
-        requires inputs { self.now.stimulus.now.inputs ≡ inputs_of self.now.net.now }
+        requires bodies { RunBodies E.process E.types (flat self.now.shown.net.now) self.now.bodies.now }
+        requires ports { HasOwnPorts self.now.shown.net.now }
+        requires inputs { self.now.stimulus.now.inputs ≡ inputs_of self.now.shown.net.now }
         requires waiting { (A.state agenda.old).waiting ≡ [] }
         requires last { (A.state agenda.old).last ≡ None }
         requires intact { IsIntact (W.state out.old) }
-        ensures answers { Answers self.now.net.now self.now.stimulus.now self.now.limit
-            (W.state out.old) (W.state out.new) result }
-        ensures told { IfOk result (λ _. IsToldAll self.now.net.now self.now.stimulus.now
+        ensures answers { Answers self.now.shown.net.now (map signal_view self.now.shown.signals.now)
+            self.now.stimulus.now self.now.limit (W.state out.old) (W.state out.new) result }
+        ensures told { IfOk result (λ _. IsToldAll self.now.shown.net.now self.now.stimulus.now
             (λ stands. V.told watch.old stands watch.new)) }
-        ensures failing { IfErr result (λ fault. WasTold self.now.net.now self.now.stimulus.now self.now.limit
+        ensures failing { IfErr result (λ fault. WasTold self.now.shown.net.now self.now.stimulus.now self.now.limit
             (λ stands. V.told watch.old stands watch.new)
             (λ stands before now time. V.stuck watch.old stands before now time watch.new) fault) }
     {
         let course = Course {
-            net: self.net,
+            shown: self.shown,
             stimulus: self.stimulus,
             limit: self.limit,
         };

@@ -1,8 +1,9 @@
 //! Simulations by levels.
 
-ghost use Rattle.std.specs.Prelude.{ℕ, IfErr, IfOk};
+ghost use Rattle.std.specs.Prelude.{ℕ, IfErr, IfOk, map};
 ghost use Rattle.rtl_model.specs.simulation.Levels.{AreLevels};
 ghost use Rattle.rtl_net.specs.Core.{core};
+ghost use Rattle.rtl_net.specs.Nets.{signal_view};
 ghost use Rattle.rtl_run.specs.Beginnings.{IsReady};
 ghost use Rattle.rtl_run.specs.Watched.{IsToldRun, IsToldRunFirst};
 ghost use Rattle.rtl_run.specs.levels.Answered.{TracesLevels};
@@ -15,15 +16,16 @@ use crate::level_summary::LevelSummary;
 use byte_streams::{Sink, Watch};
 use rtl_eval::Exec;
 use rtl_levels::Machine;
-use rtl_net::Net;
+use rtl_net::Shown;
 use rtl_stim::{Agenda, Stimulus};
 use std::alloc::Global;
 
 /// What is simulated: an accepted netlist, whose k-th process has the k-th body and the k-th level,
-/// under a stimulus without a race, with the bound of its report.
+/// under a stimulus without a race, with the bound of its report; and the signals that the trace
+/// shows.
 #[derive(Drop)]
 pub struct Stepping<'a, E: Exec> {
-    pub net: &'a Net,
+    pub shown: Shown<'a>,
     pub bodies: &'a [E],
     pub levels: &'a [Option<u32>],
     pub stimulus: &'a Stimulus,
@@ -48,23 +50,23 @@ impl<E: Exec> Stepping<'_, E> {
         watch: &mut V,
         out: &mut W,
     ) -> Result<LevelSummary, MachineFault>
-        requires levels { (greatest : ℕ) × AreLevels (core self.now.net.now) self.now.levels.now greatest }
-        requires ready { IsReady E.process E.types self.now.net.now self.now.bodies.now self.now.stimulus.now
+        requires levels { (greatest : ℕ) × AreLevels (core self.now.shown.net.now) self.now.levels.now greatest }
+        requires ready { IsReady E.process E.types self.now.shown.net.now self.now.bodies.now self.now.stimulus.now
             self.now.bound (A.state agenda.old) (W.state out.old) }
-        ensures traces { TracesLevels self.now.net.now self.now.stimulus.now self.now.bound
-            (W.state out.old) (W.state out.new) result }
-        ensures told { IfOk result (λ _. IsToldRun self.now.net.now self.now.stimulus.now self.now.bound
+        ensures traces { TracesLevels self.now.shown.net.now (map signal_view self.now.shown.signals.now)
+            self.now.stimulus.now self.now.bound (W.state out.old) (W.state out.new) result }
+        ensures told { IfOk result (λ _. IsToldRun self.now.shown.net.now self.now.stimulus.now self.now.bound
             (λ stands. V.told watch.old stands watch.new)) }
-        ensures failing { IfErr result (λ _. IsToldRunFirst self.now.net.now self.now.stimulus.now self.now.bound
+        ensures failing { IfErr result (λ _. IsToldRunFirst self.now.shown.net.now self.now.stimulus.now self.now.bound
             (λ stands. V.told watch.old stands watch.new)) }
     {
         accepted_nets_are_synchronous();
-        self.net.is_elaborated();
+        self.shown.net.is_elaborated();
         let initial = self.stimulus.initial();
-        let machine = Machine::new(alloc, self.net, self.bodies, self.levels, initial)?;
+        let machine = Machine::new(alloc, self.shown.net, self.bodies, self.levels, initial)?;
         let mut engine = LevelEngine { machine };
         let course = Course {
-            net: self.net,
+            shown: self.shown,
             stimulus: self.stimulus,
             limit: self.bound,
         };

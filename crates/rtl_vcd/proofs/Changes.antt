@@ -10,7 +10,7 @@ use Rattle.rtl_vcd.specs.Trace.{printed, change, are_some, time_line}
 use Rattle.rtl_vcd.specs.Blocks.{changes_from, continued}
 use Rattle.rtl_vcd.specs.declared.ready.Run.{Run}
 use Rattle.rtl_vcd.specs.Ready.{LiesAmong, IsRun, AreReady, elements, line}
-use Rattle.rtl_vcd.specs.Shown.{IsShown}
+use Rattle.rtl_net.specs.Showing.{IsShown}
 use Rattle.rtl_vcd.specs.Pages.{Passes, IsOpen}
 use Rattle.rtl_vcd.proofs.Pages.{Passes-nil}
 use Rattle.std.proofs.lemmas.List.{length-append}

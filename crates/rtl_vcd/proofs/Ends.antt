@@ -13,7 +13,7 @@ use Rattle.rtl_net.specs.declared.signal.SignalKind.TheVariants.{One}
 use Rattle.rtl_net.specs.Nets.{SignalView, signal_view}
 use Rattle.rtl_vcd.specs.declared.ready.Run.{Run}
 use Rattle.rtl_vcd.specs.Trace.{printed}
-use Rattle.rtl_vcd.specs.Shown.{IsShown}
+use Rattle.rtl_net.specs.Showing.{IsShown}
 use Rattle.rtl_vcd.specs.Ready.{LiesAmong, IsRun, IsReady, AreReady, beginning, elements}
 use Rattle.rtl_vcd.proofs.Names.{part_of_names}
 use Rattle.rtl_vcd.proofs.Printing.{same_test}
@@ -123,7 +123,7 @@ rest_ready first names runs next are = record {
 
 -- no name
 abbrev pub no_name : SignalView
-no_name = record { scope = 0; name = []; port = false; kind = One; nets = [] }
+no_name = record { scope = 0; name = []; port = false; kind = One; nets = []; at = 0 }
 
 -- the run at hand
 pub ready_at : (first : ℕ) (names : List SignalView) (runs : List Run) (i : ℕ) (s : SignalView) (r : Run) → i < length runs → r ≡ get_or runs i r

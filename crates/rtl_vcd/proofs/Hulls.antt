@@ -12,7 +12,7 @@ use Rattle.rtl_net.specs.Nets.{SignalView}
 use Rattle.rtl_vcd.specs.declared.blocks.Block.{Block}
 use Rattle.rtl_vcd.specs.Values.{code, value_change}
 use Rattle.rtl_vcd.specs.Trace.{printed, change}
-use Rattle.rtl_vcd.specs.Shown.{IsShown}
+use Rattle.rtl_net.specs.Showing.{IsShown}
 use Rattle.rtl_vcd.specs.Blocks.{IsBlockOf, AreBlocks, changes_from}
 
 pub one_name : (nets : ℕ) (s : SignalView) (b : Block) → IsShown nets s → b.names ≡ 1 → Contains s.nets b.least → Contains s.nets b.greatest

@@ -1,14 +1,11 @@
--- The texts of names one after another, and what every name of a netlist is shown to be.
+-- The texts of names one after another, and names that are shown.
 use Rattle.std.proofs.Common.{◌≡◌, ℕ, suc, ◌+◌, ◌-◌, ◌<◌, ◌≤◌, List, [], ◌∷◌, ◌++◌, length, map, take, take-add, drop, get_or, sym, ap, subst, ◌∙◌, arith, append_assoc, append-nil, All}
 use Rattle.std.proofs.lemmas.List.{take_more, take_rest, length-map, length-take-le, get_or-map, length-drop, get_or-drop, take-map, drop-map}
-use Rattle.std.proofs.lemmas.List.Elements.{All-get_or, All-weaker, All-take, All-drop}
-use Rattle.std.proofs.lemmas.Option.{slice_get_within}
+use Rattle.std.proofs.lemmas.List.Elements.{All-get_or, All-take, All-drop}
 use Rattle.rtl_net.specs.declared.signal.Signal.{Signal}
-use Rattle.rtl_net.specs.Nets.{SignalView, NetlistView, signal_view, element_type}
-use Rattle.rtl_net.specs.Elaborated.{IsNet, SignalInRange}
-use Rattle.rtl_model.specs.bodies.Types.{HasType}
+use Rattle.rtl_net.specs.Nets.{SignalView, signal_view}
 use Rattle.rtl_vcd.specs.Values.{numbered}
-use Rattle.rtl_vcd.specs.Shown.{IsShown}
+use Rattle.rtl_net.specs.Showing.{IsShown}
 
 pub numbered-append : (f : ℕ → SignalView → List ℕ) (k : ℕ) (xs ys : List SignalView) → numbered f k (xs ++ ys) ≡ numbered f k xs ++ numbered f (k + length xs) ys
 numbered-append f k [] ys = let e : k ≡ k + 0 = omega arith in ap (λ n. numbered f n ys) e
@@ -64,17 +61,6 @@ shown_at nets signals i s lt is all =
 pub name_at : (signals : List Signal) (i : ℕ) (s : Signal) → i < length signals → s ≡ get_or signals i s → get_or (map signal_view signals) i (signal_view s) ≡ signal_view s
 name_at signals i s lt is = get_or-map signal_view signals i s (signal_view s) lt ∙ ap signal_view (sym is)
 
--- each name of a netlist is shown
-pub all_shown : (net : NetlistView) → IsNet net → All (IsShown (length net.types)) net.signals
-all_shown net is =
-    All-weaker (SignalInRange net.types (length net.scopes)) (IsShown (length net.types))
-    (λ s h. record { width = h.width; there = All-weaker (HasType net.types (element_type s.kind)) (λ n. n < length net.types) (λ n t. slice_get_within net.types n (element_type s.kind) t) s.nets h.nets })
-    net.signals is.signals
-
-pub shown_of_net : (net : NetlistView) → IsNet net → (signals : List Signal) → map signal_view signals ≡ net.signals → (i : ℕ) (s : Signal) → i < length signals
-    → s ≡ get_or signals i s → IsShown (length net.types) (signal_view s)
-shown_of_net net is signals e i s lt at = shown_at (length net.types) signals i s lt at (subst (All (IsShown (length net.types))) (sym e) (all_shown net is))
-
 -- the names from one on, and one name more
 pub take_next : (signals : List Signal) (first k i : ℕ) (s : Signal) → i < length signals → first + k ≡ i → s ≡ get_or signals i s
     → take (k + 1) (drop first (map signal_view signals)) ≡ take k (drop first (map signal_view signals)) ++ signal_view s ∷ []
@@ -93,10 +79,9 @@ part_of_names signals first n =
     ap (λ k. map signal_view (take k (drop first signals))) e ∙ sym (take-map signal_view n (drop first signals)) ∙ ap (take n) (sym (drop-map signal_view first signals))
 
 -- they are shown too
-pub part_shown : (net : NetlistView) → IsNet net → (signals : List Signal) → map signal_view signals ≡ net.signals → (nets first n : ℕ) → nets ≡ length net.types
+pub part_shown : (types : ℕ) (signals : List Signal) → All (IsShown types) (map signal_view signals) → (nets first n : ℕ) → nets ≡ types
     → All (IsShown nets) (map signal_view (take (first + n - first) (drop first signals)))
-part_shown net is signals e nets first n as_many =
+part_shown types signals all nets first n as_many =
     subst (All (IsShown nets)) (sym (part_of_names signals first n))
     (All-take (IsShown nets) n (drop first (map signal_view signals))
-    (All-drop (IsShown nets) first (map signal_view signals) (subst (λ k. All (IsShown k) (map signal_view signals)) (sym as_many)
-    (subst (All (IsShown (length net.types))) (sym e) (all_shown net is)))))
+    (All-drop (IsShown nets) first (map signal_view signals) (subst (λ k. All (IsShown k) (map signal_view signals)) (sym as_many) all)))

@@ -1,5 +1,5 @@
 -- Scopes by their depth, and the names of one of them.
-use Rattle.std.proofs.Common.{◌≡◌, ℕ, zero, suc, ◌+◌, ◌<◌, ◌≤◌, ◌==◌, true, false, List, [], ◌∷◌, ◌++◌, length, map, take, drop, get_or, refl, sym, ap, ◌∙◌, arith, ne_eqb, eq-eqb, append-nil, Option, Some, None, ◌⊎◌, inl, inr, ⊎_elim, AllPairs}
+use Rattle.std.proofs.Common.{◌≡◌, ℕ, zero, suc, ◌+◌, ◌<◌, ◌≤◌, ◌==◌, true, false, List, [], ◌∷◌, ◌++◌, length, map, take, drop, get_or, refl, sym, ap, ◌∙◌, arith, ne_eqb, eq-eqb, append-nil, Option, Some, None, ◌⊎◌, inl, inr, AllPairs}
 use Rattle.std.specs.Prelude.{if◌then◌else◌, codes, unwrap_or}
 use Rattle.std.proofs.lemmas.List.{length-map, get_or-map, get_or-drop, get_or-take, get_or_default, length-drop, take-append-drop, map-append, length-take-le}
 use Rattle.std.proofs.lemmas.Option.{none-some}
@@ -7,7 +7,7 @@ use Rattle.std.proofs.lemmas.Bool.{cases_lt}
 use Rattle.rtl_net.specs.declared.signal.Scope.{Scope}
 use Rattle.rtl_net.specs.declared.signal.Signal.{Signal}
 use Rattle.rtl_net.specs.Nets.{ScopeView, SignalView, scope_view, signal_view, parent_of, label_at}
-use Rattle.rtl_net.specs.Elaborated.{AreScopes, ComesBefore}
+use Rattle.rtl_net.specs.Elaborated.{AreScopes}
 use Rattle.rtl_vcd.specs.Header.{depth, depth_within, one_deeper, upscopes, variable_line_in, variable_line}
 use Rattle.rtl_vcd.specs.Values.{numbered}
 use Rattle.rtl_vcd.specs.Shown.{StandInOrder, StartsScope}
@@ -153,8 +153,8 @@ up_to xs scope next s lt is of_scope before i d l = by_place (cases_lt i next)
     by_place (inl l) = before i d l
     by_place (inr n) = let same : next ≡ i = omega arith in omega (arith, of_scope, here, ap (λ k. (get_or xs k d).scope) same)
 
--- names of a netlist stand in order
-pub in_order : (signals : List Signal) → AllPairs ComesBefore (map signal_view signals) → StandInOrder signals
+-- names as the code has them stand in order
+pub in_order : (signals : List Signal) → AllPairs (λ (s t : SignalView). s.scope ≤ t.scope) (map signal_view signals) → StandInOrder signals
 in_order signals pairs i j d l within =
     let views : List SignalView = map signal_view signals in
     let many = length-map signals signal_view in
@@ -163,4 +163,4 @@ in_order signals pairs i j d l within =
     let second = get_or-map signal_view signals j d (signal_view d) within in
     let a : (get_or views i (signal_view d)).scope ≡ (get_or signals i d).scope = ap (λ (v : SignalView). v.scope) first in
     let b : (get_or views j (signal_view d)).scope ≡ (get_or signals j d).scope = ap (λ (v : SignalView). v.scope) second in
-    ⊎_elim (λ lt. omega (arith, lt, a, b)) (λ same. omega (arith, same.0, a, b)) p
+    omega (arith, p, a, b)

@@ -1,13 +1,16 @@
--- What calls that print names ask of them.
-use Rattle.std.specs.Prelude.{ℕ, ◌<◌, ◌≤◌, All, AllPairs, List, length, slice_index_or}
-use Rattle.rtl_model.specs.bodies.Fits.{IsWidth}
+-- Names that are shown of a netlist, and what calls that print them ask of their order.
+use Rattle.std.specs.Prelude.{ℕ, ◌<◌, ◌≤◌, AllPairs, List, length, map, slice_index_or}
 use Rattle.rtl_net.specs.declared.signal.Signal.{Signal}
-use Rattle.rtl_net.specs.Nets.{SignalView}
+use Rattle.rtl_net.specs.declared.shown.Shown.{Shown}
+use Rattle.rtl_net.specs.Nets.{NetlistView, SignalView, signal_view}
 
--- it has a vector's length, and its nets are among so many
-pub record IsShown (nets : ℕ) (s : SignalView) : Type 0 where
-  pub width : IsWidth (length s.nets)
-  pub there : All (λ n. n < nets) s.nets
+-- a netlist, and the names that are shown of it
+pub record ShownView : Type 0 where
+  pub net : NetlistView
+  pub signals : List SignalView
+
+abbrev pub shown_of : Shown → ShownView
+shown_of s = record { net = s.net.now; signals = map signal_view s.signals.now }
 
 -- names stand in order of their scopes
 abbrev pub StandInOrder : List Signal → Type 0

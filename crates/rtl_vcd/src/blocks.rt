@@ -3,12 +3,12 @@
 ghost use Rattle.std.specs.Prelude.{◌≡◌, ◌≤◌, ◌<◌, ◌+◌, ◌/◌, ◌++◌, ◌∷◌, [], ℕ, List, All, Contains, length, take, drop, map, slice_index, true, IfOk, OnOk};
 ghost use Rattle.std.specs.List.{flat_map};
 ghost use Rattle.rtl_net.specs.Nets.{SignalView, signal_view};
+ghost use Rattle.rtl_net.specs.Showing.{IsShown};
 ghost use Rattle.rtl_net_groups.specs.Touching.{KeepsLeft};
 ghost use Rattle.rtl_vcd.specs.Blocks.{IsBlockOf, AreBlocks, AreListed};
-ghost use Rattle.rtl_vcd.specs.Shown.{IsShown};
 
 use crate::characters::are_same;
-use rtl_net::{Net, Signal};
+use rtl_net::{Shown, Signal};
 use rtl_net_groups::{Groups, Lists, Touched};
 use std::alloc::{AllocError, Global};
 
@@ -115,16 +115,15 @@ fn bounds(nets: &[usize]) -> (usize, usize)
     (least, greatest)
 }
 
-/// The blocks of a netlist's names.
-pub(crate) fn blocks_of(alloc: Global, net: &Net) -> Result<Vec<Block>, AllocError>
-    ensures { IfOk result (λ bs. AreBlocks (length net.now.types) bs.items net.now.signals) }
+/// The blocks of the names that are shown.
+pub(crate) fn blocks_of(alloc: Global, shown: Shown<'_>) -> Result<Vec<Block>, AllocError>
+    ensures { IfOk result (λ bs. AreBlocks (length shown.entry.net.now.types) bs.items
+        (map signal_view shown.entry.signals.now)) }
 {
-    net.is_elaborated();
-    let signals = net.signals();
     let mut blocks = Vec::new(alloc);
     let mut next = 0;
-    while next < signals.len() {
-        let block = block_at(net, next);
+    while next < shown.signals.len() {
+        let block = block_at(shown, next);
         blocks.push(block)?;
         next += block.names;
     }
@@ -133,20 +132,24 @@ pub(crate) fn blocks_of(alloc: Global, net: &Net) -> Result<Vec<Block>, AllocErr
 
 /// For each net the blocks of these that have a name with it. It takes memory for each net, and for
 /// each net of a name.
-pub(crate) fn listed_for(alloc: Global, net: &Net, blocks: &[Block]) -> Result<Groups, AllocError>
-    requires { AreBlocks (length net.now.types) blocks.now net.now.signals }
-    ensures { IfOk result (λ groups. AreListed (length net.now.types) groups blocks.now net.now.signals) }
+pub(crate) fn listed_for(
+    alloc: Global,
+    shown: Shown<'_>,
+    blocks: &[Block],
+) -> Result<Groups, AllocError>
+    requires { AreBlocks (length shown.net.now.types) blocks.now (map signal_view shown.signals.now) }
+    ensures { IfOk result (λ groups. AreListed (length shown.entry.net.now.types) groups blocks.now
+        (map signal_view shown.entry.signals.now)) }
 {
-    let signals = net.signals();
     let mut nets_of = Lists::new(alloc)?;
     let mut next = 0;
     for block in blocks {
         let end = next + block.names;
-        let nets = nets_in(alloc, &signals[next..end])?;
+        let nets = nets_in(alloc, &shown.signals[next..end])?;
         nets_of.push(nets.as_slice())?;
         next = end;
     }
-    let declared = vec![in alloc; 0; net.nets()]?;
+    let declared = vec![in alloc; 0; shown.net.nets()]?;
     Groups::new(alloc, &declared, &nets_of)
 }
 
@@ -163,13 +166,13 @@ fn nets_in(alloc: Global, names: &[Signal]) -> Result<Vec<usize>, AllocError>
 
 /// The block that begins with the name of this number: names whose nets stand close to one another,
 /// or those before so many.
-fn block_at(net: &Net, first: usize) -> Block
-    requires there { first < length net.now.signals }
+fn block_at(shown: Shown<'_>, first: usize) -> Block
+    requires there { first < length shown.signals.now }
     ensures some { 0 < result.names }
-    ensures block { IsBlockOf (length net.now.types) result (take result.names (drop first net.now.signals)) }
+    ensures block { IsBlockOf (length shown.entry.net.now.types) result
+        (take result.names (drop first (map signal_view shown.entry.signals.now))) }
 {
-    let signals = net.signals();
-    let mut block = close_at(net, first);
+    let mut block = close_at(shown, first);
     if block.names > FEW {
         return Block {
             is_compared: true,
@@ -177,8 +180,8 @@ fn block_at(net: &Net, first: usize) -> Block
         };
     }
     let mut next = first + block.names;
-    while next < signals.len() {
-        let more = close_at(net, next);
+    while next < shown.signals.len() {
+        let more = close_at(shown, next);
         if more.names > FEW || block.names >= NAMES {
             return block;
         }
@@ -190,13 +193,13 @@ fn block_at(net: &Net, first: usize) -> Block
 
 /// The names from this number on whose nets stand close to one another. They end where one name
 /// more would be too many, or too far off.
-fn close_at(net: &Net, first: usize) -> Block
-    requires there { first < length net.now.signals }
+fn close_at(shown: Shown<'_>, first: usize) -> Block
+    requires there { first < length shown.signals.now }
     ensures some { 0 < result.names }
-    ensures block { IsBlockOf (length net.now.types) result (take result.names (drop first net.now.signals)) }
+    ensures block { IsBlockOf (length shown.entry.net.now.types) result
+        (take result.names (drop first (map signal_view shown.entry.signals.now))) }
 {
-    net.is_elaborated();
-    let signals = net.signals();
+    let signals = shown.signals;
     let mut block = Block::of(&signals[first]);
     for number in first + 1..signals.len() {
         let more = block.with(&Block::of(&signals[number]));

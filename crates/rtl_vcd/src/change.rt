@@ -3,8 +3,8 @@
 ghost use Rattle.std.specs.Prelude.{◌≡◌, ◌<◌, ◌==◌, not, All, length, map, slice_index, true};
 ghost use Rattle.std.specs.Str.{bytes_eq};
 ghost use Rattle.rtl_net.specs.Nets.{signal_view};
+ghost use Rattle.rtl_net.specs.Showing.{IsShown};
 ghost use Rattle.rtl_vcd.specs.Trace.{printed};
-ghost use Rattle.rtl_vcd.specs.Shown.{IsShown};
 ghost use Rattle.rtl_vcd.specs.Values.{character};
 
 use crate::line::{self, Line, binary_digits, push_binary, push_code, push_elements};

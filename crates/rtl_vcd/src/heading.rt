@@ -6,29 +6,31 @@ ghost use Rattle.rtl_net.specs.Nets.{scope_view, signal_view};
 ghost use Rattle.rtl_net.specs.Elaborated.{AreScopes};
 ghost use Rattle.rtl_vcd.specs.Values as values;
 ghost use Rattle.rtl_vcd.specs.Header as spec;
-ghost use Rattle.rtl_vcd.specs.Shown.{IsShown, StandInOrder, StartsScope};
+ghost use Rattle.rtl_vcd.specs.Shown.{StandInOrder, StartsScope};
 
 use crate::fault::VcdFault;
 use crate::line::{Line, binary_digits, push_code};
 use crate::trace::written;
 use byte_streams::{Sink, push_number, push_text};
-use rtl_net::{Net, Scope, Signal, SignalKind};
+use rtl_net::{Scope, Shown, Signal, SignalKind};
 
-/// Writes the header: the unit of time, and the design's scopes with their names. Takes no memory.
+/// Writes the header: the unit of time, and the design's scopes with the names that are shown.
+/// Takes no memory.
 ///
 /// # Errors
 ///
 /// `Write` where the sink failed: what went out is a beginning of the text.
-pub fn header<W: Sink>(net: &Net, out: &mut W) -> Result<(), VcdFault>
+pub fn header<W: Sink>(shown: Shown<'_>, out: &mut W) -> Result<(), VcdFault>
     requires intact { IsIntact (W.state out.old) }
-    ensures text { Goes (W.state out.old) (W.state out.new) (spec.header_text net.now.scopes net.now.signals) }
+    ensures text { Goes (W.state out.old) (W.state out.new)
+        (spec.header_text shown.entry.net.now.scopes (map signal_view shown.entry.signals.now)) }
     ensures ok { OnOk result (IsIntact (W.state out.new)) }
     ensures err { OnErr result (HasFailed (W.state out.new)) }
 {
-    net.is_elaborated();
+    shown.net.is_elaborated();
     push_text(out, b"$timescale 1 ns $end\n");
-    push_scopes(net.scopes(), net.signals(), out);
-    push_closing_after(net.scopes(), out);
+    push_scopes(shown.net.scopes(), shown.signals, out);
+    push_closing_after(shown.net.scopes(), out);
     push_text(out, b"$enddefinitions $end\n");
     written(out)
 }

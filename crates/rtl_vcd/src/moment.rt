@@ -3,11 +3,12 @@
 ghost use Rattle.std.specs.Prelude.{◌≡◌, ◌+◌, ◌<◌, ◌≤◌, ◌||◌, [], if◌then◌else◌, All, length, map, OnOk, OnErr, IfOk, IfSome};
 ghost use Rattle.byte_streams.specs.Written.{IsIntact, HasFailed, Goes};
 ghost use Rattle.rtl_net.specs.Nets.{signal_view};
+ghost use Rattle.rtl_net.specs.Showing.{IsShown};
 ghost use Rattle.rtl_net_groups.specs.Touching.{KeepsLeft};
 ghost use Rattle.rtl_vcd.specs.Trace.{changes, time_line, are_some, moment_text};
 ghost use Rattle.rtl_vcd.specs.Blocks.{AreBlocks, AreListed, changes_from, continued};
 ghost use Rattle.rtl_vcd.specs.Ready.{AreReady};
-ghost use Rattle.rtl_vcd.specs.Shown.{IsShown};
+ghost use Rattle.rtl_vcd.specs.Shown.{shown_of};
 ghost use Rattle.rtl_vcd.specs.Pages.{Passes, IsOpen};
 
 use crate::blocks::{Block, MANY, blocks_of, listed_for};
@@ -17,16 +18,16 @@ use crate::page::Page;
 use crate::ready::{Run, runs_of};
 use crate::trace::{push_time, written};
 use byte_streams::{Sink, push_text};
-use rtl_net::{Net, Signal};
+use rtl_net::{Shown, Signal};
 use rtl_net_groups::{Groups, PLACES, Touched};
 use std::alloc::{AllocError, Global};
 use std::marker::Model;
 
-/// The names of a netlist in blocks, so that a moment passes over those whose nets keep their
-/// values. Contracts see the netlist.
+/// The names that are shown of a netlist in blocks, so that a moment passes over those whose nets
+/// keep their values. Contracts see the netlist and these names.
 #[derive(Drop)]
 pub struct Blocks<'a> {
-    net: &'a Net,
+    shown: Shown<'a>,
     blocks: Vec<Block>,
     runs: Vec<Run>,
     /// The blocks by their nets, where there are many.
@@ -34,43 +35,47 @@ pub struct Blocks<'a> {
 }
 
 impl<'a> Model for Blocks<'a> {
-    ghost use Rattle.rtl_net.specs.Nets.{NetlistView};
+    ghost use Rattle.rtl_vcd.specs.Shown.{ShownView};
     ghost use Rattle.rtl_net.specs.contracts.process.Process as process_contract;
     ghost use Rattle.std.specs.Coded.{codes};
 
-    ghost Value = { NetlistView };
+    ghost Value = { ShownView };
 
     ghost coded = { Prim.hlevel (codes, process_contract.the_row.coded) };
 
-    ghost use Rattle.std.specs.Prelude.{length};
+    ghost use Rattle.std.specs.Prelude.{length, map};
     ghost use Rattle.std.specs.Prelude.{IfSome};
+    ghost use Rattle.rtl_net.specs.Nets.{signal_view};
     ghost use Rattle.rtl_vcd.specs.Blocks.{AreBlocks, AreListed};
     ghost use Rattle.rtl_vcd.specs.Ready.{AreReady};
+    ghost use Rattle.rtl_vcd.specs.Shown.{shown_of};
 
-    ghost view = { λ b. b.net.now };
+    ghost view = { λ b. shown_of b.shown };
 
-    ghost invariant = { λ b. AreBlocks (length b.net.now.types) b.blocks.items b.net.now.signals
-        × AreReady 0 b.net.now.signals b.runs.items
-        × IfSome b.listed (λ groups. AreListed (length b.net.now.types) groups b.blocks.items b.net.now.signals) };
+    ghost invariant = { λ b.
+        AreBlocks (length b.shown.net.now.types) b.blocks.items (map signal_view b.shown.signals.now)
+        × AreReady 0 (map signal_view b.shown.signals.now) b.runs.items
+        × IfSome b.listed (λ groups. AreListed (length b.shown.net.now.types) groups b.blocks.items
+        (map signal_view b.shown.signals.now)) };
 }
 
 impl<'a> Blocks<'a> {
-    /// The blocks of the netlist's names, and the names that stand on nets one behind the other,
-    /// ready to print. They take four words for each block, which mostly has some 64 names, and two
+    /// The blocks of the names, and the names that stand on nets one behind the other, ready to
+    /// print. They take four words for each block, which mostly has some 64 names, and two
     /// for each name; and where there are many blocks, up to three for each net and one for each
     /// net of a name.
-    pub fn new(alloc: Global, net: &'a Net) -> Result<Blocks<'a>, AllocError>
-        ensures { IfOk result (λ b. b ≡ net.now) }
+    pub fn new(alloc: Global, shown: Shown<'a>) -> Result<Blocks<'a>, AllocError>
+        ensures { IfOk result (λ b. b ≡ shown_of shown.entry) }
     {
-        let blocks = blocks_of(alloc, net)?;
-        let runs = runs_of(alloc, net)?;
+        let blocks = blocks_of(alloc, shown)?;
+        let runs = runs_of(alloc, shown)?;
         let listed = if blocks.len() > MANY {
-            Some(listed_for(alloc, net, blocks.as_slice())?)
+            Some(listed_for(alloc, shown, blocks.as_slice())?)
         } else {
             None
         };
         Ok(Blocks {
-            net,
+            shown,
             blocks,
             runs,
             listed,
@@ -100,9 +105,9 @@ impl<'a> Blocks<'a> {
         out: &mut W,
     ) -> Result<bool, VcdFault>
         requires intact { IsIntact (W.state out.old) }
-        requires before { length old.now ≡ length self.now.types }
-        requires after { length new.now ≡ length self.now.types }
-        requires nets { touched.now.nets ≡ length self.now.types }
+        requires before { length old.now ≡ length self.now.net.types }
+        requires after { length new.now ≡ length self.now.net.types }
+        requires nets { touched.now.nets ≡ length self.now.net.types }
         requires left { KeepsLeft touched.now old.now new.now }
         ensures text { Goes (W.state out.old) (W.state out.new) (moment_text self.now.signals time old.now new.now) }
         ensures printed { IfOk result (λ is_printed. is_printed ≡ are_some (changes self.now.signals old.now new.now)) }
@@ -111,7 +116,7 @@ impl<'a> Blocks<'a> {
     {
         let step = Step { time, old, new };
         let is_printed = push_moment(
-            self.net,
+            self.shown,
             self.blocks.as_slice(),
             self.runs.as_slice(),
             self.listed.as_ref(),
@@ -124,10 +129,10 @@ impl<'a> Blocks<'a> {
     }
 }
 
-/// The changes of the netlist's names, which stand in these blocks, behind their time. Answers
+/// The changes of the names, which stand in these blocks, behind their time. Answers
 /// whether there are any.
 fn push_moment<W: Sink>(
-    net: &Net,
+    shown: Shown<'_>,
     blocks: &[Block],
     runs: &[Run],
     listed: Option<&Groups>,
@@ -135,19 +140,20 @@ fn push_moment<W: Sink>(
     step: &Step,
     out: &mut W,
 ) -> bool
-    requires blocks { AreBlocks (length net.now.types) blocks.now net.now.signals }
-    requires runs { AreReady 0 net.now.signals runs.now }
-    requires listed { IfSome listed (λ groups. AreListed (length net.now.types) groups.now blocks.now net.now.signals) }
-    requires before { length step.now.old.now ≡ length net.now.types }
-    requires after { length step.now.new.now ≡ length net.now.types }
-    requires nets { touched.now.nets ≡ length net.now.types }
+    requires blocks { AreBlocks (length shown.net.now.types) blocks.now (map signal_view shown.signals.now) }
+    requires runs { AreReady 0 (map signal_view shown.signals.now) runs.now }
+    requires listed { IfSome listed (λ groups. AreListed (length shown.net.now.types) groups.now blocks.now
+        (map signal_view shown.signals.now)) }
+    requires before { length step.now.old.now ≡ length shown.net.now.types }
+    requires after { length step.now.new.now ≡ length shown.net.now.types }
+    requires nets { touched.now.nets ≡ length shown.net.now.types }
     requires left { KeepsLeft touched.now step.now.old.now step.now.new.now }
     ensures text { Goes (W.state out.old) (W.state out.new)
-        (moment_text net.now.signals step.now.time step.now.old.now step.now.new.now) }
-    ensures printed { result ≡ are_some (changes net.now.signals step.now.old.now step.now.new.now) }
+        (moment_text (map signal_view shown.entry.signals.now) step.now.time step.now.old.now step.now.new.now) }
+    ensures printed { result
+        ≡ are_some (changes (map signal_view shown.entry.signals.now) step.now.old.now step.now.new.now) }
 {
-    net.is_elaborated();
-    let signals = net.signals();
+    let signals = shown.signals;
     let mut marks = [listed.is_none(); PLACES];
     if let Some(groups) = listed {
         touched.mark_listed(groups, step.old, step.new, &mut marks);

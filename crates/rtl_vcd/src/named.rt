@@ -3,10 +3,10 @@
 ghost use Rattle.std.specs.Prelude.{◌≡◌, ◌+◌, ◌<◌, ◌≤◌, ◌++◌, ◌||◌, [], if◌then◌else◌, All, length, map, take};
 ghost use Rattle.byte_streams.specs.Written.{Goes};
 ghost use Rattle.rtl_net.specs.Nets.{signal_view};
+ghost use Rattle.rtl_net.specs.Showing.{IsShown};
 ghost use Rattle.rtl_vcd.specs.Trace.{change, time_line, are_some};
 ghost use Rattle.rtl_vcd.specs.Blocks.{changes_from, continued};
 ghost use Rattle.rtl_vcd.specs.Ready.{AreReady};
-ghost use Rattle.rtl_vcd.specs.Shown.{IsShown};
 ghost use Rattle.rtl_vcd.specs.Pages.{Passes, IsOpen};
 
 use crate::change::{change_line, prints_otherwise};

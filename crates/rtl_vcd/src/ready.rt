@@ -1,7 +1,7 @@
 //! Names that are ready to print: those whose nets stand one behind the other, with the end of
 //! their lines.
 
-ghost use Rattle.std.specs.Prelude.{◌≡◌, ℕ, ◌+◌, ◌<◌, ◌≤◌, ◌++◌, [], not, if◌then◌else◌, length, take, codes, true, slice_index, IfOk};
+ghost use Rattle.std.specs.Prelude.{◌≡◌, ℕ, ◌+◌, ◌<◌, ◌≤◌, ◌++◌, [], not, if◌then◌else◌, length, map, take, codes, true, slice_index, IfOk};
 ghost use Rattle.std.specs.Str.{bytes_eq};
 ghost use Rattle.std.specs.List.{range_with_len};
 ghost use Rattle.rtl_net.specs.Nets.{SignalView, signal_view};
@@ -19,7 +19,7 @@ use crate::line::{binary_digits, character, push_code};
 use crate::page::{PAGE, Page};
 use crate::positions::{is_other_position, push_digits};
 use arrayvec::ArrayVec;
-use rtl_net::{Net, Signal, SignalKind};
+use rtl_net::{Shown, Signal, SignalKind};
 use std::alloc::{AllocError, Global};
 
 /// Room for the end of a line: a space, a code of ten characters, and the line's end.
@@ -156,12 +156,11 @@ impl Run {
     }
 }
 
-/// The names of a netlist, as far as they are runs.
-pub(crate) fn runs_of(alloc: Global, net: &Net) -> Result<Vec<Run>, AllocError>
-    ensures { IfOk result (λ rs. AreReady 0 net.now.signals rs.items) }
+/// The names that are shown, as far as they are runs.
+pub(crate) fn runs_of(alloc: Global, shown: Shown<'_>) -> Result<Vec<Run>, AllocError>
+    ensures { IfOk result (λ rs. AreReady 0 (map signal_view shown.entry.signals.now) rs.items) }
 {
-    net.is_elaborated();
-    let signals = net.signals();
+    let signals = shown.signals;
     let mut runs = Vec::new(alloc);
     for (number, signal) in signals.iter().enumerate() {
         runs.push(run_of(number, signal))?;

@@ -3,32 +3,32 @@
 ghost use Rattle.std.specs.Prelude.{◌≡◌, ◌++◌, if◌then◌else◌, All, length, map, OnOk, OnErr, IfOk};
 ghost use Rattle.byte_streams.specs.Written.{IsIntact, HasFailed, Goes};
 ghost use Rattle.rtl_net.specs.Nets.{signal_view};
+ghost use Rattle.rtl_net.specs.Showing.{IsShown};
 ghost use Rattle.rtl_vcd.specs.Values.{numbered};
 ghost use Rattle.rtl_vcd.specs.Trace.{printed, changes, time_line, first_text, stamped, are_some, moment_text, end_text};
-ghost use Rattle.rtl_vcd.specs.Shown.{IsShown};
 
 use crate::change::change_line;
 use crate::fault::VcdFault;
 use byte_streams::{Sink, finish, push_number, push_text};
-use rtl_net::{Net, Signal};
+use rtl_net::{Shown, Signal};
 
-/// Writes what every name prints at 0, where the nets have these values, one for each net. Takes no
-/// memory.
+/// Writes what every name that is shown prints at 0, where the nets have these values, one for each
+/// net. Takes no memory.
 ///
 /// # Errors
 ///
 /// `Write` where the sink failed: what went out is a beginning of the text.
-pub fn first<W: Sink>(net: &Net, values: &[u8], out: &mut W) -> Result<(), VcdFault>
+pub fn first<W: Sink>(shown: Shown<'_>, values: &[u8], out: &mut W) -> Result<(), VcdFault>
     requires intact { IsIntact (W.state out.old) }
-    requires valuation { length values.now ≡ length net.now.types }
-    ensures text { Goes (W.state out.old) (W.state out.new) (first_text net.now.signals values.now) }
+    requires valuation { length values.now ≡ length shown.net.now.types }
+    ensures text { Goes (W.state out.old) (W.state out.new)
+        (first_text (map signal_view shown.entry.signals.now) values.now) }
     ensures ok { OnOk result (IsIntact (W.state out.new)) }
     ensures err { OnErr result (HasFailed (W.state out.new)) }
 {
-    net.is_elaborated();
     push_time(out, 0);
     push_text(out, b"$dumpvars\n");
-    push_all(net.signals(), values, out);
+    push_all(shown.signals, values, out);
     push_text(out, b"$end\n");
     written(out)
 }

@@ -1,7 +1,7 @@
 -- What the run of an accepted netlist writes is one text.
 use Rattle.std.proofs.Common.{◌≡◌, ℕ, ◌≤◌, List, length, Ok, inl, inr, sym, ap, subst, ◌∙◌}
 use Rattle.rtl_model.specs.simulation.Laws.{OneMachineRun, OneReport}
-use Rattle.rtl_net.specs.Nets.{NetlistView}
+use Rattle.rtl_net.specs.Nets.{NetlistView, SignalView}
 use Rattle.rtl_net.specs.Elaborated.{IsNet}
 use Rattle.rtl_net.specs.Laws.{EachNetMeetsTheLaws}
 use Rattle.rtl_net.specs.Core.{core}
@@ -18,9 +18,9 @@ use Rattle.rtl_run.specs.levels.Answered.{RunsLevels, TracesLevels}
 use Rattle.rtl_run.specs.levels.Laws.{EachTraceIsTheOne, EachRunIsWrittenAlike, WriteAlike}
 
 pub each_trace_is_the_one : EachNetMeetsTheLaws → OneMachineRun → EachTraceIsTheOne
-each_trace_is_the_one meets one net s is_net accepted bound other_bound text other T U =
+each_trace_is_the_one meets one net names s is_net accepted bound other_bound text other T U =
     let all = one (core net) (meets net is_net).elaborated accepted (inputs_at s) in
-    T.is ∙ ap (λ (run : ℕ → List ℕ). machine_text net s run) (all.2 T.run T.synchronous.machine ∙ sym (all.2 U.run U.synchronous.machine)) ∙ sym U.is
+    T.is ∙ ap (λ (run : ℕ → List ℕ). machine_text net names s run) (all.2 T.run T.synchronous.machine ∙ sym (all.2 U.run U.synchronous.machine)) ∙ sym U.is
 
 -- ---- both commands
 
@@ -34,8 +34,8 @@ same_stimulus net text a b s t A B = λ i. record { inputs = (A.says.0 ∙ sym B
     same_schedule : s.schedule ≡ t.schedule
     same_schedule = same_ok s.schedule t.schedule A.says.1 B.says.1
 
-module _ (one : EachTraceIsTheOne) (reports : OneReport) (net : NetlistView) (text : List ℕ) (is_net : IsNet net) (old left right : SinkState) (summary : Summary) (levels : LevelSummary) where
-  both : (A : Admits net text (λ s bound. Traces net s bound old left (Ok summary))) (B : Admits net text (λ s bound. TracesLevels net s bound old right (Ok levels)))
+module _ (one : EachTraceIsTheOne) (reports : OneReport) (net : NetlistView) (names : List SignalView) (text : List ℕ) (is_net : IsNet net) (old left right : SinkState) (summary : Summary) (levels : LevelSummary) where
+  both : (A : Admits net text (λ s bound. Traces net names s bound old left (Ok summary))) (B : Admits net text (λ s bound. TracesLevels net names s bound old right (Ok levels)))
       → WriteAlike old left right summary levels
   both A B = record {
     text = A.done.all.text;
@@ -50,8 +50,8 @@ module _ (one : EachTraceIsTheOne) (reports : OneReport) (net : NetlistView) (te
 
       same_text : A.done.all.text ≡ B.done.all.text
       same_text =
-          one net A.stimulus is_net A.admitted.accepted.accepted A.bound B.bound A.done.all.text B.done.all.text A.done.all.trace
-          (subst (λ (s : StimulusView). IsTrace net s B.bound B.done.all.text) (sym same) B.done.all.trace)
+          one net names A.stimulus is_net A.admitted.accepted.accepted A.bound B.bound A.done.all.text B.done.all.text A.done.all.trace
+          (subst (λ (s : StimulusView). IsTrace net names s B.bound B.done.all.text) (sym same) B.done.all.trace)
 
       same_bound : A.bound ≡ B.bound
       same_bound =
@@ -59,10 +59,10 @@ module _ (one : EachTraceIsTheOne) (reports : OneReport) (net : NetlistView) (te
           let also = B.admitted.accepted in
           (reports (core net) yes.accepted yes.levels also.levels yes.from also.from yes.clocks also.clocks A.bound B.bound yes.report also.report).3
 
-  pub alike : RunsNet net text old left (Ok summary) → RunsLevels net text old right (Ok levels) → WriteAlike old left right summary levels
+  pub alike : RunsNet net names text old left (Ok summary) → RunsLevels net names text old right (Ok levels) → WriteAlike old left right summary levels
   alike (inl A) (inl B) = both A B
   alike (inl A) (inr R) = let is = R.is in cc
   alike (inr R) either = let is = R.is in cc
 
 pub each_run_is_written_alike : EachTraceIsTheOne → OneReport → EachRunIsWrittenAlike
-each_run_is_written_alike one reports net text is_net old left right summary levels = alike one reports net text is_net old left right summary levels
+each_run_is_written_alike one reports net names text is_net old left right summary levels = alike one reports net names text is_net old left right summary levels

@@ -1,7 +1,7 @@
 -- `run_watched` and `run_levels_watched` write the same.
 use Rattle.std.specs.Prelude.{◌≡◌, ℕ, ◌≤◌, List, Ok}
 use Rattle.rtl_model.specs.simulation.Accepted.{IsAccepted}
-use Rattle.rtl_net.specs.Nets.{NetlistView}
+use Rattle.rtl_net.specs.Nets.{NetlistView, SignalView}
 use Rattle.rtl_net.specs.Elaborated.{IsNet}
 use Rattle.byte_streams.specs.Written.{SinkState, TakesAll}
 use Rattle.rtl_stim.specs.Stimuli.{StimulusView}
@@ -12,12 +12,12 @@ use Rattle.rtl_run.specs.Answered.{RunsNet}
 use Rattle.rtl_run.specs.declared.level_summary.LevelSummary.{LevelSummary}
 use Rattle.rtl_run.specs.levels.Answered.{RunsLevels}
 
--- an accepted netlist has one trace under a stimulus
+-- an accepted netlist has one trace of the same signals under a stimulus
 abbrev pub EachTraceIsTheOne : Type 0
 EachTraceIsTheOne =
-    (net : NetlistView) (s : StimulusView) → IsNet net → IsAccepted (core net)
+    (net : NetlistView) (names : List SignalView) (s : StimulusView) → IsNet net → IsAccepted (core net)
     → (bound other_bound : ℕ) (text other : List ℕ)
-    → IsTrace net s bound text → IsTrace net s other_bound other → text ≡ other
+    → IsTrace net names s bound text → IsTrace net names s other_bound other → text ≡ other
 
 -- Both sinks took one text. Both answers tell the same number of moments, and the bound that one tells is none below
 -- the greatest number of delta cycles that the other tells.
@@ -28,11 +28,11 @@ pub record WriteAlike (old one other : SinkState) (summary : Summary) (levels : 
   pub count : summary.moments ≡ levels.moments
   pub within : summary.most_deltas ≤ levels.bound
 
--- Of one netlist and one text, `run_watched` and `run_levels_watched` into sinks that are alike before: where both come
--- to their end, they have written the same bytes.
+-- Of one netlist, its signals that are shown and one text, `run_watched` and `run_levels_watched` into sinks that are
+-- alike before: where both come to their end, they have written the same bytes.
 abbrev pub EachRunIsWrittenAlike : Type 0
 EachRunIsWrittenAlike =
-    (net : NetlistView) (text : List ℕ) → IsNet net
+    (net : NetlistView) (names : List SignalView) (text : List ℕ) → IsNet net
     → (old one other : SinkState) (summary : Summary) (levels : LevelSummary)
-    → RunsNet net text old one (Ok summary) → RunsLevels net text old other (Ok levels)
+    → RunsNet net names text old one (Ok summary) → RunsLevels net names text old other (Ok levels)
     → WriteAlike old one other summary levels

@@ -1,7 +1,7 @@
 -- What a simulation answers, and what it has written by then.
 use Rattle.std.specs.Prelude.{◌≡◌, ℕ, pred, ◌<◌, ◌⊎◌, List, length, slice_index, Result, Ok, Err}
 use Rattle.rtl_model.specs.simulation.Moments.{IsMost}
-use Rattle.rtl_net.specs.Nets.{NetlistView}
+use Rattle.rtl_net.specs.Nets.{NetlistView, SignalView}
 use Rattle.byte_streams.specs.Written.{SinkState, IsIntact, HasFailed, Goes, TakesBeginning}
 use Rattle.rtl_stim.specs.Stimuli.{StimulusView, moments, inputs_at}
 use Rattle.rtl_run.specs.declared.summary.Summary.{Summary}
@@ -11,18 +11,19 @@ use Rattle.rtl_net.specs.Core.{core}
 use Rattle.rtl_run.specs.simulations.Simulated.{Settled, AreMoments, NeverSettles}
 use Rattle.rtl_run.specs.simulations.Traced.{text_so_far, whole_text}
 
--- the trace of these moments, or the whole where they are all
-abbrev pub IsTextOf : NetlistView → StimulusView → List Settled → (text : List ℕ) → Type 0
-IsTextOf net s settled text =
-    (text ≡ text_so_far net s settled) ⊎ ((length settled ≡ length (moments s)) × (text ≡ whole_text net s settled))
+-- the trace of these signals at these moments, or the whole where they are all
+abbrev pub IsTextOf : NetlistView → (names : List SignalView) → StimulusView → List Settled → (text : List ℕ) → Type 0
+IsTextOf net names s settled text =
+    (text ≡ text_so_far net names s settled)
+    ⊎ ((length settled ≡ length (moments s)) × (text ≡ whole_text net names s settled))
 
-module _ (net : NetlistView) (s : StimulusView) (limit : ℕ) (old new : SinkState) where
+module _ (net : NetlistView) (names : List SignalView) (s : StimulusView) (limit : ℕ) (old new : SinkState) where
   -- Each moment settles within the limit, there are so many, and the whole trace went out.
   pub record WritesAll (count : ℕ) : Type 0 where
     pub settled : List Settled
     pub are : AreMoments net s limit settled
     pub all : length settled ≡ length (moments s)
-    pub text : Goes old new (whole_text net s settled)
+    pub text : Goes old new (whole_text net names s settled)
     pub intact : IsIntact new
     pub count_is : count ≡ length settled
 
@@ -38,7 +39,7 @@ module _ (net : NetlistView) (s : StimulusView) (limit : ℕ) (old new : SinkSta
     pub more : length settled < length (moments s)
     pub is_at : slice_index (moments s) (length settled) ≡ time
     pub never : NeverSettles net s limit (length settled)
-    pub text : Goes old new (text_so_far net s settled)
+    pub text : Goes old new (text_so_far net names s settled)
     pub intact : IsIntact new
 
   -- A beginning of the trace of some of the moments went out, or of the whole trace.
@@ -46,7 +47,7 @@ module _ (net : NetlistView) (s : StimulusView) (limit : ℕ) (old new : SinkSta
     pub settled : List Settled
     pub are : AreMoments net s limit settled
     pub text : List ℕ
-    pub is : IsTextOf net s settled text
+    pub is : IsTextOf net names s settled text
     pub taken : TakesBeginning old new text
 
   -- what has gone out where the simulation ends in this fault

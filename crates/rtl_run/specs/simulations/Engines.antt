@@ -1,10 +1,10 @@
 -- What is so of an engine, moment by moment.
-use Rattle.std.specs.Prelude.{◌≡◌, ℕ, ◌≤◌, List, length}
+use Rattle.std.specs.Prelude.{◌≡◌, ℕ, ◌≤◌, List, length, map}
 use Rattle.rtl_model.specs.simulation.Accepted.{IsAccepted}
 use Rattle.rtl_model.specs.simulation.Moments.{Begun, HasNoneToRun, HasSettled, IsMost}
 use Rattle.rtl_net.specs.Core.{core}
 use Rattle.rtl_net.specs.Elaborated.{IsNet}
-use Rattle.rtl_net.specs.Nets.{NetlistView}
+use Rattle.rtl_net.specs.Nets.{NetlistView, SignalView, signal_view}
 use Rattle.rtl_net_groups.specs.Touching.{Chunks}
 use Rattle.byte_streams.specs.Stands.{Stand}
 use Rattle.rtl_agenda.specs.Agenda.{Change}
@@ -26,7 +26,11 @@ pub record CourseView : Type 0 where
   pub limit : ℕ
 
 abbrev pub course_of : Course → CourseView
-course_of c = record { net = c.net.now; stimulus = c.stimulus.now; limit = c.limit }
+course_of c = record { net = c.shown.net.now; stimulus = c.stimulus.now; limit = c.limit }
+
+-- the signals that its trace shows
+abbrev pub names_of : Course → List SignalView
+names_of c = map signal_view c.shown.signals.now
 
 -- the netlist's parts fit, its top's ports have names of their own, and the stimulus is of its inputs
 pub record IsCourse (r : CourseView) : Type 0 where

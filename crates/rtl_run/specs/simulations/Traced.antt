@@ -21,15 +21,15 @@ abbrev pub changes_text : List SignalView → (before : List ℕ) → List Momen
 changes_text signals before [] = []
 changes_text signals before (m ∷ ms) = moment_text signals m.time before m.values ++ changes_text signals m.values ms
 
--- the trace of the first moments, which settle so: of none, the header
-abbrev pub text_so_far : NetlistView → StimulusView → List Settled → List ℕ
-text_so_far net s [] = header_text net.scopes net.signals
-text_so_far net s (x ∷ xs) =
-    header_text net.scopes net.signals ++ first_text net.signals x.values
-    ++ changes_text net.signals x.values (at_times xs (behind_first (moments s)))
+-- the trace of these signals at the first moments, which settle so: of none, the header
+abbrev pub text_so_far : NetlistView → (names : List SignalView) → StimulusView → List Settled → List ℕ
+text_so_far net names s [] = header_text net.scopes names
+text_so_far net names s (x ∷ xs) =
+    header_text net.scopes names ++ first_text names x.values
+    ++ changes_text names x.values (at_times xs (behind_first (moments s)))
 
--- the whole trace, where all moments settle so
-abbrev pub whole_text : NetlistView → StimulusView → List Settled → List ℕ
-whole_text net s [] = header_text net.scopes net.signals
-whole_text net s (x ∷ xs) =
-    trace_text net.scopes net.signals x.values (at_times xs (behind_first (moments s))) s.schedule.stop
+-- their whole trace, where all moments settle so
+abbrev pub whole_text : NetlistView → (names : List SignalView) → StimulusView → List Settled → List ℕ
+whole_text net names s [] = header_text net.scopes names
+whole_text net names s (x ∷ xs) =
+    trace_text net.scopes names x.values (at_times xs (behind_first (moments s))) s.schedule.stop

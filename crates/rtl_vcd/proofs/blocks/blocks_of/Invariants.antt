@@ -5,7 +5,7 @@ use Rattle.rtl_vcd.proofs.blocks.blocks_of.Given as goal
 
 -- the names before this one stand in the blocks so far
 abbrev pub invariant-loop-next : goal.invariant-loop-next
-invariant-loop-next l = AreBlocks (length l.net.types) l.blocks.items (take l.next (map signal_view l.signals)) × (l.next ≤ length l.signals)
+invariant-loop-next l = AreBlocks (length l.shown.net.now.types) l.blocks.items (take l.next (map signal_view l.shown.signals.now)) × (l.next ≤ length l.shown.signals.now)
 
 abbrev pub decreases-loop-next : goal.decreases-loop-next
-decreases-loop-next l = length l.signals - l.next
+decreases-loop-next l = length l.shown.signals.now - l.next

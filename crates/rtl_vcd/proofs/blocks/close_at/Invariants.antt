@@ -7,4 +7,4 @@ use Rattle.rtl_vcd.proofs.blocks.close_at.Given as goal
 abbrev pub invariant-loop-number : goal.invariant-loop-number
 invariant-loop-number l =
     (l.first + l.block.names ≡ l.number)
-    × IsBlockOf (length l.net.types) l.block (take l.block.names (drop l.first (map signal_view l.signals)))
+    × IsBlockOf (length l.shown.net.now.types) l.block (take l.block.names (drop l.first (map signal_view l.signals)))

@@ -1,7 +1,7 @@
 use Rattle.std.proofs.Common.{◌≡◌, ◌+◌, ◌-◌, ◌||◌, All, length, map, take, drop, ◌∙◌, subst, sym, ap, arith}
 use Rattle.std.proofs.lemmas.List.{length-map, take_rest}
 use Rattle.std.proofs.lemmas.List.Elements.{All-drop}
-use Rattle.rtl_vcd.specs.Shown.{IsShown}
+use Rattle.rtl_net.specs.Showing.{IsShown}
 use Rattle.rtl_vcd.specs.Pages.{Passes}
 use Rattle.rtl_vcd.specs.Ready.{AreReady}
 use Rattle.rtl_vcd.proofs.Pages.{Passes-append}

@@ -1,7 +1,8 @@
-use Rattle.std.proofs.Common.{◌≡◌, ◌%◌, ◌<◌, ◌||◌, Bool, not, true, false, IfSome, is_some, [], length, take, drop, get_or, refl, arith, sym, ap, subst, ◌∙◌}
+use Rattle.std.proofs.Common.{◌≡◌, ◌%◌, ◌<◌, ◌||◌, Bool, not, true, false, IfSome, is_some, [], length, map, take, drop, get_or, refl, arith, sym, ap, subst, ◌∙◌}
 use Rattle.std.proofs.lemmas.Nat.{mod_below}
 use Rattle.std.proofs.lemmas.List.{get_or_default, get_or-replicate, length-replicate}
 use Rattle.byte_streams.specs.Written.{Goes}
+use Rattle.rtl_net.specs.Nets.{signal_view}
 use Rattle.rtl_vcd.specs.Pages.{Passes}
 use Rattle.rtl_vcd.proofs.Pages.{Passes-nil, Passes-append, Passes-whole}
 use Rattle.rtl_vcd.specs.declared.blocks.Block.{Block}
@@ -21,18 +22,18 @@ none = record { names = 0; least = 0; greatest = 0; is_compared = false }
 
 pub push_changes-is_printed-requires-clause-before : goal.push_changes-is_printed-requires-clause-before
 push_changes-is_printed-requires-clause-before g c =
-    part_shown c.args.net.now c.is_elaborated.ensures c.signals-signals.result.now c.signals-signals.ensures (length c.args.step.now.old.now)
+    part_shown (length c.args.shown.net.now.types) c.args.shown.signals.now c.args.shown.fits.each (length c.args.step.now.old.now)
     c.loop-number.next (get_or c.args.blocks.now c.loop-number.number none).names c.requires.before
 
 pub push_changes-is_printed-requires-clause-after : goal.push_changes-is_printed-requires-clause-after
 push_changes-is_printed-requires-clause-after g c =
-    part_shown c.args.net.now c.is_elaborated.ensures c.signals-signals.result.now c.signals-signals.ensures (length c.args.step.now.new.now)
+    part_shown (length c.args.shown.net.now.types) c.args.shown.signals.now c.args.shown.fits.each (length c.args.step.now.new.now)
     c.loop-number.next (get_or c.args.blocks.now c.loop-number.number none).names c.requires.after
 
 pub push_changes-is_printed-requires-clause-runs : goal.push_changes-is_printed-requires-clause-runs
 push_changes-is_printed-requires-clause-runs g c =
-    part_of_runs c.signals-signals.result.now c.args.runs.now c.loop-number.next (get_or c.args.blocks.now c.loop-number.number none).names
-    c.args.net.now.signals c.signals-signals.ensures c.requires.runs
+    part_of_runs c.args.shown.signals.now c.args.runs.now c.loop-number.next (get_or c.args.blocks.now c.loop-number.number none).names
+    (map signal_view c.args.shown.signals.now) refl c.requires.runs
 
 of_not : (b : Bool) → not b ≡ false → b ≡ true
 of_not true e = refl
@@ -41,7 +42,8 @@ of_not false e = sym e
 pub loop-number-init : goal.loop-number-init
 loop-number-init g c =
     let start = g.W.Sink.state c.args.out.now in
-    let nets = length c.args.net.now.types in
+    let nets = length c.args.shown.net.now.types in
+    let names = map signal_view c.args.shown.signals.now in
     let old = c.args.step.now.old.now in
     let new = c.args.step.now.new.now in (
       subst (λ held. Passes start start [] held []) (sym c.new-page.ensures) (Passes-nil start []),
@@ -52,22 +54,22 @@ loop-number-init g c =
       elim c.match-listed.branch [
         | in-Some w ↦
             let listed =
-            subst (λ o. IfSome o (λ groups. AreListed nets groups.now c.args.blocks.now c.args.net.now.signals)) w.in-Some.is c.requires.listed in
-            subst (λ ms. KeepFrom ms old new 0 c.args.blocks.now c.args.net.now.signals) (sym w.marks-is)
+            subst (λ o. IfSome o (λ groups. AreListed nets groups.now c.args.blocks.now names)) w.in-Some.is c.requires.listed in
+            subst (λ ms. KeepFrom ms old new 0 c.args.blocks.now names) (sym w.marks-is)
             (listed_marked w.mark_listed.new.marks old new nets w.in-Some.groups.now
-            (λ p n lt h unmarked. w.mark_listed.ensures p n (omega (arith, lt, c.requires.nets)) h unmarked) 0 c.args.blocks.now c.args.net.now.signals c.requires.blocks listed.each)
+            (λ p n lt h unmarked. w.mark_listed.ensures p n (omega (arith, lt, c.requires.nets)) h unmarked) 0 c.args.blocks.now names c.requires.blocks listed.each)
         | in_default w ↦
             let none_listed : c.is_none-marks.result ≡ true = of_not c.is_none-marks.result (sym c.is_none-marks.ensures ∙ ap is_some w.in_default.is) in
             all_marked c.match-listed.marks old new
             (λ k. ap (λ ms. get_or ms (k % 1024) true) w.marks-is ∙ get_or-replicate 1024 (k % 1024) c.is_none-marks.result true (mod_below k 1024 (omega arith)) ∙ none_listed)
-            0 c.args.blocks.now c.args.net.now.signals
+            0 c.args.blocks.now names
       ],
     )
 
 pub loop-number-preserved : goal.loop-number-preserved
 loop-number-preserved g c =
-    let net = c.args.net.now in
-    let names = net.signals in
+    let net = c.args.shown.net.now in
+    let names = map signal_view c.args.shown.signals.now in
     let old = c.args.step.now.old.now in
     let new = c.args.step.now.new.now in
     let time = c.args.step.now.time in
@@ -85,7 +87,7 @@ loop-number-preserved g c =
       | then-marks-number+then-not-is_quiet w ↦
           let after = g.W.Sink.state w.push_changes-is_printed.new.out in
           let holds = w.push_changes-is_printed.new.page in
-          let listed = part_of_names c.signals-signals.result.now next block.names ∙ ap (λ ss. take block.names (drop next ss)) c.signals-signals.ensures in
+          let listed = part_of_names c.args.shown.signals.now next block.names in
           let pushed = subst (λ ss. Passes before after held holds (continued c.loop-number.is_printed time (changes_from next ss old new))) listed w.push_changes-is_printed.ensures.text in
           let is = subst (λ ss. w.push_changes-is_printed.result ≡ (c.loop-number.is_printed || are_some (changes_from next ss old new))) listed w.push_changes-is_printed.ensures.printed in
           let more = changes_further next block.names names old new I.2 in
@@ -126,7 +128,7 @@ loop-number-preserved g c =
 
 pub returns-clause-text : goal.returns-clause-text
 returns-clause-text g c =
-    let all = all_taken (length c.args.net.now.types) c.args.blocks.now c.loop-number.number c.loop-number.next c.args.net.now.signals c.loop-number-test.false c.loop-number.invariant.3 in
+    let all = all_taken (length c.args.shown.net.now.types) c.args.blocks.now c.loop-number.number c.loop-number.next (map signal_view c.args.shown.signals.now) c.loop-number-test.false c.loop-number.invariant.3 in
     let rest = subst (Goes (g.W.Sink.state c.loop-number.out) (g.W.Sink.state c.push_text.new.sink)) c.text.ensures c.push_text.ensures in
     subst (λ ss. Goes (g.W.Sink.state c.args.out.now) (g.W.Sink.state c.push_text.new.sink)
     (stamped c.args.step.now.time (changes_from 0 ss c.args.step.now.old.now c.args.step.now.new.now))) all
@@ -134,5 +136,5 @@ returns-clause-text g c =
 
 pub returns-clause-printed : goal.returns-clause-printed
 returns-clause-printed g c =
-    let all = all_taken (length c.args.net.now.types) c.args.blocks.now c.loop-number.number c.loop-number.next c.args.net.now.signals c.loop-number-test.false c.loop-number.invariant.3 in
+    let all = all_taken (length c.args.shown.net.now.types) c.args.blocks.now c.loop-number.number c.loop-number.next (map signal_view c.args.shown.signals.now) c.loop-number-test.false c.loop-number.invariant.3 in
     subst (λ ss. c.loop-number.is_printed ≡ are_some (changes_from 0 ss c.args.step.now.old.now c.args.step.now.new.now)) all c.loop-number.invariant.1

@@ -1,10 +1,10 @@
 use Rattle.std.proofs.Common.{◌≡◌, ℕ, List, length, refl, sym, ap, subst, ◌∙◌, arith}
 use Rattle.std.specs.Prelude.{slice_index}
-use Rattle.rtl_net.specs.Nets.{NetlistView}
 use Rattle.rtl_net_groups.specs.Touching.{Chunks, IsLeft}
+use Rattle.rtl_vcd.specs.Shown.{ShownView}
 use Rattle.rtl_vcd.specs.Trace.{moment_text}
 use Rattle.byte_streams.specs.Written.{Goes}
-use Rattle.rtl_run.specs.simulations.Engines.{course_of}
+use Rattle.rtl_run.specs.simulations.Engines.{course_of, names_of}
 use Rattle.rtl_run.specs.simulations.Progress.{GoesOn}
 use Rattle.rtl_run.proofs.Results.{err_with}
 use Rattle.rtl_run.proofs.MomentTexts.{moment_goes, some_change}
@@ -14,19 +14,20 @@ use Rattle.rtl_run.proofs.course.Course.go_on.Goals as goal
 use Rattle.rtl_run.proofs.course.Course.go_on.Goals.{After-values, After-moment}
 
 goes : (g : Over) (c : After-moment g) → Goes (g.W.Sink.state c.args.out.now) (g.W.Sink.state c.moment.new.out)
-    (moment_text c.args.self.now.net.now.signals c.args.time c.args.progress.now.shown.items c.values.result.now)
+    (moment_text (names_of c.args.self.now) c.args.time c.args.progress.now.shown.items c.values.result.now)
 goes g c =
-    moment_goes c.args.blocks.now c.args.self.now.net.now c.requires.blocks c.deref.result.now c.args.progress.now.shown.items c.values.result.now c.values.result.now
+    moment_goes c.args.blocks.now.signals (names_of c.args.self.now) (ap (λ (v : ShownView). v.signals) c.requires.blocks) c.deref.result.now c.args.progress.now.shown.items c.values.result.now c.values.result.now
     c.deref.ensures.value refl (g.W.Sink.state c.args.out.now) (g.W.Sink.state c.moment.new.out) c.args.time c.moment.ensures.text
 
 pub returns-in_err-is_printed-clause-goes_on : goal.returns-in_err-is_printed-clause-goes_on
 returns-in_err-is_printed-clause-goes_on g c start come next =
     let r = course_of c.args.self.now in
+    let names = names_of c.args.self.now in
     let new = g.W.Sink.state c.moment.new.out in
     let p = c.args.progress.now in
     let shows = c.values.ensures.shows r p.moments c.requires.settled in
-    err_with (GoesOn r start new p c.args.time p) c.from_residual.result c.in_err-is_printed.field-0.0 c.from_residual.ensures.1 (
-      next_leaves r start (g.W.Sink.state c.args.out.now) p come c.args.time next new c.values.result.now shows.comes
+    err_with (GoesOn r names start new p c.args.time p) c.from_residual.result c.in_err-is_printed.field-0.0 c.from_residual.ensures.1 (
+      next_leaves r names start (g.W.Sink.state c.args.out.now) p come c.args.time next new c.values.result.now shows.comes
           (goes g (goal.at.returns-in_err-is_printed-clause-goes_on g c).After-moment) (come.text.whole c.requires.intact).0,
       c.in_err-is_printed.ensures.err,
     )
@@ -34,12 +35,13 @@ returns-in_err-is_printed-clause-goes_on g c start come next =
 pub returns-clause-goes_on : goal.returns-clause-goes_on
 returns-clause-goes_on g c start come next =
     let r = course_of c.args.self.now in
+    let names = names_of c.args.self.now in
     let p = c.args.progress.now in
     let values = c.values.result.now in
     let shows = c.values.ensures.shows r p.moments c.requires.settled in
-    let some = some_change c.args.blocks.now c.args.self.now.net.now c.requires.blocks c.deref.result.now p.shown.items values values c.deref.ensures.value refl
+    let some = some_change c.args.blocks.now.signals names (ap (λ (v : ShownView). v.signals) c.requires.blocks) c.deref.result.now p.shown.items values values c.deref.ensures.value refl
     c.in_ok-is_printed.is_printed c.in_ok-is_printed.ensures.printed in (
-      goes_further r start (g.W.Sink.state c.args.out.now) p come c.args.time next (g.W.Sink.state c.moment.new.out) values shows.comes
+      goes_further r names start (g.W.Sink.state c.args.out.now) p come c.args.time next (g.W.Sink.state c.moment.new.out) values shows.comes
           (goes g (goal.at.returns-clause-goes_on g c).After-moment) c.add.new.self c.in_ok-is_printed.is_printed c.in_ok-is_printed.ensures.ok some
           c.add.ensures.now (c.add.ensures.shown ∙ c.values-2.ensures.value ∙ sym c.values.ensures.value) c.add.ensures.printed c.add.ensures.moments,
       omega (arith, c.add.ensures.moments),
@@ -54,14 +56,14 @@ returns-clause-as_many g c = ap length c.add.ensures.shown ∙ (c.values-2.ensur
 
 -- ---- the marks
 
-nets : (g : Over) (c : After-values g) → c.touched-touched.result.now.nets ≡ length c.args.self.now.net.now.types
+nets : (g : Over) (c : After-values g) → c.touched-touched.result.now.nets ≡ length c.args.self.now.shown.net.now.types
 nets g c =
     let r = course_of c.args.self.now in
     let m = c.args.progress.now.moments in
     c.touched-touched.ensures.nets r m c.requires.settled (ap length (sym c.values.ensures.value) ∙ (c.values.ensures.shows r m c.requires.settled).as_many)
 
 pub moment-requires-clause-nets : goal.moment-requires-clause-nets
-moment-requires-clause-nets g c = nets g (goal.at.moment-requires-clause-nets g c).After-values ∙ ap (λ (n : NetlistView). length n.types) (sym c.requires.blocks)
+moment-requires-clause-nets g c = nets g (goal.at.moment-requires-clause-nets g c).After-values ∙ ap (λ (v : ShownView). length v.net.types) (sym c.requires.blocks)
 
 pub moment-requires-clause-left : goal.moment-requires-clause-left
 moment-requires-clause-left g c = λ n left.

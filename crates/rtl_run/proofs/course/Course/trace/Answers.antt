@@ -9,7 +9,7 @@ use Rattle.byte_streams.specs.Written.{Goes}
 use Rattle.rtl_vcd.specs.Trace.{end_text}
 use Rattle.rtl_run.specs.declared.summary.RunFault.TheVariants.{Memory, Output}
 use Rattle.rtl_run.specs.simulations.Answered.{LeavesBeginning}
-use Rattle.rtl_run.specs.simulations.Engines.{Follows, Shows, course_of}
+use Rattle.rtl_run.specs.simulations.Engines.{Follows, Shows, course_of, names_of}
 use Rattle.rtl_run.specs.simulations.Progress.{IsNextMoment}
 use Rattle.rtl_run.specs.simulations.Simulated.{NeverSettles}
 use Rattle.rtl_run.specs.simulations.Watched.{StandsFrom}
@@ -28,19 +28,19 @@ pub returns-in_err-load : goal.returns-in_err-load
 returns-in_err-load g c =
     let r = course_of c.args.self.now in
     fails_with _ _ c.from_residual.result Memory c.from_residual.ensures.1
-    ((nothing_leaves r (g.W.Sink.state c.args.out.now), c.requires.intact), told_nothing r.net r.stimulus _ (g.met.V.Watch.nothing c.args.watch.now))
+    ((nothing_leaves r (names_of c.args.self.now) (g.W.Sink.state c.args.out.now), c.requires.intact), told_nothing r.net r.stimulus _ (g.met.V.Watch.nothing c.args.watch.now))
 
 pub returns-in_err-blocks : goal.returns-in_err-blocks
 returns-in_err-blocks g c =
     let r = course_of c.args.self.now in
     fails_with _ _ c.from_residual-in_err-blocks.result Memory c.from_residual-in_err-blocks.ensures.1
-    ((nothing_leaves r (g.W.Sink.state c.args.out.now), c.requires.intact), told_nothing r.net r.stimulus _ (g.met.V.Watch.nothing c.args.watch.now))
+    ((nothing_leaves r (names_of c.args.self.now) (g.W.Sink.state c.args.out.now), c.requires.intact), told_nothing r.net r.stimulus _ (g.met.V.Watch.nothing c.args.watch.now))
 
 pub returns-in_err-header : goal.returns-in_err-header
 returns-in_err-header g c =
     let r = course_of c.args.self.now in
     fails_with _ _ c.from_residual-in_err-header.result Output c.from_residual-in_err-header.ensures.1 (
-      (header_leaves r (g.W.Sink.state c.args.out.now) (g.W.Sink.state c.header.new.out) c.requires.intact c.header.ensures.text, c.in_err-header.ensures.err),
+      (header_leaves r (names_of c.args.self.now) (g.W.Sink.state c.args.out.now) (g.W.Sink.state c.header.new.out) c.requires.intact c.header.ensures.text, c.in_err-header.ensures.err),
       told_nothing r.net r.stimulus _ (g.met.V.Watch.nothing c.args.watch.now),
     )
 
@@ -58,7 +58,7 @@ returns-in_err-start g c =
     let zero = each_begins_at_zero r.stimulus in
     let heard = hears_nothing (StandsFrom r.net r.stimulus) (λ stands. g.V.Watch.told c.args.watch.now stands c.args.watch.now) (g.met.V.Watch.nothing c.args.watch.now) in
     fails_with _ _ c.from_residual-in_err-start.result c.in_err-start.field-0.0 c.from_residual-in_err-start.ensures.1 (
-      stops_stuck r 0 0 _ _ stuck out mid (never_begins r out mid c.header.ensures.text c.in_ok-header.ensures.ok stuck.never),
+      stops_stuck r 0 0 _ _ stuck (names_of c.args.self.now) out mid (never_begins r (names_of c.args.self.now) out mid c.header.ensures.text c.in_ok-header.ensures.ok stuck.never),
       told_stuck r 0 0 _ _ stuck _ _ _ heard zero.0 zero.1 (λ before now tells. tells c.args.watch.now heard.stands heard.told),
     )
 
@@ -73,11 +73,11 @@ pub first-requires : goal.first-requires
 first-requires g c = record { intact = c.in_ok-header.ensures.ok; valuation = (shows g (goal.at.first-requires g c).After-values).as_many }
 
 left : (g : Over) (c : After-first g)
-    → LeavesBeginning c.args.self.now.net.now c.args.self.now.stimulus.now c.args.self.now.limit (g.W.Sink.state c.args.out.now) (g.W.Sink.state c.first.new.out)
+    → LeavesBeginning c.args.self.now.shown.net.now (names_of c.args.self.now) c.args.self.now.stimulus.now c.args.self.now.limit (g.W.Sink.state c.args.out.now) (g.W.Sink.state c.first.new.out)
 left g c =
     let r = course_of c.args.self.now in
     let shows = c.values.ensures.shows r 0 (c.in_ok-start.ensures.starts r c.requires.begun) in
-    first_leaves r (g.W.Sink.state c.args.out.now) (g.W.Sink.state c.header.new.out) c.header.ensures.text (g.W.Sink.state c.first.new.out) c.values.result.now shows.comes
+    first_leaves r (names_of c.args.self.now) (g.W.Sink.state c.args.out.now) (g.W.Sink.state c.header.new.out) c.header.ensures.text (g.W.Sink.state c.first.new.out) c.values.result.now shows.comes
     c.first.ensures.text c.requires.intact
 
 pub returns-in_err-first : goal.returns-in_err-first
@@ -104,8 +104,8 @@ loop-time-init g c =
     let new = g.W.Sink.state c.first.new.out in
     let at = (goal.at.loop-time-init g c).After-values in
     let shown = c.in_ok-from_slice.ensures.items ∙ c.values-2.ensures.value in
-    let come = begins r out mid c.header.ensures.text new c.values.result.now (shows g at).comes c.first.ensures.text _ c.in_ok-first.ensures.ok refl (shown ∙ sym c.values.ensures.value) refl refl in
-    let last = at_last r out new _ come 0 refl in
+    let come = begins r (names_of c.args.self.now) out mid c.header.ensures.text new c.values.result.now (shows g at).comes c.first.ensures.text _ c.in_ok-first.ensures.ok refl (shown ∙ sym c.values.ensures.value) refl refl in
+    let last = at_last r (names_of c.args.self.now) out new _ come 0 refl in
     record {
       m = 0;
       settled = c.in_ok-start.ensures.starts r c.requires.begun;
@@ -149,7 +149,7 @@ next g c =
 
 -- what the watch was told before the engine goes on
 heard : (g : Over) (c : After-changes g)
-    → HasHeard (StandsFrom c.args.self.now.net.now c.args.self.now.stimulus.now) (λ stands. g.V.Watch.told c.args.watch.now stands c.stood.new.self) (suc c.loop-time.invariant.m)
+    → HasHeard (StandsFrom c.args.self.now.shown.net.now c.args.self.now.stimulus.now) (λ stands. g.V.Watch.told c.args.watch.now stands c.stood.new.self) (suc c.loop-time.invariant.m)
 heard g c =
     let r = course_of c.args.self.now in
     let I = c.loop-time.invariant in
@@ -158,10 +158,10 @@ heard g c =
     (stands_from r I.m c.in-Some.time c.values-in-Some.result.now (c.values-in-Some.ensures.shows r I.m I.settled).comes (until_next r.stimulus I.m c.in-Some.time _ gives)) (c.stood.ensures c.args.watch.now)
 
 heard_on : (g : Over) (c : After-step g)
-    → HasHeard (StandsFrom c.args.self.now.net.now c.args.self.now.stimulus.now) (λ stands. g.V.Watch.told c.args.watch.now stands c.stood.new.self) (suc c.loop-time.invariant.m)
+    → HasHeard (StandsFrom c.args.self.now.shown.net.now c.args.self.now.stimulus.now) (λ stands. g.V.Watch.told c.args.watch.now stands c.stood.new.self) (suc c.loop-time.invariant.m)
     → c.step.new.watch ≡ c.stood.new.self
-    → HasHeard (StandsFrom c.args.self.now.net.now c.args.self.now.stimulus.now) (λ stands. g.V.Watch.told c.args.watch.now stands c.step.new.watch) (suc c.loop-time.invariant.m)
-heard_on g c heard same = hears_on (StandsFrom c.args.self.now.net.now c.args.self.now.stimulus.now) _ _ _ heard (λ stands told. subst (λ w. g.V.Watch.told c.args.watch.now stands w) (sym same) told)
+    → HasHeard (StandsFrom c.args.self.now.shown.net.now c.args.self.now.stimulus.now) (λ stands. g.V.Watch.told c.args.watch.now stands c.step.new.watch) (suc c.loop-time.invariant.m)
+heard_on g c heard same = hears_on (StandsFrom c.args.self.now.shown.net.now c.args.self.now.stimulus.now) _ _ _ heard (λ stands told. subst (λ w. g.V.Watch.told c.args.watch.now stands w) (sym same) told)
 
 pub step-requires : goal.step-requires
 step-requires g c =
@@ -181,7 +181,7 @@ returns-in_err-step g c =
     let heard = heard g at in
     let never = subst (λ (k : ℕ). NeverSettles r.net r.stimulus r.limit k) turn.is_last stuck.never in
     fails_with _ _ c.from_residual-in_err-step.result c.in_err-step.field-0.0 c.from_residual-in_err-step.ensures.1 (
-      stops_stuck r (suc I.m) c.in-Some.time _ _ stuck out now (never_more r out now c.loop-time.progress I.come c.in-Some.time (next g at) never),
+      stops_stuck r (suc I.m) c.in-Some.time _ _ stuck (names_of c.args.self.now) out now (never_more r (names_of c.args.self.now) out now c.loop-time.progress I.come c.in-Some.time (next g at) never),
       told_stuck r (suc I.m) c.in-Some.time _ _ stuck _ _ _ heard gives.there gives.is (λ before now tells. tells c.args.watch.now heard.stands heard.told),
     )
 
@@ -197,7 +197,7 @@ returns-in_err-refill g c =
     let at = goal.at.returns-in_err-refill g c in
     let there = I.last.there in
     fails_with _ _ c.from_residual-in_err-refill.result Memory c.from_residual-in_err-refill.ensures.1 (
-      (come_leaves r (g.W.Sink.state c.args.out.now) (g.W.Sink.state c.loop-time.out) c.loop-time.progress I.come c.requires.intact, I.come.intact),
+      (come_leaves r (names_of c.args.self.now) (g.W.Sink.state c.args.out.now) (g.W.Sink.state c.loop-time.out) c.loop-time.progress I.come c.requires.intact, I.come.intact),
       heard_first r.net r.stimulus _ (suc I.m) (heard_on g at.After-step (heard g at.After-changes) c.in_ok-step.ensures.watch_stays) (omega (arith, there)),
     )
 
@@ -246,7 +246,7 @@ loop-time-preserved g c =
     let at = goal.at.loop-time-preserved g c in
     let has = c.in_ok-go_on.ensures.goes_on out I.come (next g at.After-changes) in
     let is_last = ap suc I.last.is_last ∙ sym has.1 in
-    let last = at_last r out (g.W.Sink.state c.go_on.new.out) c.go_on.new.progress has.0 (suc I.m) is_last in
+    let last = at_last r (names_of c.args.self.now) out (g.W.Sink.state c.go_on.new.out) c.go_on.new.progress has.0 (suc I.m) is_last in
     record {
       m = suc I.m;
       settled = c.in_ok-step.ensures.steps r I.m I.settled (follows g at.After-changes);
@@ -270,7 +270,7 @@ all g c =
     (g.A.Agenda.state c.loop-time.agenda) (g.met.A.Agenda.orderly c.loop-time.agenda) c.loop-time.invariant.last c.in_default.ensures.empty
 
 heard_end : (g : Over) (c : After-end g)
-    → HasHeard (StandsFrom c.args.self.now.net.now c.args.self.now.stimulus.now) (λ stands. g.V.Watch.told c.args.watch.now stands c.stood-2.new.self) (suc c.loop-time.invariant.m)
+    → HasHeard (StandsFrom c.args.self.now.shown.net.now c.args.self.now.stimulus.now) (λ stands. g.V.Watch.told c.args.watch.now stands c.stood-2.new.self) (suc c.loop-time.invariant.m)
 heard_end g c =
     let r = course_of c.args.self.now in
     let I = c.loop-time.invariant in
@@ -291,7 +291,7 @@ returns-in_err-end g c =
     let each = all g at in
     fails_with _ _ c.from_residual-in_err-end.result Output c.from_residual-in_err-end.ensures.1 (
       (
-        end_leaves r (g.W.Sink.state c.args.out.now) (g.W.Sink.state c.loop-time.out) c.loop-time.progress I.come (g.W.Sink.state c.end.new.out) (sym I.last.is_last ∙ each)
+        end_leaves r (names_of c.args.self.now) (g.W.Sink.state c.args.out.now) (g.W.Sink.state c.loop-time.out) c.loop-time.progress I.come (g.W.Sink.state c.end.new.out) (sym I.last.is_last ∙ each)
             (goes_end g at) c.requires.intact,
         c.in_err-end.ensures.err,
       ),
@@ -306,7 +306,7 @@ returns g c =
     let each = all g at in (
       subst (λ (k : ℕ). g.G.Engine.is_at c.loop-time.engine r (pred k)) I.last.is_last I.settled,
       (
-        is_whole r (g.W.Sink.state c.args.out.now) (g.W.Sink.state c.loop-time.out) c.loop-time.progress I.come (g.W.Sink.state c.end.new.out) (sym I.last.is_last ∙ each)
+        is_whole r (names_of c.args.self.now) (g.W.Sink.state c.args.out.now) (g.W.Sink.state c.loop-time.out) c.loop-time.progress I.come (g.W.Sink.state c.end.new.out) (sym I.last.is_last ∙ each)
             (goes_end g at) c.in_ok-end.ensures.ok,
         heard_all r.net r.stimulus _ (suc I.m) (heard_end g at) each,
       ),

@@ -1,5 +1,5 @@
 use Rattle.std.proofs.Common.{◌≡◌, ℕ, ◌-◌, length}
-use Rattle.rtl_run.specs.simulations.Engines.{course_of}
+use Rattle.rtl_run.specs.simulations.Engines.{course_of, names_of}
 use Rattle.rtl_run.specs.simulations.Progress.{HasCome}
 use Rattle.rtl_run.specs.simulations.Watched.{StandsFrom}
 use Rattle.rtl_run.proofs.Stands.{HasHeard}
@@ -12,10 +12,10 @@ invariant-loop-time g l = record {
   m : ℕ;
   settled : g.G.Engine.is_at l.engine (course_of l.self) m;
   shown : l.progress.shown.items ≡ g.G.Engine.valuation l.engine;
-  as_many : length l.progress.shown.items ≡ length l.self.net.now.types;
-  come : HasCome (course_of l.self) (g.W.Sink.state l.fn.out) (g.W.Sink.state l.out) l.progress;
+  as_many : length l.progress.shown.items ≡ length l.self.shown.net.now.types;
+  come : HasCome (course_of l.self) (names_of l.self) (g.W.Sink.state l.fn.out) (g.W.Sink.state l.out) l.progress;
   last : IsLast l.self.stimulus.now m l.progress.moments l.progress.now (g.A.Agenda.state l.agenda).waiting;
-  heard : HasHeard (StandsFrom l.self.net.now l.self.stimulus.now) (λ stands. g.V.Watch.told l.fn.watch stands l.watch) m;
+  heard : HasHeard (StandsFrom l.self.shown.net.now l.self.stimulus.now) (λ stands. g.V.Watch.told l.fn.watch stands l.watch) m;
 }
 
 abbrev pub decreases-loop-time : goal.decreases-loop-time

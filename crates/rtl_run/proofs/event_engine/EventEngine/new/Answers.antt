@@ -12,7 +12,7 @@ use Rattle.rtl_run.proofs.event_engine.EventEngine.new.Goals as goal
 
 pub returns : goal.returns
 returns g c =
-    let net = c.args.course.now.net.now in
+    let net = c.args.course.now.shown.net.now in
     let s = c.args.course.now.stimulus.now in
     let is_net = c.is_elaborated.ensures in
     let state = c.start.new.self.state in

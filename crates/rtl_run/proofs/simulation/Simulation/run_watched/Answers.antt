@@ -1,4 +1,6 @@
+use Rattle.std.proofs.Common.{map}
 use Rattle.std.proofs.lemmas.Result.{IfOk-from_err}
+use Rattle.rtl_net.specs.Nets.{signal_view}
 use Rattle.rtl_run.specs.declared.summary.RunFault.TheVariants.{Memory}
 use Rattle.rtl_run.specs.simulations.Answered.{Answers}
 use Rattle.rtl_run.proofs.Going.{nothing_leaves}
@@ -15,21 +17,22 @@ trace-requires g c = record { begun = c.in_ok-engine.ensures; waiting = c.requir
 pub returns-in_err-engine-clause-answers : goal.returns-in_err-engine-clause-answers
 returns-in_err-engine-clause-answers g c =
     let out = g.W.Sink.state c.args.out.now in
-    let net = c.args.self.now.net.now in
+    let net = c.args.self.now.shown.net.now in
+    let names = map signal_view c.args.self.now.shown.signals.now in
     let s = c.args.self.now.stimulus.now in
     let limit = c.args.self.now.limit in
-    err_with (Answers net s limit out out) c.from_residual.result Memory c.from_residual.ensures.1 (nothing_leaves (record { net = net; stimulus = s; limit = limit }) out, c.requires.intact)
+    err_with (Answers net names s limit out out) c.from_residual.result Memory c.from_residual.ensures.1 (nothing_leaves (record { net = net; stimulus = s; limit = limit }) names out, c.requires.intact)
 
 pub returns-in_err-engine-clause-told : goal.returns-in_err-engine-clause-told
 returns-in_err-engine-clause-told g c = IfOk-from_err c.from_residual.result _ c.from_residual.ensures.0
 
 pub returns-in_err-engine-clause-failing : goal.returns-in_err-engine-clause-failing
 returns-in_err-engine-clause-failing g c =
-    fails_with _ _ c.from_residual.result Memory c.from_residual.ensures.1 (told_nothing c.args.self.now.net.now c.args.self.now.stimulus.now _ (g.met.V.Watch.nothing c.args.watch.now))
+    fails_with _ _ c.from_residual.result Memory c.from_residual.ensures.1 (told_nothing c.args.self.now.shown.net.now c.args.self.now.stimulus.now _ (g.met.V.Watch.nothing c.args.watch.now))
 
 pub returns-in_err-moments-clause-answers : goal.returns-in_err-moments-clause-answers
 returns-in_err-moments-clause-answers g c =
-    err_with (Answers c.args.self.now.net.now c.args.self.now.stimulus.now c.args.self.now.limit (g.W.Sink.state c.args.out.now) (g.W.Sink.state c.trace.new.out))
+    err_with (Answers c.args.self.now.shown.net.now (map signal_view c.args.self.now.shown.signals.now) c.args.self.now.stimulus.now c.args.self.now.limit (g.W.Sink.state c.args.out.now) (g.W.Sink.state c.trace.new.out))
     c.from_residual-in_err-moments.result c.in_err-moments.field-0.0 c.from_residual-in_err-moments.ensures.1 c.in_err-moments.ensures.0
 
 pub returns-in_err-moments-clause-told : goal.returns-in_err-moments-clause-told

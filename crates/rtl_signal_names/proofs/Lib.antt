@@ -1,0 +1,3 @@
+pub mod Labels
+mod Named
+mod Choosing

@@ -1,0 +1,4 @@
+-- In order of reading:
+pub mod Names
+pub mod Naming
+pub mod Chosen
