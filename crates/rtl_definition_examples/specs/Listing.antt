@@ -36,9 +36,9 @@ cnt counting showing = record {
   processes = counting ∷ showing ∷ [];
   scopes = top (codes "cnt");
   signals =
-      record { scope = 0; name = codes "clk"; port = true; kind = One; nets = 0 ∷ [] }
-      ∷ record { scope = 0; name = codes "y"; port = true; kind = Vector 1 0; nets = 1 ∷ 2 ∷ [] }
-      ∷ record { scope = 0; name = codes "q"; port = false; kind = Vector 1 0; nets = 3 ∷ 4 ∷ [] } ∷ [];
+      record { scope = 0; name = codes "clk"; port = true; kind = One; nets = 0 ∷ []; at = 0 }
+      ∷ record { scope = 0; name = codes "y"; port = true; kind = Vector 1 0; nets = 1 ∷ 2 ∷ []; at = 0 }
+      ∷ record { scope = 0; name = codes "q"; port = false; kind = Vector 1 0; nets = 3 ∷ 4 ∷ []; at = 0 } ∷ [];
 }
 
 abbrev pub CounterIsListed : Type 0

@@ -19,6 +19,7 @@ use Rattle.vhdl_slips.specs.Listings.{entities_line}
 use Rattle.vhdl_slips.specs.Forms.{Said, left_out_form, unexpected_form}
 use Rattle.rtlsim_refusals.specs.Places.{begins_line, line_shown, position_behind}
 use Rattle.rtlsim_refusals.specs.Refused.{refused, said_of, said_refused}
+use Rattle.rtlsim_refusals.specs.SetGenerics.{generics_below, names_entity, no_generic_said}
 use Rattle.vhdl_slips.specs.Words.{Read, first_text, from, read_of, subject}
 use Rattle.vhdl_slips.specs.Words as words
 use Rattle.vhdl_hints.specs.Hinted.{Hint, is_nothing}
@@ -149,16 +150,20 @@ unexpected_by form nothing = form
 abbrev pub unexpected_said : Seen → Said
 unexpected_said s = unexpected_by (form_at s) s.expected
 
--- of what is left out, what is said of the form
+-- of what is left out, what is said of the form; of a generic that isn't there, that
 abbrev pub said_at : Seen → Rule → Said
 said_at s (rule.Syntax grammar.Unexpected) = unexpected_said s
 said_at s (rule.Name naming.LeftOut) = left_out_form s.before.tokens (first_text s.from)
+said_at s (rule.Elab elaboration.NoGeneric) = no_generic_said (names_entity s.before.tokens)
 said_at s rule = said_of rule
 
--- a choice that is missing, where not each value has one; the entities, where the top is none of them
+-- a choice that is missing, where not each value has one; the entities, where the top is none of them; the generics of
+-- the top, where a value is set for none of them
 abbrev pub below : Seen → (source : Read) → Rule → List ℕ
 below s source (rule.Name naming.NoOthers) = missing_line s.before s.from
 below s source (rule.Elab elaboration.NoTop) = entities_line source
+below s source (rule.Elab elaboration.NoGeneric) =
+    if names_entity s.before.tokens then generics_below s.from source else []
 below s source rule = []
 
 -- ---- notes: of a name that is declared or associated a second time the first time; of two sources of a signal of an

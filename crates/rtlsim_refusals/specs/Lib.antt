@@ -3,6 +3,7 @@
 pub mod Places
 -- what is said of it
 pub mod Refused
+pub mod SetGenerics
 pub mod Races
 -- explanations
 pub mod Explained

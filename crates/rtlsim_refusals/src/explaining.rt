@@ -11,6 +11,7 @@ ghost use Rattle.vhdl_expected.specs.Told.{expected_of};
 use crate::beside::{Notes, push_notes};
 use crate::place::{begins_line, push_position, push_shown};
 use crate::refused::{push_refused, said_of, said_refused};
+use crate::unset::{names_entity, no_generic_said, push_generics_of};
 use byte_streams::{Sink, push_number, push_text};
 use fault_rules::{ElabRule, NameRule, Place, Report, Rule, Subject, SyntaxRule};
 use vhdl_expected::Expected;
@@ -166,6 +167,7 @@ fn said_at(site: Site<'_, '_>, rule: Rule) -> Said
         Rule::Name(NameRule::LeftOut) => {
             left_out_form(site.before.tokens, first_text(site.from))
         }
+        Rule::Elab(ElabRule::NoGeneric) => no_generic_said(names_entity(site.before.tokens)),
         _ => said_of(rule),
     }
 }
@@ -202,7 +204,8 @@ fn is_plain(said: Said) -> bool
 }
 
 /// Writes what helps with a rule: a choice that is missing, where not each value has one; the
-/// entities, where the top is none of them.
+/// entities, where the top is none of them; the generics of the top, where a value is set for none
+/// of them.
 pub(crate) fn push_below<S: Sink>(site: Site<'_, '_>, source: Lexed<'_>, rule: Rule, sink: &mut S)
     ensures { Goes (S.state sink.old) (S.state sink.new)
         (spec.below (spec.site_of site.entry) (read_of source.entry) rule) }
@@ -210,6 +213,13 @@ pub(crate) fn push_below<S: Sink>(site: Site<'_, '_>, source: Lexed<'_>, rule: R
     match rule {
         Rule::Name(NameRule::NoOthers) => push_missing(site.before, site.from, sink),
         Rule::Elab(ElabRule::NoTop) => push_names(Listing::Entities, source, sink),
+        Rule::Elab(ElabRule::NoGeneric) => {
+            if names_entity(site.before.tokens) {
+                push_generics_of(site.from, source, sink);
+            } else {
+                push_text(sink, b"");
+            }
+        }
         _ => push_text(sink, b""),
     }
 }

@@ -4,11 +4,11 @@ use Rattle.std.specs.Prelude.{OnOk, option_map, is_some, is_none, flat_map}
 use Rattle.std.specs.List.{range_with_len}
 use Rattle.std.proofs.lemmas.List.{append_assoc, append-nil}
 use Rattle.std.proofs.lemmas.List.FromFn.{map-range_with_len_more}
-use Rattle.rtl_net.specs.Nets.{type_of}
+use Rattle.rtl_net.specs.Nets.{signal_view, type_of}
 use Rattle.vhdl_expand_rules.specs.Kinds.{size}
 use Rattle.vhdl_expand_rules.specs.Tree as tree
 use Rattle.vhdl_elab_rules.specs.Names.{signals_from}
-use Rattle.vhdl_elab.specs.Signals.{signal_with_byte, shown_with_byte}
+use Rattle.vhdl_elab_rules.specs.Shown.{signal_shown}
 use Rattle.vhdl_elab.specs.declared.made.Made.{Made}
 use Rattle.vhdl_elab.specs.declared.place.InstancePlace.{InstancePlace}
 use Rattle.vhdl_elab.specs.Made.{element_view}
@@ -58,9 +58,9 @@ pub declares_next : (place : InstancePlace) (first : ℕ) (o : tree.Object) (os 
 declares_next place first o os a m b h k = record {
   scopes = k.scopes ∙ h.scopes;
   signals =
-      k.signals ∙ ap (λ ss. ss ++ map shown_with_byte (signals_from place.scope place.nets.now (first + size o.kind) os)) h.signals
-      ∙ append_assoc (map signal_with_byte a.signals.items) (map shown_with_byte (signals_from place.scope place.nets.now first (o ∷ [])))
-      (map shown_with_byte (signals_from place.scope place.nets.now (first + size o.kind) os));
+      k.signals ∙ ap (λ ss. ss ++ map signal_shown (signals_from place.scope place.nets.now (first + size o.kind) os)) h.signals
+      ∙ append_assoc (map signal_view a.signals.items) (map signal_shown (signals_from place.scope place.nets.now first (o ∷ [])))
+      (map signal_shown (signals_from place.scope place.nets.now (first + size o.kind) os));
   processes = k.processes ∙ h.processes;
   kinds = k.kinds ∙ ap (λ ts. ts ++ flat_map own_types os) h.kinds ∙ behind (map type_of a.kinds.items) (own_types o) (flat_map own_types os);
   defaults = k.defaults ∙ ap (λ vs. vs ++ flat_map own_starts os) h.defaults ∙ behind a.defaults.items (own_starts o) (flat_map own_starts os);
@@ -76,7 +76,7 @@ declares_next place first o os a m b h k = record {
 pub declares_none : (place : InstancePlace) (first : ℕ) (os : List tree.Object) (m : Made) → os ≡ [] → Declares place first os m m
 declares_none place first os m h = subst (λ xs. Declares place first xs m m) (sym h) (record {
   scopes = refl;
-  signals = sym (append-nil (map signal_with_byte m.signals.items));
+  signals = sym (append-nil (map signal_view m.signals.items));
   processes = refl;
   kinds = sym (append-nil (map type_of m.kinds.items));
   defaults = sym (append-nil m.defaults.items);

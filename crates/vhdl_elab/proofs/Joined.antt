@@ -1,5 +1,5 @@
 -- Expansion within the limits, and then connection, is elaboration.
-use Rattle.std.proofs.Common.{◌≡◌, ℕ, Bool, true, false, not, List, [], Option, Some, None, Ok, Err, All, inl, inr, refl, sym, ap, ◌∙◌, subst}
+use Rattle.std.proofs.Common.{◌≡◌, ℕ, Bool, true, false, not, List, Option, Some, None, Ok, Err, All, inl, inr, refl, sym, ap, ◌∙◌, subst}
 use Rattle.std.specs.Prelude.{◌≢◌, ◌⊎◌, IsOk, IsErr, IsTrue}
 use Rattle.rtl_net.specs.Nets.{NetlistView}
 use Rattle.rtl_net.specs.Elaborated.{ReadsOfBody, IsNet}
@@ -12,9 +12,9 @@ use Rattle.vhdl_expand_rules.specs.declared.fault.ElabProblem.{ElabProblem}
 use Rattle.vhdl_expand_rules.specs.declared.fault.ElabProblem.TheVariants as problem
 use Rattle.vhdl_expand_rules.specs.declared.fault.ElabProblem.TheVariants.{NoTop, TwoUnresolved, ReadOfShared, TooMany}
 use Rattle.vhdl_expand_rules.specs.Elab.{Told, Elab, ◌>>=◌, ◌>>◌, unless, item_or, MayTell}
-use Rattle.vhdl_expand_rules.specs.Site.{no_integers}
-use Rattle.vhdl_expand_rules.specs.Declarations.{InstanceObjects, interface}
+use Rattle.vhdl_expand_rules.specs.Declarations.{InstanceObjects}
 use Rattle.vhdl_expand_rules.specs.Expansion.{Design, entity_named, instance_of, expanded_design}
+use Rattle.vhdl_expand_rules.specs.Tops.{Top, top_interface}
 use Rattle.vhdl_expand_rules.proofs.Steps.{given, ok, bound}
 use Rattle.vhdl_elab_rules.specs.Numbering.{Numbered, numbered_design}
 use Rattle.vhdl_elab_rules.specs.Wiring.{flat_net}
@@ -29,21 +29,21 @@ use Rattle.vhdl_elab_rules.specs.Shown.{Shown, shown, as_shown, net_shown}
 use Rattle.vhdl_elab_rules.proofs.Nets.{each-elaborated-is-net}
 use Rattle.vhdl_elab_rules.proofs.Ports.{each-has-own-ports}
 use Rattle.vhdl_expand.specs.Limits.{within_limits}
-use Rattle.vhdl_elab.proofs.NoBudget.{of-interface}
+use Rattle.vhdl_elab.proofs.NoBudget.{of-top}
 
 -- what was expanded within the limits was expanded
-pub was-expanded : (units : Units) (top : List ℕ) (design : Design) → within_limits (expanded_design units top) ≡ Ok design → expanded_design units top ≡ Ok design
+pub was-expanded : (units : Units) (top : Top) (design : Design) → within_limits (expanded_design units top) ≡ Ok design → expanded_design units top ≡ Ok design
 was-expanded units top design h =
     let d = bound (expanded_design units top) _ design h in
     let u = bound (unless TooMany 0 (is_within (instance_costs d.x.top) limits)) _ design d.then_gave in
     d.gave ∙ u.then_gave
 
-pub elaborated-by : (units : Units) (top : List ℕ) (design : Design) → within_limits (expanded_design units top) ≡ Ok design → elaborated_net units top ≡ netlist_of design
+pub elaborated-by : (units : Units) (top : Top) (design : Design) → within_limits (expanded_design units top) ≡ Ok design → elaborated_net units top ≡ netlist_of design
 unfolding elaborated_net
 elaborated-by units top design h = ap (λ (r : Elab Design). r >>= λ d. netlist_of d) (was-expanded units top design h)
 
 -- and is within them
-pub is-within : (units : Units) (top : List ℕ) (design : Design) → within_limits (expanded_design units top) ≡ Ok design → is_within_limits (counts (numbered_design design)) ≡ true
+pub is-within : (units : Units) (top : Top) (design : Design) → within_limits (expanded_design units top) ≡ Ok design → is_within_limits (counts (numbered_design design)) ≡ true
 is-within units top design h = let d = bound (expanded_design units top) _ design h in (each-design-costs-its-parts design).within ∙ by d.x (is_within (instance_costs d.x.top) limits) refl d.then_gave
   where
     by : (x : Design) (t : Bool) → is_within (instance_costs x.top) limits ≡ t → (unless TooMany 0 t >> given x) ≡ Ok design → is_within (instance_costs design.top) limits ≡ true
@@ -69,7 +69,7 @@ refused-in bytes told (Ok d) h = by (is_within (instance_costs d.top) limits) re
     by true e k = gone k.refused
     by false e k = tells_same (beyond d e) (tells_again {A = Design} {B = Elaborated} (TooMany, 0) told k)
 
-pub refused : {bytes : List ℕ} {told : Told} → (units : Units) (top : List ℕ) → MayTell bytes (within_limits (expanded_design units top)) told → MayTell bytes (as_shown (elaborated_net units top)) told
+pub refused : {bytes : List ℕ} {told : Told} → (units : Units) (top : Top) → MayTell bytes (within_limits (expanded_design units top)) told → MayTell bytes (as_shown (elaborated_net units top)) told
 unfolding elaborated_net
 refused {bytes} {told} units top h = tells_first (expanded_design units top >>= λ d. netlist_of d) _ (refused-in bytes told (expanded_design units top) h)
 
@@ -99,31 +99,31 @@ is-many problem.TooMany = inl refl
 is-many _ = inr (λ e. absurd cc)
 
 -- where TooMany is told, the interface of the top isn't refused
-abbrev expanded-from : Units → Option Entity → Elab Design
-expanded-from units o = item_or NoTop 0 o >>= λ unit. interface no_integers [] unit >>= λ d. instance_of units 32 unit.at unit d >>= λ i. Ok (record { name = unit.name; top = i })
+abbrev expanded-from : Units → Top → Option Entity → Elab Design
+expanded-from units top o = item_or NoTop 0 o >>= λ unit. top_interface top unit >>= λ d. instance_of units 32 unit.at unit d >>= λ i. Ok (record { name = unit.name; top = i })
 
-abbrev begun-from : Option Entity → Elab InstanceObjects
-begun-from o = item_or NoTop 0 o >>= λ unit. interface no_integers [] unit
+abbrev begun-from : Top → Option Entity → Elab InstanceObjects
+begun-from top o = item_or NoTop 0 o >>= λ unit. top_interface top unit
 
-begun-in : (units : Units) (o : Option Entity) (told : Told) → told.0 ≡ TooMany → within_limits (expanded-from units o) ≡ Err told → IsOk (begun-from o)
-begun-in units None told many h =
+begun-in : (units : Units) (top : Top) (o : Option Entity) (told : Told) → told.0 ≡ TooMany → within_limits (expanded-from units top o) ≡ Err told → IsOk (begun-from top o)
+begun-in units top None told many h =
     let is : NoTop ≡ told.0 = ap (λ (t : Told). t.0) (same_told {A = Design} (NoTop, 0) told h) in
     absurd cc
-begun-in units (Some unit) told many h = by (interface no_integers [] unit) refl h
+begun-in units top (Some unit) told many h = by (top_interface top unit) refl h
   where
-    by : (r : Elab InstanceObjects) → interface no_integers [] unit ≡ r
+    by : (r : Elab InstanceObjects) → top_interface top unit ≡ r
         → within_limits (r >>= λ d. instance_of units 32 unit.at unit d >>= λ i. Ok (record { name = unit.name; top = i })) ≡ Err told → IsOk r
     by (Ok d) e k = refl
     by (Err first) e k =
         let is : first ≡ told = same_told {A = Design} first told k in
-        absurd ((of-interface no_integers [] unit).other first e (ap (λ (t : Told). t.0) is ∙ many))
+        absurd ((of-top top unit).other first e (ap (λ (t : Told). t.0) is ∙ many))
 
-begun : (units : Units) (top : List ℕ) (told : Told) → told.0 ≡ TooMany → within_limits (expanded_design units top) ≡ Err told → HasInterface units top
+begun : (units : Units) (top : Top) (told : Told) → told.0 ≡ TooMany → within_limits (expanded_design units top) ≡ Err told → HasInterface units top
 unfolding expanded_design
-begun units top told many h = begun-in units (entity_named units top) told many h
+begun units top told many h = begun-in units top (entity_named units top.name) told many h
 
 -- what expansion within the limits tells may be told of the whole
-pub may-refuse : {told : Told} (units : Units) (top : List ℕ) → MayTell (units_bytes units) (within_limits (expanded_design units top)) told
+pub may-refuse : {told : Told} (units : Units) (top : Top) → MayTell (units_bytes units) (within_limits (expanded_design units top)) told
     → (within_limits (expanded_design units top) ≡ Err told) ⊎ HasInterface units top → MayRefuse units top told
 unfolding elaborated_net
 may-refuse {told} units top t o = by (is-many told.0) o
@@ -151,14 +151,14 @@ no-budget design told h e =
     (ap (λ (t : Bool). unless TooMany 0 t >> (resolves d >> (shares_unread d >> given (net_of d)))) (sym h) ∙ e)
 
 -- what connection shows is a netlist
-pub connected-is-net : (units : Units) (top : List ℕ) (design : Design) (net : NetlistView) → IsTrue (are_sound units) → IsTrue (are_named units) → within_limits (expanded_design units top) ≡ Ok design
+pub connected-is-net : (units : Units) (top : Top) (design : Design) (net : NetlistView) → IsTrue (are_sound units) → IsTrue (are_named units) → within_limits (expanded_design units top) ≡ Ok design
     → as_shown (netlist_of design) ≡ Ok (net_shown net) → All ReadsOfBody net.processes → IsNet net
 connected-is-net units top design net sound named h e reads =
     let x = bound (netlist_of design) _ (net_shown net) e in
     each-elaborated-is-net units top x.x net sound named (elaborated-by units top design h ∙ x.gave) (sym (ok (shown x.x) (net_shown net) x.then_gave)) reads
 
 -- and the ports of its top have names of their own
-pub elaborated-own-ports : (units : Units) (top : List ℕ) (net : NetlistView) → IsTrue (are_sound units) → IsTrue (ports_are_distinct units) → as_shown (elaborated_net units top) ≡ Ok (net_shown net)
+pub elaborated-own-ports : (units : Units) (top : Top) (net : NetlistView) → IsTrue (are_sound units) → IsTrue (ports_are_distinct units) → as_shown (elaborated_net units top) ≡ Ok (net_shown net)
     → HasOwnPorts net
 elaborated-own-ports units top net sound distinct e =
     let x = bound (elaborated_net units top) _ (net_shown net) e in

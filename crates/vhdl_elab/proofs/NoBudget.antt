@@ -1,6 +1,7 @@
 -- What is refused of an interface is told of its own rules, and is never TooMany.
 use Rattle.std.proofs.Common.{◌≡◌, ℕ, Bool, true, false, cond, not, ◌==◌, List, [], ◌∷◌, ◌++◌, length, Option, Some, None, Ok, Err, refl, subst}
 use Rattle.std.specs.Prelude.{◌≢◌, ℤ, pos, negsuc, nat_le, neg_ℤ, slice_get}
+use Rattle.std.specs.List.{list_all}
 use Rattle.vhdl_names_rules.specs.declared.operator.Arithmetic.{Arithmetic}
 use Rattle.vhdl_names_rules.specs.declared.operator.IntegerType.{IntegerType}
 use Rattle.vhdl_names_rules.specs.units.Expressions as e
@@ -15,6 +16,7 @@ use Rattle.vhdl_expand_rules.specs.Kinds.{ObjectKind, one, vector, enumeration, 
 use Rattle.vhdl_expand_rules.specs.Site.{Site, no_integers, no_site}
 use Rattle.vhdl_expand_rules.specs.Tree.{Role}
 use Rattle.vhdl_expand_rules.specs.Declarations.{first_of, rest_of, generic, generics, fixed_values, given_starts, starts, object, role_of, InstanceObjects, with_port, ports, interface}
+use Rattle.vhdl_expand_rules.specs.Tops.{Top, actuals_of, is_generic, top_interface}
 use Rattle.vhdl_expand_rules.proofs.Chains.{each_operation}
 use Rattle.vhdl_expand_rules.proofs.Steps.{given}
 use Rattle.vhdl_expand_tree.proofs.Alike.{wrong, same_told}
@@ -179,8 +181,14 @@ unfolding ports
 of-ports [] d = none d
 of-ports (p ∷ ps) d = after (object d.site (role_of p.mode) p.object) _ (of-object d.site (role_of p.mode) p.object) (λ o. of-ports ps (with_port d o))
 
-pub of-interface : (above : Integers) (actuals : List (Option Static)) (unit : Entity) → TellsNoBudget (interface above actuals unit)
+of-interface : (above : Integers) (actuals : List (Option Static)) (unit : Entity) → TellsNoBudget (interface above actuals unit)
 unfolding interface
 of-interface above actuals unit =
     after (generics above no_integers actuals unit.generics) _ (of-generics above no_integers actuals unit.generics) (λ integers.
     of-ports unit.ports (record { site = record no_site { integers = integers }; objects = [] }))
+
+pub of-top : (top : Top) (unit : Entity) → TellsNoBudget (top_interface top unit)
+unfolding top_interface
+of-top top unit =
+    after (unless NoGeneric unit.at (list_all (is_generic unit.generics) top.generics)) _ (kept NoGeneric unit.at (list_all (is_generic unit.generics) top.generics) no-generic) (λ known.
+    of-interface no_integers (actuals_of top.generics unit.generics) unit)

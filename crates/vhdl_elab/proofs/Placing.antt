@@ -4,14 +4,15 @@ use Rattle.std.specs.Prelude.{filter, flat_map, slice_index, is_none}
 use Rattle.std.specs.List.{AllZip, range_with_len, enumerate_from}
 use Rattle.std.proofs.lemmas.List.{append_assoc, append-nil, map-append, length-append, length-map}
 use Rattle.std.proofs.lemmas.List.Elements.{filter-append}
-use Rattle.rtl_net.specs.Nets.{scope_view, type_of}
+use Rattle.std.proofs.lemmas.Simd.{map-map}
+use Rattle.rtl_net.specs.Nets.{scope_view, signal_view, type_of}
 use Rattle.vhdl_expand_rules.specs.Kinds.{size, element_type}
 use Rattle.vhdl_expand_rules.specs.Tree.{Object}
 use Rattle.vhdl_elab_rules.specs.Names.{scope_of, signals_of, signals_from}
 use Rattle.vhdl_elab_rules.specs.Numbering.{Placed, Numbered, own_size, own_sizes, with_placed}
 use Rattle.vhdl_elab_rules.specs.Wiring.{Element, element_of, elements_from, elements_of, own_elements, is_top}
 use Rattle.vhdl_elab_rules.specs.laws.Scopes.{scope_views}
-use Rattle.vhdl_elab.specs.Signals.{signal_with_byte, shown_with_byte}
+use Rattle.vhdl_elab_rules.specs.Shown.{signal_shown}
 use Rattle.vhdl_connect.specs.declared.uses.Use.{Use}
 use Rattle.vhdl_connect.specs.Uses as uses
 use Rattle.vhdl_elab.specs.declared.made.Made.{Made}
@@ -46,10 +47,6 @@ map-const : {X : Type 0} (x : X) (a n : ℕ) → map (λ k. x) (range_with_len a
 map-const x a zero = refl
 map-const x a (suc n) = ap (λ xs. x ∷ xs) (map-const x (a + 1) n)
 
-map-twice : {X Y Z : Type 0} (f : Y → Z) (g : X → Y) (xs : List X) → map f (map g xs) ≡ map (λ x. f (g x)) xs
-map-twice f g [] = refl
-map-twice f g (x ∷ xs) = ap (λ zs. f (g x) ∷ zs) (map-twice f g xs)
-
 -- ---- elements
 
 abbrev element_at : Placed → Object → (first k : ℕ) → Element
@@ -59,14 +56,14 @@ statics-from : (p : Placed) (first : ℕ) (os : List Object) → map (static_of 
 statics-from p first [] = refl
 statics-from p first (o ∷ os) =
     map-append (static_of (is_top p)) (map (element_at p o first) (range_with_len 0 (size o.kind))) (elements_from p (first + size o.kind) os)
-    ∙ (λ i. map-twice (static_of (is_top p)) (element_at p o first) (range_with_len 0 (size o.kind)) i ++ statics-from p (first + size o.kind) os i)
+    ∙ (λ i. map-map (static_of (is_top p)) (element_at p o first) (range_with_len 0 (size o.kind)) i ++ statics-from p (first + size o.kind) os i)
 
 abbrev use_at : Placed → ℕ → Use
 use_at p = uses.use_of p.driven p.read
 
 uses-of-object : (p : Placed) (first : ℕ) (o : Object) → map use_of (map (element_at p o first) (range_with_len 0 (size o.kind))) ≡ map (use_at p) (range_with_len first (size o.kind))
 uses-of-object p first o =
-    map-twice use_of (element_at p o first) (range_with_len 0 (size o.kind))
+    map-map use_of (element_at p o first) (range_with_len 0 (size o.kind))
     ∙ map-shift (λ k. use_of (element_at p o first k)) (use_at p) first 0 (size o.kind) (λ k. refl)
     ∙ ap (λ m. map (use_at p) (range_with_len m (size o.kind))) (let e : first + 0 ≡ first = omega arith in e)
 
@@ -107,12 +104,12 @@ module _ {Y : Type 0} (part : Element → Y) (found : Object → List Y)
 types-from : (p : Placed) (os : List Object) → map (λ (e : Element). e.type) (filter own (elements_from p 0 os)) ≡ flat_map own_types os
 types-from p os =
     own-from (λ (e : Element). e.type) (λ o. replicate (size o.kind) (element_type o.kind))
-    (λ q o first. map-twice (λ (e : Element). e.type) (element_at q o first) (range_with_len 0 (size o.kind)) ∙ map-const (element_type o.kind) 0 (size o.kind)) p 0 os
+    (λ q o first. map-map (λ (e : Element). e.type) (element_at q o first) (range_with_len 0 (size o.kind)) ∙ map-const (element_type o.kind) 0 (size o.kind)) p 0 os
 
 starts-from : (p : Placed) (os : List Object) → map (λ (e : Element). e.start) (filter own (elements_from p 0 os)) ≡ flat_map own_starts os
 starts-from p os =
     own-from (λ (e : Element). e.start) (λ o. map (slice_index o.starts) (range_with_len 0 (size o.kind)))
-    (λ q o first. map-twice (λ (e : Element). e.start) (element_at q o first) (range_with_len 0 (size o.kind))) p 0 os
+    (λ q o first. map-map (λ (e : Element). e.start) (element_at q o first) (range_with_len 0 (size o.kind))) p 0 os
 
 length-replicated : {X : Type 0} (n : ℕ) (x : X) → length (replicate n x) ≡ n
 length-replicated zero x = refl
@@ -135,12 +132,12 @@ module _ (d : Numbered) (p : Placed) where
       ∙ ap (map part) (filter-append own (flat_map elements_of d.instances) (elements_of p))
       ∙ map-append part (filter own (flat_map elements_of d.instances)) (filter own (elements_of p))
 
-  signals-more : map shown_with_byte (flat_map signals_of (enumerate_from 0 (d.instances ++ p ∷ [])))
-      ≡ map shown_with_byte (flat_map signals_of (enumerate_from 0 d.instances)) ++ map shown_with_byte (signals_from (length d.instances) p.nets 0 p.objects)
+  signals-more : map signal_shown (flat_map signals_of (enumerate_from 0 (d.instances ++ p ∷ [])))
+      ≡ map signal_shown (flat_map signals_of (enumerate_from 0 d.instances)) ++ map signal_shown (signals_from (length d.instances) p.nets 0 p.objects)
   signals-more =
-      ap (λ xs. map shown_with_byte (flat_map signals_of xs)) (numbered-push 0 (length d.instances) d.instances p (let e : 0 + length d.instances ≡ length d.instances = omega arith in e))
-      ∙ ap (map shown_with_byte) (flat-push signals_of (enumerate_from 0 d.instances) (length d.instances, p))
-      ∙ map-append shown_with_byte (flat_map signals_of (enumerate_from 0 d.instances)) (signals_from (length d.instances) p.nets 0 p.objects)
+      ap (λ xs. map signal_shown (flat_map signals_of xs)) (numbered-push 0 (length d.instances) d.instances p (let e : 0 + length d.instances ≡ length d.instances = omega arith in e))
+      ∙ ap (map signal_shown) (flat-push signals_of (enumerate_from 0 d.instances) (length d.instances, p))
+      ∙ map-append signal_shown (flat_map signals_of (enumerate_from 0 d.instances)) (signals_from (length d.instances) p.nets 0 p.objects)
 
   scopes-more : scope_views (map scope_of (d.instances ++ p ∷ [])) ≡ scope_views (map scope_of d.instances) ++ record { label = p.label; parent = p.parent } ∷ []
   scopes-more = ap scope_views (map-append scope_of d.instances (p ∷ [])) ∙ map-append (λ s. record { label = s.label; parent = s.parent }) (map scope_of d.instances) (scope_of p ∷ [])
@@ -148,7 +145,7 @@ module _ (d : Numbered) (p : Placed) where
   -- b is a with what the instance adds
   pub placed_made : (a b : Made) → IsMade d a
       → map scope_view b.scopes.items ≡ map scope_view a.scopes.items ++ record { label = p.label; parent = p.parent } ∷ []
-      → map signal_with_byte b.signals.items ≡ map signal_with_byte a.signals.items ++ map shown_with_byte (signals_from (length d.instances) p.nets 0 p.objects)
+      → map signal_view b.signals.items ≡ map signal_view a.signals.items ++ map signal_shown (signals_from (length d.instances) p.nets 0 p.objects)
       → b.processes.items ≡ a.processes.items
       → map type_of b.kinds.items ≡ map type_of a.kinds.items ++ flat_map own_types p.objects
       → b.defaults.items ≡ a.defaults.items ++ flat_map own_starts p.objects
@@ -158,7 +155,7 @@ module _ (d : Numbered) (p : Placed) where
   placed_made a b h scopes signals processes kinds defaults elements uses = record {
     scopes = scopes ∙ ap (λ ss. ss ++ record { label = p.label; parent = p.parent } ∷ []) h.scopes ∙ sym scopes-more;
     signals =
-        signals ∙ ap (λ ss. ss ++ map shown_with_byte (signals_from (length d.instances) p.nets 0 p.objects)) h.signals ∙ sym signals-more;
+        signals ∙ ap (λ ss. ss ++ map signal_shown (signals_from (length d.instances) p.nets 0 p.objects)) h.signals ∙ sym signals-more;
     processes = subst (λ ps. AllZip IsLocated d.processes ps) (sym processes) h.processes;
     kinds =
         kinds ∙ ap (λ ts. ts ++ flat_map own_types p.objects) h.kinds

@@ -6,6 +6,7 @@ use Rattle.std.proofs.lemmas.Bool.{le-leb}
 use Rattle.std.proofs.lemmas.Option.{same_Some}
 use Rattle.std.proofs.lemmas.List.{map-append}
 use Rattle.std.proofs.lemmas.List.Elements.{filter-append, All-head, All-tail}
+use Rattle.std.proofs.lemmas.Simd.{map-map}
 use Rattle.rtl_net.specs.declared.building.IdlePort.{IdlePort}
 use Rattle.rtl_net.specs.Parts.{idle_at}
 use Rattle.vhdl_elab_rules.specs.Numbering.{Placed}
@@ -53,10 +54,6 @@ filter-shown {A} {B} v p (x ∷ xs) = by (p (v x)) (filter-shown v p xs)
         → map v (cond t (x ∷ filter (λ y. p (v y)) xs) (filter (λ y. p (v y)) xs)) ≡ cond t (v x ∷ filter p (map v xs)) (filter p (map v xs))
     by true h = ap (λ zs. v x ∷ zs) h
     by false h = h
-
-map-through : {A B C : Type 0} (h : B → C) (v : A → B) (xs : List A) → map (λ x. h (v x)) xs ≡ map h (map v xs)
-map-through h v [] = refl
-map-through h v (x ∷ xs) = ap (λ zs. h (v x) ∷ zs) (map-through h v xs)
 
 -- ---- the first of several
 
@@ -212,7 +209,7 @@ inputs-all (p ∷ ps) =
 
 pub inputs-are : (ps : List Placed) (es : List Element) → map element_view es ≡ flat_map statics_of ps → inputs_in es ≡ map net_in (filter is_in (flat_map elements_of (filter is_top ps)))
 inputs-are ps es h =
-    map-through net_seen element_view (filter is_input_of_top es) ∙ ap (map net_seen) (filter-shown element_view in_top es ∙ ap (filter in_top) h) ∙ inputs-all ps
+    sym (map-map net_seen element_view (filter is_input_of_top es)) ∙ ap (map net_seen) (filter-shown element_view in_top es ∙ ap (filter in_top) h) ∙ inputs-all ps
 
 -- ---- idle ports
 
@@ -290,5 +287,5 @@ module _ (n : ℕ) where
 pub idle-are : (ps : List Placed) (es : List Element) (us : List Use) → map element_view es ≡ flat_map statics_of ps → us ≡ flat_map uses_of ps → (n : ℕ)
     → idle_at (idle_in (zip es us)) n ≡ values n (filter is_undriven (flat_map elements_of (filter (λ p. not (is_top p)) ps)))
 idle-are ps es us h g n =
-    ap (λ is. idle_at is n) (map-through port_seen seen (filter is_idle (zip es us)) ∙ ap (map port_seen) (filter-shown seen idle_seen (zip es us)))
+    ap (λ is. idle_at is n) (sym (map-map port_seen seen (filter is_idle (zip es us))) ∙ ap (map port_seen) (filter-shown seen idle_seen (zip es us)))
     ∙ ap (λ ss. ports n ss) (seen-is ps es us h g) ∙ idle-all n ps

@@ -3,6 +3,7 @@ use Rattle.std.proofs.Common.{◌≡◌, ℕ, zero, suc, ◌<◌, ◌≤◌, Lis
 use Rattle.std.specs.Prelude.{slice_index}
 use Rattle.std.specs.List.{AllZip}
 use Rattle.std.proofs.lemmas.List.Elements.{All-map}
+use Rattle.std.proofs.lemmas.Simd.{map-map}
 use Rattle.rtl_net.specs.declared.process.Variable.{Variable}
 use Rattle.rtl_net.specs.declared.process.Process.{Process}
 use Rattle.rtl_model.specs.nets.FlatNetlist.{FlatVariable}
@@ -24,10 +25,6 @@ use Rattle.vhdl_elab.specs.Settled.{NetsAreBelow, IsSettled}
 
 -- ---- variables
 
-pub map-through : {A B C : Type 0} (h : B → C) (v : A → B) (xs : List A) → map (λ x. h (v x)) xs ≡ map h (map v xs)
-map-through h v [] = refl
-map-through h v (x ∷ xs) = ap (λ zs. h (v x) ∷ zs) (map-through h v xs)
-
 map-same : {A B : Type 0} (f g : A → B) (xs : List A) → ((x : A) → f x ≡ g x) → map f xs ≡ map g xs
 map-same f g [] h = refl
 map-same f g (x ∷ xs) h = λ i. h x i ∷ map-same f g xs h i
@@ -44,12 +41,12 @@ same-type _ = refl
 
 flat-variables : (vs : List Variable) (ws : List tree.Variable) → map net_variable vs ≡ map of_variable ws → map nets.variable_view vs ≡ map flat_variable ws
 flat-variables vs ws h =
-    map-through flat_of net_variable vs ∙ ap (map flat_of) h ∙ sym (map-through flat_of of_variable ws)
+    sym (map-map flat_of net_variable vs) ∙ ap (map flat_of) h ∙ map-map flat_of of_variable ws
     ∙ map-same (λ w. flat_of (of_variable w)) flat_variable ws (λ w i. record { type_of = same-type w.kind i; starts = w.starts })
 
 shown-variables : (vs : List Variable) (ws : List tree.Variable) → map net_variable vs ≡ map of_variable ws → map net_variable_shown vs ≡ map variable_shown (map named_variable ws)
 shown-variables vs ws h =
-    map-through named_of net_variable vs ∙ ap (map named_of) h ∙ sym (map-through named_of of_variable ws) ∙ map-through variable_shown named_variable ws
+    sym (map-map named_of net_variable vs) ∙ ap (map named_of) h ∙ map-map named_of of_variable ws ∙ sym (map-map variable_shown named_variable ws)
 
 -- ---- one process
 

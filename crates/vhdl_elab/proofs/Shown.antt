@@ -9,19 +9,16 @@ use Rattle.rtl_model.specs.nets.FlatNetlist.{FlatNetlist, flat_sources, starts}
 use Rattle.rtl_model.specs.simulation.Cycle.{source_value}
 use Rattle.rtl_net.specs.declared.building.Parts.{Parts}
 use Rattle.rtl_net.specs.declared.process.Process.{Process}
-use Rattle.rtl_net.specs.declared.signal.Signal.{Signal}
 use Rattle.rtl_net.specs.Elaborated.{ReadsOfBody}
 use Rattle.rtl_net.specs.Nets.{scope_view, signal_view, type_of, process_view}
 use Rattle.rtl_net.specs.Parts.{idle_at, assembled}
 use Rattle.vhdl_expand_rules.specs.declared.fault.ElabProblem.TheVariants.{TwoUnresolved, ReadOfShared}
-use Rattle.vhdl_expand_rules.specs.Bytes.{kept}
 use Rattle.vhdl_expand_rules.specs.Elab.{Told, Elab, ◌>>◌, unless}
 use Rattle.vhdl_elab_rules.specs.Numbering.{Placed, Located, Numbered}
 use Rattle.vhdl_elab_rules.specs.Wiring as wiring
 use Rattle.vhdl_elab_rules.specs.Wiring.{elements_of, own_elements, idle_values, is_output, flat_process, start_of, flat_net}
 use Rattle.vhdl_elab_rules.specs.Limits as limits
 use Rattle.vhdl_elab_rules.specs.Limits.{elements, has_two_unresolved, has_read_of_shared, is_shared}
-use Rattle.vhdl_elab_rules.specs.Names as names
 use Rattle.vhdl_elab_rules.specs.Names.{scope_of, signals_of, named_process}
 use Rattle.vhdl_elab_rules.specs.Elaboration.{net_of}
 use Rattle.vhdl_elab_rules.specs.laws.Scopes.{scope_views}
@@ -31,13 +28,11 @@ use Rattle.vhdl_connect.specs.Held.{processes_hold, idle_hold, items_at, start_w
 use Rattle.vhdl_connect.proofs.Sourced.{sources_hold, nets_start}
 use Rattle.vhdl_elab.specs.declared.made.Made.{Made}
 use Rattle.vhdl_elab.specs.Made.{element_view, statics_of, uses_of}
-use Rattle.vhdl_elab.specs.Signals.{SignalWithByte, signal_with_byte, shown_with_byte}
 use Rattle.vhdl_elab.specs.declared.wires.Wires.{Wires}
 use Rattle.vhdl_elab.specs.Tables.{inputs_in, idle_in, first_at, is_two_unresolved, is_read_of_shared}
 use Rattle.vhdl_elab.specs.Wires.{used, IsHeld, IsWires, IsRefused, two_unresolved, read_of_shared}
 use Rattle.vhdl_elab.specs.Settled.{IsSettled}
 use Rattle.vhdl_elab.specs.Wired.{wired, NetsAreThere}
-use Rattle.vhdl_elab.proofs.Settling.{map-through}
 use Rattle.vhdl_elab.proofs.Seen.{Seen, seen_as, at_in, first_in, found-at, none-found, first-through, two-unresolved, inputs-are, idle-are}
 
 -- ---- processes
@@ -57,16 +52,6 @@ reads-all count [] [] h = All-nil ReadsOfBody
 reads-all count (x ∷ xs) (p ∷ ps) h = All-cons ReadsOfBody p ps h.0.reads (reads-all count xs ps h.1)
 reads-all count _ _ h = elim h [ ]
 
--- ---- signals
-
-views-are : (ss : List Signal) (ts : List names.Signal) → map signal_with_byte ss ≡ map shown_with_byte ts → map signal_view ss ≡ map signal_shown ts
-views-are ss ts h =
-    map-through (λ (s : SignalWithByte). s.signal) signal_with_byte ss ∙ ap (map (λ (s : SignalWithByte). s.signal)) h ∙ sym (map-through (λ (s : SignalWithByte). s.signal) shown_with_byte ts)
-
-pub bytes-are : (ss : List Signal) (ts : List names.Signal) → map signal_with_byte ss ≡ map shown_with_byte ts → map (λ (s : Signal). s.at) ss ≡ map (λ (s : names.Signal). kept s.at) ts
-bytes-are ss ts h =
-    map-through (λ (s : SignalWithByte). s.at) signal_with_byte ss ∙ ap (map (λ (s : SignalWithByte). s.at)) h ∙ sym (map-through (λ (s : SignalWithByte). s.at) shown_with_byte ts)
-
 -- ---- maps over a run
 
 map-run : {A : Type 0} (f g : ℕ → A) (first n bound : ℕ) → first + n ≡ bound → ((k : ℕ) → k < bound → f k ≡ g k) → map f (range_with_len first n) ≡ map g (range_with_len first n)
@@ -78,7 +63,7 @@ map-run f g first (suc n) bound e h = λ i. h first (omega (arith, e)) i ∷ map
 -- tables that are made of a design, whose processes are those of its flat netlist
 pub record IsTold (d : Numbered) (m : Made) : Type 0 where
   pub scopes : map scope_view m.scopes.items ≡ scope_views (map scope_of d.instances)
-  pub signals : map signal_with_byte m.signals.items ≡ map shown_with_byte (flat_map signals_of (enumerate_from 0 d.instances))
+  pub signals : map signal_view m.signals.items ≡ map signal_shown (flat_map signals_of (enumerate_from 0 d.instances))
   pub processes : AllZip (IsSettled d.nets) d.processes m.processes.items
   pub kinds : map type_of m.kinds.items ≡ map (λ (e : wiring.Element). e.type) (own_elements d)
   pub defaults : m.defaults.items ≡ map (λ (e : wiring.Element). e.start) (own_elements d)
@@ -198,6 +183,6 @@ module _ (d : Numbered) (m : Made) (h : IsTold d m) (same : length m.kinds.items
           processes = flat-all d.nets d.processes m.processes.items h.processes i;
         };
         scopes = h.scopes i;
-        signals = views-are m.signals.items (flat_map signals_of (enumerate_from 0 d.instances)) h.signals i;
+        signals = h.signals i;
         processes = shown-all d.nets d.processes m.processes.items h.processes i;
       }

@@ -12,6 +12,7 @@ use Rattle.vhdl_expand_rules.specs.Kinds.{size, element_type}
 use Rattle.vhdl_expand_rules.specs.Tree.{Object, objects_of}
 use Rattle.vhdl_expand_rules.specs.Expansion.{Design, expanded_design}
 use Rattle.vhdl_expand_rules.specs.laws.Trees.{object_types}
+use Rattle.vhdl_expand_rules.specs.Tops.{Top}
 use Rattle.vhdl_expand_rules.proofs.laws.Lengths.{design-fits}
 use Rattle.vhdl_expand_rules.proofs.laws.Trees.{each-tree-is-sound}
 use Rattle.vhdl_elab_rules.specs.Numbering.{Placed, Located, Numbered, numbered_design, own_sizes}
@@ -83,7 +84,7 @@ walked-there os d w =
     let there = all-there [] 0 d.instances d.nets w.so_far.follow in
     record { elements = elements-there d.nets d.instances there; round = round-there d.nets d.instances d.processes there w.so_far.located }
 
-pub nets-there : (units : Units) (top : List ℕ) (design : Design) → IsTrue (are_sound units) → expanded_design units top ≡ Ok design → NetsAreThere (numbered_design design)
+pub nets-there : (units : Units) (top : Top) (design : Design) → IsTrue (are_sound units) → expanded_design units top ≡ Ok design → NetsAreThere (numbered_design design)
 unfolding numbered_design
 nets-there units top design sound e =
     let tree = each-tree-is-sound units top design sound e in

@@ -5,14 +5,14 @@ use Rattle.std.specs.List.{AllZip}
 use Rattle.std.proofs.lemmas.List.{length-map, length-append, map-append}
 use Rattle.rtl_net.specs.declared.process.Process as net
 use Rattle.rtl_net.specs.declared.signal.Scope.{Scope}
-use Rattle.rtl_net.specs.Nets.{scope_view, type_of}
+use Rattle.rtl_net.specs.Nets.{scope_view, signal_view, type_of}
 use Rattle.vhdl_expand_rules.specs.Tree as tree
 use Rattle.vhdl_expand_rules.specs.Tree.{Instance, instance, Parts, no_parts, process, inner}
 use Rattle.vhdl_elab_rules.specs.Names.{scope_of, signals_from}
 use Rattle.vhdl_elab_rules.specs.Numbering as elab
 use Rattle.vhdl_elab_rules.specs.Numbering.{Placed, Numbered, placed_instance, with_placed, with_instance, with_parts, element_nets, above_parts, own_sizes}
 use Rattle.vhdl_elab_rules.specs.Wiring.{defaults_of}
-use Rattle.vhdl_elab.specs.Signals.{signal_with_byte, shown_with_byte}
+use Rattle.vhdl_elab_rules.specs.Shown.{signal_shown}
 use Rattle.vhdl_expand_tree.specs.declared.tree.Object.{Object}
 use Rattle.vhdl_expand_tree.specs.declared.tree.Process.{Process}
 use Rattle.vhdl_expand_tree.specs.declared.tree.InstancePart.{InstancePart}
@@ -208,7 +208,7 @@ instance-placed above label objects turns parts scope place d a b h at k =
     placed_made d r a b h
     (ap (map scope_view) k.scopes ∙ map-append scope_view a.scopes.items (scope ∷ [])
     ∙ (λ i. map scope_view a.scopes.items ++ record { label = at.label_is i; parent = at.parent_is i } ∷ []))
-    (k.signals ∙ (λ i. map signal_with_byte a.signals.items ++ map shown_with_byte (signals_from (number i) (nets i) 0 objects)))
+    (k.signals ∙ (λ i. map signal_view a.signals.items ++ map signal_shown (signals_from (number i) (nets i) 0 objects)))
     (ap (λ v. v.items) k.processes) k.kinds k.defaults
     (k.elements ∙ (λ i. map element_view a.elements.items ++ statics_from (at.top i) (nets i) 0 objects))
     k.uses

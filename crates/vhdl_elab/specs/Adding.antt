@@ -2,13 +2,13 @@
 use Rattle.std.specs.Prelude.{◌≡◌, ℕ, ◌+◌, Bool, List, [], ◌∷◌, ◌++◌, map, replicate, flat_map, slice_index, Option, Some, None, is_none}
 use Rattle.std.specs.List.{range_with_len}
 use Rattle.rtl_model.specs.bodies.Types.{ElementType}
-use Rattle.rtl_net.specs.Nets.{type_of}
+use Rattle.rtl_net.specs.Nets.{signal_view, type_of}
 use Rattle.vhdl_expand_rules.specs.Kinds.{size, element_type}
 use Rattle.vhdl_expand_rules.specs.Tree.{Object}
 use Rattle.vhdl_elab_rules.specs.Names.{signals_from}
+use Rattle.vhdl_elab_rules.specs.Shown.{signal_shown}
 use Rattle.vhdl_elab.specs.declared.made.Made.{Made}
 use Rattle.vhdl_elab.specs.declared.place.InstancePlace.{InstancePlace}
-use Rattle.vhdl_elab.specs.Signals.{signal_with_byte, shown_with_byte}
 use Rattle.vhdl_elab.specs.Made.{Static, element_view}
 
 -- how many elements objects have
@@ -58,8 +58,8 @@ own_starts o = if_own o (map (slice_index o.starts) (range_with_len 0 (size o.ki
 -- new is old with what these objects add, which stand in this place, the first element of them having this number
 pub record Declares (place : InstancePlace) (first : ℕ) (os : List Object) (old new : Made) : Type 0 where
   pub scopes : new.scopes ≡ old.scopes
-  pub signals : map signal_with_byte new.signals.items
-      ≡ map signal_with_byte old.signals.items ++ map shown_with_byte (signals_from place.scope place.nets.now first os)
+  pub signals : map signal_view new.signals.items
+      ≡ map signal_view old.signals.items ++ map signal_shown (signals_from place.scope place.nets.now first os)
   pub processes : new.processes ≡ old.processes
   pub kinds : map type_of new.kinds.items ≡ map type_of old.kinds.items ++ flat_map own_types os
   pub defaults : new.defaults.items ≡ old.defaults.items ++ flat_map own_starts os

@@ -1,4 +1,3 @@
-pub mod Signals
 pub mod Made
 pub mod Adding
 pub mod Placing

@@ -1,7 +1,7 @@
 -- The tables of the code, and the numbered design that they are made of.
 use Rattle.std.specs.Prelude.{◌≡◌, ℕ, Bool, true, false, List, length, map, flat_map}
 use Rattle.std.specs.List.{AllZip, enumerate_from}
-use Rattle.rtl_net.specs.Nets.{scope_view, type_of}
+use Rattle.rtl_net.specs.Nets.{scope_view, signal_view, type_of}
 use Rattle.rtl_net.specs.declared.process.Process.{Process}
 use Rattle.vhdl_expand_rules.specs.Tree as tree
 use Rattle.vhdl_elab_rules.specs.Names.{scope_of, signals_of}
@@ -9,6 +9,7 @@ use Rattle.vhdl_elab_rules.specs.Numbering.{Placed, Located, Numbered}
 use Rattle.vhdl_elab_rules.specs.Wiring as wiring
 use Rattle.vhdl_elab_rules.specs.Wiring.{elements_of, own_elements, defaults_of, is_top}
 use Rattle.vhdl_elab_rules.specs.laws.Scopes.{scope_views}
+use Rattle.vhdl_elab_rules.specs.Shown.{signal_shown}
 use Rattle.vhdl_connect.specs.Located.{IsOf}
 use Rattle.vhdl_connect.specs.Uses.{sources_of}
 use Rattle.vhdl_connect.specs.declared.uses.Use.{Use}
@@ -16,7 +17,6 @@ use Rattle.vhdl_elab.specs.declared.made.Element.{Element}
 use Rattle.vhdl_elab.specs.declared.made.ElementRole.{ElementRole}
 use Rattle.vhdl_elab.specs.declared.made.ElementRole.TheVariants.{InputOfTop, OutputOfTop, SignalOfTop, Input, Output}
 use Rattle.vhdl_elab.specs.declared.made.Made.{Made}
-use Rattle.vhdl_elab.specs.Signals.{signal_with_byte, shown_with_byte}
 
 -- ---- elements
 
@@ -84,8 +84,8 @@ IsLocated x p = IsOf x.scope x.round.nets (defaults_of x.round.objects) x.proces
 
 pub record IsMade (d : Numbered) (m : Made) : Type 0 where
   pub scopes : map scope_view m.scopes.items ≡ scope_views (map scope_of d.instances)
-  pub signals : map signal_with_byte m.signals.items
-      ≡ map shown_with_byte (flat_map signals_of (enumerate_from 0 d.instances))
+  pub signals : map signal_view m.signals.items
+      ≡ map signal_shown (flat_map signals_of (enumerate_from 0 d.instances))
   pub processes : AllZip IsLocated d.processes m.processes.items
   pub kinds : map type_of m.kinds.items ≡ map (λ (e : wiring.Element). e.type) (own_elements d)
   pub defaults : m.defaults.items ≡ map (λ (e : wiring.Element). e.start) (own_elements d)

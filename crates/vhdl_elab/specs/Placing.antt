@@ -2,15 +2,15 @@
 use Rattle.std.specs.Prelude.{◌≡◌, List, [], ◌∷◌, ◌++◌, map, flat_map}
 use Rattle.std.specs.List.{range_with_len}
 use Rattle.rtl_net.specs.declared.signal.Scope.{Scope}
-use Rattle.rtl_net.specs.Nets.{type_of}
+use Rattle.rtl_net.specs.Nets.{signal_view, type_of}
 use Rattle.vhdl_expand_rules.specs.Tree.{Instance, instance, objects_of, Parts}
 use Rattle.vhdl_elab_rules.specs.Names.{signals_from}
 use Rattle.vhdl_elab_rules.specs.Numbering.{driven_in, read_in}
+use Rattle.vhdl_elab_rules.specs.Shown.{signal_shown}
 use Rattle.vhdl_connect.specs.declared.uses.Use.{Use}
 use Rattle.vhdl_connect.specs.Uses as uses
 use Rattle.vhdl_elab.specs.declared.made.Made.{Made}
 use Rattle.vhdl_elab.specs.declared.place.InstancePlace.{InstancePlace}
-use Rattle.vhdl_elab.specs.Signals.{signal_with_byte, shown_with_byte}
 use Rattle.vhdl_elab.specs.Made.{element_view}
 use Rattle.vhdl_elab.specs.Adding.{elements_count, statics_from, own_types, own_starts}
 
@@ -25,8 +25,8 @@ uses_within i =
 -- new is old with an instance in this place, without what stands in it
 pub record AddsPlaced (place : InstancePlace) (scope : Scope) (i : Instance) (old new : Made) : Type 0 where
   pub scopes : new.scopes.items ≡ old.scopes.items ++ scope ∷ []
-  pub signals : map signal_with_byte new.signals.items ≡ map signal_with_byte old.signals.items
-      ++ map shown_with_byte (signals_from place.scope place.nets.now 0 (objects_of i))
+  pub signals : map signal_view new.signals.items ≡ map signal_view old.signals.items
+      ++ map signal_shown (signals_from place.scope place.nets.now 0 (objects_of i))
   pub processes : new.processes ≡ old.processes
   pub kinds : map type_of new.kinds.items ≡ map type_of old.kinds.items ++ flat_map own_types (objects_of i)
   pub defaults : new.defaults.items ≡ old.defaults.items ++ flat_map own_starts (objects_of i)

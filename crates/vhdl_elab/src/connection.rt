@@ -4,13 +4,12 @@ ghost use Rattle.std.specs.Prelude.{◌≡◌, true, All, IfOk};
 ghost use Rattle.rtl_net.specs.Elaborated.{ReadsOfBody};
 ghost use Rattle.rtl_net.specs.Parts.{assembled, IdleAreThere};
 ghost use Rattle.vhdl_expand_tree.specs.Views.{design_view};
-ghost use Rattle.vhdl_elab_rules.specs.Elaboration.{net_of, netlist_of};
+ghost use Rattle.vhdl_elab_rules.specs.Elaboration.{netlist_of};
 ghost use Rattle.vhdl_elab_rules.specs.Limits.{counts, is_within_limits};
 ghost use Rattle.vhdl_elab_rules.specs.Numbering.{numbered_design};
 ghost use Rattle.vhdl_expand_bodies.specs.Results.{Expands};
 ghost use Rattle.vhdl_elab_rules.specs.Shown.{as_shown, net_shown};
 ghost use Rattle.vhdl_elab.specs.Ready.{InstanceIsReady};
-ghost use Rattle.vhdl_elab.specs.Signals.{AreDeclaredAt};
 ghost use Rattle.vhdl_elab.specs.Wired.{NetsAreThere};
 
 use crate::walk::number;
@@ -30,7 +29,6 @@ pub fn connect(alloc: Global, design: Design) -> Result<Parts, ElabFault>
     requires within { is_within_limits (counts (numbered_design (design_view design))) ≡ true }
     ensures given { Expands (λ p. net_shown (assembled p)) (as_shown (netlist_of (design_view design))) result }
     ensures reads { IfOk result (λ p. All ReadsOfBody p.processes.items) }
-    ensures signals { IfOk result (AreDeclaredAt (net_of (numbered_design (design_view design))).signals) }
     ensures idle { IfOk result IdleAreThere }
 {
     let made = number(alloc, design)?;

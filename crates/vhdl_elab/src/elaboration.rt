@@ -1,4 +1,4 @@
-//! Elaboration, from the name of the top on.
+//! Elaboration, from the top on.
 
 ghost use Rattle.std.specs.Prelude.{◌≢◌, IfErr, IfOk, IsTrue};
 ghost use Rattle.rtl_stim.specs.Ports.{HasOwnPorts};
@@ -12,27 +12,28 @@ ghost use Rattle.vhdl_elab_rules.specs.Elaboration.{elaborated_net};
 ghost use Rattle.vhdl_elab_rules.specs.Refused.{MayRefuse};
 ghost use Rattle.vhdl_elab_rules.specs.Shown.{as_shown, net_shown};
 ghost use Rattle.vhdl_expand_rules.specs.Elab.{fault_told};
+ghost use Rattle.vhdl_expand_rules.specs.views.Tops.{top_view};
 ghost use Rattle.vhdl_expand_rules.specs.declared.fault.ElabFault.TheVariants.{NoMemory};
 
 use crate::connection::connect;
 use rtl_net::Net;
 use std::alloc::Global;
 use vhdl_expand::expand;
-use vhdl_expand_rules::ElabFault;
+use vhdl_expand_rules::{ElabFault, Top};
 use vhdl_names_units::Units;
 
-/// Elaborates the design whose top is the entity of this name, in letters of either case. The
-/// generics of the top have their defaults, and its ports are joined to nothing. It takes the
-/// memory of the tree of instances and then of the netlist, within the limits of elaboration. The
-/// units are such as `vhdl_names::analyse` promises of a file that `vhdl_parser::parse` gives of
-/// the tokens of `vhdl_lexer::lex`.
-pub fn elaborate(alloc: Global, units: &Units, top: &[u8]) -> Result<Net, ElabFault>
+/// Elaborates the design with this top. The generics of the top have the values that are set, or
+/// their defaults, and its ports are joined to nothing. It takes the memory of the tree of
+/// instances and then of the netlist, within the limits of elaboration. The units are such as
+/// `vhdl_names::analyse` promises of a file that `vhdl_parser::parse` gives of the tokens of
+/// `vhdl_lexer::lex`.
+pub fn elaborate(alloc: Global, units: &Units, top: Top<'_>) -> Result<Net, ElabFault>
     requires sound { IsTrue (are_sound (units_view units.now)) }
     requires named { IsTrue (are_named (units_view units.now)) }
     ensures given { Charges (units_bytes (units_view units.now)) net_shown
-        (as_shown (elaborated_net (units_view units.now) top.now)) result }
+        (as_shown (elaborated_net (units_view units.now) (top_view top.entry))) result }
     ensures refused { IfErr result (λ fault. fault ≢ NoMemory
-        → MayRefuse (units_view units.now) top.now (fault_told fault)) }
+        → MayRefuse (units_view units.now) (top_view top.entry) (fault_told fault)) }
 
     // Where the ports of each entity have names of their own, those of the top have, so that a
     // stimulus can speak of them.

@@ -1,12 +1,13 @@
 //! Where an instance stands among the others, and what an object is there.
 
 ghost use Rattle.std.specs.Prelude.{◌≡◌, ◌+◌, ◌≤◌, ◌++◌, map, slice_index, vec_len, take, drop, IfOk, OnOk};
+ghost use Rattle.rtl_net.specs.Nets.{signal_view};
 ghost use Rattle.vhdl_expand_rules.specs.Kinds.{size};
 ghost use Rattle.vhdl_expand_rules.specs.views.Kinds.{kind_view};
 ghost use Rattle.vhdl_elab_rules.specs.Names as names;
+ghost use Rattle.vhdl_elab_rules.specs.Shown.{signal_shown};
 ghost use Rattle.vhdl_expand_tree.specs.Views.{object_view, role_view};
 ghost use Rattle.vhdl_elab.specs.Made.{element_view};
-ghost use Rattle.vhdl_elab.specs.Signals.{signal_with_byte, shown_with_byte};
 ghost use Rattle.vhdl_elab.specs.Adding.{object_statics};
 
 use crate::made::{Element, ElementRole};
@@ -97,8 +98,8 @@ impl InstancePlace<'_> {
     /// The signal that an object is, whose first element has this number. Its name is taken out of
     /// the tree.
     pub(crate) fn signal(&self, first: usize, object: &mut Object) -> Result<Signal, AllocError>
-        ensures { IfOk result (λ s. signal_with_byte s ≡
-            shown_with_byte (names.signal_of self.now.scope self.now.nets.now first (object_view object.old))) }
+        ensures { IfOk result (λ s. signal_view s ≡
+            signal_shown (names.signal_of self.now.scope self.now.nets.now first (object_view object.old))) }
     {
         let kind = signal_kind(object.kind);
         let nets = self.nets_from(first, object.kind.size())?;

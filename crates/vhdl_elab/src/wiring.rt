@@ -4,11 +4,9 @@ ghost use Rattle.std.specs.Prelude.{◌≡◌, All, length, IfOk};
 ghost use Rattle.rtl_net.specs.Elaborated.{ReadsOfBody};
 ghost use Rattle.rtl_net.specs.Parts.{assembled, IdleAreThere};
 ghost use Rattle.vhdl_expand_bodies.specs.Results.{Expands};
-ghost use Rattle.vhdl_elab_rules.specs.Elaboration.{net_of};
 ghost use Rattle.vhdl_elab_rules.specs.Numbering.{Numbered};
 ghost use Rattle.vhdl_elab_rules.specs.Shown.{as_shown, net_shown};
 ghost use Rattle.vhdl_elab.specs.Made.{IsMade};
-ghost use Rattle.vhdl_elab.specs.Signals.{AreDeclaredAt};
 ghost use Rattle.vhdl_elab.specs.Wired.{wired, NetsAreThere};
 
 use crate::made::Made;
@@ -29,7 +27,6 @@ pub fn wire(alloc: Global, made: Made) -> Result<Parts, ElabFault>
         → Expands (λ p. net_shown (assembled p)) (as_shown (wired d)) result }
     ensures reads { (d : Numbered) → IsMade d made → NetsAreThere d
         → IfOk result (λ p. All ReadsOfBody p.processes.items) }
-    ensures signals { (d : Numbered) → IsMade d made → IfOk result (AreDeclaredAt (net_of d).signals) }
     ensures idle { (d : Numbered) → IsMade d made → NetsAreThere d → IfOk result IdleAreThere }
 {
     let mut made = made;

@@ -9,7 +9,7 @@ use Rattle.vhdl_tree.specs.declared.operator.Direction.TheVariants.{To, Downto}
 use Rattle.rtl_net.specs.Nets.{ScopeView, SignalView, NetlistView}
 use Rattle.rtl_net.specs.Names.{Element, place_in, element_or, element_from, path, index_at, index_suffix, name_of_element, signal_name, element_name, net_name}
 use Rattle.vhdl_expand_rules.specs.Integers.{extent}
-use Rattle.vhdl_expand_rules.specs.Kinds.{ObjectKind, one, vector, size}
+use Rattle.vhdl_expand_rules.specs.Kinds.{ObjectKind, vector, size}
 use Rattle.vhdl_expand_rules.specs.Tree.{Object}
 use Rattle.vhdl_expand_rules.specs.laws.Trees.{IsKind}
 use Rattle.vhdl_expand_rules.proofs.laws.Places.{extent-downto}

@@ -19,6 +19,7 @@ use Rattle.vhdl_expand_rules.specs.Kinds.{ObjectKind, one}
 use Rattle.vhdl_expand_rules.specs.Kinds as k
 use Rattle.vhdl_expand_rules.specs.Expansion.{Design, expanded_design}
 use Rattle.vhdl_expand_rules.specs.Tree.{Object, objects_of}
+use Rattle.vhdl_expand_rules.specs.Tops.{Top}
 use Rattle.vhdl_expand_rules.proofs.Steps.{bound}
 use Rattle.vhdl_expand_rules.proofs.laws.Lengths.{design-fits}
 use Rattle.vhdl_expand_rules.proofs.laws.Trees.{each-tree-is-sound}
@@ -50,13 +51,13 @@ use Rattle.vhdl_elab_rules.proofs.Named.{alike, net-names, process-names, same-p
 -- ---- the design behind a netlist
 
 -- how the instances of an elaborated netlist stand
-pub record Behind (units : Units) (top : List ℕ) (x : Elaborated) : Type 0 where
+pub record Behind (units : Units) (top : Top) (x : Elaborated) : Type 0 where
   pub design : Design
   pub gave : expanded_design units top ≡ Ok design
   pub is : net_of (numbered_design design) ≡ x
   pub walked : Walked (objects_of design.top) (numbered_design design)
 
-pub behind : (units : Units) (top : List ℕ) (x : Elaborated) → IsTrue (are_sound units) → elaborated_net units top ≡ Ok x → Behind units top x
+pub behind : (units : Units) (top : Top) (x : Elaborated) → IsTrue (are_sound units) → elaborated_net units top ≡ Ok x → Behind units top x
 unfolding elaborated_net numbered_design
 behind units top x sound e =
     let design = bound (expanded_design units top) _ x e in

@@ -5,6 +5,7 @@ use Rattle.std.specs.List.{enumerate_from}
 use Rattle.std.proofs.lemmas.List.{length-append, map-append}
 use Rattle.std.proofs.lemmas.List.Elements.{All-head, All-tail}
 use Rattle.rtl_net.specs.Nets.{SignalView}
+use Rattle.vhdl_expand_rules.specs.Bytes.{kept}
 use Rattle.vhdl_expand_rules.specs.Kinds.{size}
 use Rattle.vhdl_expand_rules.specs.Tree.{Object}
 use Rattle.vhdl_expand_rules.specs.laws.Lengths.{ObjectFits}
@@ -17,7 +18,7 @@ use Rattle.vhdl_elab_rules.specs.Shown.{signal_shown}
 use Rattle.vhdl_elab_rules.proofs.Placed.{PlacedAt}
 
 abbrev pub object_signal : (scope : ℕ) → (nets : List ℕ) → Object → SignalView
-object_signal scope nets o = record { scope = scope; name = o.name; port = is_port_role o.role; kind = kind_view o.kind; nets = nets }
+object_signal scope nets o = record { scope = scope; name = o.name; port = is_port_role o.role; kind = kind_view o.kind; nets = nets; at = kept o.at }
 
 -- of these objects, whose own nets begin at this one
 abbrev pub object_signals : (scope : ℕ) → (above : List ℕ) → (first : ℕ) → List Object → List SignalView

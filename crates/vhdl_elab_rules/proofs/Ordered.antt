@@ -1,5 +1,5 @@
 -- In an expanded tree the ports of an instance stand before its signals, in the order of its unit's.
-use Rattle.std.proofs.Common.{◌≡◌, ℕ, true, false, List, ◌++◌, Some, Ok, All, refl, sym, ap, ◌∙◌, subst}
+use Rattle.std.proofs.Common.{◌≡◌, true, false, List, ◌++◌, Some, Ok, All, refl, sym, ap, ◌∙◌, subst}
 use Rattle.std.specs.List.{AllZip}
 use Rattle.vhdl_tree.specs.declared.declaration.Mode.{Mode}
 use Rattle.vhdl_tree.specs.declared.declaration.Mode.TheVariants.{In, Out}
@@ -10,6 +10,7 @@ use Rattle.vhdl_expand_rules.specs.Tree.{Role, internal, Object, Instance, Parts
 use Rattle.vhdl_expand_rules.specs.Declarations.{object, role_of}
 use Rattle.vhdl_expand_rules.specs.Expansion.{entity_named, Design, expanded_design}
 use Rattle.vhdl_expand_rules.specs.laws.Trees.{is_port}
+use Rattle.vhdl_expand_rules.specs.Tops.{Top}
 use Rattle.vhdl_expand_rules.proofs.Items.{all_any, all_of_zip}
 use Rattle.vhdl_expand_rules.proofs.laws.Expanded.{object_made, OfObjects, Any, any_ports, any_signals, OfInstances, instance_holds, each_filled}
 
@@ -71,9 +72,9 @@ instances = record {
 -- ---- the top
 
 -- a tree of a unit's, whose ports are the top's
-pub record IsOrdered (units : Units) (top : List ℕ) (design : Design) : Type 0 where
+pub record IsOrdered (units : Units) (top : Top) (design : Design) : Type 0 where
   pub unit : Entity
-  pub named : entity_named units top ≡ Some unit
+  pub named : entity_named units top.name ≡ Some unit
   pub tree : InstanceIsOrdered design.top
   -- the ports of the top, and its signals
   pub ports : List Object
@@ -82,7 +83,7 @@ pub record IsOrdered (units : Units) (top : List ℕ) (design : Design) : Type 0
   pub are_ports : AllZip PortOf unit.ports ports
   pub are_signals : All IsSignal signals
 
-pub is-ordered : (units : Units) (top : List ℕ) (design : Design) → expanded_design units top ≡ Ok design → IsOrdered units top design
+pub is-ordered : (units : Units) (top : Top) (design : Design) → expanded_design units top ≡ Ok design → IsOrdered units top design
 is-ordered units top design h =
     let m = each_filled Any Any PortOf IsSignal PortsFirst instances units (all_any Any (λ x. tt) units) top design h in
     let f = m.filled in

@@ -139,7 +139,7 @@ each-has-own-ports units top x net sound distinct e shows =
     let o = is-ordered units top b.design b.gave in
     let objects : o.ports ++ o.signals ≡ os = sym (walked.objects_are ∙ o.are) in
     let differ : InputsDiffer os = subst InputsDiffer objects (inputs-differ o.ports o.signals o.unit.ports o.are_ports o.are_signals
-    (all_found (λ (y : Entity). entity_ports_are_distinct y ≡ true) (λ (y : Entity). bytes_eq y.name (map to_ascii_lowercase top)) units o.unit (all_pass entity_ports_are_distinct units distinct) o.named)) in
+    (all_found (λ (y : Entity). entity_ports_are_distinct y ≡ true) (λ (y : Entity). bytes_eq y.name (map to_ascii_lowercase top.name)) units o.unit (all_pass entity_ports_are_distinct units distinct) o.named)) in
     record {
       names = in-pairs (λ (i j : Input). i.name ≢ j.name) (inputs_of net)
           (unmapped (λ (i : Input). i.name) (inputs_of net)

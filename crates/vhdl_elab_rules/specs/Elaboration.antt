@@ -8,6 +8,7 @@ use Rattle.vhdl_names_rules.specs.units.Units.{Units}
 use Rattle.vhdl_expand_rules.specs.declared.fault.ElabProblem.TheVariants.{TwoUnresolved, ReadOfShared, TooMany}
 use Rattle.vhdl_expand_rules.specs.Elab.{Elab, ◌>>=◌, ◌>>◌, unless}
 use Rattle.vhdl_expand_rules.specs.Expansion.{Design, expanded_design}
+use Rattle.vhdl_expand_rules.specs.Tops.{Top}
 use Rattle.vhdl_elab_rules.specs.Numbering.{Numbered, numbered_design}
 use Rattle.vhdl_elab_rules.specs.Wiring.{flat_net}
 use Rattle.vhdl_elab_rules.specs.Limits.{elements, first_at, is_two_unresolved, has_two_unresolved, is_read_of_shared, has_read_of_shared, counts, is_within_limits}
@@ -52,7 +53,7 @@ netlist_of design = do
   shares_unread d
   Ok (net_of d)
 
-unfoldable pub elaborated_net : Units → (top : List ℕ) → Elab Elaborated
+unfoldable pub elaborated_net : Units → Top → Elab Elaborated
 elaborated_net units top = do
   design ← expanded_design units top
   netlist_of design

@@ -6,6 +6,7 @@ use Rattle.vhdl_names_rules.specs.units.Units.{Units}
 use Rattle.vhdl_names_rules.specs.sound.Named.{are_named}
 use Rattle.vhdl_expand_rules.specs.Tree.{Instance, instance, Parts, no_parts, process, inner}
 use Rattle.vhdl_expand_rules.specs.Expansion.{Design, expanded_design}
+use Rattle.vhdl_expand_rules.specs.Tops.{Top}
 
 -- labels joined by dots, and a dot behind them, or none
 abbrev pub IsDotted : List ℕ → Type 0
@@ -22,5 +23,5 @@ abbrev mutual
 
 abbrev pub EachTreeIsDotted : Type 0
 EachTreeIsDotted =
-    (units : Units) (top : List ℕ) (design : Design) → IsTrue (are_named units)
+    (units : Units) (top : Top) (design : Design) → IsTrue (are_named units)
     → expanded_design units top ≡ Ok design → InstanceIsDotted design.top

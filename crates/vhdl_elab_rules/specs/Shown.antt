@@ -33,7 +33,14 @@ pub record Shown : Type 0 where
 -- ---- of an elaborated netlist
 
 abbrev pub signal_shown : Signal → SignalView
-signal_shown s = record { scope = s.scope; name = s.name; port = s.is_port; kind = kind_view s.kind; nets = s.nets }
+signal_shown s = record {
+  scope = s.scope;
+  name = s.name;
+  port = s.is_port;
+  kind = kind_view s.kind;
+  nets = s.nets;
+  at = kept s.at;
+}
 
 abbrev pub variable_shown : NamedVariable → List ℕ × SignalKind
 variable_shown v = (v.name, kind_view v.kind)

@@ -1,4 +1,4 @@
-//! Elaboration of a design: from the units of a file and the name of its top to its flat netlist
+//! Elaboration of a design: from the units of a file and its top to its flat netlist
 //! (IEEE 1076-2008, clause 14). The definitions stand in `specs`.
 //!
 //! Laws tell what a `Net` shows of an elaborated netlist, with its names, and of the ports of its

@@ -28,3 +28,4 @@ pub mod Weights
 pub mod Heavier
 pub mod Told
 pub mod Passing
+pub mod SetGenerics

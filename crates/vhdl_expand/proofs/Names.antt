@@ -21,18 +21,19 @@ pub actual_seen : {A B : Type 0} (f : A → B) (n : ℕ) (xs : List (Option A)) 
     → option_map f o ≡ first_of (drop n (map (option_map f) xs))
 actual_seen f n xs o h = ap (option_map f) h ∙ sym (first-mapped f n xs)
 
--- what is seen of actuals that are lent
+-- what is seen of an actual that is lent
+pub copied_seen : {A B : Type 0} (f : A → B) (o : Option (Bor A)) → option_map (λ x. f x.now) o ≡ option_map f (option_map (λ x. x.now) o)
+copied_seen f None = refl
+copied_seen f (Some x) = refl
+
+-- and of several
 pub lent_seen : {A B : Type 0} (f : A → B) (xs : List (Option (Bor A))) (ys : List (Option A)) → map (option_map (λ x. x.now)) xs ≡ ys
     → map (option_map (λ x. f x.now)) xs ≡ map (option_map f) ys
 lent_seen {A} {B} f xs ys h = each xs ∙ ap (map (option_map f)) h
   where
-    one : (o : Option (Bor A)) → option_map (λ x. f x.now) o ≡ option_map f (option_map (λ x. x.now) o)
-    one None = refl
-    one (Some x) = refl
-
     each : (os : List (Option (Bor A))) → map (option_map (λ x. f x.now)) os ≡ map (option_map f) (map (option_map (λ x. x.now)) os)
     each [] = refl
-    each (o ∷ os) = ap (λ r. r ∷ map (option_map (λ x. f x.now)) os) (one o) ∙ ap (λ rs. option_map f (option_map (λ x. x.now) o) ∷ rs) (each os)
+    each (o ∷ os) = ap (λ r. r ∷ map (option_map (λ x. f x.now)) os) (copied_seen f o) ∙ ap (λ rs. option_map f (option_map (λ x. x.now) o) ∷ rs) (each os)
 
 pub no_names : {A : Type 0} (xs : List A) → slice_get xs 0 ≡ None → xs ≡ []
 no_names [] h = refl

@@ -10,7 +10,7 @@ use Rattle.vhdl_expand_rules.specs.Tree.{Parts, no_parts, followed_by, Object, P
 use Rattle.vhdl_expand_rules.specs.Declarations.{InstanceObjects, declarations, interface, associations}
 use Rattle.vhdl_expand_rules.specs.Expansion as definition
 use Rattle.vhdl_expand_rules.specs.Expansion.{Spot, Design, instance_of, expanded_design, entity_named}
-use Rattle.vhdl_expand_rules.specs.Site.{no_integers}
+use Rattle.vhdl_expand_rules.specs.Tops.{Top, top_interface}
 use Rattle.vhdl_expand_rules.proofs.Steps.{given}
 use Rattle.vhdl_expand_rules.proofs.Chains.{err_first}
 use Rattle.vhdl_elab_rules.specs.Limits.{Counts, is_within, limits}
@@ -261,22 +261,22 @@ module _ (units : Units) (n : ℕ) (at : Spot) (x : u.Instance) where
 abbrev designed : List ℕ → Elab Instance → Elab Design
 designed name r = r >>= λ i. given (record { name = name; top = i })
 
-module _ (units : Units) (top : List ℕ) where
-  pub no_top : entity_named units top ≡ None → within_limits (expanded_design units top) ≡ Err (NoTop, 0)
+module _ (units : Units) (top : Top) where
+  pub no_top : entity_named units top.name ≡ None → within_limits (expanded_design units top) ≡ Err (NoTop, 0)
   unfolding expanded_design
-  no_top h = ap (λ (o : Option Entity). within_limits (item_or NoTop 0 o >>= λ unit. interface no_integers [] unit >>= λ d. designed unit.name (instance_of units 32 unit.at unit d))) h
+  no_top h = ap (λ (o : Option Entity). within_limits (item_or NoTop 0 o >>= λ unit. top_interface top unit >>= λ d. designed unit.name (instance_of units 32 unit.at unit d))) h
 
-  pub no_top_interface : {told : Told} → (unit : Entity) → entity_named units top ≡ Some unit → interface no_integers [] unit ≡ Err told → within_limits (expanded_design units top) ≡ Err told
+  pub no_top_interface : {told : Told} → (unit : Entity) → entity_named units top.name ≡ Some unit → top_interface top unit ≡ Err told → within_limits (expanded_design units top) ≡ Err told
   unfolding expanded_design
   no_top_interface unit h k =
-      ap (λ (o : Option Entity). within_limits (item_or NoTop 0 o >>= λ unit. interface no_integers [] unit >>= λ d. designed unit.name (instance_of units 32 unit.at unit d))) h
-      ∙ err_first (interface no_integers [] unit >>= λ d. designed unit.name (instance_of units 32 unit.at unit d)) _ (err_first (interface no_integers [] unit) _ k)
+      ap (λ (o : Option Entity). within_limits (item_or NoTop 0 o >>= λ unit. top_interface top unit >>= λ d. designed unit.name (instance_of units 32 unit.at unit d))) h
+      ∙ err_first (top_interface top unit >>= λ d. designed unit.name (instance_of units 32 unit.at unit d)) _ (err_first (top_interface top unit) _ k)
 
-  module _ (unit : Entity) (d : InstanceObjects) (named : entity_named units top ≡ Some unit) (known : interface no_integers [] unit ≡ Ok d) where
+  module _ (unit : Entity) (d : InstanceObjects) (named : entity_named units top.name ≡ Some unit) (known : top_interface top unit ≡ Ok d) where
     from-top : expanded_design units top ≡ designed unit.name (instance_of units 32 unit.at unit d)
     unfolding expanded_design
     from-top =
-        ap (λ (o : Option Entity). item_or NoTop 0 o >>= λ unit. interface no_integers [] unit >>= λ d. designed unit.name (instance_of units 32 unit.at unit d)) named
+        ap (λ (o : Option Entity). item_or NoTop 0 o >>= λ unit. top_interface top unit >>= λ d. designed unit.name (instance_of units 32 unit.at unit d)) named
         ∙ ap (λ (r : Elab InstanceObjects). r >>= λ d. designed unit.name (instance_of units 32 unit.at unit d)) known
 
     limited : (r : Elab Instance) → within_limits (designed unit.name r) ≡ designed unit.name (charged limits instance_costs r >>= λ a. given a.0)

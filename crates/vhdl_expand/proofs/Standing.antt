@@ -14,13 +14,15 @@ use Rattle.vhdl_names_units.specs.declared.concurrent.Scheme.TheVariants as k
 use Rattle.vhdl_names_units.specs.views.Concurrent as views
 use Rattle.vhdl_expand_rules.specs.Elab.{each}
 use Rattle.vhdl_expand_rules.specs.Site.{Site, no_integers}
+use Rattle.vhdl_expand_rules.specs.Tops.{Top, actuals_of, top_interface}
 use Rattle.vhdl_expand_rules.specs.Statements.{statements}
 use Rattle.vhdl_expand_rules.specs.Tree.{Object}
 use Rattle.vhdl_expand_rules.specs.Declarations.{InstanceObjects, variable, interface, declarations, associations}
 use Rattle.vhdl_expand_rules.proofs.Steps.{ok, bound}
 use Rattle.vhdl_expand_rules.proofs.Tells.{tells_none, tells_then, tells_each, all_flat}
+use Rattle.vhdl_expand_rules.proofs.laws.Expanded.{interface_made}
 use Rattle.vhdl_expand_rules.proofs.laws.Targets.{all_left, all_right}
-use Rattle.vhdl_expand_rules.proofs.laws.told.Declarations.{MayStand, EntityStands, entity_stands, interface_tells, declarations_tell, variable_tells, associations_tell}
+use Rattle.vhdl_expand_rules.proofs.laws.told.Declarations.{MayStand, EntityStands, entity_stands, interface_tells, top_interface_tells, declarations_tell, variable_tells, associations_tell}
 use Rattle.vhdl_expand_rules.proofs.laws.told.Statements.{statements_tells}
 use Rattle.vhdl_elab_rules.proofs.laws.Standing.{interface_stands, associations_stand, declarations_stand}
 use Rattle.vhdl_expand.specs.Associations.{associated}
@@ -200,14 +202,14 @@ module _ (units : Units) (here : Site) (x : u.Instance) (unit : Entity) (found :
 
 -- ---- the top
 
-module _ (units : Units) (unit : Entity) (among : IsAmong units unit) where
+module _ (units : Units) (top : Top) (unit : Entity) (among : IsAmong units unit) where
   top-stands : EntityStands (Contains (units_bytes units)) unit
   top-stands = unit_stands units unit (units_bytes units) among (λ at c. c)
 
-  pub top_places : Places (units_bytes units) (interface no_integers [] unit)
-  top_places = tells_places (units_bytes units) _ (interface_tells (Contains (units_bytes units)) no_integers [] unit (All-nil (MayStand (Contains (units_bytes units)) static_bytes)) top-stands)
+  pub top_places : Places (units_bytes units) (top_interface top unit)
+  top_places = tells_places (units_bytes units) _ (top_interface_tells (Contains (units_bytes units)) top unit top-stands)
 
-  pub top_among : (d : InstanceObjects) → interface no_integers [] unit ≡ Ok d → Among (instance_list units unit.at d.objects) (units_bytes units)
+  pub top_among : (d : InstanceObjects) → top_interface top unit ≡ Ok d → Among (instance_list units unit.at d.objects) (units_bytes units)
   top_among d known =
       instance_among units unit.at d.objects (units_bytes units) top-stands.at
-      (interface_stands (Contains (units_bytes units)) no_integers [] unit d top-stands known) (λ at c. c)
+      (interface_stands (Contains (units_bytes units)) no_integers (actuals_of top.generics unit.generics) unit d top-stands (interface_made top unit d known)) (λ at c. c)

@@ -1,16 +1,16 @@
 -- A fault tells its problem and where it stands.
-use Rattle.std.proofs.Common.{◌≡◌, ℕ, List, [], Ok, Err, Some, refl, sym, ap, ◌∙◌, subst}
+use Rattle.std.proofs.Common.{◌≡◌, ℕ, List, Ok, Err, Some, refl, sym, ap, ◌∙◌, subst}
 use Rattle.std.specs.Prelude.{◌≢◌, IsOk, Option}
 use Rattle.vhdl_names_rules.specs.units.Units.{Units, Entity}
 use Rattle.vhdl_elab_rules.specs.Refused.{HasInterface}
 use Rattle.vhdl_expand_rules.specs.declared.fault.ElabProblem.TheVariants.{NoTop, TooDeep, TooMany}
-use Rattle.vhdl_expand_rules.specs.Declarations.{InstanceObjects, interface}
+use Rattle.vhdl_expand_rules.specs.Declarations.{InstanceObjects}
 use Rattle.vhdl_expand_rules.specs.Expansion.{entity_named}
-use Rattle.vhdl_expand_rules.specs.Site.{no_integers}
 use Rattle.vhdl_expand_rules.specs.declared.fault.ElabFault.{ElabFault}
 use Rattle.vhdl_expand_rules.specs.declared.fault.ElabFault.TheVariants.{At}
 use Rattle.vhdl_expand_rules.specs.declared.fault.ElabProblem.{ElabProblem}
 use Rattle.vhdl_expand_rules.specs.Elab.{Elab, ◌>>=◌, item_or, fault_told, MayTell, Told}
+use Rattle.vhdl_expand_rules.specs.Tops.{Top, top_interface}
 use Rattle.vhdl_expand_tree.proofs.Alike.{tells}
 
 pub told_at : {bytes : List ℕ} {A : Type 0} {given : Elab A} {fault : ElabFault} {problem : ElabProblem} {at : ℕ} → fault ≡ At problem at → MayTell bytes given (problem, at) → MayTell bytes given (fault_told fault)
@@ -30,7 +30,7 @@ pub too_deep_other : TooDeep ≢ TooMany
 too_deep_other e = absurd cc
 
 -- the interface of the top was elaborated
-pub has_interface : (units : Units) (top : List ℕ) (unit : Entity) (d : InstanceObjects) → entity_named units top ≡ Some unit → interface no_integers [] unit ≡ Ok d → HasInterface units top
+pub has_interface : (units : Units) (top : Top) (unit : Entity) (d : InstanceObjects) → entity_named units top.name ≡ Some unit → top_interface top unit ≡ Ok d → HasInterface units top
 has_interface units top unit d named known =
-    let is = ap (λ (o : Option Entity). item_or NoTop 0 o >>= λ u. interface no_integers [] u) named ∙ known in
+    let is = ap (λ (o : Option Entity). item_or NoTop 0 o >>= λ u. top_interface top u) named ∙ known in
     subst (λ (r : Elab InstanceObjects). IsOk r) (sym is) refl

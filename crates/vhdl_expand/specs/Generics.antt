@@ -1,6 +1,7 @@
 -- What contracts see of the values of generics.
-use Rattle.std.specs.Prelude.{ℕ, List, drop, length, map, Option, option_map, ℤ}
+use Rattle.std.specs.Prelude.{List, drop, length, map, Option, option_map, ℤ}
 use Rattle.std.specs.Borrow.{Bor}
+use Rattle.vhdl_tree.specs.Tree.{Ident}
 use Rattle.vhdl_names_rules.specs.declared.integer.Static.{Static}
 use Rattle.vhdl_names_rules.specs.units.Expressions as u
 use Rattle.vhdl_names_rules.specs.units.Units.{Generic}
@@ -15,9 +16,10 @@ use Rattle.vhdl_expand_rules.specs.Declarations as definition
 abbrev pub actuals_view : List (Option (Bor Static)) → List (Option u.Static)
 actuals_view actuals = map (option_map (λ (value : Bor Static). static_view value.now)) actuals
 
--- the generic of a declaration whose name starts at this byte
-abbrev pub generic_view : (at : ℕ) → Generics → Generic
-generic_view at g = record { at = at; type = g.integer_type; default = option_map static_view g.default }
+-- the generic of a declaration with this name
+abbrev pub generic_view : Ident → Generics → Generic
+generic_view n g =
+    record { at = n.at; name = n.text; type = g.integer_type; default = option_map static_view g.default }
 
 -- where the generics with these values are declared, and nothing else
 abbrev pub generics_alone : List ℤ → Integers

@@ -10,6 +10,7 @@ ghost use Rattle.vhdl_names_units.specs.views.Actuals.{each_actual};
 ghost use Rattle.vhdl_names_units.specs.views.Answers.{fixed_view, form_view};
 ghost use Rattle.vhdl_names_units.specs.views.Declarations.{declaration_view};
 ghost use Rattle.vhdl_names_units.specs.views.Units.{entity_view};
+ghost use Rattle.vhdl_expand.specs.Generics.{actuals_view};
 ghost use Rattle.vhdl_expand.specs.Views.{declared_view};
 
 use crate::declared::InstanceObjects;
@@ -27,6 +28,22 @@ use vhdl_tree::Identifier;
 /// generics, of which those with an actual are computed where these integers are known, and its
 /// ports. A fault is NoGeneric, GenericRange, StaticError, Length, Index or TooWide.
 #[tactic(auto, unfolding(vhdl_expand_rules::specs::Declarations::interface))]
+pub(crate) fn interface_with(
+    alloc: Global,
+    above: &Integers,
+    actuals: &[Option<&Static>],
+    unit: &Entity,
+) -> Result<InstanceObjects, ElabFault>
+    ensures { Expands declared_view
+        (definition.interface (integers_view above.now) (actuals_view actuals.now) (entity_view unit.now)) result }
+{
+    let values = generics(alloc, above, actuals, &unit.generics)?;
+    let mut declared = InstanceObjects::of_generics(alloc, values);
+    add_ports(alloc, &unit.ports, &mut declared)?;
+    Ok(declared)
+}
+
+/// The same with the actuals of an instance, of which it takes a list.
 pub fn interface(
     alloc: Global,
     above: &Integers,
@@ -38,10 +55,7 @@ pub fn interface(
         (entity_view unit.now)) result }
 {
     let actuals = actuals.listed(alloc)?;
-    let values = generics(alloc, above, &actuals, &unit.generics)?;
-    let mut declared = InstanceObjects::of_generics(alloc, values);
-    add_ports(alloc, &unit.ports, &mut declared)?;
-    Ok(declared)
+    interface_with(alloc, above, &actuals, unit)
 }
 
 /// Puts the constants of a type of integers of one declaration behind those before them; a fault is

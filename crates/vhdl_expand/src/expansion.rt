@@ -1,27 +1,28 @@
-//! The expansion of a design, from the name of its top on (IEEE 1076-2008, 14.2).
+//! The expansion of a design, from its top on (IEEE 1076-2008, 14.2).
 
-ghost use Rattle.std.specs.Prelude.{◌≡◌, ◌≢◌, ◌⊎◌, [], map, find, option_map, bytes_eq, Err, IfErr};
+ghost use Rattle.std.specs.Prelude.{◌≡◌, ◌≢◌, ◌⊎◌, map, find, option_map, bytes_eq, Err, IfErr};
 ghost use Rattle.vhdl_names_rules.specs.units.Units as u;
 ghost use Rattle.vhdl_names_rules.specs.units.Bytes.{units_bytes};
 ghost use Rattle.vhdl_names_units.specs.views.Units.{entity_view, units_view};
 ghost use Rattle.vhdl_elab_rules.specs.Refused.{HasInterface};
 ghost use Rattle.vhdl_expand_rules.specs.declared.fault.ElabFault.TheVariants.{NoMemory};
-ghost use Rattle.vhdl_expand_rules.specs.Declarations as definition;
 ghost use Rattle.vhdl_expand_rules.specs.Elab.{fault_told};
 ghost use Rattle.vhdl_expand_rules.specs.Expansion.{expanded_design};
-ghost use Rattle.vhdl_expand_rules.specs.Site.{no_integers};
+ghost use Rattle.vhdl_expand_rules.specs.Tops.{top_interface};
+ghost use Rattle.vhdl_expand_rules.specs.views.Tops.{top_view};
 ghost use Rattle.vhdl_expand_bodies.specs.Results.{Expands, Charges};
 ghost use Rattle.vhdl_expand_tree.specs.Views.{design_view};
 ghost use Rattle.vhdl_expand.specs.Limits.{within_limits};
 ghost use Rattle.vhdl_expand.specs.Views.{declared_view};
 
-use crate::declarative::interface;
+use crate::declarative::interface_with;
 use crate::declared::InstanceObjects;
+use crate::settings::{are_generics, lent, set_actuals};
 use crate::walk::Walk;
 use std::alloc::Global;
-use vhdl_expand_rules::{ElabFault, ElabProblem, Integers};
+use vhdl_expand_rules::{ElabFault, ElabProblem, Integers, Top};
 use vhdl_expand_tree::{Budget, Design};
-use vhdl_names_units::{Actuals, Entity, Units};
+use vhdl_names_units::{Entity, Units};
 
 /// How many instances may be nested, the top among them.
 const LEVELS: u32 = 32;
@@ -39,17 +40,23 @@ fn named<'a>(units: &'a [Entity], name: &[u8]) -> Option<&'a Entity>
     None
 }
 
-/// What is known of an instance that has no other round it, where its architecture begins.
-fn outermost(alloc: Global, unit: &Entity) -> Result<InstanceObjects, ElabFault>
-    ensures { Expands declared_view (definition.interface no_integers [] (entity_view unit.now)) result }
+/// What is known of the top where its architecture begins. It takes the memory of what is known,
+/// and for a while that of the actuals of its generics.
+fn outermost(alloc: Global, top: Top<'_>, unit: &Entity) -> Result<InstanceObjects, ElabFault>
+    ensures { Expands declared_view (top_interface (top_view top.entry) (entity_view unit.now)) result }
 {
+    if !are_generics(&unit.generics, top.generics) {
+        return Err(ElabProblem::NoGeneric.at(unit.name.at));
+    }
+    let set = set_actuals(alloc, top.generics, &unit.generics)?;
+    let actuals = lent(alloc, &set)?;
     let none = Integers {
         generics: &[],
         constants: &[],
         generates: &[],
         loops: &[],
     };
-    let declared = interface(alloc, &none, &Actuals::none(alloc), unit);
+    let declared = interface_with(alloc, &none, &actuals, unit);
     let Integers {
         generics: _,
         constants: _,
@@ -59,22 +66,22 @@ fn outermost(alloc: Global, unit: &Entity) -> Result<InstanceObjects, ElabFault>
     declared
 }
 
-/// Expands the design whose top is the entity of this name, in letters of either case: the tree of
-/// its instances. The generics of the top have their defaults, and its ports are joined to nothing.
-/// A fault is any problem but TwoUnresolved and ReadOfShared, and nothing is made beyond the
-/// limits. It takes the memory of the tree.
-pub fn expand(alloc: Global, units: &Units, top: &[u8]) -> Result<Design, ElabFault>
+/// Expands the design with this top: the tree of its instances. The generics of the top have the
+/// values that are set, or their defaults, and its ports are joined to nothing. A fault is any
+/// problem but TwoUnresolved and ReadOfShared, and nothing is made beyond the limits. It takes the
+/// memory of the tree.
+pub fn expand(alloc: Global, units: &Units, top: Top<'_>) -> Result<Design, ElabFault>
     ensures given { Charges (units_bytes (units_view units.now)) design_view
-        (within_limits (expanded_design (units_view units.now) top.now)) result }
+        (within_limits (expanded_design (units_view units.now) (top_view top.entry))) result }
     ensures begun { IfErr result (λ fault. fault ≢ NoMemory
-        → (within_limits (expanded_design (units_view units.now) top.now) ≡ Err (fault_told fault))
-        ⊎ HasInterface (units_view units.now) top.now) }
+        → (within_limits (expanded_design (units_view units.now) (top_view top.entry)) ≡ Err (fault_told fault))
+        ⊎ HasInterface (units_view units.now) (top_view top.entry)) }
 {
-    let name = top.to_ascii_lowercase(alloc)?;
+    let name = top.name.to_ascii_lowercase(alloc)?;
     let Some(unit) = named(&units.entities, &name) else {
         return Err(ElabProblem::NoTop.at(0));
     };
-    let declared = outermost(alloc, unit)?;
+    let declared = outermost(alloc, top, unit)?;
     let walk = Walk {
         alloc,
         units: &units.entities,

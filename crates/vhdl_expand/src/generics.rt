@@ -1,6 +1,7 @@
 //! The values of generics (IEEE 1076-2008, 6.5.6.2, 14.3).
 
 ghost use Rattle.std.specs.Prelude.{map, flat_map, option_map};
+ghost use Rattle.vhdl_tree.specs.View.{ident_view};
 ghost use Rattle.vhdl_names_rules.specs.views.Integers.{static_view};
 ghost use Rattle.vhdl_names_units.specs.views.Declarations.{generics_view};
 ghost use Rattle.vhdl_expand_rules.specs.Declarations as definition;
@@ -15,6 +16,7 @@ use std::alloc::Global;
 use vhdl_expand_rules::{ElabFault, ElabProblem, Integers};
 use vhdl_names_rules::{IntegerType, Static};
 use vhdl_names_units::Generics;
+use vhdl_tree::Identifier;
 
 /// The value of a default, which may name the generics with these values; a fault is StaticError or
 /// GenericRange.
@@ -49,18 +51,19 @@ fn generic(
     values: &[i32],
     actual: Option<&Static>,
     declaration: &Generics,
-    at: usize,
+    name: &Identifier,
 ) -> Result<i32, ElabFault>
     ensures { Computes (definition.generic (integers_view above.now) (generics_alone values.now)
-        (option_map (λ value. static_view value.now) actual.entry) (generic_view at declaration.now)) result }
+        (option_map (λ value. static_view value.now) actual.entry)
+        (generic_view (ident_view name.now) declaration.now)) result }
 {
     if let Some(value) = actual {
-        return above.integer_of(declaration.integer_type, value, at);
+        return above.integer_of(declaration.integer_type, value, name.at);
     }
     let Some(value) = &declaration.default else {
-        return Err(ElabProblem::NoGeneric.at(at));
+        return Err(ElabProblem::NoGeneric.at(name.at));
     };
-    of_default(values, declaration.integer_type, value, at)
+    of_default(values, declaration.integer_type, value, name.at)
 }
 
 /// Puts the values of the generics of one declaration behind those of the generics before them; a
@@ -77,7 +80,7 @@ fn add_generics(
 {
     for name in &declaration.names {
         let actual = actual_of(actuals, values.len());
-        let value = generic(above, values, actual, declaration, name.at)?;
+        let value = generic(above, values, actual, declaration, name)?;
         values.push(value)?;
     }
     Ok(())

@@ -17,6 +17,7 @@ mod objects;
 mod prefix;
 mod processes;
 mod progress;
+mod settings;
 mod shape;
 mod spot;
 mod values;

@@ -10,12 +10,13 @@ use Rattle.vhdl_names_rules.specs.units.Statements as s
 use Rattle.vhdl_expand_rules.specs.declared.fault.ElabProblem.TheVariants.{NoTop, TooDeep}
 use Rattle.vhdl_expand_rules.specs.Elab.{Elab, ◌>>=◌, refused, item_or, each}
 use Rattle.vhdl_expand_rules.specs.Integers.{decision, turns}
-use Rattle.vhdl_expand_rules.specs.Site.{Site, no_integers, in_generate, elements_count}
+use Rattle.vhdl_expand_rules.specs.Site.{Site, in_generate, elements_count}
 use Rattle.vhdl_expand_rules.specs.Tree.{Sensitivity, listed, every, as_read, Variable, Process, Instance, Parts, no_parts, inner, followed_by}
 use Rattle.vhdl_expand_rules.specs.Tree as t
 use Rattle.vhdl_expand_rules.specs.Statements.{statements, added, statements_turns}
 use Rattle.vhdl_expand_rules.specs.Prefixes.{targets, names, names_elements, prefixes_elements, in_order}
 use Rattle.vhdl_expand_rules.specs.Declarations.{InstanceObjects, interface, declarations, variable, associations}
+use Rattle.vhdl_expand_rules.specs.Tops.{Top, top_interface}
 
 -- ---- where a concurrent statement stands
 
@@ -149,15 +150,15 @@ instance_of units (suc n) at unit d = do
 abbrev pub entity_named : Units → List ℕ → Option Entity
 entity_named units name = find (λ (e : Entity). bytes_eq e.name (map to_ascii_lowercase name)) units
 
--- a design, whose top has no instance round it: its generics have their defaults, and its ports are joined to nothing
+-- a design, whose top has no instance round it: its ports are joined to nothing
 pub record Design : Type 0 where
   pub name : List ℕ
   pub top : Instance
 
 -- a source that has no entity of this name is refused at its first byte
-unfoldable pub expanded_design : Units → (top : List ℕ) → Elab Design
+unfoldable pub expanded_design : Units → Top → Elab Design
 expanded_design units top = do
-  unit ← item_or NoTop 0 (entity_named units top)
-  d ← interface no_integers [] unit
+  unit ← item_or NoTop 0 (entity_named units top.name)
+  d ← top_interface top unit
   i ← instance_of units 32 unit.at unit d
   Ok (record { name = unit.name; top = i })

@@ -9,6 +9,7 @@ pub mod Bytes
 pub mod Statements
 pub mod Prefixes
 pub mod Declarations
+pub mod Tops
 pub mod Expansion
 pub mod views
 pub mod laws

@@ -3,3 +3,4 @@ pub mod Integers
 pub mod Decisions
 pub mod Kinds
 pub mod Prefixes
+pub mod Tops

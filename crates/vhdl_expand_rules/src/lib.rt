@@ -9,6 +9,7 @@ mod fault;
 mod integer;
 mod kind;
 mod prefix;
+mod top;
 mod turns;
 mod words;
 
@@ -16,5 +17,6 @@ pub use fault::{ElabFault, ElabProblem};
 pub use integer::Integers;
 pub use kind::{Bounds, ObjectKind, Run};
 pub use prefix::{Sought, is_static, is_static_part};
+pub use top::{Setting, Top, set_actual};
 pub use turns::Turns;
 pub use words::byte;

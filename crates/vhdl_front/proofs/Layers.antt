@@ -18,6 +18,7 @@ use Rattle.vhdl_names_laws.proofs.standing.Laws.{units_lie_in_the_text}
 use Rattle.vhdl_names.specs.Spelled.{IsSpelled}
 use Rattle.vhdl_names.proofs.Spelled.{words}
 use Rattle.vhdl_expand_rules.specs.Elab.{fault_told}
+use Rattle.vhdl_expand_rules.specs.Tops.{Top}
 use Rattle.vhdl_expand_rules.specs.declared.fault.ElabFault.{ElabFault}
 use Rattle.vhdl_expand_rules.specs.declared.fault.ElabFault.TheVariants as elab
 use Rattle.vhdl_elab_rules.specs.Refused.{MayRefuse}
@@ -26,6 +27,7 @@ use Rattle.vhdl_elab_rules.proofs.Ports.{each-has-own-ports}
 use Rattle.vhdl_elab_rules.proofs.laws.Standing.{refusals-stand}
 use Rattle.rtl_net.specs.Nets.{NetlistView}
 use Rattle.rtl_stim.specs.Ports.{HasOwnPorts}
+use Rattle.vhdl_front_rules.specs.Asking.{Asked}
 use Rattle.vhdl_front_rules.specs.Sources.{IsFileOf}
 use Rattle.vhdl_front_rules.specs.Designs.{IsNetOf}
 use Rattle.vhdl_front_rules.specs.Faults.{LiesIn, of_name, of_elab}
@@ -42,21 +44,21 @@ is_spelled source file read = record { source = source; tokens = read.tokens; cu
 
 -- ---- its netlist
 
-pub opened : (source top : List ℕ) (file : File) (units : u.Units) (net : NetlistView) → IsFileOf source file → units_of file ≡ Some units → IsTrue (are_sound units) → ShowsTop units top net
-    → IsNetOf source top net
-opened source top file units net read typed sound shown = record {
+pub opened : (asked : Asked) (file : File) (units : u.Units) (net : NetlistView) → IsFileOf asked.source file → units_of file ≡ Some units → IsTrue (are_sound units) → ShowsTop units asked.top net
+    → IsNetOf asked net
+opened asked file units net read typed sound shown = record {
   design = shown.design;
   has = record { units = units; analysed = record { file = file; read = read; well_typed = typed }; is = shown.is };
   shows = shown.shows;
-  named = each-has-its-names units top shown.design net sound shown.is shown.shows;
+  named = each-has-its-names units asked.top shown.design net sound shown.is shown.shows;
 }
 
-pub own_ports : (source top : List ℕ) (net : NetlistView) → IsNetOf source top net → HasOwnPorts net
-own_ports source top net h =
+pub own_ports : (asked : Asked) (net : NetlistView) → IsNetOf asked net → HasOwnPorts net
+own_ports asked net h =
     let units = h.has.units in
     let analysed = h.has.analysed in
-    each-has-own-ports units top h.design net (units_are_sound analysed.file units analysed.read.well_formed analysed.well_typed)
-    (small_ports_distinct analysed.file units (words analysed.file (is_spelled source analysed.file analysed.read)) analysed.well_typed) h.has.is h.shows
+    each-has-own-ports units asked.top h.design net (units_are_sound analysed.file units analysed.read.well_formed analysed.well_typed)
+    (small_ports_distinct analysed.file units (words analysed.file (is_spelled asked.source analysed.file analysed.read)) analysed.well_typed) h.has.is h.shows
 
 -- ---- why it has none
 
@@ -64,13 +66,13 @@ pub no_units : (file : File) (fault : NameFault) → (fault ≢ names.NoMemory �
 no_units file (names.At problem at) none broken = (none (λ e. absurd cc), broken)
 no_units file names.NoMemory none broken = tt
 
-pub untyped_refuses : (source top : List ℕ) (file : File) (fault : SourceFault) → IsFileOf source file → HasNameFault file fault → Refuses source top fault
-untyped_refuses source top file (Name (names.At problem at)) read h = record { file = file; read = read; ill_typed = h.0; broken = h.1 }
-untyped_refuses source top file (Name names.NoMemory) read h = h
-untyped_refuses source top file NoMemory read h = tt
-untyped_refuses source top file (Lex fault) read h = absurd h
-untyped_refuses source top file (Syntax fault) read h = absurd h
-untyped_refuses source top file (Elab fault) read h = absurd h
+pub untyped_refuses : (asked : Asked) (file : File) (fault : SourceFault) → IsFileOf asked.source file → HasNameFault file fault → Refuses asked fault
+untyped_refuses asked file (Name (names.At problem at)) read h = record { file = file; read = read; ill_typed = h.0; broken = h.1 }
+untyped_refuses asked file (Name names.NoMemory) read h = h
+untyped_refuses asked file NoMemory read h = tt
+untyped_refuses asked file (Lex fault) read h = absurd h
+untyped_refuses asked file (Syntax fault) read h = absurd h
+untyped_refuses asked file (Elab fault) read h = absurd h
 
 -- a fault of names stands in the source
 pub untyped_lies : (source : List ℕ) (file : File) (fault : SourceFault) → IsFileOf source file → HasNameFault file fault → LiesIn (length source) fault
@@ -84,7 +86,7 @@ untyped_lies source file (Lex fault) read h = absurd h
 untyped_lies source file (Syntax fault) read h = absurd h
 untyped_lies source file (Elab fault) read h = absurd h
 
-pub no_net : (units : u.Units) (top : List ℕ) (fault : ElabFault) → (fault ≢ elab.NoMemory → MayRefuse units top (fault_told fault)) → HasElabFault units top (of_elab fault)
+pub no_net : (units : u.Units) (top : Top) (fault : ElabFault) → (fault ≢ elab.NoMemory → MayRefuse units top (fault_told fault)) → HasElabFault units top (of_elab fault)
 no_net units top (elab.At problem at) h = h (λ e. absurd cc)
 no_net units top elab.NoMemory h = tt
 
@@ -95,19 +97,19 @@ in_source size bytes at inside c =
     (All-cons (λ b. b ≤ size) 0 bytes (omega arith) (All-weaker (λ b. b < size) (λ b. b ≤ size) (λ b h. omega (arith, h)) bytes inside)) c
 
 pub refusal_lies : EachRefusalLiesInItsSource
-refusal_lies source top problem at r =
+refusal_lies asked problem at r =
     let read = r.analysed.read in
-    in_source (length source) (units_bytes r.units) at (units_lie_in_the_text source read.tokens r.analysed.file r.units read.cut read.spelled r.analysed.well_typed)
-    (refusals-stand r.units top (problem, at) r.refused)
+    in_source (length asked.source) (units_bytes r.units) at (units_lie_in_the_text asked.source read.tokens r.analysed.file r.units read.cut read.spelled r.analysed.well_typed)
+    (refusals-stand r.units asked.top (problem, at) r.refused)
 
 -- ---- the whole
 
-module _ (source top : List ℕ) (file : File) (units : u.Units) (read : IsFileOf source file) (typed : units_of file ≡ Some units) where
-  pub gives_opened : IsTrue (are_sound units) → (answer : Result NetlistView SourceFault) → GivesNet units top answer → IfOk answer (λ net. IsNetOf source top net)
-  gives_opened sound (Ok net) h = opened source top file units net read typed sound h
+module _ (asked : Asked) (file : File) (units : u.Units) (read : IsFileOf asked.source file) (typed : units_of file ≡ Some units) where
+  pub gives_opened : IsTrue (are_sound units) → (answer : Result NetlistView SourceFault) → GivesNet units asked.top answer → IfOk answer (λ net. IsNetOf asked net)
+  gives_opened sound (Ok net) h = opened asked file units net read typed sound h
   gives_opened sound (Err fault) h = tt
 
-  pub gives_refused : (answer : Result NetlistView SourceFault) → GivesNet units top answer → IfErr answer (Refuses source top)
+  pub gives_refused : (answer : Result NetlistView SourceFault) → GivesNet units asked.top answer → IfErr answer (Refuses asked)
   gives_refused (Ok net) h = tt
   gives_refused (Err (Elab (elab.At problem at))) h = record { units = units; analysed = record { file = file; read = read; well_typed = typed }; refused = h }
   gives_refused (Err (Elab elab.NoMemory)) h = h
@@ -116,19 +118,19 @@ module _ (source top : List ℕ) (file : File) (units : u.Units) (read : IsFileO
   gives_refused (Err (Syntax fault)) h = absurd h
   gives_refused (Err (Name fault)) h = absurd h
 
-  pub gives_told : (answer : Result NetlistView SourceFault) → GivesNet units top answer → IfErr answer (LiesIn (length source))
+  pub gives_told : (answer : Result NetlistView SourceFault) → GivesNet units asked.top answer → IfErr answer (LiesIn (length asked.source))
   gives_told (Ok net) h = tt
   gives_told (Err (Elab (elab.At problem at))) h =
-      refusal_lies source top problem at (record { units = units; analysed = record { file = file; read = read; well_typed = typed }; refused = h })
+      refusal_lies asked problem at (record { units = units; analysed = record { file = file; read = read; well_typed = typed }; refused = h })
   gives_told (Err (Elab elab.NoMemory)) h = absurd h
   gives_told (Err NoMemory) h = tt
   gives_told (Err (Lex fault)) h = absurd h
   gives_told (Err (Syntax fault)) h = absurd h
   gives_told (Err (Name fault)) h = absurd h
 
-pub refuses_along : (source top : List ℕ) (answer : Result NetlistView SourceFault) (fault : SourceFault) → IsErrAnd answer (λ f. f ≡ fault) → Refuses source top fault → IfErr answer (Refuses source top)
-refuses_along source top (Ok net) fault is h = tt
-refuses_along source top (Err f) fault is h = rw is h
+pub refuses_along : (asked : Asked) (answer : Result NetlistView SourceFault) (fault : SourceFault) → IsErrAnd answer (λ f. f ≡ fault) → Refuses asked fault → IfErr answer (Refuses asked)
+refuses_along asked (Ok net) fault is h = tt
+refuses_along asked (Err f) fault is h = rw is h
 
 pub lies_along : (source : List ℕ) (answer : Result NetlistView SourceFault) (fault : SourceFault) → IsErrAnd answer (λ f. f ≡ fault) → LiesIn (length source) fault → IfErr answer (LiesIn (length source))
 lies_along source (Ok net) fault is h = tt

@@ -14,6 +14,7 @@ use Rattle.vhdl_names_rules.specs.declared.fault.NameProblem.{NameProblem}
 use Rattle.vhdl_names_rules.specs.units.Units.{Units}
 use Rattle.vhdl_expand_rules.specs.Elab.{Told, Elab as Expanded, ◌>>=◌, ◌>>◌, unless}
 use Rattle.vhdl_expand_rules.specs.Expansion.{Design, expanded_design}
+use Rattle.vhdl_expand_rules.specs.Tops.{Top}
 use Rattle.vhdl_expand_rules.specs.declared.fault.ElabFault.TheVariants as elab
 use Rattle.vhdl_expand_rules.specs.declared.fault.ElabProblem.{ElabProblem}
 use Rattle.vhdl_expand_rules.specs.declared.fault.ElabProblem.TheVariants.{TooMany}
@@ -23,6 +24,7 @@ use Rattle.vhdl_elab_rules.specs.Numbering.{numbered_design}
 use Rattle.vhdl_elab_rules.specs.Refused.{MayRefuse}
 use Rattle.vhdl_elab_rules.specs.Shown.{shown}
 use Rattle.vhdl_front_rules.specs.Sources.{SpellsTokens, IsFileOf, HasSyntaxFault}
+use Rattle.vhdl_front_rules.specs.Asking.{Asked}
 use Rattle.vhdl_front_rules.specs.Designs.{HasUnits, HasDesign}
 use Rattle.vhdl_front_rules.specs.Refusals.{HasNoUnits, HasNoDesign}
 use Rattle.vhdl_front.specs.Laws.{EachSourceHasOneDesign, EachSourceHasOneNet, EachRefusedHasNone}
@@ -39,12 +41,12 @@ one_units : (source : List ℕ) (a b : Units) → HasUnits source a → HasUnits
 one_units source a b p q = in_some a b (sym p.well_typed ∙ ap units_of (one_file source p.file q.file p.read q.read) ∙ q.well_typed)
 
 pub one_design : EachSourceHasOneDesign
-one_design source top one other p q =
-    let e : elaborated_net p.units top ≡ elaborated_net q.units top = ap (λ (x : Units). elaborated_net x top) (one_units source p.units q.units p.analysed q.analysed) in
+one_design asked one other p q =
+    let e : elaborated_net p.units asked.top ≡ elaborated_net q.units asked.top = ap (λ (x : Units). elaborated_net x asked.top) (one_units asked.source p.units q.units p.analysed q.analysed) in
     let both = sym p.is ∙ e ∙ q.is in cc
 
 pub one_net : EachSourceHasOneNet
-one_net source top one other p q = p.shows ∙ ap shown (one_design source top p.design q.design p.has q.has) ∙ sym q.shows
+one_net asked one other p q = p.shows ∙ ap shown (one_design asked p.design q.design p.has q.has) ∙ sym q.shows
 
 -- ---- refusals
 
@@ -82,24 +84,24 @@ not_connected (Ok d) h = by (is_within_limits (counts (numbered_design d))) h
     by true k = absurd (true≢false (sym k))
     by false k = refl
 
-is_refused : (units : Units) (top : List ℕ) (told : Told) → MayRefuse units top told → IsErr (elaborated_net units top)
+is_refused : (units : Units) (top : Top) (told : Told) → MayRefuse units top told → IsErr (elaborated_net units top)
 unfolding elaborated_net
 is_refused units top told (inl (other, e)) = subst (λ (r : Expanded Elaborated). IsErr r) (sym e) refl
 is_refused units top told (inr (many, cut)) = not_connected (expanded_design units top) cut.refused
 
-no_design : (source top : List ℕ) (problem : ElabProblem) (at : ℕ) (design : Elaborated) → HasNoDesign source top problem at → HasDesign source top design → ⊥
-no_design source top problem at design r h =
-    undesigned (elaborated_net r.units top) design (is_refused r.units top (problem, at) r.refused)
-    (ap (λ (x : Units). elaborated_net x top) (one_units source r.units h.units r.analysed h.analysed) ∙ h.is)
+no_design : (asked : Asked) (problem : ElabProblem) (at : ℕ) (design : Elaborated) → HasNoDesign asked problem at → HasDesign asked design → ⊥
+no_design asked problem at design r h =
+    undesigned (elaborated_net r.units asked.top) design (is_refused r.units asked.top (problem, at) r.refused)
+    (ap (λ (x : Units). elaborated_net x asked.top) (one_units asked.source r.units h.units r.analysed h.analysed) ∙ h.is)
 
 pub refused : EachRefusedHasNone
-refused source top (Lex x) design behind r h = behind
-refused source top (Syntax (syntax.Unexpected at)) design behind r h = unspelled (syntax.Unexpected at) source h.analysed.file tt r h.analysed.read
-refused source top (Syntax (syntax.EndOfFile at)) design behind r h = unspelled (syntax.EndOfFile at) source h.analysed.file tt r h.analysed.read
-refused source top (Syntax (syntax.TooDeep at)) design behind r h = too_deep (syntax.TooDeep at) source h.analysed.file tt r h.analysed.read
-refused source top (Syntax syntax.NoMemory) design behind r h = r
-refused source top (Name (names.At problem at)) design behind r h = untyped source h.units problem at r h.analysed
-refused source top (Name names.NoMemory) design behind r h = r
-refused source top (Elab (elab.At problem at)) design behind r h = no_design source top problem at design r h
-refused source top (Elab elab.NoMemory) design behind r h = r
-refused source top NoMemory design behind r h = behind
+refused asked (Lex x) design behind r h = behind
+refused asked (Syntax (syntax.Unexpected at)) design behind r h = unspelled (syntax.Unexpected at) asked.source h.analysed.file tt r h.analysed.read
+refused asked (Syntax (syntax.EndOfFile at)) design behind r h = unspelled (syntax.EndOfFile at) asked.source h.analysed.file tt r h.analysed.read
+refused asked (Syntax (syntax.TooDeep at)) design behind r h = too_deep (syntax.TooDeep at) asked.source h.analysed.file tt r h.analysed.read
+refused asked (Syntax syntax.NoMemory) design behind r h = r
+refused asked (Name (names.At problem at)) design behind r h = untyped asked.source h.units problem at r h.analysed
+refused asked (Name names.NoMemory) design behind r h = r
+refused asked (Elab (elab.At problem at)) design behind r h = no_design asked problem at design r h
+refused asked (Elab elab.NoMemory) design behind r h = r
+refused asked NoMemory design behind r h = behind

@@ -1,8 +1,9 @@
 -- What the code's own calls say.
-use Rattle.std.specs.Prelude.{◌≡◌, ℕ, List, None, Some, Result, Ok, Err, IsTrue}
+use Rattle.std.specs.Prelude.{◌≡◌, None, Some, Result, Ok, Err, IsTrue}
 use Rattle.rtl_net.specs.Nets.{NetlistView}
 use Rattle.vhdl_elab_rules.specs.Elaboration.{Elaborated, elaborated_net}
 use Rattle.vhdl_elab_rules.specs.Refused.{MayRefuse}
+use Rattle.vhdl_expand_rules.specs.Tops.{Top}
 use Rattle.vhdl_expand_rules.specs.declared.fault.ElabFault.TheVariants as elab
 use Rattle.vhdl_names_rules.specs.problems.Files as breaks
 use Rattle.vhdl_names_rules.specs.Files as rules
@@ -36,18 +37,18 @@ pub record AreReady (units : u.Units) : Type 0 where
   pub ports : IsTrue (small_ports_are_distinct units)
 
 -- the units have this netlist
-pub record ShowsTop (units : u.Units) (top : List ℕ) (net : NetlistView) : Type 0 where
+pub record ShowsTop (units : u.Units) (top : Top) (net : NetlistView) : Type 0 where
   pub design : Elaborated
   pub is : elaborated_net units top ≡ Ok design
   pub shows : Shows design net
 
 -- only a fault of elaboration, only where the units have no design, and with the problem and the byte that may be told
-abbrev pub HasElabFault : u.Units → (top : List ℕ) → SourceFault → Type 0
+abbrev pub HasElabFault : u.Units → Top → SourceFault → Type 0
 HasElabFault units top (Elab elab.NoMemory) = ⊥
 HasElabFault units top (Elab (elab.At problem at)) = MayRefuse units top (problem, at)
 HasElabFault units top NoMemory = Unit {0}
 HasElabFault units top _ = ⊥
 
-abbrev pub GivesNet : u.Units → (top : List ℕ) → Result NetlistView SourceFault → Type 0
+abbrev pub GivesNet : u.Units → Top → Result NetlistView SourceFault → Type 0
 GivesNet units top (Ok net) = ShowsTop units top net
 GivesNet units top (Err fault) = HasElabFault units top fault

@@ -1,4 +1,4 @@
-//! The netlist of a source: from its bytes and the name of the top to the elaborated netlist (IEEE
+//! The netlist of a source: from its bytes and its top to the elaborated netlist (IEEE
 //! 1076-2008, 13.5 and clause 14).
 //!
 //! The specs of vhdl_front_rules say which tree, design and netlist a source has, and why it is
@@ -13,4 +13,4 @@ pub use laws::{
     refused_sources_have_no_design,
 };
 pub use opening::{Vhdl, open};
-pub use vhdl_front_rules::SourceFault;
+pub use vhdl_front_rules::{Asked, SourceFault};

@@ -1,7 +1,10 @@
 //! From a source to its netlist.
 
-ghost use Rattle.std.specs.Prelude.{IfOk, IfErr, List, ℕ, length};
+ghost use Rattle.std.specs.Prelude.{IfOk, IfErr, length};
 ghost use Rattle.rtl_stim.specs.Ports.{HasOwnPorts};
+ghost use Rattle.vhdl_expand_rules.specs.Tops as tops;
+ghost use Rattle.vhdl_expand_rules.specs.views.Tops.{top_view};
+ghost use Rattle.vhdl_front_rules.specs.Asking.{asked_view};
 ghost use Rattle.vhdl_front_rules.specs.Designs.{IsNetOf};
 ghost use Rattle.vhdl_front_rules.specs.Faults.{LiesIn};
 ghost use Rattle.vhdl_front_rules.specs.Refusals.{Refuses};
@@ -15,17 +18,17 @@ ghost use Rattle.vhdl_names_units.specs.views.Units.{units_view};
 use rtl_net::Net;
 use std::alloc::Global;
 use vhdl_elab::elaborate;
-use vhdl_front_rules::{Front, SourceFault};
+use vhdl_expand_rules::Top;
+use vhdl_front_rules::{Asked, Front, SourceFault};
 use vhdl_lexer::lex;
 use vhdl_names::analyse;
 use vhdl_names_units::Units;
 use vhdl_parser::parse;
 use vhdl_tree::File;
 
-/// The netlist of a source: `source` has the bytes of one file, `top` the name of an entity in it,
-/// in letters of either case. The file is read, its names and types are analysed, and its top is
-/// elaborated (IEEE 1076-2008, clauses 15, 12 and 14). It takes memory in proportion to the source
-/// and to the netlist, within the limits of elaboration.
+/// The netlist of a source under a top, which is an entity in it. The file is read, its names and
+/// types are analysed, and its top is elaborated (IEEE 1076-2008, clauses 15, 12 and 14). It takes
+/// memory in proportion to the source and to the netlist, within the limits of elaboration.
 ///
 /// # Errors
 ///
@@ -33,30 +36,31 @@ use vhdl_tree::File;
 /// at a byte of the source or at its end. `Name` is the first rule that the file breaks as it is
 /// read, with its byte; `Elab` is the first broken rule, with its byte, or `TooMany`. `NoMemory`
 /// where memory was refused.
-pub fn open(alloc: Global, source: &[u8], top: &[u8]) -> Result<Net, SourceFault>
-    ensures net { IfOk result (λ net. IsNetOf source.now top.now net) }
+pub fn open(alloc: Global, asked: Asked<'_>) -> Result<Net, SourceFault>
+    ensures net { IfOk result (λ net. IsNetOf (asked_view asked.entry) net) }
     ensures ports { IfOk result (λ net. HasOwnPorts net) }
-    ensures refused { IfErr result (Refuses source.now top.now) }
-    ensures told { IfErr result (LiesIn (length source.now)) }
+    ensures refused { IfErr result (Refuses (asked_view asked.entry)) }
+    ensures told { IfErr result (LiesIn (length (asked_view asked.entry).source)) }
 {
-    let file = read(alloc, source)?;
+    let file = read(alloc, asked.source)?;
     let units = units_of(alloc, &file)?;
-    net_of(alloc, &units, top)
+    net_of(alloc, &units, asked.top)
 }
 
 /// Sources in VHDL.
 pub struct Vhdl;
 
 impl Front for Vhdl {
-    fn open(alloc: Global, source: &[u8], top: &[u8]) -> Result<Net, SourceFault> {
-        open(alloc, source, top)
+    fn open(alloc: Global, asked: Asked<'_>) -> Result<Net, SourceFault> {
+        open(alloc, asked)
     }
 }
 
 /// The tree of a source.
 fn read(alloc: Global, source: &[u8]) -> Result<File, SourceFault>
     ensures file { IfOk result (λ file. IsFileOf source.now (file_view file)) }
-    ensures refused { IfErr result (λ fault. (top : List ℕ) → Refuses source.now top fault) }
+    ensures refused { IfErr result
+        (λ fault. (top : tops.Top) → Refuses (record { source = source.now; top = top }) fault) }
     ensures told { IfErr result (LiesIn (length source.now)) }
 {
     let tokens = lex(alloc, source)?;
@@ -76,9 +80,9 @@ fn units_of(alloc: Global, file: &File) -> Result<Units, SourceFault>
 }
 
 /// The netlist of a top of some units.
-fn net_of(alloc: Global, units: &Units, top: &[u8]) -> Result<Net, SourceFault>
+fn net_of(alloc: Global, units: &Units, top: Top<'_>) -> Result<Net, SourceFault>
     requires { AreReady (units_view units.now) }
-    ensures given { GivesNet (units_view units.now) top.now result }
+    ensures given { GivesNet (units_view units.now) (top_view top.entry) result }
     ensures ports { IfOk result (λ net. HasOwnPorts net) }
 {
     match elaborate(alloc, units, top) {

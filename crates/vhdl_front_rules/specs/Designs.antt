@@ -7,6 +7,7 @@ use Rattle.vhdl_names_rules.specs.units.Units.{Units}
 use Rattle.vhdl_elab_rules.specs.Named.{IsNamedAlike}
 use Rattle.vhdl_elab_rules.specs.Shown.{Shows}
 use Rattle.vhdl_tree.specs.Tree.{File}
+use Rattle.vhdl_front_rules.specs.Asking.{Asked}
 use Rattle.vhdl_front_rules.specs.Sources.{IsFileOf}
 
 -- the source's one tree is a well-typed file with these units
@@ -15,16 +16,16 @@ pub record HasUnits (source : List ℕ) (units : Units) : Type 0 where
   pub read : IsFileOf source file
   pub well_typed : units_of file ≡ Some units
 
--- of which this top is elaborated to this design
-pub record HasDesign (source top : List ℕ) (design : Elaborated) : Type 0 where
+-- of which the top is elaborated to this design
+pub record HasDesign (asked : Asked) (design : Elaborated) : Type 0 where
   pub units : Units
-  pub analysed : HasUnits source units
-  pub is : elaborated_net units top ≡ Ok design
+  pub analysed : HasUnits asked.source units
+  pub is : elaborated_net units asked.top ≡ Ok design
 
 -- The netlist shows the source's design: its nets, sources, starts and bodies, the bytes at which its processes start,
 -- its scopes and signals are the design's, and so are the names of its nets and processes.
-pub record IsNetOf (source top : List ℕ) (net : NetlistView) : Type 0 where
+pub record IsNetOf (asked : Asked) (net : NetlistView) : Type 0 where
   pub design : Elaborated
-  pub has : HasDesign source top design
+  pub has : HasDesign asked design
   pub shows : Shows design net
   pub named : IsNamedAlike design net

@@ -1,4 +1,5 @@
 -- In order of reading:
+pub mod Asking
 pub mod Sources
 pub mod Designs
 pub mod Refusals

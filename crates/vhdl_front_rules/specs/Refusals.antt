@@ -12,6 +12,7 @@ use Rattle.vhdl_names_rules.specs.declared.fault.NameProblem.{NameProblem}
 use Rattle.vhdl_names_rules.specs.units.Units.{Units}
 use Rattle.vhdl_parser.specs.declared.fault.SyntaxFault.TheVariants as syntax
 use Rattle.vhdl_tree.specs.Tree.{File}
+use Rattle.vhdl_front_rules.specs.Asking.{Asked}
 use Rattle.vhdl_front_rules.specs.Designs.{HasUnits}
 use Rattle.vhdl_front_rules.specs.Sources.{IsFileOf, HasSyntaxFault}
 use Rattle.vhdl_front_rules.specs.declared.fault.SourceFault.{SourceFault}
@@ -25,22 +26,22 @@ pub record HasNoUnits (source : List ℕ) (problem : NameProblem) (at : ℕ) : T
   pub ill_typed : units_of file ≡ None
   pub broken : breaks.file file ≡ Some (problem, at)
 
--- The source's units have no design with this top, and this problem may be told at this byte: that of the first broken
+-- The source's units have no design with the top, and this problem may be told at this byte: that of the first broken
 -- rule, or TooMany where the growth of the design may be cut off before.
-pub record HasNoDesign (source top : List ℕ) (problem : ElabProblem) (at : ℕ) : Type 0 where
+pub record HasNoDesign (asked : Asked) (problem : ElabProblem) (at : ℕ) : Type 0 where
   pub units : Units
-  pub analysed : HasUnits source units
-  pub refused : MayRefuse units top (problem, at)
+  pub analysed : HasUnits asked.source units
+  pub refused : MayRefuse units asked.top (problem, at)
 
 -- A layer's want of memory is told as NoMemory alone. No definition says whether TooDeep or Unexpected is told of a
 -- source that has both.
-abbrev pub Refuses : (source top : List ℕ) → SourceFault → Type 0
-Refuses source top (Lex lex.NoMemory) = ⊥
-Refuses source top (Lex fault) = HasFault fault source
-Refuses source top (Syntax syntax.NoMemory) = ⊥
-Refuses source top (Syntax fault) = HasSyntaxFault fault source
-Refuses source top (Name names.NoMemory) = ⊥
-Refuses source top (Name (names.At problem at)) = HasNoUnits source problem at
-Refuses source top (Elab elab.NoMemory) = ⊥
-Refuses source top (Elab (elab.At problem at)) = HasNoDesign source top problem at
-Refuses source top NoMemory = Unit {0}
+abbrev pub Refuses : Asked → SourceFault → Type 0
+Refuses asked (Lex lex.NoMemory) = ⊥
+Refuses asked (Lex fault) = HasFault fault asked.source
+Refuses asked (Syntax syntax.NoMemory) = ⊥
+Refuses asked (Syntax fault) = HasSyntaxFault fault asked.source
+Refuses asked (Name names.NoMemory) = ⊥
+Refuses asked (Name (names.At problem at)) = HasNoUnits asked.source problem at
+Refuses asked (Elab elab.NoMemory) = ⊥
+Refuses asked (Elab (elab.At problem at)) = HasNoDesign asked problem at
+Refuses asked NoMemory = Unit {0}

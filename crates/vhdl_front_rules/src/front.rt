@@ -2,19 +2,20 @@
 
 ghost use Rattle.std.specs.Prelude.{IfOk, IfErr, length};
 ghost use Rattle.rtl_stim.specs.Ports.{HasOwnPorts};
+ghost use Rattle.vhdl_front_rules.specs.Asking.{asked_view};
 ghost use Rattle.vhdl_front_rules.specs.Designs.{IsNetOf};
 ghost use Rattle.vhdl_front_rules.specs.Faults.{LiesIn};
 ghost use Rattle.vhdl_front_rules.specs.Refusals.{Refuses};
 
+use crate::asked::Asked;
 use crate::fault::SourceFault;
 use rtl_net::Net;
 use std::alloc::Global;
 
 /// Whatever turns sources into netlists.
 pub trait Front {
-    /// The netlist of a source: `source` has the bytes of one file, `top` the name of an entity in
-    /// it, in letters of either case (IEEE 1076-2008, 13.5 and clause 14). It takes memory in
-    /// proportion to the source and to the netlist.
+    /// The netlist of a source under a top, which is an entity in it (IEEE 1076-2008, 13.5 and
+    /// clause 14). It takes memory in proportion to the source and to the netlist.
     ///
     /// # Errors
     ///
@@ -22,9 +23,9 @@ pub trait Front {
     /// told at a byte of the source or at its end. `Name` is the first rule that the file breaks as
     /// it is read, with its byte; the problem of `Elab` is the first broken rule's, or `TooMany`.
     /// `NoMemory` where memory was refused.
-    fn open(alloc: Global, source: &[u8], top: &[u8]) -> Result<Net, SourceFault>
-        ensures net { IfOk result (λ net. IsNetOf source.now top.now net) }
+    fn open(alloc: Global, asked: Asked<'_>) -> Result<Net, SourceFault>
+        ensures net { IfOk result (λ net. IsNetOf (asked_view asked.entry) net) }
         ensures ports { IfOk result (λ net. HasOwnPorts net) }
-        ensures refused { IfErr result (Refuses source.now top.now) }
-        ensures told { IfErr result (LiesIn (length source.now)) };
+        ensures refused { IfErr result (Refuses (asked_view asked.entry)) }
+        ensures told { IfErr result (LiesIn (length (asked_view asked.entry).source)) };
 }

@@ -35,7 +35,7 @@ use Rattle.vhdl_names_declarations.proofs.Turns.{declares_all, enters}
 -- ---- generics
 
 abbrev pub generics_of : t.Generic → IntegerType × Option Static → List u.Generic
-generics_of g x = for_each (λ n. record { at = n.at; type = x.0; default = x.1 }) g.names
+generics_of g x = for_each (λ n. record { at = n.at; name = n.text; type = x.0; default = x.1 }) g.names
 
 pub generic_is : (s : Sight) (g : t.Generic) (k : ℕ) → k ≡ count_of visibility.is_generic s.region →
     entering generic s g ≡ (declares_all (names_of g.names) (λ x. k) (λ x. visibility.generic) (generics_of g) (typed_generic s g) >>= enters (λ s. s.region) with_declared s)

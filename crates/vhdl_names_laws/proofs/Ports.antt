@@ -46,7 +46,7 @@ generic_step i counts sight g x h q =
     let a = comes (meaning sight g.mark.text) _ x q in
     let b = comes (as_integer_type a.value) _ x a.rest in
     let c = comes (if_any (static sight) g.default) _ x b.rest in
-    let make : Ident → u.Generic = λ n. record { at = n.at; type = b.value; default = c.value } in
+    let make : Ident → u.Generic = λ n. record { at = n.at; name = n.text; type = b.value; default = c.value } in
     subst (r.Step with_generic generic_fits with_declared IsKnown i sight) (some_same _ x c.rest)
     (r.names_step with_generic generic_fits with_declared IsKnown nothing_more more_twice visibility.generic (λ (s : Sight). count_of visibility.is_generic s.region) make
     (λ i counts. static_default_fits i c.value ≡ true)

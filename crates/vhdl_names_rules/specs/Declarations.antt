@@ -55,7 +55,7 @@ generic sight g = do
   default ← if_any (static sight) g.default
   Some (record {
     declared = declared_as visibility.is_generic visibility.generic sight.region g.names;
-    analysed = for_each (λ n. record { at = n.at; type = type; default = default }) g.names;
+    analysed = for_each (λ n. record { at = n.at; name = n.text; type = type; default = default }) g.names;
   })
 
 -- ports are of the nine values

@@ -1,5 +1,5 @@
 -- Expressions and conditions as they stand in bodies, generics, conditional generates, and what nets start with.
-use Rattle.std.specs.Prelude.{◌≡◌, true, false, [], ◌∷◌, replicate, Some, None, Ok, Err, codes}
+use Rattle.std.specs.Prelude.{◌≡◌, true, false, [], ◌∷◌, replicate, Some, None, Ok, Err, codes, pos}
 use Rattle.vhdl_values.specs.declared.scalar.Nine.TheVariants.{Zero, One}
 use Rattle.vhdl_values.specs.declared.kinds.Cmp.TheVariants.{Eq, Lt, Gt}
 use Rattle.vhdl_values.specs.declared.kinds.Counted.TheVariants.{Resize}
@@ -20,8 +20,7 @@ use Rattle.vhdl_expand_rules.specs.Kinds.{one}
 use Rattle.vhdl_expand_rules.specs.Kinds as k
 use Rattle.vhdl_expand_rules.specs.Site.{Site, no_site}
 use Rattle.vhdl_expand_rules.specs.Expressions.{vector, test}
-use Rattle.vhdl_elab_rules.specs.Elaboration.{elaborated_net}
-use Rattle.rtl_definition_examples.specs.designs.Words.{number, downto, port, from, at, assignment, instance, object, input, entity, Of}
+use Rattle.rtl_definition_examples.specs.designs.Words.{number, downto, port, from, at, assignment, instance, object, input, entity, elaborated, elaborated_with, Of}
 use Rattle.rtl_definition_examples.specs.designs.Designs.{no_statement}
 use Rattle.rtl_definition_examples.specs.designs.Refusals.{minus, of}
 
@@ -128,8 +127,9 @@ wide_output = record {
 -- n : natural := 2; m : natural := n + 1; y : out (m downto 0)
 abbrev pub later_default : Entity
 later_default = record (entity (codes "g") (wide_output ∷ []) [] []) {
-  generics = record { at = 6; type = Natural; default = Some (number 2) }
-      ∷ record { at = 7; type = Natural; default = Some (of arithmetic.Add (e.generic 0) (number 1)) } ∷ [];
+  generics = record { at = 6; name = codes "n"; type = Natural; default = Some (number 2) }
+      ∷ record { at = 7; name = codes "m"; type = Natural; default = Some (of arithmetic.Add (e.generic 0) (number 1)) }
+      ∷ [];
 }
 
 -- if 0 = 1 generate, round a generate over 0 to 1 / 0
@@ -149,7 +149,10 @@ two_sources = entity (codes "t")
     ∷ assignment (port 1 e.whole) a ∷ [])
 
 pub record DefaultsAreTaken : Type 0 where
-  pub generic : Of (elaborated_net (later_default ∷ []) (codes "g")) (λ x. x.flat.start ≡ 0 ∷ 0 ∷ 0 ∷ 0 ∷ [])
-  pub not_computed : Of (elaborated_net (nothing_computed ∷ []) (codes "f")) (λ x. x.flat.start ≡ [])
+  pub generic : Of (elaborated (later_default ∷ []) (codes "g")) (λ x. x.flat.start ≡ 0 ∷ 0 ∷ 0 ∷ 0 ∷ [])
+  -- n is set to 1, from which m is computed
+  pub set : Of (elaborated_with (later_default ∷ []) (codes "g") (codes "n") (pos 1)) (λ x.
+      x.flat.start ≡ 0 ∷ 0 ∷ 0 ∷ [])
+  pub not_computed : Of (elaborated (nothing_computed ∷ []) (codes "f")) (λ x. x.flat.start ≡ [])
   -- the driver starts with '1', the idle port with '0', and y with X
-  pub resolved : Of (elaborated_net (no_statement ∷ two_sources ∷ []) (codes "t")) (λ x. x.flat.start ≡ 0 ∷ 1 ∷ [])
+  pub resolved : Of (elaborated (no_statement ∷ two_sources ∷ []) (codes "t")) (λ x. x.flat.start ≡ 0 ∷ 1 ∷ [])

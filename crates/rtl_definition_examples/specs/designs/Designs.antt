@@ -11,9 +11,8 @@ use Rattle.vhdl_names_rules.specs.units.Units.{Entity}
 use Rattle.rtl_model.specs.bodies.Body as bodies
 use Rattle.rtl_model.specs.nets.FlatNetlist.{flat_sources}
 use Rattle.rtl_model.specs.simulation.Netlist.{Driver}
-use Rattle.vhdl_elab_rules.specs.Elaboration.{elaborated_net}
 use Rattle.rtl_definition_examples.specs.designs.Words.{number, downto, to, port, signal, from, at, read, assigned, process, assignment, instance, object, input, output, declared}
-use Rattle.rtl_definition_examples.specs.designs.Words.{entity, shown, Of}
+use Rattle.rtl_definition_examples.specs.designs.Words.{entity, shown, elaborated, Of}
 
 -- ---- a counter
 
@@ -31,14 +30,14 @@ counter = entity (codes "cnt")
     ∷ assignment (port 1 e.whole) (read (signal 0 e.whole)) ∷ [])
 
 pub record CounterHasItsNet : Type 0 where
-  pub net : shown (elaborated_net (counter ∷ []) (codes "CNT")) ≡ Ok (record {
+  pub net : shown (elaborated (counter ∷ []) (codes "CNT")) ≡ Ok (record {
     starts = 0 ∷ 0 ∷ 0 ∷ 2 ∷ 2 ∷ [];
     inputs = 0 ∷ [];
     idle = [] ∷ [] ∷ [] ∷ [] ∷ [] ∷ [];
     nets = codes "cnt.clk" ∷ codes "cnt.y(1)" ∷ codes "cnt.y(0)" ∷ codes "cnt.q(1)" ∷ codes "cnt.q(0)" ∷ [];
     processes = codes "cnt.#0" ∷ codes "cnt.#1" ∷ [];
   })
-  pub processes : Of (elaborated_net (counter ∷ []) (codes "cnt")) (λ x. x.flat.processes ≡ record {
+  pub processes : Of (elaborated (counter ∷ []) (codes "cnt")) (λ x. x.flat.processes ≡ record {
     drivers = record { net = 3; start = 2 } ∷ record { net = 4; start = 2 } ∷ [];
     wakes = 0 ∷ [];
     variables = [];
@@ -72,14 +71,14 @@ two_inverters =
     u.no_concurrents) ∷ [])
 
 pub record InvertersAreJoined : Type 0 where
-  pub net : shown (elaborated_net (inverter ∷ two_inverters ∷ []) (codes "t")) ≡ Ok (record {
+  pub net : shown (elaborated (inverter ∷ two_inverters ∷ []) (codes "t")) ≡ Ok (record {
     starts = 0 ∷ 0 ∷ 0 ∷ 0 ∷ [];
     inputs = 0 ∷ 1 ∷ [];
     idle = [] ∷ [] ∷ [] ∷ [] ∷ [];
     nets = codes "t.x(1)" ∷ codes "t.x(0)" ∷ codes "t.z(1)" ∷ codes "t.z(0)" ∷ [];
     processes = codes "t.g(0).u.#0" ∷ codes "t.g(1).u.#1" ∷ [];
   })
-  pub sources : Of (elaborated_net (inverter ∷ two_inverters ∷ []) (codes "t")) (λ x.
+  pub sources : Of (elaborated (inverter ∷ two_inverters ∷ []) (codes "t")) (λ x.
       map (flat_sources x.flat) (0 ∷ 1 ∷ 2 ∷ 3 ∷ []) ≡ [] ∷ [] ∷ (Driver 1 0 ∷ []) ∷ (Driver 0 0 ∷ []) ∷ [])
 
 -- ---- an idle out port
@@ -95,7 +94,7 @@ around_idle = entity (codes "t") (input 10 (codes "a") u.element ∷ output 11 (
     (instance 0 (Some (from 41 (port 0 e.whole)) ∷ Some (from 42 (port 1 e.whole)) ∷ []) ∷ [])
 
 pub record IdlePortsHoldTheirDefaults : Type 0 where
-  pub net : shown (elaborated_net (no_statement ∷ around_idle ∷ []) (codes "t")) ≡ Ok (record {
+  pub net : shown (elaborated (no_statement ∷ around_idle ∷ []) (codes "t")) ≡ Ok (record {
     starts = 0 ∷ 2 ∷ [];
     inputs = 0 ∷ [];
     idle = [] ∷ (2 ∷ []) ∷ [];
@@ -124,7 +123,7 @@ loop_reads =
 
 pub record LoopsAreUnrolled : Type 0 where
   -- all of v is driven, and v(0) and v(1), which stand last, are assigned
-  pub drives : Of (elaborated_net (loop_drives ∷ []) (codes "lt")) (λ x. x.flat.processes ≡ record {
+  pub drives : Of (elaborated (loop_drives ∷ []) (codes "lt")) (λ x. x.flat.processes ≡ record {
     drivers =
         record { net = 1; start = 0 } ∷ record { net = 2; start = 0 }
         ∷ record { net = 3; start = 0 } ∷ record { net = 4; start = 0 } ∷ [];
@@ -134,7 +133,7 @@ pub record LoopsAreUnrolled : Type 0 where
         (bodies.step (bodies.assign (2 ∷ []) (bodies.elements (bodies.signal (0 ∷ [])))) bodies.done);
   } ∷ [])
   -- it is sensitive to all of a, and reads a(0) and a(1)
-  pub wakes : Of (elaborated_net (loop_reads ∷ []) (codes "lp")) (λ x. x.flat.processes ≡ record {
+  pub wakes : Of (elaborated (loop_reads ∷ []) (codes "lp")) (λ x. x.flat.processes ≡ record {
     drivers = record { net = 4; start = 0 } ∷ record { net = 5; start = 0 } ∷ [];
     wakes = 0 ∷ 1 ∷ 2 ∷ 3 ∷ [];
     variables = [];

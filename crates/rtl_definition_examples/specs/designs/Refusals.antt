@@ -22,10 +22,9 @@ use Rattle.vhdl_expand_rules.specs.declared.fault.ElabProblem.TheVariants.{NoTop
 use Rattle.vhdl_expand_rules.specs.declared.fault.ElabProblem.TheVariants.{Unassociated, TwoUnresolved, ReadOfShared, TooDeep, TooMany}
 use Rattle.vhdl_expand_rules.specs.Integers.{integer}
 use Rattle.vhdl_expand_rules.specs.Site.{no_integers}
-use Rattle.vhdl_elab_rules.specs.Elaboration.{elaborated_net}
 use Rattle.rtl_definition_examples.specs.designs.Words.{number, downto, to, port, signal, from, at, read}
 use Rattle.rtl_definition_examples.specs.designs.Words.{literal, assigned, process, assignment, instance, object, input, output, declared}
-use Rattle.rtl_definition_examples.specs.designs.Words.{entity, Of}
+use Rattle.rtl_definition_examples.specs.designs.Words.{entity, elaborated, elaborated_with, Of}
 use Rattle.rtl_definition_examples.specs.designs.Designs.{inverter, no_statement}
 
 -- ---- static integers
@@ -58,26 +57,31 @@ pub record IntegersHaveValues : Type 0 where
 -- n, m : positive, with these defaults
 abbrev pub with_generics : (n m : Option Static) → Entity
 with_generics n m = record (entity (codes "g") [] [] []) {
-  generics = record { at = 6; type = Positive; default = n } ∷ record { at = 7; type = Positive; default = m } ∷ [];
+  generics = record { at = 6; name = codes "n"; type = Positive; default = n }
+      ∷ record { at = 7; name = codes "m"; type = Positive; default = m } ∷ [];
 }
 
 abbrev pub with_generic : Option Static → Entity
 with_generic default = with_generics default (Some (number 1))
 
 pub record TopsAreThere : Type 0 where
-  pub no_entity : elaborated_net (inverter ∷ []) (codes "other") ≡ Err (NoTop, 0)
-  pub no_architecture : elaborated_net (record inverter { architecture = None } ∷ []) (codes "inv") ≡ Err (NoTop, 1)
-  pub no_generic : elaborated_net (with_generic None ∷ []) (codes "g") ≡ Err (NoGeneric, 6)
+  pub no_entity : elaborated (inverter ∷ []) (codes "other") ≡ Err (NoTop, 0)
+  pub no_architecture : elaborated (record inverter { architecture = None } ∷ []) (codes "inv") ≡ Err (NoTop, 1)
+  pub no_generic : elaborated (with_generic None ∷ []) (codes "g") ≡ Err (NoGeneric, 6)
   -- two generics without a default, and the second one alone
-  pub neither : elaborated_net (with_generics None None ∷ []) (codes "g") ≡ Err (NoGeneric, 6)
-  pub second : elaborated_net (with_generics (Some (number 1)) None ∷ []) (codes "g") ≡ Err (NoGeneric, 7)
-  pub second_range : elaborated_net (with_generics (Some (number 1)) (Some (minus 1)) ∷ []) (codes "g")
+  pub neither : elaborated (with_generics None None ∷ []) (codes "g") ≡ Err (NoGeneric, 6)
+  pub second : elaborated (with_generics (Some (number 1)) None ∷ []) (codes "g") ≡ Err (NoGeneric, 7)
+  pub second_range : elaborated (with_generics (Some (number 1)) (Some (minus 1)) ∷ []) (codes "g")
       ≡ Err (GenericRange, 7)
-  pub generic_range : elaborated_net (with_generic (Some (number 0)) ∷ []) (codes "g") ≡ Err (GenericRange, 6)
-  pub generic_without_value : elaborated_net (with_generic (Some (of Divide (number 1) (number 0))) ∷ []) (codes "g")
+  pub generic_range : elaborated (with_generic (Some (number 0)) ∷ []) (codes "g") ≡ Err (GenericRange, 6)
+  pub generic_without_value : elaborated (with_generic (Some (of Divide (number 1) (number 0))) ∷ []) (codes "g")
       ≡ Err (StaticError, 5)
-  pub generic_too_great : elaborated_net (with_generic (Some (number 2147483648)) ∷ []) (codes "g")
+  pub generic_too_great : elaborated (with_generic (Some (number 2147483648)) ∷ []) (codes "g")
       ≡ Err (StaticError, 6)
+  -- one that is set needs no default; its value is looked at as an actual's, and behind the names of all that are set
+  pub set : Of (elaborated_with (with_generic None ∷ []) (codes "G") (codes "N") (pos 1)) (λ x. x.flat.start ≡ [])
+  pub set_range : elaborated_with (with_generic None ∷ []) (codes "g") (codes "n") (negsuc 0) ≡ Err (GenericRange, 6)
+  pub set_unknown : elaborated_with (with_generic None ∷ []) (codes "g") (codes "k") (pos 1) ≡ Err (NoGeneric, 1)
 
 -- ---- ranges and lengths: signal s of this range, y out of three elements, and a statement
 
@@ -140,45 +144,45 @@ short_when i = process u.as_read
 
 pub record LengthsAgree : Type 0 where
   -- at the target, and neither at the literal nor at the process
-  pub short : elaborated_net (in_process (short_literal ∷ []) ∷ []) (codes "d") ≡ Err (Length 2 3, 30)
-  pub short_under_false : elaborated_net (in_process (under_false short_literal ∷ []) ∷ []) (codes "d")
+  pub short : elaborated (in_process (short_literal ∷ []) ∷ []) (codes "d") ≡ Err (Length 2 3, 30)
+  pub short_under_false : elaborated (in_process (under_false short_literal ∷ []) ∷ []) (codes "d")
       ≡ Err (Length 2 3, 30)
-  pub null_range : elaborated_net (with_signal (to 3 0) [] ∷ []) (codes "d") ≡ Err (Index, 20)
-  pub negative_bound : elaborated_net
+  pub null_range : elaborated (with_signal (to 3 0) [] ∷ []) (codes "d") ≡ Err (Index, 20)
+  pub negative_bound : elaborated
       (with_signal (record { left = number 3; direction = Downto; right = minus 1 }) [] ∷ []) (codes "d")
       ≡ Err (StaticError, 20)
-  pub too_wide : elaborated_net (with_signal (downto 64 0) [] ∷ []) (codes "d") ≡ Err (TooWide, 20)
+  pub too_wide : elaborated (with_signal (downto 64 0) [] ∷ []) (codes "d") ≡ Err (TooWide, 20)
   -- the first of two names, and the second one alone
-  pub both_too_wide : elaborated_net (with_signals (downto 64 0) (downto 64 0) ∷ []) (codes "d") ≡ Err (TooWide, 20)
-  pub second_too_wide : elaborated_net (with_signals (downto 63 0) (downto 100 36) ∷ []) (codes "d") ≡ Err (TooWide, 21)
-  pub against_direction : elaborated_net (with_four (slice_read (e.slice (to 1 2)) ∷ []) ∷ []) (codes "d")
+  pub both_too_wide : elaborated (with_signals (downto 64 0) (downto 64 0) ∷ []) (codes "d") ≡ Err (TooWide, 20)
+  pub second_too_wide : elaborated (with_signals (downto 63 0) (downto 100 36) ∷ []) (codes "d") ≡ Err (TooWide, 21)
+  pub against_direction : elaborated (with_four (slice_read (e.slice (to 1 2)) ∷ []) ∷ []) (codes "d")
       ≡ Err (Index, 34)
-  pub outside : elaborated_net (with_four (element_read (number 4) ∷ []) ∷ []) (codes "d") ≡ Err (Index, 34)
-  pub negative_index : elaborated_net (with_four (element_read (minus 1) ∷ []) ∷ []) (codes "d") ≡ Err (Index, 34)
-  pub index_without_value : elaborated_net
+  pub outside : elaborated (with_four (element_read (number 4) ∷ []) ∷ []) (codes "d") ≡ Err (Index, 34)
+  pub negative_index : elaborated (with_four (element_read (minus 1) ∷ []) ∷ []) (codes "d") ≡ Err (Index, 34)
+  pub index_without_value : elaborated
       (with_four (element_read (of Divide (number 1) (number 0)) ∷ []) ∷ []) (codes "d") ≡ Err (StaticError, 5)
   -- operands at the operator; a sum is as long as the longer one, so that it is told at the target
-  pub operands : elaborated_net (with_four (computed (v.Logical And) ∷ []) ∷ []) (codes "d") ≡ Err (Length 4 2, 32)
-  pub sum : elaborated_net (with_four (computed (v.Arithmetic numeric.Add) ∷ []) ∷ []) (codes "d")
+  pub operands : elaborated (with_four (computed (v.Logical And) ∷ []) ∷ []) (codes "d") ≡ Err (Length 4 2, 32)
+  pub sum : elaborated (with_four (computed (v.Arithmetic numeric.Add) ∷ []) ∷ []) (codes "d")
       ≡ Err (Length 4 3, 30)
-  pub choice : elaborated_net (in_process (short_choice ∷ []) ∷ []) (codes "d") ≡ Err (Length 2 4, 52)
+  pub choice : elaborated (in_process (short_choice ∷ []) ∷ []) (codes "d") ≡ Err (Length 2 4, 52)
 
 pub record FirstRulesAreTold : Type 0 where
   -- all targets before the first statement
-  pub target : elaborated_net (in_process (short_literal ∷ outside_target ∷ []) ∷ []) (codes "d") ≡ Err (Index, 37)
+  pub target : elaborated (in_process (short_literal ∷ outside_target ∷ []) ∷ []) (codes "d") ≡ Err (Index, 37)
   -- targets before the list, s(4) at 38, which is before the statements
-  pub before_list : elaborated_net (with_four
+  pub before_list : elaborated (with_four
       (process (u.listed (from 38 (signal 0 (at (number 4))) ∷ [])) (outside_target ∷ []) ∷ []) ∷ []) (codes "d")
       ≡ Err (Index, 37)
-  pub list : elaborated_net (with_four
+  pub list : elaborated (with_four
       (process (u.listed (from 38 (signal 0 (at (number 4))) ∷ [])) (short_literal ∷ []) ∷ []) ∷ []) (codes "d")
       ≡ Err (Index, 38)
   -- ranges of loops before the statements
-  pub turns : elaborated_net (in_process (short_literal ∷ s.for_of 51 (to 0 4096) s.done ∷ []) ∷ []) (codes "d")
+  pub turns : elaborated (in_process (short_literal ∷ s.for_of 51 (to 0 4096) s.done ∷ []) ∷ []) (codes "d")
       ≡ Err (TooMany, 51)
   -- a condition before its value
-  pub condition : elaborated_net (with_four (short_when (number 4) ∷ []) ∷ []) (codes "d") ≡ Err (Index, 34)
-  pub value : elaborated_net (with_four (short_when (number 3) ∷ []) ∷ []) (codes "d") ≡ Err (Length 2 3, 30)
+  pub condition : elaborated (with_four (short_when (number 4) ∷ []) ∷ []) (codes "d") ≡ Err (Index, 34)
+  pub value : elaborated (with_four (short_when (number 3) ∷ []) ∷ []) (codes "d") ≡ Err (Length 2 3, 30)
 
 -- ---- loops: in a process, for i in this range loop y(i) <= s(i); end loop;
 
@@ -187,17 +191,17 @@ looping r = in_process (s.for_of 51 r
     (s.step (assigned (port 0 (at (e.loop_parameter 0))) (read (signal 0 (at (e.loop_parameter 0))))) s.done) ∷ [])
 
 pub record TurnsAreWithin : Type 0 where
-  pub outside : elaborated_net (looping (to 1 3) ∷ []) (codes "d") ≡ Err (Index, 30)
-  pub too_many : elaborated_net (looping (to 0 4096) ∷ []) (codes "d") ≡ Err (TooMany, 51)
-  pub without_bound : elaborated_net
+  pub outside : elaborated (looping (to 1 3) ∷ []) (codes "d") ≡ Err (Index, 30)
+  pub too_many : elaborated (looping (to 0 4096) ∷ []) (codes "d") ≡ Err (TooMany, 51)
+  pub without_bound : elaborated
       (looping (record { left = number 0; direction = To; right = number 2147483648 }) ∷ []) (codes "d")
       ≡ Err (StaticError, 51)
   -- the same of a generate, whose scheme starts at 54
-  pub too_many_generated : elaborated_net
+  pub too_many_generated : elaborated
       (with_four (u.generate_for 54 (codes "g") (to 0 4096) u.no_concurrents ∷ []) ∷ []) (codes "d")
       ≡ Err (TooMany, 54)
   -- a null range makes no turn, and y is driven
-  pub none : Of (elaborated_net (looping (to 1 0) ∷ []) (codes "d")) (λ x. x.flat.idle ≡ replicate 7 [])
+  pub none : Of (elaborated (looping (to 1 0) ∷ []) (codes "d")) (λ x. x.flat.idle ≡ replicate 7 [])
 
 -- ---- associations: an instance of k (a in, z out, at 12 and 13) with these actuals, in t with a : in, y : out, s
 -- : signal
@@ -229,20 +233,20 @@ around_wide w x =
 
 pub record ActualsFit : Type 0 where
   -- at the actual, and not at the label
-  pub length : elaborated_net (wide_unit ∷ around_wide e.whole (e.slice (downto 1 0)) ∷ []) (codes "t")
+  pub length : elaborated (wide_unit ∷ around_wide e.whole (e.slice (downto 1 0)) ∷ []) (codes "t")
       ≡ Err (Length 3 2, 42)
-  pub second_length : elaborated_net (wide_unit ∷ around_wide (e.slice (downto 1 0)) e.whole ∷ []) (codes "t")
+  pub second_length : elaborated (wide_unit ∷ around_wide (e.slice (downto 1 0)) e.whole ∷ []) (codes "t")
       ≡ Err (Length 3 2, 41)
   -- z => x, a => w(1 to 2): formals in their order, so that the second one of the text is told
-  pub formals_in_order : elaborated_net (wide_unit ∷ around_wide (e.slice (to 1 2)) e.whole ∷ []) (codes "t")
+  pub formals_in_order : elaborated (wide_unit ∷ around_wide (e.slice (to 1 2)) e.whole ∷ []) (codes "t")
       ≡ Err (Index, 42)
   -- at the label: no actual of an in port without a default, and an entity without an architecture
-  pub unassociated : elaborated_net (no_statement ∷ around (None ∷ to_y ∷ []) [] ∷ []) (codes "t")
+  pub unassociated : elaborated (no_statement ∷ around (None ∷ to_y ∷ []) [] ∷ []) (codes "t")
       ≡ Err (Unassociated, 40)
-  pub no_architecture : elaborated_net
+  pub no_architecture : elaborated
       (record no_statement { architecture = None } ∷ around (to_a ∷ to_y ∷ []) [] ∷ []) (codes "t") ≡ Err (NoTop, 40)
   -- a generic's actual at the generic's name, in the entity of the instance
-  pub generic : elaborated_net
+  pub generic : elaborated
       (with_generic None ∷ entity (codes "t") [] []
       (u.instance (record { at = 40; label = codes "u"; unit = 0; generics = Some (minus 1) ∷ []; ports = [] }) ∷ [])
       ∷ []) (codes "t")
@@ -282,33 +286,33 @@ echoing =
 
 pub record SourcesAreCounted : Type 0 where
   -- y has a driver and an instance's out port
-  pub two_unresolved : elaborated_net (inverter ∷ unresolved (around (to_a ∷ to_y ∷ []) (y_from_a ∷ [])) ∷ [])
+  pub two_unresolved : elaborated (inverter ∷ unresolved (around (to_a ∷ to_y ∷ []) (y_from_a ∷ [])) ∷ [])
       (codes "t") ≡ Err (TwoUnresolved, 11)
   -- two drivers of y; of s, which is declared behind it; and of both, those of s first
-  pub two_drivers : elaborated_net (unresolved_signal (y_from_a ∷ y_from_a ∷ s_from_a ∷ []) ∷ []) (codes "t")
+  pub two_drivers : elaborated (unresolved_signal (y_from_a ∷ y_from_a ∷ s_from_a ∷ []) ∷ []) (codes "t")
       ≡ Err (TwoUnresolved, 11)
-  pub two_drivers_of_second : elaborated_net (unresolved_signal (y_from_a ∷ s_from_a ∷ s_from_a ∷ []) ∷ []) (codes "t")
+  pub two_drivers_of_second : elaborated (unresolved_signal (y_from_a ∷ s_from_a ∷ s_from_a ∷ []) ∷ []) (codes "t")
       ≡ Err (TwoUnresolved, 20)
-  pub two_drivers_of_both : elaborated_net
+  pub two_drivers_of_both : elaborated
       (unresolved_signal (s_from_a ∷ s_from_a ∷ y_from_a ∷ y_from_a ∷ []) ∷ []) (codes "t")
       ≡ Err (TwoUnresolved, 11)
   -- y has two sources, and s takes its value
-  pub read_of_shared : elaborated_net (inverter ∷ around (to_a ∷ to_y ∷ []) (y_from_a ∷ s_from_y ∷ []) ∷ []) (codes "t")
+  pub read_of_shared : elaborated (inverter ∷ around (to_a ∷ to_y ∷ []) (y_from_a ∷ s_from_y ∷ []) ∷ []) (codes "t")
       ≡ Err (ReadOfShared, 11)
   -- y has two sources and stands in a list, or is the actual of an in port
-  pub in_list : elaborated_net (inverter
+  pub in_list : elaborated (inverter
       ∷ around (to_a ∷ to_y ∷ []) (y_from_a ∷ process (u.listed (port 1 e.whole ∷ [])) [] ∷ []) ∷ []) (codes "t")
       ≡ Err (ReadOfShared, 11)
-  pub by_in_port : elaborated_net (inverter ∷ around (to_y ∷ to_y ∷ []) (y_from_a ∷ []) ∷ []) (codes "t")
+  pub by_in_port : elaborated (inverter ∷ around (to_y ∷ to_y ∷ []) (y_from_a ∷ []) ∷ []) (codes "t")
       ≡ Err (ReadOfShared, 11)
   -- y has two sources, and the instance reads its own port
-  pub in_instance : elaborated_net (echoing ∷ around (to_a ∷ to_y ∷ []) (y_from_a ∷ []) ∷ []) (codes "t")
+  pub in_instance : elaborated (echoing ∷ around (to_a ∷ to_y ∷ []) (y_from_a ∷ []) ∷ []) (codes "t")
       ≡ Err (ReadOfShared, 13)
   -- y has one source, and is read
-  pub once : Of (elaborated_net (inverter ∷ around (to_a ∷ to_y ∷ []) (s_from_y ∷ []) ∷ []) (codes "t"))
+  pub once : Of (elaborated (inverter ∷ around (to_a ∷ to_y ∷ []) (s_from_y ∷ []) ∷ []) (codes "t"))
       (λ x. x.flat.start ≡ 0 ∷ 0 ∷ 0 ∷ [])
   -- an entity that has an instance of itself
-  pub too_deep : elaborated_net (entity (codes "e") [] [] (instance 0 [] ∷ []) ∷ []) (codes "e") ≡ Err (TooDeep, 40)
+  pub too_deep : elaborated (entity (codes "e") [] [] (instance 0 [] ∷ []) ∷ []) (codes "e") ≡ Err (TooDeep, 40)
 
 -- ---- variables
 
@@ -328,7 +332,7 @@ with_variables = entity (codes "t") (input 10 (codes "a") u.element ∷ output 1
     }) ∷ [])
 
 pub record VariablesAreNumbered : Type 0 where
-  pub has : Of (elaborated_net (with_variables ∷ []) (codes "t")) (λ x. x.flat.processes ≡ record {
+  pub has : Of (elaborated (with_variables ∷ []) (codes "t")) (λ x. x.flat.processes ≡ record {
     drivers = record { net = 1; start = 0 } ∷ [];
     wakes = 0 ∷ [];
     variables =
@@ -361,10 +365,10 @@ with_default f = with_four (u.process (record {
 
 pub record VariablesAreTold : Type 0 where
   -- at their names, and not at the process; the first one first
-  pub first : elaborated_net (with_ranges (downto 64 0) (to 1 0) ∷ []) (codes "d") ≡ Err (TooWide, 60)
-  pub second : elaborated_net (with_ranges (downto 63 0) (to 1 0) ∷ []) (codes "d") ≡ Err (Index, 61)
+  pub first : elaborated (with_ranges (downto 64 0) (to 1 0) ∷ []) (codes "d") ≡ Err (TooWide, 60)
+  pub second : elaborated (with_ranges (downto 63 0) (to 1 0) ∷ []) (codes "d") ≡ Err (Index, 61)
   -- a value at the target
-  pub value : elaborated_net (with_ranges (downto 2 0) (downto 1 0) ∷ []) (codes "d") ≡ Err (Length 2 3, 30)
+  pub value : elaborated (with_ranges (downto 2 0) (downto 1 0) ∷ []) (codes "d") ≡ Err (Length 2 3, 30)
   -- a default at the name, before the targets of the body
-  pub default : elaborated_net (with_default (u.Fixed.literal (One ∷ [])) ∷ []) (codes "d") ≡ Err (Length 1 2, 61)
-  pub behind : elaborated_net (with_default (u.filled One) ∷ []) (codes "d") ≡ Err (Index, 37)
+  pub default : elaborated (with_default (u.Fixed.literal (One ∷ [])) ∷ []) (codes "d") ≡ Err (Length 1 2, 61)
+  pub behind : elaborated (with_default (u.filled One) ∷ []) (codes "d") ≡ Err (Index, 37)

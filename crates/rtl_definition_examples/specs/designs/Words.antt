@@ -3,7 +3,7 @@
 -- loop at 51, a case at 52, an if at 53, a generate at 54, variables from 60 on; and within a statement its target at
 -- 30, a literal at 31, an operator at 32, a call at 33, a name that is read at 34, a relation at 35, an instance's
 -- label at 40 and its actuals from 41 on. Static integers have their sign at 3 and their operator at 5.
-use Rattle.std.specs.Prelude.{ℕ, true, List, [], ◌∷◌, Option, Some, None, Ok, Err, codes}
+use Rattle.std.specs.Prelude.{ℕ, true, List, [], ◌∷◌, Option, Some, None, Ok, Err, codes, ℤ}
 use Rattle.vhdl_values.specs.declared.scalar.Nine.{Nine}
 use Rattle.vhdl_tree.specs.declared.declaration.Mode.TheVariants.{In, Out}
 use Rattle.vhdl_tree.specs.declared.operator.Direction.TheVariants.{To, Downto}
@@ -13,7 +13,8 @@ use Rattle.vhdl_names_rules.specs.units.Statements as s
 use Rattle.vhdl_names_rules.specs.units.Units as u
 use Rattle.vhdl_names_rules.specs.units.Units.{Form, Fixed, Entity, Concurrent, Concurrents, Units}
 use Rattle.vhdl_expand_rules.specs.Elab.{Elab, ◌>>=◌}
-use Rattle.vhdl_elab_rules.specs.Elaboration.{Elaborated}
+use Rattle.vhdl_expand_rules.specs.Tops.{plain}
+use Rattle.vhdl_elab_rules.specs.Elaboration.{Elaborated, elaborated_net}
 
 -- ---- names and ranges
 
@@ -97,6 +98,14 @@ entity name ports declarations statements = record {
 }
 
 -- ---- what is shown of a netlist
+
+-- under a top of this name, none of whose generics is set, and under one with one that is
+abbrev pub elaborated : Units → (top : List ℕ) → Elab Elaborated
+elaborated units top = elaborated_net units (plain top)
+
+abbrev pub elaborated_with : Units → (top : List ℕ) → (generic : List ℕ) → ℤ → Elab Elaborated
+elaborated_with units top generic x =
+    elaborated_net units (record { name = top; generics = record { name = generic; value = x } ∷ [] })
 
 -- the numbers, starts, inputs and sources of nets, and names
 pub record Shown : Type 0 where

@@ -59,7 +59,8 @@ pub record DeclarationsDeclare : Type 0 where
   pub generics : generic empty_sight (generics_of (codes "natural")) ≡ Some (record {
     declared = declare (codes "w") (visibility.generic 0) ∷ declare (codes "x") (visibility.generic 1) ∷ [];
     analysed =
-        record { at = 10; type = Natural; default = None } ∷ record { at = 11; type = Natural; default = None } ∷ [];
+        record { at = 10; name = codes "w"; type = Natural; default = None }
+        ∷ record { at = 11; name = codes "x"; type = Natural; default = None } ∷ [];
   })
   pub integers : constants empty_sight (constants_of (plain_type (codes "natural")) (t.single (number (codes "1"))))
       ≡ Some (record {

@@ -16,6 +16,7 @@ use Rattle.vhdl_expand_rules.specs.Tree.{Object, Variable}
 use Rattle.vhdl_expand_rules.specs.Expansion.{Design, expanded_design}
 use Rattle.vhdl_expand_rules.specs.laws.Sites.{kinds_types}
 use Rattle.vhdl_expand_rules.specs.laws.Trees.{IsKind, object_kinds, object_types, object_roles, MayBeDriven, VariableIsSound}
+use Rattle.vhdl_expand_rules.specs.Tops.{Top}
 use Rattle.vhdl_expand_rules.proofs.laws.Lengths.{design-fits}
 use Rattle.vhdl_expand_rules.proofs.laws.Names.{length-types}
 use Rattle.vhdl_expand_rules.proofs.laws.Driven.{length-roles}
@@ -100,7 +101,7 @@ process-fits types count x len h wakes =
 
 -- ---- the whole
 
-pub walked : (units : Units) (top : List ℕ) (design : Design) → IsTrue (are_sound units) → expanded_design units top ≡ Ok design → SoFar (numbered_design design)
+pub walked : (units : Units) (top : Top) (design : Design) → IsTrue (are_sound units) → expanded_design units top ≡ Ok design → SoFar (numbered_design design)
 unfolding numbered_design
 walked units top design sound e =
     let tree = each-tree-is-sound units top design sound e in

@@ -24,6 +24,7 @@ use Rattle.vhdl_names_rules.specs.sound.Units.{are_sound}
 use Rattle.vhdl_expand_rules.specs.declared.fault.ElabProblem.TheVariants.{TwoUnresolved, TooMany}
 use Rattle.vhdl_expand_rules.specs.Elab.{unless}
 use Rattle.vhdl_expand_rules.specs.Expansion.{Design, expanded_design}
+use Rattle.vhdl_expand_rules.specs.Tops.{Top}
 use Rattle.vhdl_expand_rules.proofs.Steps.{ok, bound, kept}
 use Rattle.vhdl_expand_rules.proofs.laws.Lengths.{design-fits}
 use Rattle.vhdl_expand_rules.proofs.laws.Trees.{each-tree-is-sound}
@@ -165,7 +166,7 @@ in-range d h once shape fit wired = (
   },
 )
 
-once-in : (units : Units) (top : List ℕ) (design : Design) → IsTrue (are_sound units) → expanded_design units top ≡ Ok design → has_two_unresolved (numbered_design design) ≡ false → HitOnce (numbered_design design)
+once-in : (units : Units) (top : Top) (design : Design) → IsTrue (are_sound units) → expanded_design units top ≡ Ok design → has_two_unresolved (numbered_design design) ≡ false → HitOnce (numbered_design design)
 unfolding numbered_design
 once-in units top design sound e two =
     let tree = each-tree-is-sound units top design sound e in

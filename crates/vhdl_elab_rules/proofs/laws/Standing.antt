@@ -16,6 +16,7 @@ use Rattle.vhdl_expand_rules.specs.Tree.{Role, internal, Object, Instance, Parts
 use Rattle.vhdl_expand_rules.specs.Tree as t
 use Rattle.vhdl_expand_rules.specs.Declarations.{first_of, rest_of, object, role_of, InstanceObjects, interface, declarations, is_input, association, associations}
 use Rattle.vhdl_expand_rules.specs.Expansion.{Design, expanded_design}
+use Rattle.vhdl_expand_rules.specs.Tops.{Top}
 use Rattle.vhdl_expand_rules.proofs.Steps.{ok, bound}
 use Rattle.vhdl_expand_rules.proofs.Items.{all_of_zip}
 use Rattle.vhdl_expand_rules.proofs.laws.Expanded.{object_made, OfObjects, interface_holds, with_signals, OfSignal, declarations_add, OfInstances, design_holds}
@@ -113,7 +114,7 @@ module _ (P : ℕ → Type 0) where
   abbrev InstanceStands : Instance → Type 0
   InstanceStands i = EachInstance (All Stands) i
 
-  design-stands : (units : Units) (top : List ℕ) (design : Design) → All P (units_bytes units) → expanded_design units top ≡ Ok design → InstanceStands design.top
+  design-stands : (units : Units) (top : Top) (design : Design) → All P (units_bytes units) → expanded_design units top ≡ Ok design → InstanceStands design.top
   design-stands units top design k h =
       let known : All (EntityStands P) units = All-weaker (λ (x : Entity). All P (entity_bytes x)) (EntityStands P) (entity_stands P) units (all_flat P entity_bytes units k) in
       design_holds (EntityStands P) IsThere PortStands Stands (All Stands) instances units known top design h
@@ -181,7 +182,7 @@ nought-in bytes = All-head (Contains (0 ∷ bytes)) 0 bytes (All-contains_itself
 bytes-in : (bytes : List ℕ) → All (Contains (0 ∷ bytes)) bytes
 bytes-in bytes = All-tail (Contains (0 ∷ bytes)) 0 bytes (All-contains_itself (0 ∷ bytes))
 
-net-tells : (units : Units) (top : List ℕ) → Tells (Contains (0 ∷ units_bytes units)) (elaborated_net units top)
+net-tells : (units : Units) (top : Top) → Tells (Contains (0 ∷ units_bytes units)) (elaborated_net units top)
 unfolding elaborated_net
 net-tells units top =
     let bytes : List ℕ = units_bytes units in

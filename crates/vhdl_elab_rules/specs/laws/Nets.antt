@@ -7,6 +7,7 @@ use Rattle.vhdl_expand_rules.specs.Kinds.{size}
 use Rattle.vhdl_expand_rules.specs.Site.{elements_count}
 use Rattle.vhdl_expand_rules.specs.Tree.{Object}
 use Rattle.vhdl_expand_rules.specs.Expansion.{Design, expanded_design}
+use Rattle.vhdl_expand_rules.specs.Tops.{Top}
 use Rattle.vhdl_elab_rules.specs.Numbering.{Placed, Numbered, numbered_design}
 use Rattle.vhdl_elab_rules.specs.Wiring.{Element, own_elements}
 
@@ -42,5 +43,5 @@ pub record NetsAreAsSaid (d : Numbered) : Type 0 where
 
 abbrev pub EachNetIsAsSaid : Type 0
 EachNetIsAsSaid =
-    (units : Units) (top : List ℕ) (design : Design)
+    (units : Units) (top : Top) (design : Design)
     → expanded_design units top ≡ Ok design → NetsAreAsSaid (numbered_design design)

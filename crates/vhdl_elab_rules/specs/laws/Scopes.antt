@@ -6,6 +6,7 @@ use Rattle.rtl_net.specs.Elaborated.{FollowsInText}
 use Rattle.vhdl_names_rules.specs.units.Units.{Units}
 use Rattle.vhdl_elab_rules.specs.Names.{Scope}
 use Rattle.vhdl_elab_rules.specs.Elaboration.{Elaborated, elaborated_net}
+use Rattle.vhdl_expand_rules.specs.Tops.{Top}
 
 -- what contracts see of a scope in a netlist
 abbrev pub scope_views : List Scope → List ScopeView
@@ -18,5 +19,5 @@ pub record StandInText (scopes : List ScopeView) : Type 0 where
 
 abbrev pub EachScopeFollows : Type 0
 EachScopeFollows =
-    (units : Units) (top : List ℕ) (x : Elaborated)
+    (units : Units) (top : Top) (x : Elaborated)
     → elaborated_net units top ≡ Ok x → StandInText (scope_views x.scopes)

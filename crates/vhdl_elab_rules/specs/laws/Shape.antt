@@ -1,9 +1,10 @@
 -- The lists of an elaborated netlist are as long as it has nets, and the nets that a process is sensitive to rise.
-use Rattle.std.specs.Prelude.{◌≡◌, ℕ, ◌<◌, All, List, length, Ok}
+use Rattle.std.specs.Prelude.{◌≡◌, ℕ, ◌<◌, All, length, Ok}
 use Rattle.std.specs.List.Sorted.{IsStrictlyIncreasing}
 use Rattle.vhdl_names_rules.specs.units.Units.{Units}
 use Rattle.rtl_model.specs.nets.FlatNetlist.{FlatProcess}
 use Rattle.vhdl_expand_rules.specs.Expansion.{Design, expanded_design}
+use Rattle.vhdl_expand_rules.specs.Tops.{Top}
 use Rattle.vhdl_elab_rules.specs.Numbering.{Numbered, numbered_design}
 use Rattle.vhdl_elab_rules.specs.Wiring.{flat_net}
 
@@ -21,5 +22,5 @@ pub record HasShape (d : Numbered) : Type 0 where
 
 abbrev pub EachHasShape : Type 0
 EachHasShape =
-    (units : Units) (top : List ℕ) (design : Design)
+    (units : Units) (top : Top) (design : Design)
     → expanded_design units top ≡ Ok design → HasShape (numbered_design design)

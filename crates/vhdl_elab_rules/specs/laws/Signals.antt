@@ -11,6 +11,7 @@ use Rattle.rtl_net.specs.declared.signal.SignalKind.TheVariants as g
 use Rattle.vhdl_names_rules.specs.units.Units.{Units}
 use Rattle.vhdl_names_rules.specs.sound.Units.{are_sound}
 use Rattle.vhdl_expand_rules.specs.Kinds.{ObjectKind, one, vector, enumeration, element_type}
+use Rattle.vhdl_expand_rules.specs.Tops.{Top}
 use Rattle.vhdl_elab_rules.specs.Names.{Signal, NamedVariable, NamedProcess}
 use Rattle.vhdl_elab_rules.specs.Elaboration.{Elaborated, elaborated_net}
 
@@ -29,7 +30,7 @@ pub record SignalFits (types : List ElementType) (scopes : ℕ) (s : Signal) : T
 
 abbrev pub EachSignalFits : Type 0
 EachSignalFits =
-    (units : Units) (top : List ℕ) (x : Elaborated) → IsTrue (are_sound units) → elaborated_net units top ≡ Ok x
+    (units : Units) (top : Top) (x : Elaborated) → IsTrue (are_sound units) → elaborated_net units top ≡ Ok x
     → All (SignalFits x.flat.types (length x.scopes)) x.signals
 
 -- a variable has the type of its kind's elements, and as many values
@@ -41,5 +42,5 @@ VariablesFit p q = AllZip VariableFits p.variables q.variables
 
 abbrev pub EachVariableFits : Type 0
 EachVariableFits =
-    (units : Units) (top : List ℕ) (x : Elaborated) → IsTrue (are_sound units) → elaborated_net units top ≡ Ok x
+    (units : Units) (top : Top) (x : Elaborated) → IsTrue (are_sound units) → elaborated_net units top ≡ Ok x
     → AllZip VariablesFit x.processes x.flat.processes

@@ -1,6 +1,7 @@
 -- What expansion keeps: of the objects of an instance, in its declarations and associations; and of parts, over concurrent statements.
 use Rattle.std.proofs.Common.{◌≡◌, ℕ, zero, suc, ◌+◌, Bool, true, false, cond, not, ◌||◌, ◌==◌, List, [], ◌∷◌, ◌++◌, length, map, Option, Some, None, Ok, All, refl, sym, ap, ◌∙◌, subst, append_assoc, append-nil}
 use Rattle.std.specs.Prelude.{⊤, ℤ, is_some, slice_get, bytes_eq}
+use Rattle.std.specs.List.{list_all}
 use Rattle.std.specs.Char.{to_ascii_lowercase}
 use Rattle.std.specs.List.{AllZip}
 use Rattle.std.proofs.lemmas.Bool.{eqb-true}
@@ -9,11 +10,12 @@ use Rattle.vhdl_names_rules.specs.units.Expressions.{Range, Static, StaticTest, 
 use Rattle.vhdl_names_rules.specs.units.Units as u
 use Rattle.vhdl_names_rules.specs.units.Units.{Port, Declaration, Architecture, Entity, Units}
 use Rattle.rtl_model.specs.bodies.Body.{Stmts}
-use Rattle.vhdl_expand_rules.specs.declared.fault.ElabProblem.TheVariants.{NoTop, Length, Unassociated}
+use Rattle.vhdl_expand_rules.specs.declared.fault.ElabProblem.TheVariants.{NoTop, NoGeneric, Length, Unassociated}
 use Rattle.vhdl_expand_rules.specs.Elab.{Elab, unless, item_or, each, same_length}
 use Rattle.vhdl_expand_rules.specs.Integers.{Integers, integer_of, decision, turns}
 use Rattle.vhdl_expand_rules.specs.Kinds.{ObjectKind, size, kind_of}
 use Rattle.vhdl_expand_rules.specs.Site.{Site, no_integers, no_site, place_elements}
+use Rattle.vhdl_expand_rules.specs.Tops.{Top, actuals_of, is_generic, top_interface}
 use Rattle.vhdl_expand_rules.specs.Tree.{Role, internal, Object, Variable, Sensitivity, Instance, Parts, no_parts, inner, followed_by, EachInstance, EachInner}
 use Rattle.vhdl_expand_rules.specs.Tree as t
 use Rattle.vhdl_expand_rules.specs.Declarations.{first_of, rest_of, generics, fixed_values, starts, object, role_of, InstanceObjects, with_port, with_signal, ports, interface, declaration, declarations, variable, is_input, association, associations}
@@ -270,23 +272,38 @@ instance_built units levels at unit d i k =
       is = ok (t.instance e.x.objects ts.x ps.x) i ts.then_gave;
     }
 
--- the unit of the top
-pub record MadeDesign (units : Units) (top : List ℕ) (design : Design) : Type 0 where
+-- the unit of the top, with the actuals of its generics
+pub record MadeDesign (units : Units) (top : Top) (design : Design) : Type 0 where
   pub unit : Entity
-  pub there : entity_named units top ≡ Some unit
+  pub there : entity_named units top.name ≡ Some unit
+  pub actuals : List (Option Static)
   pub declared : InstanceObjects
-  pub declares : interface no_integers [] unit ≡ Ok declared
+  pub declares : interface no_integers actuals unit ≡ Ok declared
   pub tree : Instance
   pub gave : instance_of units 32 unit.at unit declared ≡ Ok tree
   pub is : ◌≡◌ {A = Design} (record { name = unit.name; top = tree }) design
 
-pub design_made : (units : Units) (top : List ℕ) (design : Design) → expanded_design units top ≡ Ok design → MadeDesign units top design
+pub interface_made : (top : Top) (unit : Entity) (d : InstanceObjects) → top_interface top unit ≡ Ok d → interface no_integers (actuals_of top.generics unit.generics) unit ≡ Ok d
+unfolding top_interface
+interface_made top unit d h =
+    let known = bound (unless NoGeneric unit.at (list_all (is_generic unit.generics) top.generics)) _ d h in known.then_gave
+
+pub design_made : (units : Units) (top : Top) (design : Design) → expanded_design units top ≡ Ok design → MadeDesign units top design
 unfolding expanded_design
 design_made units top design h =
-    let unit = bound (item_or NoTop 0 (entity_named units top)) _ design h in
-    let d = bound (interface no_integers [] unit.x) _ design unit.then_gave in
+    let unit = bound (item_or NoTop 0 (entity_named units top.name)) _ design h in
+    let d = bound (top_interface top unit.x) _ design unit.then_gave in
     let i = bound (instance_of units 32 unit.x.at unit.x d.x) _ design d.then_gave in
-    record { unit = unit.x; there = was_found NoTop 0 (entity_named units top) unit.x unit.gave; declared = d.x; declares = d.gave; tree = i.x; gave = i.gave; is = ok (record { name = unit.x.name; top = i.x }) design i.then_gave }
+    record {
+      unit = unit.x;
+      there = was_found NoTop 0 (entity_named units top.name) unit.x unit.gave;
+      actuals = actuals_of top.generics unit.x.generics;
+      declared = d.x;
+      declares = interface_made top unit.x d.x d.gave;
+      tree = i.x;
+      gave = i.gave;
+      is = ok (record { name = unit.x.name; top = i.x }) design i.then_gave;
+    }
 
 -- ---- whole trees
 
@@ -311,10 +328,10 @@ pub record OfUnits (Known : Entity → Type 0) (S : u.Object → Type 0) (R : Po
       → All (OfSignal S) a.declarations × Many (record { site = site; prefix = [] }) a.statements
   pub of_instance : (here : Spot) (x : u.Instance) (unit : Entity) (i : Instance) → One here (u.instance x) → Filled R P Holds unit i → Holds (inner (here.prefix ++ x.label) i no_parts)
 
-pub record FilledDesign (Known : Entity → Type 0) (R : Port → Object → Type 0) (P : Object → Type 0) (Holds : Parts → Type 0) (units : Units) (top : List ℕ) (design : Design) : Type 0 where
+pub record FilledDesign (Known : Entity → Type 0) (R : Port → Object → Type 0) (P : Object → Type 0) (Holds : Parts → Type 0) (units : Units) (top : Top) (design : Design) : Type 0 where
   pub unit : Entity
   pub known : Known unit
-  pub there : entity_named units top ≡ Some unit
+  pub there : entity_named units top.name ≡ Some unit
   pub tree : Instance
   pub filled : Filled R P Holds unit tree
   pub is : ◌≡◌ {A = Design} (record { name = unit.name; top = tree }) design
@@ -345,11 +362,11 @@ module _ (Known : Entity → Type 0) (S : u.Object → Type 0) (R : Port → Obj
             of.of_instance here x n.unit j s (instance-fills levels x.at n.unit (record n.declared { objects = n.objects }) j there joined n.gave)) m.architecture.statements spot m.parts both.1 m.gave;
       }
 
-  pub design_filled : (top : List ℕ) (design : Design) → expanded_design units top ≡ Ok design → FilledDesign Known R P Holds units top design
+  pub design_filled : (top : Top) (design : Design) → expanded_design units top ≡ Ok design → FilledDesign Known R P Holds units top design
   design_filled top design h =
       let m = design_made units top design h in
-      let there : Known m.unit = all_found Known (λ (x : Entity). bytes_eq x.name (map to_ascii_lowercase top)) units m.unit known m.there in
-      let declared = interface_holds S R P of.objects no_integers [] m.unit m.declared (of.of_unit m.unit there) m.declares in
+      let there : Known m.unit = all_found Known (λ (x : Entity). bytes_eq x.name (map to_ascii_lowercase top.name)) units m.unit known m.there in
+      let declared = interface_holds S R P of.objects no_integers m.actuals m.unit m.declared (of.of_unit m.unit there) m.declares in
       record { unit = m.unit; known = there; there = m.there; tree = m.tree; filled = instance-fills 32 m.unit.at m.unit m.declared m.tree there declared m.gave; is = m.is }
 
 -- ---- trees where this holds of the objects of each instance
@@ -391,9 +408,9 @@ module _ (Known : Entity → Type 0) (S : u.Object → Type 0) (R : Port → Obj
     of_instance = λ here x unit i s f. (instance_holds unit i f, tt);
   }
 
-  pub each_filled : (units : Units) → All Known units → (top : List ℕ) (design : Design) → expanded_design units top ≡ Ok design → FilledDesign Known R P (EachInner Holds) units top design
+  pub each_filled : (units : Units) → All Known units → (top : Top) (design : Design) → expanded_design units top ≡ Ok design → FilledDesign Known R P (EachInner Holds) units top design
   each_filled units known = design_filled Known S R P AnyAt AnyAt (EachInner Holds) each-unit units known
 
-  pub design_holds : (units : Units) → All Known units → (top : List ℕ) (design : Design) → expanded_design units top ≡ Ok design → EachInstance Holds design.top
+  pub design_holds : (units : Units) → All Known units → (top : Top) (design : Design) → expanded_design units top ≡ Ok design → EachInstance Holds design.top
   design_holds units known top design h =
       let m = each_filled units known top design h in subst (λ (x : Design). EachInstance Holds x.top) m.is (instance_holds m.unit m.tree m.filled)

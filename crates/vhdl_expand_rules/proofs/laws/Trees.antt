@@ -211,8 +211,8 @@ each-tree-is-sound units top design h e =
     let sound : list_all (entity_fits units) units ≡ true = h in
     let m = design_made units top design e in
     let fit : entity_fits units m.unit ≡ true =
-    all_found (λ (x : Entity). entity_fits units x ≡ true) (λ (x : Entity). bytes_eq x.name (map to_ascii_lowercase top)) units m.unit (all_pass (entity_fits units) units sound) m.there in
-    let begun = unit-begins units [] no_integers [] m.unit m.declared (entity-parts units m.unit fit) m.declares in
+    all_found (λ (x : Entity). entity_fits units x ≡ true) (λ (x : Entity). bytes_eq x.name (map to_ascii_lowercase top.name)) units m.unit (all_pass (entity_fits units) units sound) m.there in
+    let begun = unit-begins units [] no_integers m.actuals m.unit m.declared (entity-parts units m.unit fit) m.declares in
     let start = begins [] m.unit m.declared m.declared.objects begun refl (not-joined [] m.unit.ports m.declared.objects begun.objects) in
     let none = all_of_zip PortObject NotJoined (λ p o j. j.plain.none) m.unit.ports m.declared.objects begun.objects in
     subst DesignIsSound m.is (record {

@@ -1,5 +1,5 @@
 -- What expansion refuses of units is told at one of their bytes, or at 0.
-use Rattle.std.specs.Prelude.{◌≡◌, ℕ, List, ◌∷◌, Err, Contains}
+use Rattle.std.specs.Prelude.{◌≡◌, ◌∷◌, Err, Contains}
 use Rattle.vhdl_names_rules.specs.units.Units as u
 use Rattle.vhdl_names_rules.specs.units.Units.{Units}
 use Rattle.vhdl_names_rules.specs.units.Statements.{Statements}
@@ -8,6 +8,7 @@ use Rattle.vhdl_expand_rules.specs.Elab.{Told}
 use Rattle.vhdl_expand_rules.specs.Site.{Site}
 use Rattle.vhdl_expand_rules.specs.Statements.{statements}
 use Rattle.vhdl_expand_rules.specs.Expansion.{Spot, process, expanded_design}
+use Rattle.vhdl_expand_rules.specs.Tops.{Top}
 
 -- Of a body at a byte of the body,
 abbrev pub EachBodyIsToldAtItsBytes : Type 0
@@ -23,5 +24,5 @@ EachProcessIsToldAtItsBytes =
 -- and of a design at a byte of its units.
 abbrev pub EachDesignIsToldAtBytesOfUnits : Type 0
 EachDesignIsToldAtBytesOfUnits =
-    (units : Units) (top : List ℕ) (told : Told)
+    (units : Units) (top : Top) (told : Told)
     → expanded_design units top ≡ Err told → Contains (0 ∷ units_bytes units) told.1

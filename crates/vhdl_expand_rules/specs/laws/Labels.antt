@@ -1,9 +1,10 @@
 -- Names and labels of an expanded tree have a letter, where those of its units have.
-use Rattle.std.specs.Prelude.{◌≡◌, ◌≢◌, ℕ, ⊤, All, List, [], Ok, IsTrue, IfSome}
+use Rattle.std.specs.Prelude.{◌≡◌, ◌≢◌, ⊤, All, [], Ok, IsTrue, IfSome}
 use Rattle.vhdl_names_rules.specs.units.Units.{Units}
 use Rattle.vhdl_names_rules.specs.sound.Named.{are_named}
 use Rattle.vhdl_expand_rules.specs.Tree.{Object, Variable, Process, Instance, instance, Parts, no_parts, process, inner}
 use Rattle.vhdl_expand_rules.specs.Expansion.{Design, expanded_design}
+use Rattle.vhdl_expand_rules.specs.Tops.{Top}
 
 pub record ProcessIsNamed (p : Process) : Type 0 where
   pub label : IfSome p.label (λ label. label ≢ [])
@@ -20,5 +21,5 @@ abbrev mutual
 
 abbrev pub EachTreeIsNamed : Type 0
 EachTreeIsNamed =
-    (units : Units) (top : List ℕ) (design : Design) → IsTrue (are_named units) → expanded_design units top ≡ Ok design
+    (units : Units) (top : Top) (design : Design) → IsTrue (are_named units) → expanded_design units top ≡ Ok design
     → (design.name ≢ []) × InstanceIsNamed design.top

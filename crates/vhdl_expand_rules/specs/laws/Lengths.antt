@@ -5,6 +5,7 @@ use Rattle.vhdl_names_rules.specs.units.Units.{Units}
 use Rattle.vhdl_expand_rules.specs.Kinds.{size}
 use Rattle.vhdl_expand_rules.specs.Tree.{Object, Instance, Parts, EachInstance, EachInner}
 use Rattle.vhdl_expand_rules.specs.Expansion.{Design, expanded_design}
+use Rattle.vhdl_expand_rules.specs.Tops.{Top}
 
 pub record ObjectFits (o : Object) : Type 0 where
   pub starts : length o.starts ≡ size o.kind
@@ -18,4 +19,4 @@ PartsFit ps = EachInner (All ObjectFits) ps
 
 abbrev pub EachDesignFits : Type 0
 EachDesignFits =
-    (units : Units) (top : List ℕ) (design : Design) → expanded_design units top ≡ Ok design → InstanceFits design.top
+    (units : Units) (top : Top) (design : Design) → expanded_design units top ≡ Ok design → InstanceFits design.top

@@ -15,6 +15,7 @@ use Rattle.vhdl_expand_rules.specs.Site.{elements_count}
 use Rattle.vhdl_expand_rules.specs.Tree.{Role, input, output, internal, Object, Variable, Process, Instance, instance, Parts, no_parts, process, inner, objects_of}
 use Rattle.vhdl_expand_rules.specs.Declarations.{is_input}
 use Rattle.vhdl_expand_rules.specs.Expansion.{Design, expanded_design}
+use Rattle.vhdl_expand_rules.specs.Tops.{Top}
 use Rattle.vhdl_expand_rules.specs.laws.Sites.{kinds_types}
 
 -- ---- objects and variables
@@ -118,5 +119,5 @@ pub record DesignIsSound (design : Design) : Type 0 where
 
 abbrev pub EachTreeIsSound : Type 0
 EachTreeIsSound =
-    (units : Units) (top : List ℕ) (design : Design) → IsTrue (are_sound units)
+    (units : Units) (top : Top) (design : Design) → IsTrue (are_sound units)
     → expanded_design units top ≡ Ok design → DesignIsSound design

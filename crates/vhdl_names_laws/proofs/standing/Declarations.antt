@@ -53,7 +53,7 @@ generic_holds P sight g x h q =
     let b = comes (as_integer_type a.value) _ x a.rest in
     let c = comes (if_any (static sight) g.default) _ x b.rest in
     let d = static_default_holds P sight g.default c.value mark.1 c.is in
-    let make : Ident → u.Generic = λ n. record { at = n.at; type = b.value; default = c.value } in
+    let make : Ident → u.Generic = λ n. record { at = n.at; name = n.text; type = b.value; default = c.value } in
     subst (λ (x : Declares u.Generic). EachHolds P generic_bytes x.analysed) (some_same _ x c.rest)
     (each_name P generic_bytes make (λ n w. (w, d)) g.names (names_stand P g.names (first P (spell_idents g.names) _ names)))
 

@@ -31,6 +31,7 @@ pub data Fixed : Type 0 where
 
 pub record Generic : Type 0 where
   pub at : ℕ
+  pub name : List ℕ
   pub type : IntegerType
   pub default : Option Static
 

@@ -14,8 +14,12 @@ use Rattle.vhdl_names_units.specs.declared.declaration.Declaration.TheVariants a
 
 abbrev pub generics_view : Generics → List u.Generic
 generics_view g =
-    for_each (λ n. record { at = n.at; type = g.integer_type; default = option_map static_view g.default })
-    (idents_view g.names)
+    for_each (λ n. record {
+      at = n.at;
+      name = n.text;
+      type = g.integer_type;
+      default = option_map static_view g.default;
+    }) (idents_view g.names)
 
 abbrev pub object_view : Objects → List u.Object
 object_view o =

@@ -45,6 +45,3 @@ returns-clause-reads c = c.wire.ensures.reads (numbered_design (design_view c.ar
 
 pub returns-clause-idle : goal.returns-clause-idle
 returns-clause-idle c = c.wire.ensures.idle (numbered_design (design_view c.args.design)) c.in_ok-made.ensures c.requires.there
-
-pub returns-clause-signals : goal.returns-clause-signals
-returns-clause-signals c = c.wire.ensures.signals (numbered_design (design_view c.args.design)) c.in_ok-made.ensures

@@ -7,14 +7,13 @@ use Rattle.rtl_net.specs.declared.building.IdlePort.{IdlePort}
 use Rattle.rtl_net.specs.declared.process.Process.{Process}
 use Rattle.vhdl_expand_rules.specs.declared.fault.ElabFault.TheVariants.{NoMemory}
 use Rattle.vhdl_expand_rules.specs.Elab as elab
-use Rattle.vhdl_elab_rules.specs.Elaboration.{net_of}
 use Rattle.vhdl_elab_rules.specs.Numbering.{Numbered, Located}
 use Rattle.vhdl_elab_rules.specs.Shown.{as_shown}
 use Rattle.vhdl_elab.specs.declared.made.Made.{Made}
 use Rattle.vhdl_elab.specs.Made.{IsMade, IsLocated}
 use Rattle.vhdl_elab.specs.Settled.{NetsAreBelow, IsSettled}
 use Rattle.vhdl_elab.specs.Wired.{wired, NetsAreThere}
-use Rattle.vhdl_elab.proofs.Shown.{IsTold, bytes-are, reads-all, is-refused, is-shown}
+use Rattle.vhdl_elab.proofs.Shown.{IsTold, reads-all, is-refused, is-shown}
 use Rattle.vhdl_elab.proofs.Lengths.{settled-told, idle-there}
 use Rattle.vhdl_elab.proofs.wiring.wire.Goals as goal
 
@@ -57,6 +56,3 @@ returns-clause-idle c =
     let m = now c.args.made c.settle.new.processes in
     let told : IsTold d m = as-told d c.args.made c.settle.new.processes c.deref_mut.result.now c.len-nets.result made there c.settle.auto.processes c.deref_mut.ensures.len c.deref_mut.ensures.value (c.len-nets.ensures ∙ c.args.made.kinds.ok.0) c.settle.ensures in
     subst (λ (ps : List IdlePort). All (λ (p : IdlePort). p.net < length c.args.made.kinds.items) ps) (sym c.in_ok-wires.ensures.wired.idle) (idle-there d m told there)
-
-pub returns-clause-signals : goal.returns-clause-signals
-returns-clause-signals c = λ d made. bytes-are c.args.made.signals.items (net_of d).signals made.signals

@@ -9,6 +9,7 @@ use Rattle.vhdl_names_units.specs.views.Units.{entity_view, units_view}
 use Rattle.vhdl_expand_rules.specs.declared.fault.ElabFault.TheVariants.{NoMemory}
 use Rattle.vhdl_expand_rules.specs.declared.fault.ElabProblem.TheVariants.{NoTop}
 use Rattle.vhdl_expand_rules.specs.Expansion.{expanded_design, instance_of}
+use Rattle.vhdl_expand_rules.specs.views.Tops.{top_view}
 use Rattle.vhdl_expand_rules.proofs.Steps.{given}
 use Rattle.vhdl_elab_rules.specs.Limits.{Counts}
 use Rattle.vhdl_expand_rules.specs.Declarations.{InstanceObjects}
@@ -44,16 +45,16 @@ returns-in_default-clause-given c =
     let us = units_view c.args.units.now in
     let named = found_by _ _ _ _ _ (c.deref-2.ensures.value ∙ c.in_ok-name.ensures.ok) c.deref.ensures.value c.in_default.ensures in
     let none : c.named.result ≡ None = first_of (search rules, grind (arith, common_steps)) in
-    λ _. told_at c.at.ensures (other_told NoTop 0 no_top_other (no_top us c.args.top.now named))
+    λ _. told_at c.at.ensures (other_told NoTop 0 no_top_other (no_top us (top_view c.args.top) named))
 
 pub returns-in_err-declared-clause-given : goal.returns-in_err-declared-clause-given
 returns-in_err-declared-clause-given c =
     let us = units_view c.args.units.now in
     let named = found_by _ _ _ _ _ (c.deref-2.ensures.value ∙ c.in_ok-name.ensures.ok) c.deref.ensures.value c.in-Some.ensures in
     let e = entity_view c.in-Some.unit.now in
-    let among = found_among (λ (x : Entity). bytes_eq x.name (map to_ascii_lowercase c.args.top.now)) us e named in
+    let among = found_among (λ (x : Entity). bytes_eq x.name (map to_ascii_lowercase c.args.top.name.now)) us e named in
     passed_told _ _ c.in_err-declared.field-0.0 _ c.from_residual-in_err-declared.result c.from_residual-in_err-declared.ensures.1 (λ e p. p)
-    (λ n. tells ((top_places us e among).placed _ (c.in_err-declared.ensures n)) (no_top_interface us c.args.top.now e named (c.in_err-declared.ensures n)))
+    (λ n. tells ((top_places us (top_view c.args.top) e among).placed _ (c.in_err-declared.ensures n)) (no_top_interface us (top_view c.args.top) e named (c.in_err-declared.ensures n)))
 
 pub instance-requires : goal.instance-requires
 instance-requires c =
@@ -67,11 +68,11 @@ returns-in_err-top-clause-given c =
     let d = declared_view c.in_ok-declared.declared in
     let named = found_by _ _ _ _ _ (c.deref-2.ensures.value ∙ c.in_ok-name.ensures.ok) c.deref.ensures.value c.in-Some.ensures in
     let same = charged_alike c.whole-left.result _ _ _ e d c.whole-left.ensures c.deref-3.ensures.value in
-    let among = found_among (λ (x : Entity). bytes_eq x.name (map to_ascii_lowercase c.args.top.now)) us e named in
+    let among = found_among (λ (x : Entity). bytes_eq x.name (map to_ascii_lowercase c.args.top.name.now)) us e named in
     let listed = λ (es : List analysed.Entity). instance_list (map entity_view es) e.at d.objects in
-    let there = then_among (listed c.deref-3.result.now) (instance_list us e.at d.objects) (units_bytes us) (same_among listed _ _ c.deref-3.ensures.value) (top_among us e among d c.in_ok-declared.ensures) in
+    let there = then_among (listed c.deref-3.result.now) (instance_list us e.at d.objects) (units_bytes us) (same_among listed _ _ c.deref-3.ensures.value) (top_among us (top_view c.args.top) e among d c.in_ok-declared.ensures) in
     passed_told _ _ c.in_err-top.field-0.0 _ c.from_residual-in_err-top.result c.from_residual-in_err-top.ensures.1 (λ e p. p)
-    (λ n. no_instance us c.args.top.now e d named c.in_ok-declared.ensures (tells_same same (tells_among there (c.in_err-top.ensures n))))
+    (λ n. no_instance us (top_view c.args.top) e d named c.in_ok-declared.ensures (tells_same same (tells_among there (c.in_err-top.ensures n))))
 
 pub returns-clause-given : goal.returns-clause-given
 returns-clause-given c =
@@ -81,7 +82,7 @@ returns-clause-given c =
     let named = found_by _ _ _ _ _ (c.deref-2.ensures.value ∙ c.in_ok-name.ensures.ok) c.deref.ensures.value c.in-Some.ensures in
     let same = charged_alike c.whole-left.result _ _ _ e d c.whole-left.ensures c.deref-3.ensures.value in
     let name : c.in-Some.unit.now.name.text.items ≡ c.in_ok-name-2.name.items = first_of (search rules, grind (arith, common_steps)) in
-    design_made us c.args.top.now e d named c.in_ok-declared.ensures (instance_view c.in_ok-top.top) (budget_view c.instance.new.left) (same ∙ c.in_ok-top.ensures)
+    design_made us (top_view c.args.top) e d named c.in_ok-declared.ensures (instance_view c.in_ok-top.top) (budget_view c.instance.new.left) (same ∙ c.in_ok-top.ensures)
     ∙ ap (λ n. given (record { name = n; top = instance_view c.in_ok-top.top })) name
 
 pub returns-in_default-clause-begun : goal.returns-in_default-clause-begun
@@ -89,20 +90,20 @@ returns-in_default-clause-begun c =
     let us = units_view c.args.units.now in
     let named = found_by _ _ _ _ _ (c.deref-2.ensures.value ∙ c.in_ok-name.ensures.ok) c.deref.ensures.value c.in_default.ensures in
     let none : c.named.result ≡ None = first_of (search rules, grind (arith, common_steps)) in
-    λ _. inl (same_at c.at.ensures (no_top us c.args.top.now named))
+    λ _. inl (same_at c.at.ensures (no_top us (top_view c.args.top) named))
 
 pub returns-in_err-declared-clause-begun : goal.returns-in_err-declared-clause-begun
 returns-in_err-declared-clause-begun c =
     let us = units_view c.args.units.now in
     let named = found_by _ _ _ _ _ (c.deref-2.ensures.value ∙ c.in_ok-name.ensures.ok) c.deref.ensures.value c.in-Some.ensures in
-    let stopped : c.in_err-declared.field-0.0 ≢ NoMemory → (within_limits (expanded_design us c.args.top.now) ≡ Err (fault_told c.in_err-declared.field-0.0)) ⊎ HasInterface us c.args.top.now =
-    λ n. inl (no_top_interface us c.args.top.now (entity_view c.in-Some.unit.now) named (c.in_err-declared.ensures n)) in
+    let stopped : c.in_err-declared.field-0.0 ≢ NoMemory → (within_limits (expanded_design us (top_view c.args.top)) ≡ Err (fault_told c.in_err-declared.field-0.0)) ⊎ HasInterface us (top_view c.args.top) =
+    λ n. inl (no_top_interface us (top_view c.args.top) (entity_view c.in-Some.unit.now) named (c.in_err-declared.ensures n)) in
     passed_err _ c.in_err-declared.field-0.0 _ c.from_residual-in_err-declared.result c.from_residual-in_err-declared.ensures.1 (λ e p. p) stopped
 
 pub returns-in_err-top-clause-begun : goal.returns-in_err-top-clause-begun
 returns-in_err-top-clause-begun c =
     let us = units_view c.args.units.now in
     let named = found_by _ _ _ _ _ (c.deref-2.ensures.value ∙ c.in_ok-name.ensures.ok) c.deref.ensures.value c.in-Some.ensures in
-    let stopped : c.in_err-top.field-0.0 ≢ NoMemory → (within_limits (expanded_design us c.args.top.now) ≡ Err (fault_told c.in_err-top.field-0.0)) ⊎ HasInterface us c.args.top.now =
-    λ n. inr (has_interface us c.args.top.now (entity_view c.in-Some.unit.now) (declared_view c.in_ok-declared.declared) named c.in_ok-declared.ensures) in
+    let stopped : c.in_err-top.field-0.0 ≢ NoMemory → (within_limits (expanded_design us (top_view c.args.top)) ≡ Err (fault_told c.in_err-top.field-0.0)) ⊎ HasInterface us (top_view c.args.top) =
+    λ n. inr (has_interface us (top_view c.args.top) (entity_view c.in-Some.unit.now) (declared_view c.in_ok-declared.declared) named c.in_ok-declared.ensures) in
     passed_err _ c.in_err-top.field-0.0 _ c.from_residual-in_err-top.result c.from_residual-in_err-top.ensures.1 (λ e p. p) stopped

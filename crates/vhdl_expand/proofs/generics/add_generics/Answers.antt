@@ -1,6 +1,7 @@
 use Rattle.std.proofs.Common.{Err, ◌≡◌, [], ◌∷◌, ◌++◌, length, map, ℤ, List, sym, ap, ◌∙◌, subst, rules, arith}
 use Rattle.std.specs.Prelude.{Ok, option_map}
 use Rattle.vhdl_tree.specs.declared.expression.Identifier.{Identifier}
+use Rattle.vhdl_tree.specs.View.{ident_view}
 use Rattle.vhdl_names_rules.specs.views.Integers.{static_view}
 use Rattle.vhdl_names_rules.specs.units.Units.{Generic}
 use Rattle.vhdl_names_units.specs.declared.declaration.Generics.{Generics}
@@ -19,13 +20,13 @@ use Rattle.vhdl_expand.proofs.generics.add_generics.Goals as goal
 
 -- the generic of a name
 abbrev generic_of : Generics → Identifier → Generic
-generic_of g n = generic_view n.at g
+generic_of g n = generic_view (ident_view n) g
 
 pub loop-name-init : goal.loop-name-init
 loop-name-init c =
     let above = integers_view c.args.above.now in
     let actuals = actuals_view c.args.actuals.now in
-    ap (stepwise (step above actuals) c.args.values.now.items) (named (λ n. generic_view n.at c.args.declaration.now) c.args.declaration.now.names.items ∙ ap (map (generic_of c.args.declaration.now)) (sym c.deref-name-items.ensures.value))
+    ap (stepwise (step above actuals) c.args.values.now.items) (named (λ n. generic_view n c.args.declaration.now) c.args.declaration.now.names.items ∙ ap (map (generic_of c.args.declaration.now)) (sym c.deref-name-items.ensures.value))
 
 pub loop-name-preserved : goal.loop-name-preserved
 loop-name-preserved c =

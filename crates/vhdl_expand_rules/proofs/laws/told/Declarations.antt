@@ -1,7 +1,8 @@
 -- What is refused of an interface and of declarations is told at one of their bytes, or of those of the actuals.
-use Rattle.std.proofs.Common.{ℕ, not, ◌||◌, ◌==◌, List, [], ◌∷◌, ◌++◌, length, Option, Some, None, All, subst}
-use Rattle.std.specs.Prelude.{slice_get, is_some, flat_map}
-use Rattle.std.proofs.lemmas.List.Elements.{All-nil, All-head, All-tail}
+use Rattle.std.proofs.Common.{ℕ, not, ◌||◌, ◌==◌, List, [], ◌∷◌, ◌++◌, length, map, Option, Some, None, All, subst}
+use Rattle.std.specs.Prelude.{slice_get, is_some, flat_map, find, option_map, ℤ, pos, negsuc}
+use Rattle.std.specs.List.{list_all}
+use Rattle.std.proofs.lemmas.List.Elements.{All-cons, All-nil, All-head, All-tail}
 use Rattle.vhdl_values.specs.declared.scalar.Nine.{Nine}
 use Rattle.vhdl_values.specs.Numbers.{digits_of}
 use Rattle.vhdl_names_rules.specs.units.Expressions.{Static, SignalPart}
@@ -15,6 +16,7 @@ use Rattle.vhdl_expand_rules.specs.Kinds.{ObjectKind, one, vector, enumeration, 
 use Rattle.vhdl_expand_rules.specs.Site.{Site, no_integers, no_site, place_elements}
 use Rattle.vhdl_expand_rules.specs.Tree.{Role, internal, Object}
 use Rattle.vhdl_expand_rules.specs.Declarations.{first_of, rest_of, generic, generics, as_long_as, fixed_values, given_starts, starts, object, role_of, InstanceObjects, with_port, ports, interface, declaration, declarations, variable, is_input, association, associations}
+use Rattle.vhdl_expand_rules.specs.Tops.{Setting, Top, static_of, sets, set_actual, actuals_of, is_generic, top_interface}
 use Rattle.vhdl_expand_rules.proofs.Tells.{Tells, tells_none, tells_one, tells_then, tells_with, tells_unless, tells_item, all_flat}
 use Rattle.vhdl_expand_rules.proofs.laws.Names.{was_found}
 use Rattle.vhdl_expand_rules.proofs.laws.Targets.{all_left, all_right}
@@ -133,6 +135,34 @@ module _ (P : ℕ → Type 0) where
   interface_tells above actuals unit h k =
       tells_then P (generics above no_integers actuals unit.generics) _ (generics-tell above no_integers actuals unit.generics h k.generics) (λ integers.
       ports-tell unit.ports (record { site = record no_site { integers = integers }; objects = [] }) k.ports)
+
+  -- ---- the top
+
+  static-stands : (at : ℕ) (x : ℤ) → P at → All P (static_bytes (static_of at x))
+  static-stands at (pos n) h = All-nil P
+  static-stands at (negsuc n) h = All-cons P at [] h (All-nil P)
+
+  set-stands : (at : ℕ) (o : Option Setting) → P at → MayStand static_bytes (option_map (λ (s : Setting). static_of at s.value) o)
+  set-stands at None h = All-nil P
+  set-stands at (Some s) h = static-stands at s.value h
+
+  each-stands : (settings : List Setting) (gs : List Generic) → All (λ g. All P (generic_bytes g)) gs → All (MayStand static_bytes) (map (λ (g : Generic). set_actual settings g.name g.at) gs)
+  each-stands settings [] h = All-nil (MayStand static_bytes)
+  each-stands settings (g ∷ gs) h =
+      All-cons (MayStand static_bytes) (set_actual settings g.name g.at) (map (λ (x : Generic). set_actual settings x.name x.at) gs)
+      (set-stands g.at (find (sets g.name) settings) (All-head P g.at (if_any_bytes static_bytes g.default) (All-head (λ x. All P (generic_bytes x)) g gs h)))
+      (each-stands settings gs (All-tail (λ x. All P (generic_bytes x)) g gs h))
+
+  actuals-stand : (settings : List Setting) (gs : List Generic) → All (λ g. All P (generic_bytes g)) gs → All (MayStand static_bytes) (actuals_of settings gs)
+  actuals-stand [] gs h = All-nil (MayStand static_bytes)
+  actuals-stand (s ∷ ss) gs h = each-stands (s ∷ ss) gs h
+
+  pub top_interface_tells : (top : Top) (unit : Entity) → EntityStands unit → Tells P (top_interface top unit)
+  unfolding top_interface
+  top_interface_tells top unit k =
+      tells_then P (unless NoGeneric unit.at (list_all (is_generic unit.generics) top.generics)) _
+      (tells_unless P NoGeneric unit.at (list_all (is_generic unit.generics) top.generics) k.at) (λ known.
+      interface_tells no_integers (actuals_of top.generics unit.generics) unit (actuals-stand top.generics unit.generics k.generics) k)
 
   declaration-tells : (d : InstanceObjects) (x : Declaration) → All P (declaration_bytes x) → Tells P (declaration d x)
   unfolding declaration

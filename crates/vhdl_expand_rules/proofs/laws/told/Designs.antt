@@ -2,7 +2,7 @@
 use Rattle.std.proofs.Common.{ℕ, zero, suc, Bool, true, false, cond, List, [], ◌∷◌, ◌++◌, map, Option, Ok, All, subst}
 use Rattle.std.specs.Prelude.{slice_get, flat_map, bytes_eq, Contains}
 use Rattle.std.specs.Char.{to_ascii_lowercase}
-use Rattle.std.proofs.lemmas.List.Elements.{All-nil, All-head, All-tail, All-contains_itself}
+use Rattle.std.proofs.lemmas.List.Elements.{All-head, All-tail, All-contains_itself}
 use Rattle.vhdl_names_rules.specs.units.Statements.{Statements}
 use Rattle.vhdl_names_rules.specs.units.Units as u
 use Rattle.vhdl_names_rules.specs.units.Units.{Units, Entity, Architecture}
@@ -10,7 +10,8 @@ use Rattle.vhdl_names_rules.specs.units.Bytes.{if_any_bytes, static_bytes, range
 use Rattle.vhdl_expand_rules.specs.declared.fault.ElabProblem.TheVariants.{NoTop, TooDeep}
 use Rattle.vhdl_expand_rules.specs.Elab.{Elab, item_or, each}
 use Rattle.vhdl_expand_rules.specs.Integers.{decision, turns}
-use Rattle.vhdl_expand_rules.specs.Site.{Site, no_integers}
+use Rattle.vhdl_expand_rules.specs.Site.{Site}
+use Rattle.vhdl_expand_rules.specs.Tops.{Top, top_interface}
 use Rattle.vhdl_expand_rules.specs.Tree.{Instance, no_parts}
 use Rattle.vhdl_expand_rules.specs.Statements.{statements, statements_turns}
 use Rattle.vhdl_expand_rules.specs.declared.prefix.Sought.TheVariants.{Read, Assigned}
@@ -25,7 +26,7 @@ use Rattle.vhdl_expand_rules.proofs.laws.Targets.{all_left, all_right}
 use Rattle.vhdl_expand_rules.proofs.laws.told.Static.{turns_tells, decision_tells}
 use Rattle.vhdl_expand_rules.proofs.laws.told.Statements.{statements_tells, turns_of_statements_tells}
 use Rattle.vhdl_expand_rules.proofs.laws.told.Names.{names_stand, names_tell, prefixes_tell}
-use Rattle.vhdl_expand_rules.proofs.laws.told.Declarations.{MayStand, EntityStands, entity_stands, interface_tells, declarations_tell, variable_tells, associations_tell}
+use Rattle.vhdl_expand_rules.proofs.laws.told.Declarations.{MayStand, EntityStands, entity_stands, interface_tells, top_interface_tells, declarations_tell, variable_tells, associations_tell}
 
 module _ (P : ℕ → Type 0) where
   chosen-tells : {A : Type 0} (test : Bool) (r : Elab A) (x : A) → Tells P r → Tells P (cond test r (Ok x))
@@ -135,14 +136,14 @@ module _ (P : ℕ → Type 0) where
       tells_then P (concurrents_turns (record { site = e.site; prefix = [] }) a.statements) _ (concurrents-turns a.statements (record { site = e.site; prefix = [] }) body) (λ ts.
       tells_none P _))))
 
-  design-tells : P 0 → (units : Units) (top : List ℕ) → All P (units_bytes units) → Tells P (expanded_design units top)
+  design-tells : P 0 → (units : Units) (top : Top) → All P (units_bytes units) → Tells P (expanded_design units top)
   unfolding expanded_design
   design-tells nought units top k =
       let stand : All (λ unit. All P (entity_bytes unit)) units = all_flat P entity_bytes units k in
-      tells_with P (item_or NoTop 0 (entity_named units top)) _ (tells_item P NoTop 0 (entity_named units top) nought) (λ unit is.
+      tells_with P (item_or NoTop 0 (entity_named units top.name)) _ (tells_item P NoTop 0 (entity_named units top.name) nought) (λ unit is.
       let there : EntityStands P unit =
-      entity_stands P unit (all_found (λ y. All P (entity_bytes y)) (λ (x : Entity). bytes_eq x.name (map to_ascii_lowercase top)) units unit stand (was_found NoTop 0 (entity_named units top) unit is)) in
-      tells_then P (interface no_integers [] unit) _ (interface_tells P no_integers [] unit (All-nil (MayStand P static_bytes)) there) (λ d.
+      entity_stands P unit (all_found (λ y. All P (entity_bytes y)) (λ (x : Entity). bytes_eq x.name (map to_ascii_lowercase top.name)) units unit stand (was_found NoTop 0 (entity_named units top.name) unit is)) in
+      tells_then P (top_interface top unit) _ (top_interface_tells P top unit there) (λ d.
       tells_then P (instance_of units 32 unit.at unit d) _ (instance_of-tells nought units 32 stand unit.at unit d there.at there) (λ i. tells_none P _)))
 
 -- ---- the laws

@@ -52,7 +52,7 @@ returns-clause-given c = rw (← c.sight.view_is) (
     generic_is s g c.args.number (rw (← c.sight.view_is) at c.requires)
     ∙ settled_whole (λ s. s.region) (λ s r. record s { region = r }) s (names_of g.names) (λ x. c.args.number) (λ x. visibility.generic) (generics_of g) (typed_generic s g) x _ _ _ _ (c.len-first.ensures.len ∙ sym (length-map c.sight.inside.region.entries entry_view)) hides (rw (← c.sight.view_is) at c.in_ok-integer_type.ensures.given)
     (c.in_ok-settle.ensures)
-    (ap (for_each (λ n. record { at = n.at; type = x.0; default = x.1 })) (sym (c.in_ok-names.ensures ∙ ap (map ident_view) c.deref-2.ensures.value))))
+    (ap (for_each (λ n. record { at = n.at; name = n.text; type = x.0; default = x.1 })) (sym (c.in_ok-names.ensures ∙ ap (map ident_view) c.deref-2.ensures.value))))
 
 pub returns-in_err-hide-clause-told : goal.returns-in_err-hide-clause-told
 returns-in_err-hide-clause-told c = rw (← c.sight.view_is) (twice_first _ _ _ _ _ c.from_residual.result _ c.from_residual.ensures.1 (λ e p. p) c.deref.ensures.value c.in_err-hide.ensures.told)

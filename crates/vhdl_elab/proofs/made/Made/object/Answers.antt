@@ -1,8 +1,7 @@
 use Rattle.std.proofs.Common.{map, ap, sym, refl, ◌∙◌, ◌++◌, ◌∷◌, []}
 use Rattle.std.proofs.lemmas.List.{append-nil, map-append}
-use Rattle.rtl_net.specs.Nets.{type_of}
+use Rattle.rtl_net.specs.Nets.{signal_view, type_of}
 use Rattle.vhdl_expand_tree.specs.Views.{object_view}
-use Rattle.vhdl_elab.specs.Signals.{signal_with_byte}
 use Rattle.vhdl_elab.specs.Made.{element_view}
 use Rattle.vhdl_elab.specs.Adding.{own_types, own_starts, object_statics}
 use Rattle.vhdl_elab.proofs.made.Made.object.Goals as goal
@@ -15,8 +14,8 @@ returns-clause-made c =
     record {
       scopes = refl;
       signals =
-          ap (map signal_with_byte) c.in_ok-push.ensures.items ∙ map-append signal_with_byte old.signals.items (_ ∷ [])
-          ∙ ap (λ s. map signal_with_byte old.signals.items ++ s ∷ []) c.in_ok-signal.ensures;
+          ap (map signal_view) c.in_ok-push.ensures.items ∙ map-append signal_view old.signals.items (_ ∷ [])
+          ∙ ap (λ s. map signal_view old.signals.items ++ s ∷ []) c.in_ok-signal.ensures;
       processes = refl;
       kinds = c.in_ok-push_own_kinds.ensures ∙ ap (λ ts. map type_of old.kinds.items ++ ts) (sym (append-nil (own_types o)));
       defaults = c.in_ok-push_own_defaults.ensures ∙ ap (λ vs. old.defaults.items ++ vs) (sym (append-nil (own_starts o)));
