@@ -1,3 +1,4 @@
 pub mod Told
 pub mod Placed
 pub mod Cuts
+pub mod Named

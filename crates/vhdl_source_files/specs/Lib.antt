@@ -2,3 +2,4 @@
 pub mod Files
 pub mod Laws
 pub mod Cutting
+pub mod Listed
