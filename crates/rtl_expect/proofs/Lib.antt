@@ -1,7 +1,6 @@
-mod Labels
-mod Named
 mod Order
 mod Sorting
 mod Seeing
 mod Parts
 mod Wanting
+mod Said

@@ -1,19 +1,15 @@
 -- What a text wants of nets.
-use Rattle.std.proofs.Common.{◌≡◌, ℕ, zero, suc, ◌<◌, ◌≤◌, Bool, true, false, nat_lt, List, [], ◌∷◌, ◌++◌, length, map, drop, get_or, Option, Some, None, refl, sym, ap, subst, ◌∙◌, arith}
-use Rattle.std.specs.Prelude.{if◌then◌else◌, bytes_eq, codes, slice_index}
-use Rattle.std.proofs.lemmas.List.{length-map, get_or-map}
-use Rattle.std.proofs.lemmas.List.Elements.{All-get_or}
-use Rattle.vhdl_values.specs.declared.scalar.Nine.{Nine}
-use Rattle.vhdl_values.specs.Scalar.{value_of_letter}
-use Rattle.rtl_model.specs.bodies.Fits.{IsWidth}
-use Rattle.rtl_net.specs.declared.signal.Signal.{Signal}
+use Rattle.std.proofs.Common.{◌≡◌, ℕ, zero, suc, ◌+◌, ◌-◌, ◌<◌, ◌≤◌, Bool, true, false, nat_lt, List, [], ◌∷◌, ◌++◌, length, take, drop, get_or, Option, Some, None, refl, sym, ap, ◌∙◌, arith}
+use Rattle.std.specs.Prelude.{◌==◌, nat_le, if◌then◌else◌, option_and_then, slice_index}
+use Rattle.std.specs.List.{list_all}
+use Rattle.std.proofs.lemmas.Bool.Decides.{nat_tests}
 use Rattle.rtl_net.specs.declared.signal.SignalKind.{SignalKind}
 use Rattle.rtl_net.specs.declared.signal.SignalKind.TheVariants.{One, Vector, Enumeration}
-use Rattle.rtl_net.specs.Nets.{NetlistView, SignalView, signal_view}
-use Rattle.rtl_net.specs.Elaborated.{IsNet, SignalInRange}
+use Rattle.rtl_net.specs.Nets.{SignalView}
 use Rattle.rtl_stim_lines.specs.Forms.{number_of}
 use Rattle.rtl_expect.specs.declared.expected.Wanted.{Wanted}
-use Rattle.rtl_expect.specs.Expected.{wants, code_wanted, before_wanted, letters_wanted, number_wanted, value_wanted}
+use Rattle.rtl_stim_lines.specs.Lines.{Word}
+use Rattle.rtl_expect.specs.Expected.{Positions, wants, code_wanted_of, before_wanted, letters_wanted, letters_of_digits, cut_letters, quoted_digits, string_wanted, number_wanted, is_any, position_of, kind_wanted, value_wanted}
 
 -- these before those
 abbrev pub behind_all : List Wanted → Option (List Wanted) → Option (List Wanted)
@@ -26,18 +22,27 @@ pub unequal : (nets text : List ℕ) → (length nets ≡ length text → ⊥) �
 unequal [] [] differ = absurd (differ refl)
 unequal [] (b ∷ bs) differ = refl
 unequal (n ∷ ns) [] differ = refl
-unequal (n ∷ ns) (b ∷ bs) differ = by (value_of_letter b) (unequal ns bs (λ same. differ (ap suc same)))
+unequal (n ∷ ns) (b ∷ bs) differ = by (code_wanted_of b) (unequal ns bs (λ same. differ (ap suc same)))
   where
-    by : (v : Option Nine) → None ≡ letters_wanted ns bs → None ≡ before_wanted n v (letters_wanted ns bs)
+    by : (v : Option (Option ℕ)) → None ≡ letters_wanted ns bs → None ≡ before_wanted n v (letters_wanted ns bs)
     by None more = refl
     by (Some v) more = ap (before_wanted n (Some v)) more
 
-pub no_letter : (nets text : List ℕ) (k d : ℕ) → k < length nets → k < length text → value_of_letter (get_or text k d) ≡ None
+pub no_letter : (nets text : List ℕ) (k d : ℕ) → k < length nets → k < length text → code_wanted_of (get_or text k d) ≡ None
     → letters_wanted (drop k nets) (drop k text) ≡ None
 no_letter [] text k d there here none = absurd (omega (arith, there))
 no_letter (n ∷ ns) [] k d there here none = absurd (omega (arith, here))
-no_letter (n ∷ ns) (b ∷ bs) zero d there here none = ap (λ (v : Option Nine). before_wanted n v (letters_wanted ns bs)) none
+no_letter (n ∷ ns) (b ∷ bs) zero d there here none = ap (λ (v : Option (Option ℕ)). before_wanted n v (letters_wanted ns bs)) none
 no_letter (n ∷ ns) (b ∷ bs) (suc k) d there here none = no_letter ns bs k d (omega (arith, there)) (omega (arith, here)) none
+
+-- ---- bit strings
+
+pub cut_is : (count : ℕ) (letters : List ℕ) → count ≤ length letters → length letters < count + 4
+    → list_all (λ letter. letter == 48) (take (length letters - count) letters) ≡ true → cut_letters count letters ≡ Some (drop (length letters - count) letters)
+cut_is count letters enough few zeros =
+    let a : nat_le count (length letters) ≡ true = grind (arith, nat_tests, enough) in
+    let b : nat_lt (length letters) (count + 4) ≡ true = grind (arith, nat_tests, few) in
+    rw (a, b, zeros) refl
 
 -- ---- how many
 
@@ -45,12 +50,12 @@ letters_long : (nets text : List ℕ) (ws : List Wanted) → letters_wanted nets
 letters_long [] [] ws is = let same : [] ≡ ws = cc in sym (ap length same)
 letters_long [] (b ∷ bs) ws is = cc
 letters_long (n ∷ ns) [] ws is = cc
-letters_long (n ∷ ns) (b ∷ bs) ws is = by (value_of_letter b) (letters_wanted ns bs) is (λ rest r. letters_long ns bs rest r)
+letters_long (n ∷ ns) (b ∷ bs) ws is = by (code_wanted_of b) (letters_wanted ns bs) is (λ rest r. letters_long ns bs rest r)
   where
-    by : (v : Option Nine) (r : Option (List Wanted)) → before_wanted n v r ≡ Some ws → ((rest : List Wanted) → r ≡ Some rest → length rest ≡ length ns) → length ws ≡ suc (length ns)
+    by : (v : Option (Option ℕ)) (r : Option (List Wanted)) → before_wanted n v r ≡ Some ws → ((rest : List Wanted) → r ≡ Some rest → length rest ≡ length ns) → length ws ≡ suc (length ns)
     by None r is more = cc
     by (Some v) None is more = cc
-    by (Some v) (Some rest) is more = let same : wants n (code_wanted v) ∷ rest ≡ ws = cc in sym (ap length same) ∙ ap suc (more rest refl)
+    by (Some v) (Some rest) is more = let same : wants n v ∷ rest ≡ ws = cc in sym (ap length same) ∙ ap suc (more rest refl)
 
 number_long : (net p : ℕ) (ws : List Wanted) (b : Bool) → (if b then Some (wants net (Some p) ∷ []) else None) ≡ Some ws → length ws ≡ 1
 number_long net p ws true is = let same : wants net (Some p) ∷ [] ≡ ws = cc in sym (ap length same)
@@ -61,20 +66,20 @@ position_long net count ws true n is = let same : wants net None ∷ [] ≡ ws =
 position_long net count ws false None is = cc
 position_long net count ws false (Some p) is = number_long net p ws (nat_lt p count) is
 
-pub few_wanted : (kind : SignalKind) (nets text : List ℕ) (ws : List Wanted) → length nets ≤ 64 → value_wanted kind nets text ≡ Some ws → length ws ≤ 64
-few_wanted One nets text ws few is = let long = letters_long nets text ws is in omega (arith, long, few)
-few_wanted (Vector left right) nets text ws few is = let long = letters_long nets text ws is in omega (arith, long, few)
-few_wanted (Enumeration count) nets text ws few is =
-    let long = position_long (slice_index nets 0) count ws (bytes_eq text (codes "-")) (number_of text) is in omega (arith, long)
+string_long : (nets text : List ℕ) (digits : Option Word) (ws : List Wanted) → string_wanted nets text digits ≡ Some ws → length ws ≡ length nets
+string_long nets text None ws is = letters_long nets text ws is
+string_long nets text (Some digits) ws is = by (cut_letters (length nets) (letters_of_digits digits)) is
+  where
+    by : (letters : Option Word) → option_and_then (letters_wanted nets) letters ≡ Some ws → length ws ≡ length nets
+    by None is = cc
+    by (Some letters) is = letters_long nets letters ws is
 
--- ---- signals
+few_of_kind : (kind : SignalKind) (nets text : List ℕ) (literal : Option ℕ) (ws : List Wanted) → length nets ≤ 64 → kind_wanted kind nets literal text ≡ Some ws → length ws ≤ 64
+few_of_kind One nets text literal ws few is = let long = letters_long nets text ws is in omega (arith, long, few)
+few_of_kind (Vector left right) nets text literal ws few is = let long = string_long nets text (quoted_digits text) ws is in omega (arith, long, few)
+few_of_kind (Enumeration count) nets text literal ws few is =
+    let long = position_long (slice_index nets 0) count ws (is_any text) (position_of (number_of text) literal) is in omega (arith, long)
 
-pub width_there : (net : NetlistView) → IsNet net → (signals : List Signal) → map signal_view signals ≡ net.signals → (i : ℕ) (s : Signal) → i < length signals → s ≡ get_or signals i s
-    → IsWidth (length s.nets.items)
-width_there net elaborated signals views i s within is =
-    let there : i < length net.signals = omega (arith, ap length views, length-map signals signal_view, within) in
-    let view : get_or net.signals i (signal_view s) ≡ signal_view s =
-    ap (λ (xs : List SignalView). get_or xs i (signal_view s)) (sym views) ∙ get_or-map signal_view signals i s (signal_view s) within ∙ ap signal_view (sym is) in
-    let P : SignalView → Type 0 = SignalInRange net.types (length net.scopes) in
-    let range = subst P view (All-get_or P net.signals i (signal_view s) there elaborated.signals) in
-    range.width
+pub few_wanted : (positions : Positions) (s : SignalView) (text : List ℕ) (ws : List Wanted) → length s.nets ≤ 64 → value_wanted positions s text ≡ Some ws → length ws ≤ 64
+unfolding value_wanted
+few_wanted positions s text ws few is = few_of_kind s.kind s.nets text (positions s text) ws few is

@@ -1,7 +1,7 @@
 -- Whether what is expected holds of what stands. At a time the values stand to which the last moment before it or at it
 -- settled: the first values that end behind it. Where none stand any more, behind the stop, nothing that is
 -- expected holds.
-use Rattle.std.specs.Prelude.{ℕ, ◌==◌, ◌&&◌, nat_lt, Bool, true, List, [], ◌∷◌, map, Option, Some, None, slice_index, if◌then◌else◌}
+use Rattle.std.specs.Prelude.{ℕ, ◌==◌, ◌&&◌, nat_lt, Bool, true, List, [], ◌∷◌, map, Option, Some, None, flat_map, option_to_list, slice_index, if◌then◌else◌}
 use Rattle.byte_streams.specs.Stands.{Stand}
 use Rattle.rtl_expect.specs.declared.expected.Wanted.{Wanted}
 use Rattle.rtl_expect.specs.Expected.{Expectation}
@@ -26,16 +26,18 @@ abbrev pub are_met : (values : List ℕ) → List Wanted → Bool
 are_met values [] = true
 are_met values (w ∷ ws) = is_met values w && are_met values ws
 
--- an expectation that doesn't hold: its line, time and signal, and what was found of each net; nothing, where no
--- values stand
+-- an expectation that doesn't hold: its line, time and signal, what is wanted of each net, and what was found; nothing,
+-- where no values stand
 pub record Difference : Type 0 where
   pub line : ℕ
   pub time : ℕ
   pub signal : ℕ
+  pub wanted : List (Option ℕ)
   pub found : Option (List ℕ)
 
 abbrev pub differs : Expectation → (found : Option (List ℕ)) → Difference
-differs e found = record { line = e.line; time = e.time; signal = e.signal; found = found }
+differs e found =
+    record { line = e.line; time = e.time; signal = e.signal; wanted = map (λ w. w.code) e.wanted; found = found }
 
 -- of an expectation and the values that stand at its time
 abbrev pub difference_in : Expectation → Option (List ℕ) → Option Difference
@@ -46,11 +48,10 @@ difference_in e (Some values) =
 abbrev pub difference_at : List Stand → Expectation → Option Difference
 difference_at stands e = difference_in e (standing_at stands e.time)
 
-abbrev pub or_later : Option Difference → Option Difference → Option Difference
-or_later None later = later
-or_later (Some difference) later = Some difference
+-- all that don't hold, in order
+abbrev pub differences : List Stand → List Expectation → List Difference
+differences stands es = flat_map (λ e. option_to_list (difference_at stands e)) es
 
--- the first that doesn't hold; None where all hold
-abbrev pub first_difference : List Stand → List Expectation → Option Difference
-first_difference stands [] = None
-first_difference stands (e ∷ es) = or_later (difference_at stands e) (first_difference stands es)
+-- so many are told at most
+abbrev pub most_told : ℕ
+most_told = 20

@@ -1,7 +1,7 @@
 -- What the lines of a file of expected values say: `at TIME NAME VALUE`, times in ns. Lines and words are those of
 -- a stimulus.
-use Rattle.std.specs.Prelude.{ℕ, suc, nat_lt, Bool, List, [], ◌∷◌, Option, Some, None, Result, Ok, Err, if◌then◌else◌}
-use Rattle.rtl_net.specs.Nets.{NetlistView, ScopeView, SignalView}
+use Rattle.std.specs.Prelude.{ℕ, suc, nat_lt, List, [], ◌∷◌, Option, Some, None, Result, Ok, Err, if◌then◌else◌}
+use Rattle.rtl_net.specs.Nets.{NetlistView, SignalView}
 use Rattle.rtl_stim_lines.specs.Lines.{Word, lines_of, words_of, says_nothing}
 use Rattle.rtl_stim_lines.specs.Forms.{Form, At, Clock, Stop, form_of}
 use Rattle.rtl_stim_lines.specs.Reading.{is_too_large}
@@ -10,23 +10,8 @@ use Rattle.fault_rules.specs.declared.expecting.ExpectRule.TheVariants.{BadLine,
 use Rattle.rtl_expect.specs.declared.faults.ExpectFault.{ExpectFault}
 use Rattle.rtl_expect.specs.declared.faults.ExpectFault.TheVariants.{InLine}
 use Rattle.rtl_expect.specs.declared.expected.Wanted.{Wanted}
-use Rattle.rtl_expect.specs.Names.{full_name, are_alike}
-use Rattle.rtl_expect.specs.Expected.{Expectation, value_wanted}
-
--- ---- names
-
--- the name is the full name of the port or signal, in letters of either case
-abbrev pub is_named : List ScopeView → (name : Word) → SignalView → Bool
-is_named scopes name s = are_alike name (full_name scopes s)
-
--- of these signals, the first of which has this number, the first with the name, and its number
-abbrev pub signal_from : List ScopeView → (number : ℕ) → List SignalView → (name : Word) → Option (ℕ × SignalView)
-signal_from scopes number [] name = None
-signal_from scopes number (s ∷ ss) name =
-    if is_named scopes name s then Some (number, s) else signal_from scopes (suc number) ss name
-
-abbrev pub signal_named : NetlistView → (name : Word) → Option (ℕ × SignalView)
-signal_named net name = signal_from net.scopes 0 net.signals name
+use Rattle.rtl_signal_names.specs.Names.{signal_named}
+use Rattle.rtl_expect.specs.Expected.{Expectation, Positions, value_wanted}
 
 -- ---- order
 
@@ -42,28 +27,29 @@ abbrev pub with_wanted : (line time signal : ℕ) → Option (List Wanted) → R
 with_wanted line time signal None = Err BadValue
 with_wanted line time signal (Some wanted) = Ok (record { line = line; time = time; signal = signal; wanted = wanted })
 
-abbrev pub of_signal : (line time : ℕ) → Option (ℕ × SignalView) → (text : Word) → Result Expectation ExpectRule
-of_signal line time None text = Err NotASignal
-of_signal line time (Some found) text = with_wanted line time found.0 (value_wanted found.1.kind found.1.nets text)
+abbrev pub of_signal : Positions → (line time : ℕ) → Option (ℕ × SignalView)
+    → (text : Word) → Result Expectation ExpectRule
+of_signal positions line time None text = Err NotASignal
+of_signal positions line time (Some found) text = with_wanted line time found.0 (value_wanted positions found.1 text)
 
 -- what the line of this number expects by its form, or what is wrong with it
-abbrev pub expected_in : NetlistView → (line : ℕ) → Option Form → Result Expectation ExpectRule
-expected_in net line (Some (At time name text)) =
-    if is_too_large time then Err TimeTooLarge else of_signal line time (signal_named net name) text
-expected_in net line (Some (Clock name first half)) = Err BadLine
-expected_in net line (Some (Stop time)) = Err BadLine
-expected_in net line None = Err BadLine
+abbrev pub expected_in : Positions → NetlistView → (line : ℕ) → Option Form → Result Expectation ExpectRule
+expected_in positions net line (Some (At time name text)) =
+    if is_too_large time then Err TimeTooLarge else of_signal positions line time (signal_named net name) text
+expected_in positions net line (Some (Clock name first half)) = Err BadLine
+expected_in positions net line (Some (Stop time)) = Err BadLine
+expected_in positions net line None = Err BadLine
 
 abbrev pub with_expected : List Expectation → Result Expectation ExpectRule → Result (List Expectation) ExpectRule
 with_expected so_far (Err problem) = Err problem
 with_expected so_far (Ok e) = Ok (placed e so_far)
 
 -- what is expected once this line is read too, or what is wrong with it
-abbrev pub after_line : NetlistView → List Expectation → (number : ℕ)
+abbrev pub after_line : Positions → NetlistView → List Expectation → (number : ℕ)
     → (line : List ℕ) → Result (List Expectation) ExpectRule
-after_line net so_far number line =
+after_line positions net so_far number line =
     if says_nothing (words_of line) then Ok so_far
-    else with_expected so_far (expected_in net number (form_of (words_of line)))
+    else with_expected so_far (expected_in positions net number (form_of (words_of line)))
 
 -- the fault of a problem in the line of this number
 abbrev pub in_line : {A : Type 0} → ℕ → Result A ExpectRule → Result A ExpectFault
@@ -71,19 +57,20 @@ in_line number (Ok a) = Ok a
 in_line number (Err problem) = Err (InLine problem number)
 
 -- what is expected once this line is read too, unless a line before it was bad
-abbrev pub one_more : NetlistView → (number : ℕ) → (line : List ℕ)
+abbrev pub one_more : Positions → NetlistView → (number : ℕ) → (line : List ℕ)
     → Result (List Expectation) ExpectFault → Result (List Expectation) ExpectFault
-one_more net number line (Err fault) = Err fault
-one_more net number line (Ok so_far) = in_line number (after_line net so_far number line)
+one_more positions net number line (Err fault) = Err fault
+one_more positions net number line (Ok so_far) = in_line number (after_line positions net so_far number line)
 
 -- what is expected once these lines are read too, or the first that is bad; the first line has this number
-abbrev pub after_lines : NetlistView → (number : ℕ) → List (List ℕ)
+abbrev pub after_lines : Positions → NetlistView → (number : ℕ) → List (List ℕ)
     → Result (List Expectation) ExpectFault → Result (List Expectation) ExpectFault
-after_lines net number [] so_far = so_far
-after_lines net number (line ∷ lines) so_far = after_lines net (suc number) lines (one_more net number line so_far)
+after_lines positions net number [] so_far = so_far
+after_lines positions net number (line ∷ lines) so_far =
+    after_lines positions net (suc number) lines (one_more positions net number line so_far)
 
 -- ---- the whole
 
 -- what a text expects of the netlist's signals, in order of time and of lines, or its first bad line
-abbrev pub expectations_of : NetlistView → (text : List ℕ) → Result (List Expectation) ExpectFault
-expectations_of net text = after_lines net 1 (lines_of text) (Ok [])
+abbrev pub expectations_of : Positions → NetlistView → (text : List ℕ) → Result (List Expectation) ExpectFault
+expectations_of positions net text = after_lines positions net 1 (lines_of text) (Ok [])

@@ -5,7 +5,7 @@ use Rattle.rtl_net.specs.Nets.{NetlistView}
 use Rattle.rtl_expect.specs.declared.expectation.Expectation.{Expectation as KeptExpectation}
 use Rattle.rtl_expect.specs.declared.faults.ExpectFault.{ExpectFault}
 use Rattle.rtl_expect.specs.declared.faults.ExpectFault.TheVariants.{NoMemory}
-use Rattle.rtl_expect.specs.Expected.{Expectation}
+use Rattle.rtl_expect.specs.Expected.{Expectation, Positions}
 use Rattle.rtl_expect.specs.Lines.{expectations_of, placed}
 use Rattle.rtl_expect.specs.Watching.{AreInOrder, expectation_view, list_view}
 
@@ -25,6 +25,8 @@ abbrev pub IsExpected : Result Expectation ExpectFault → Result KeptExpectatio
 IsExpected asked (Ok e) = asked ≡ Ok (expectation_view e)
 IsExpected asked (Err fault) = fault ≢ NoMemory → asked ≡ Err fault
 
-abbrev pub AreListed : NetlistView → (text : List ℕ) → Result (Vec KeptExpectation Global) ExpectFault → Type 0
-AreListed net text (Ok list) = (expectations_of net text ≡ Ok (list_view list)) × AreInOrder (list_view list)
-AreListed net text (Err fault) = fault ≢ NoMemory → expectations_of net text ≡ Err fault
+abbrev pub AreListed : Positions → NetlistView → (text : List ℕ)
+    → Result (Vec KeptExpectation Global) ExpectFault → Type 0
+AreListed positions net text (Ok list) =
+    (expectations_of positions net text ≡ Ok (list_view list)) × AreInOrder (list_view list)
+AreListed positions net text (Err fault) = fault ≢ NoMemory → expectations_of positions net text ≡ Err fault

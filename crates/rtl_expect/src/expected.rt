@@ -1,11 +1,11 @@
 //! What is expected of a signal at a time.
 
-ghost use Rattle.std.specs.Prelude.{◌≡◌, ◌≤◌, length, map, option_map, Some};
+ghost use Rattle.std.specs.Prelude.{◌≡◌, ◌≤◌, length, map, option_map};
 ghost use Rattle.rtl_expect.specs.Differences.{found_at};
 ghost use Rattle.rtl_expect.specs.Differences as spec;
 ghost use Rattle.rtl_expect.specs.Watching.{expectation_view, difference_view};
 
-use crate::difference::{Codes, Difference};
+use crate::difference::{Codes, Difference, WantedCodes};
 use crate::expectation::Expectation;
 use arrayvec::ArrayVec;
 
@@ -36,19 +36,32 @@ impl Wanted {
 }
 
 impl Expectation {
-    /// What differs where the nets have these values, if anything does.
-    pub(crate) fn difference_in(&self, values: &[u8]) -> Option<Difference>
-        ensures { option_map difference_view result ≡ spec.difference_in (expectation_view self.now) (Some values.now) }
+    /// What differs where the nets have these values, if anything does. Where none stand, nothing
+    /// holds.
+    pub(crate) fn difference_in(&self, values: Option<&[u8]>) -> Option<Difference>
+        ensures { option_map difference_view result
+            ≡ spec.difference_in (expectation_view self.now) (option_map (λ v. v.now) values.entry) }
     {
+        let Some(values) = values else {
+            return Some(self.differs(None));
+        };
         if are_met(&self.wanted, values) {
             return None;
         }
-        Some(Difference {
+        Some(self.differs(Some(found_codes(&self.wanted, values))))
+    }
+
+    /// What differs where this was found.
+    fn differs(&self, found: Option<Codes>) -> Difference
+        ensures { difference_view result ≡ spec.differs (expectation_view self.now) (option_map (λ c. c.items) found) }
+    {
+        Difference {
             line: self.line,
             time: self.time,
             signal: self.signal,
-            found: Some(found_codes(&self.wanted, values)),
-        })
+            wanted: wanted_codes(&self.wanted),
+            found,
+        }
     }
 }
 
@@ -62,6 +75,18 @@ fn are_met(wanted: &[Wanted], values: &[u8]) -> bool
         }
     }
     true
+}
+
+/// The codes that are wanted.
+fn wanted_codes(wanted: &[Wanted]) -> WantedCodes
+    requires { length wanted.now ≤ 64 }
+    ensures { result.items ≡ map (λ w. w.code) wanted.now }
+{
+    let mut codes = ArrayVec::new();
+    for one in wanted {
+        codes.push(one.code);
+    }
+    codes
 }
 
 /// The code of each of these nets.

@@ -1,49 +1,49 @@
 //! Reading a file of expected values.
 
-ghost use Rattle.std.specs.Prelude.{◌≡◌, ◌≤◌, ◌<◌, ◌+◌, ◌∷◌, [], length, map, drop, option_map, IfOk, OnOk};
+ghost use Rattle.std.specs.Prelude.{◌≡◌, ◌≤◌, ◌<◌, ◌+◌, ◌∷◌, [], length, map, drop, IfOk, OnOk};
 ghost use Rattle.std.specs.List.{slice_split};
 ghost use Rattle.rtl_stim_lines.specs.Lines.{as_lines, ends_line};
 ghost use Rattle.rtl_stim_lines.specs.Forms as forms;
-ghost use Rattle.rtl_expect.specs.Expected as wanted;
+ghost use Rattle.rtl_signal_names.specs.Naming.{HasNumbers};
 ghost use Rattle.rtl_expect.specs.Lines as lines;
 ghost use Rattle.rtl_expect.specs.Lines.{after_line, expected_in, in_line};
-ghost use Rattle.rtl_expect.specs.Naming.{HasNumbers};
 ghost use Rattle.rtl_expect.specs.Watching.{AreInOrder, expectation_view, list_view};
 ghost use Rattle.rtl_expect.specs.Reading.{AreListed, IsExpected, Leads, all_placed};
 
 use crate::expectation::Expectation;
-use crate::expected::Wanted;
 use crate::faults::ExpectFault;
-use crate::naming::{SignalTable, signal_named, table_of};
+use crate::literals::Literals;
+use crate::value::value_wanted;
 use fault_rules::ExpectRule;
-use rtl_net::{Net, Signal, SignalKind};
-use rtl_stim_lines::{Form, Time, form_of, says_nothing, time_of, without_return, words_of};
+use rtl_net::Net;
+use rtl_signal_names::{SignalTable, signal_named, table_of};
+use rtl_stim_lines::{Form, Time, form_of, says_nothing, without_return, words_of};
 use std::alloc::{AllocError, Global};
-use vhdl_values::Nine;
 
 /// What the lines of a text expect, in order of time and of lines. It takes time that goes by the
 /// lines, to put them in order by the lines times the logarithm of their number at most, and no
 /// more than the lines where they are in order of time.
-pub(crate) fn read_lines(
+pub(crate) fn read_lines<L: Literals>(
     alloc: Global,
     net: &Net,
+    literals: &L,
     text: &[u8],
 ) -> Result<Vec<Expectation>, ExpectFault>
-    ensures { AreListed net.now text.now result }
+    ensures { AreListed (L.positions literals.now) net.now text.now result }
 {
     let table = table_of(alloc, net)?;
     let parts = parts_of(alloc, text)?;
     let mut list = Vec::new(alloc);
     for place in 0..parts.len() {
         let line = line_at(&parts, place);
-        read_line(alloc, net, &table, place + 1, line, &mut list)?;
+        read_line(alloc, net, &table, literals, place + 1, line, &mut list)?;
     }
     put_in_order(&mut list)?;
     Ok(list)
 }
 
 /// The line that the part at this place is: a return at the end of the last part is its own.
-fn line_at<'a>(parts: &[&'a [u8]], place: usize) -> &'a [u8]
+pub(crate) fn line_at<'a>(parts: &[&'a [u8]], place: usize) -> &'a [u8]
     requires { place < length parts.now }
     ensures { as_lines (drop place (map (λ part. part.now) parts.now))
         ≡ result.now ∷ as_lines (drop (place + 1) (map (λ part. part.now) parts.now)) }
@@ -56,44 +56,48 @@ fn line_at<'a>(parts: &[&'a [u8]], place: usize) -> &'a [u8]
 }
 
 /// The parts of a text between line feeds.
-fn parts_of<'a>(alloc: Global, text: &'a [u8]) -> Result<Vec<&'a [u8]>, AllocError>
+pub(crate) fn parts_of<'a>(alloc: Global, text: &'a [u8]) -> Result<Vec<&'a [u8]>, AllocError>
     ensures { IfOk result (λ parts. map (λ part. part.now) parts.items ≡ slice_split ends_line text.now) }
 {
     text.split(|byte| *byte == b'\n').collect(alloc)
 }
 
 /// Takes in the line of this number. The list has the expectations in order of lines.
-fn read_line(
+fn read_line<L: Literals>(
     alloc: Global,
     net: &Net,
     table: &SignalTable,
+    literals: &L,
     number: usize,
     line: &[u8],
     list: &mut Vec<Expectation>,
 ) -> Result<(), ExpectFault>
     requires { HasNumbers net.now table.now }
     ensures { let so_far = all_placed [] (list_view list.old) in
-        Leads (in_line number (after_line net.now so_far number line.now)) (all_placed [] (list_view list.new)) result }
+        Leads (in_line number (after_line (L.positions literals.now) net.now so_far number line.now))
+        (all_placed [] (list_view list.new)) result }
 {
     let words = words_of(alloc, line)?;
     if says_nothing(&words) {
         return Ok(());
     }
-    let expectation = expectation_of(alloc, net, table, number, &words)?;
+    let expectation = expectation_of(alloc, net, table, literals, number, &words)?;
     keep(list, expectation)?;
     Ok(())
 }
 
 /// What the words of the line of this number expect.
-fn expectation_of(
+fn expectation_of<L: Literals>(
     alloc: Global,
     net: &Net,
     table: &SignalTable,
+    literals: &L,
     line: usize,
     words: &[&[u8]],
 ) -> Result<Expectation, ExpectFault>
     requires { HasNumbers net.now table.now }
-    ensures { IsExpected (in_line line (expected_in net.now line (forms.form_of (map (λ word. word.now) words.now))))
+    ensures { IsExpected (in_line line
+        (expected_in (L.positions literals.now) net.now line (forms.form_of (map (λ word. word.now) words.now))))
         result }
 {
     net.is_elaborated();
@@ -106,7 +110,7 @@ fn expectation_of(
     let Some((number, signal)) = signal_named(alloc, net, table, name)? else {
         return Err(ExpectFault::in_line(ExpectRule::NotASignal, line));
     };
-    let Some(wanted) = value_wanted(alloc, signal, value)? else {
+    let Some(wanted) = value_wanted(alloc, literals, signal, value)? else {
         return Err(ExpectFault::in_line(ExpectRule::BadValue, line));
     };
     Ok(Expectation {
@@ -115,67 +119,6 @@ fn expectation_of(
         signal: number,
         wanted,
     })
-}
-
-/// What a text wants of a signal's elements, if it is one of their values.
-type Found = Result<Option<Vec<Wanted>>, AllocError>;
-
-/// What a text wants of a signal's elements.
-fn value_wanted(alloc: Global, signal: &Signal, text: &[u8]) -> Found
-    requires some { 1 ≤ length signal.now.nets.items }
-    ensures { IfOk result (λ found. option_map (λ v. v.items) found
-        ≡ wanted.value_wanted signal.now.kind signal.now.nets.items text.now) }
-{
-    match signal.kind {
-        SignalKind::Enumeration { count } => position_wanted(alloc, signal.nets[0], count, text),
-        _ => letters_wanted(alloc, &signal.nets, text),
-    }
-}
-
-/// What letters of the nine values want of these nets, one letter for each.
-fn letters_wanted(alloc: Global, nets: &[usize], text: &[u8]) -> Found
-    ensures { IfOk result (λ found. option_map (λ v. v.items) found ≡ wanted.letters_wanted nets.now text.now) }
-{
-    if nets.len() != text.len() {
-        return Ok(None);
-    }
-    let mut wanted = Vec::with_capacity(alloc, nets.len())?;
-    for (place, net) in nets.iter().enumerate() {
-        let Some(value) = Nine::from_byte(text[place]) else {
-            return Ok(None);
-        };
-        wanted.push(Wanted {
-            net: *net,
-            code: code_wanted(value),
-        })?;
-    }
-    Ok(Some(wanted))
-}
-
-/// The code that is wanted; `-` stands for any.
-fn code_wanted(value: Nine) -> Option<u64>
-    ensures { result ≡ wanted.code_wanted value }
-{
-    match value {
-        Nine::Dash => None,
-        _ => Some(u64::from(value.code())),
-    }
-}
-
-/// What the position of a literal, one of so many, wants of a net; `-` stands for any.
-fn position_wanted(alloc: Global, net: usize, count: u32, text: &[u8]) -> Found
-    ensures { IfOk result (λ found. option_map (λ v. v.items) found ≡ wanted.position_wanted net count text.now) }
-{
-    if text == b"-".as_slice() {
-        return Ok(Some(vec![in alloc; Wanted { net, code: None }]?));
-    }
-    match time_of(text) {
-        Some(Time::At(position)) if position < u64::from(count) => {
-            let code = Some(position);
-            Ok(Some(vec![in alloc; Wanted { net, code }]?))
-        }
-        _ => Ok(None),
-    }
 }
 
 /// Puts an expectation behind those of the lines before.

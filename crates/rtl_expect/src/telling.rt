@@ -4,18 +4,28 @@ ghost use Rattle.std.specs.Prelude.{◌≡◌, ◌≤◌, length, slice_get, sli
 ghost use Rattle.vhdl_values.specs.Scalar.{letter_of, value_of_code};
 ghost use Rattle.byte_streams.specs.Written.{Goes};
 ghost use Rattle.rtl_expect.specs.Telling as spec;
-ghost use Rattle.rtl_expect.specs.Watching.{difference_view};
+ghost use Rattle.rtl_expect.specs.Watching.{difference_view, told_view};
 
-use crate::difference::{Codes, Difference};
-use crate::naming::push_name;
+use crate::difference::{Codes, Difference, FirstDifferences};
 use byte_streams::{Sink, push_number, push_text};
 use rtl_net::{Net, SignalKind};
+use rtl_signal_names::push_name;
 use vhdl_values::Nine;
+
+/// Writes the line that tells the first difference. It takes no memory.
+pub fn push_first<S: Sink>(net: &Net, differences: &FirstDifferences, sink: &mut S)
+    ensures { Goes (S.state sink.old) (S.state sink.new) (spec.first_line net.now (told_view differences.now)) }
+{
+    if differences.told.is_empty() {
+        return;
+    }
+    push_difference(net, &differences.told[0], sink);
+}
 
 /// Writes the line that tells a difference from what a netlist's signals were expected to be:
 /// `rtlsim: expect 1 Differs TIME NAME is VALUE line LINE`, the time in ns, or `rtlsim: expect 2
-/// AfterStop line LINE`. It takes no memory.
-pub fn push_difference<S: Sink>(net: &Net, difference: &Difference, sink: &mut S)
+/// AfterStop line LINE`.
+fn push_difference<S: Sink>(net: &Net, difference: &Difference, sink: &mut S)
     ensures { Goes (S.state sink.old) (S.state sink.new)
         (spec.difference_line net.now (difference_view difference.now)) }
 {
@@ -67,14 +77,14 @@ fn push_value<S: Sink>(kind: SignalKind, found: &Codes, sink: &mut S)
 }
 
 /// The position that the first of these codes is.
-fn position(found: &[u8]) -> u64
+pub(crate) fn position(found: &[u8]) -> u64
     ensures { result ≡ slice_index found.now 0 }
 {
     u64::from(found.first().copied().unwrap_or(0))
 }
 
 /// The letters of the values with these codes.
-fn letters(found: &[u8]) -> Codes
+pub(crate) fn letters(found: &[u8]) -> Codes
     requires few { length found.now ≤ 64 }
     ensures { result.items ≡ spec.letters_of found.now }
 {
@@ -86,7 +96,7 @@ fn letters(found: &[u8]) -> Codes
 }
 
 /// The letter of the value with this code.
-fn letter(code: u8) -> u8
+pub(crate) fn letter(code: u8) -> u8
     ensures { result ≡ letter_of (value_of_code code) }
 {
     Nine::from_code(code).unwrap_or(Nine::X).byte()

@@ -71,7 +71,7 @@ fn type_at<'a>(
 
 /// What stands in the parentheses of `NAME is ( LITERAL { , LITERAL } )`, with which these tokens
 /// begin.
-fn literals_of(tokens: &[Token]) -> &[Token]
+pub fn literals_of(tokens: &[Token]) -> &[Token]
     ensures { result.now ≡ spec.literals_of tokens.now }
 {
     up_to(TokenKind::RightParen, past(3, tokens))

@@ -23,7 +23,7 @@ mod table;
 mod unread;
 
 pub use choice::{first_choice, push_missing};
-pub use enumeration::{is_literal, type_of};
+pub use enumeration::{is_literal, literals_of, type_of};
 pub use form::Said;
 pub use instance::{
     associations, entity_of, first_open, formal_in, is_by_name, labelled, open_instance,

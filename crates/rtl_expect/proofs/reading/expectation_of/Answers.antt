@@ -11,11 +11,11 @@ use Rattle.rtl_expect.proofs.Wanting.{few_wanted}
 use Rattle.rtl_expect.proofs.reading.expectation_of.Goals as goal
 
 pub value_wanted-requires : goal.value_wanted-requires
-value_wanted-requires c = record { some = (rw c.in-Some.is at c.in_ok-number.ensures.width).0 }
+value_wanted-requires g c = record { some = (rw c.in-Some.is at c.in_ok-number.ensures.width).0 }
 
 pub invariant_of-result : goal.invariant_of-result
-invariant_of-result c = record {
-  few = few_wanted c.in-Some.signal.now.kind c.in-Some.signal.now.nets.items _ c.in-Some-2.wanted.items (rw c.in-Some.is at c.in_ok-number.ensures.width).1
+invariant_of-result g c = record {
+  few = few_wanted _ _ _ c.in-Some-2.wanted.items (rw c.in-Some.is at c.in_ok-number.ensures.width).1
       (sym c.in_ok-wanted.ensures ∙ ap (option_map (λ (v : Vec Wanted Global). v.items)) c.in-Some-2.is);
 }
 
@@ -24,7 +24,7 @@ refused asked (Ok e) is = absurd is
 refused asked (Err f) is = λ other. absurd (other is)
 
 pub returns-in_err-number : goal.returns-in_err-number
-returns-in_err-number c = refused _ c.from_residual.result c.from_residual.ensures.1
+returns-in_err-number g c = refused _ c.from_residual.result c.from_residual.ensures.1
 
 pub returns-in_err-wanted : goal.returns-in_err-wanted
-returns-in_err-wanted c = refused _ c.from_residual-in_err-wanted.result c.from_residual-in_err-wanted.ensures.1
+returns-in_err-wanted g c = refused _ c.from_residual-in_err-wanted.result c.from_residual-in_err-wanted.ensures.1

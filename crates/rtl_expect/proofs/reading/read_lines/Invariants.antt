@@ -7,6 +7,6 @@ use Rattle.rtl_expect.proofs.reading.read_lines.Given as goal
 
 -- what the text expects is what the lines that are left do, after those so far
 abbrev pub invariant-loop-place : goal.invariant-loop-place
-invariant-loop-place l =
-    expectations_of l.net l.text
-    ≡ after_lines l.net (l.place + 1) (as_lines (drop l.place (map (λ part. part.now) l.parts.items))) (Ok (all_placed [] (list_view l.list)))
+invariant-loop-place g l =
+    expectations_of (g.L.Literals.positions l.literals) l.net l.text
+    ≡ after_lines (g.L.Literals.positions l.literals) l.net (l.place + 1) (as_lines (drop l.place (map (λ part. part.now) l.parts.items))) (Ok (all_placed [] (list_view l.list)))

@@ -5,9 +5,9 @@ use Rattle.std.proofs.lemmas.List.{length-map}
 use Rattle.byte_streams.specs.Written.{Goes}
 use Rattle.byte_streams.proofs.Writing.{Goes-append}
 use Rattle.rtl_net.specs.Nets.{ScopeView, SignalView, scope_view, signal_view}
-use Rattle.rtl_expect.specs.Names.{full_name}
+use Rattle.rtl_signal_names.specs.Names.{full_name}
+use Rattle.rtl_signal_names.proofs.Labels.{signal_at, scope_there}
 use Rattle.rtl_expect.specs.Telling.{of_signal_found}
-use Rattle.rtl_expect.proofs.Labels.{signal_at, scope_there}
 use Rattle.rtl_expect.proofs.telling.push_found.Goals as goal
 
 pub push_name-requires-clause-there : goal.push_name-requires-clause-there

@@ -1,4 +1,0 @@
-use Rattle.rtl_expect.proofs.naming.+push_labels.Given as goal
-
-abbrev pub decreases-push_labels : goal.decreases-push_labels
-decreases-push_labels g l = l.scope
