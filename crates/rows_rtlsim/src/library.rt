@@ -9,7 +9,7 @@ use rtlsim::{
     run_event, run_levels, show_check, show_check_dot, show_net,
 };
 use std::alloc::Global;
-use vhdl_front::{Vhdl, open};
+use vhdl_front::{Asked, Vhdl, open};
 
 /// Makes a call, and gives the status, which stands for its fault if it has one.
 pub fn answer_by_library<S: Sink>(alloc: Global, call: &Call<'_>, input: &[u8], out: &mut S) -> u8
@@ -48,7 +48,7 @@ pub fn answer_by_trees<S: Sink, E: Sink>(
         return None;
     };
     let (source, stimulus) = halves_at_line(input);
-    let Ok(net) = open(alloc, source, call.top.as_bytes()) else {
+    let Ok(net) = open(alloc, Asked::plain(source, call.top.as_bytes())) else {
         return Some(Status::Source.code());
     };
     let run = Run { stimulus, is_event };

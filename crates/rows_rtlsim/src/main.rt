@@ -34,12 +34,14 @@ use std::io;
 use tries::Tries;
 
 /// The tables of calls, in the folder in which the program runs.
-const TABLES: [&str; 24] = [
+const TABLES: [&str; 26] = [
     "values.txt",
     "refused.txt",
     "inputs.txt",
     "words.txt",
     "several.txt",
+    "generics.txt",
+    "trace.txt",
     "explain.txt",
     "remarks.txt",
     "net.txt",

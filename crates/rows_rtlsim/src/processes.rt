@@ -4,7 +4,7 @@ use rows_calls::{Frame, Teller, Text};
 use rows_on_net::push_processes;
 use std::alloc::Global;
 use vhdl_expand_rules::{ElabFault, ElabProblem};
-use vhdl_front::{SourceFault, open};
+use vhdl_front::{Asked, SourceFault, open};
 
 /// What each process of a netlist drives, reads and is sensitive to, and what its variables start
 /// with.
@@ -24,7 +24,7 @@ impl Teller for Processes {
 
 /// Adds what is elaborated of a source: the processes of its netlist, or its fault.
 fn push_elaborated(alloc: Global, source: &[u8], mark: Option<usize>, found: &mut Text) {
-    match open(alloc, source, b"t") {
+    match open(alloc, Asked::plain(source, b"t")) {
         Ok(net) => push_processes(alloc, &net, found),
         Err(SourceFault::Elab(ElabFault::At { problem, at })) => {
             push_problem(found, problem, at, mark.unwrap_or(at));

@@ -10,6 +10,7 @@ use Rattle.rtlsim.specs.Served.{ServesBy}
 use Rattle.rtlsim.specs.Sinks.{Sinks, ShowsIf, outputs}
 use Rattle.rtlsim_commands.specs.Served.{Outputs, Serves}
 use Rattle.rtlsim_commands.specs.Told.{Done}
+use Rattle.rtlsim_commands.specs.Tracing.{ChoiceView}
 use Rattle.rtlsim_commands.proofs.Watched.{if_whole_so, of_events_so, of_machine_so}
 use Rattle.rtlsim_commands.specs.Watched.{Watched}
 use Rattle.rtlsim_command_faults.specs.declared.faults.Fault.{Fault}
@@ -17,14 +18,15 @@ use Rattle.rtlsim_command_faults.specs.declared.status.Status.{Status}
 use Rattle.rtlsim_command_faults.specs.declared.telling.Telling.{Telling}
 use Rattle.rtlsim_command_line.specs.declared.call.Request.{Request}
 use Rattle.rtlsim_command_line.specs.declared.call.Request.TheVariants.{Run, Levels}
+use Rattle.vhdl_front_rules.specs.Asking.{Asked}
 
 watched_more : {A : Type 0} {Does : NetlistView → Result A Fault → SinkState → SinkState → Type 0} {P Q : NetlistView → Type 0} → ((net : NetlistView) → P net → Q net)
     → (net : NetlistView) (answer : Result A Fault) (old new : SinkState) → Watched Does P net answer old new → Watched Does Q net answer old new
 watched_more {P = P} {Q = Q} f net answer old new w = record { does = w.does; sees = if_whole_so (P net) (Q net) answer (f net) w.sees }
 
 serves_more : {A : Type 0} {Does : NetlistView → Result A Fault → SinkState → SinkState → Type 0} {P Q : NetlistView → Type 0} {done : Done A} {telling : Telling}
-    {source top : List ℕ} {outcome : Status} {o : Outputs} → ((net : NetlistView) → P net → Q net)
-    → Serves (Watched Does P) done telling source top outcome o → Serves (Watched Does Q) done telling source top outcome o
+    {asked : Asked} {outcome : Status} {o : Outputs} → ((net : NetlistView) → P net → Q net)
+    → Serves (Watched Does P) done telling asked outcome o → Serves (Watched Does Q) done telling asked outcome o
 serves_more {o = o} f s = record {
   answer = s.answer;
   output = elim (s.output) [ inl x ↦ inl (x.0, x.1, watched_more f x.0 s.answer o.out o.out_after x.2) | inr y ↦ inr y ];
@@ -34,21 +36,21 @@ serves_more {o = o} f s = record {
   ends = s.ends;
 }
 
-module _ {P Q : List Stand → Type 0} (f : (stands : List Stand) → P stands → Q stands) (telling : Telling) (source top : List ℕ) (outcome : Status) (o : Outputs) where
+module _ {P Q : List Stand → Type 0} (f : (stands : List Stand) → P stands → Q stands) (telling : Telling) (asked : Asked) (outcome : Status) (o : Outputs) (choice : ChoiceView) where
   -- this holds of what was seen, and so that does
   pub serves_by : (request : Request) (sets : List (List ℕ)) (text : List ℕ) (expected : Option (List ℕ))
-      → ServesBy telling source top outcome o P request sets text expected → ServesBy telling source top outcome o Q request sets text expected
+      → ServesBy telling asked outcome o P choice request sets text expected → ServesBy telling asked outcome o Q choice request sets text expected
   serves_by (Run true order) sets text expected s = serves_more (λ net. of_events_so text net P Q f) s
   serves_by (Run false order) sets text expected s = serves_more (λ net. of_machine_so text net P Q f) s
   serves_by Levels sets text expected s = serves_more (λ net. of_machine_so text net P Q f) s
   serves_by _ sets text expected s = s
 
 -- what is served by these texts is served by texts that are the same
-pub serves_same : (telling : Telling) (outcome : Status) (shows : Bool) (s : Sinks) (request : Request) (source given top called : List ℕ) (sets words : List (List ℕ)) (text read : List ℕ)
-    (expected wanted : Option (List ℕ)) → source ≡ given → top ≡ called → sets ≡ words → text ≡ read → expected ≡ wanted
-    → ServesBy telling source top outcome (outputs s) (ShowsIf shows text s) request sets text expected
-    → ServesBy telling given called outcome (outputs s) (ShowsIf shows read s) request words read wanted
-serves_same telling outcome shows s request source given top called sets words text read expected wanted e f h i j serves = rw (← e, ← f, ← h, ← i, ← j) serves
+pub serves_same : (telling : Telling) (outcome : Status) (shows : Bool) (s : Sinks) (request : Request) (asked given : Asked) (choice chosen : ChoiceView) (sets words : List (List ℕ)) (text read : List ℕ)
+    (expected wanted : Option (List ℕ)) → asked ≡ given → choice ≡ chosen → sets ≡ words → text ≡ read → expected ≡ wanted
+    → ServesBy telling asked outcome (outputs s) (ShowsIf shows text s) choice request sets text expected
+    → ServesBy telling given outcome (outputs s) (ShowsIf shows read s) chosen request words read wanted
+serves_same telling outcome shows s request asked given choice chosen sets words text read expected wanted e k h i j serves = rw (← e, ← k, ← h, ← i, ← j) serves
 
 -- nothing is to be shown
 pub shows_none : (shows : Bool) → shows ≡ false → (stimulus : List ℕ) (s : Sinks) (stands : List Stand) → ShowsIf shows stimulus s stands

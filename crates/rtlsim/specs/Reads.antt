@@ -29,6 +29,15 @@ Then {A} First Next old new (Err unread) =
     First old new (Err unread)
     ⊎ ((first : A) × (between : ReaderState) × First old between (Ok first) × Next between new (Err unread))
 
+-- one is read, and what is read next goes by it
+abbrev pub ThenBy : {A B : Type 0} → (First : Given A) → (Next : A → Given B)
+    → (old new : ReaderState) → Result B Unread → Type 0
+ThenBy {A} First Next old new (Ok given) =
+    (first : A) × (between : ReaderState) × First old between (Ok first) × Next first between new (Ok given)
+ThenBy {A} First Next old new (Err unread) =
+    First old new (Err unread)
+    ⊎ ((first : A) × (between : ReaderState) × First old between (Ok first) × Next first between new (Err unread))
+
 -- both names are that of the standard input
 abbrev pub AreStandard : (file stimulus : List ℕ) → Type 0
 AreStandard file stimulus = (file ≡ codes "@") × (stimulus ≡ codes "@")

@@ -6,7 +6,7 @@ use Rattle.rtlsim_command_faults.specs.declared.status.Status.TheVariants as sta
 use Rattle.rtlsim.specs.declared.inputs.InputFault.{InputFault}
 use Rattle.rtlsim.specs.declared.inputs.InputFault.TheVariants as input
 use Rattle.rtlsim.specs.declared.problem.InputProblem.{InputProblem}
-use Rattle.rtlsim.specs.declared.problem.InputProblem.TheVariants.{Missing, Denied, Folder, NotOpened, ReadFailed, TooLong, Endless}
+use Rattle.rtlsim.specs.declared.problem.InputProblem.TheVariants.{Missing, Denied, Folder, NotOpened, ReadFailed, TooLong, Endless, NoList}
 use Rattle.rtlsim.specs.declared.unread.ReadFault.{ReadFault}
 use Rattle.rtlsim.specs.declared.unread.ReadFault.TheVariants as read
 
@@ -34,6 +34,10 @@ said_of ReadFailed = (
 said_of TooLong =
     (codes "it has more than 33554432 bytes", codes "split it; of a source no more than 4194304 bytes are read")
 said_of Endless = (codes "33554432 reads of it came to no end", codes "write what it gives into a file, and name that")
+said_of NoList = (
+  codes "it isn't a list of files",
+  codes "write a file's name a line, in UTF-8, as it is from the list's folder; # begins a comment",
+)
 
 -- "NAME: input: REASON", and the help below
 abbrev pub input_explained : Unread → List ℕ

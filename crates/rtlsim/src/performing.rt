@@ -1,16 +1,19 @@
 //! What is done for a call once its files are read.
 
-ghost use Rattle.std.specs.Prelude.{◌≡◌, ◌⊎◌, false, map, option_map, unwrap_or, IfOk};
+ghost use Rattle.std.specs.Prelude.{◌≡◌, ◌⊎◌, false, map, option_map, unwrap_or, [], IfOk};
 ghost use Rattle.rtlsim.specs.Requests as requests;
-ghost use Rattle.rtlsim.specs.Served.{GoesBy, ServesBy, ServesRun, ServesTexts, AreTokens, asks_places};
+ghost use Rattle.rtlsim.specs.Served.{GoesBy, ServesBy, ServesRun, ServesTexts, AreTokens, asked_in, asks_places, choice_in};
 ghost use Rattle.rtlsim.specs.Sinks.{AreIntact, ShowsIf, outputs, sinks};
 ghost use Rattle.rtlsim_commands.specs.Served.{Serves, both};
+ghost use Rattle.rtlsim_commands.specs.Expected.{Comparing};
 ghost use Rattle.rtlsim_commands.specs.Sights.{Seeing, events_of};
+ghost use Rattle.rtlsim_commands.specs.Tracing.{Tracing};
 ghost use Rattle.rtlsim.specs.Texts.{texts_view};
 ghost use Rattle.rtlsim.specs.Tools.{Silently, TellsInput};
 ghost use Rattle.rtlsim_command_line.specs.Words.{call_view};
 ghost use Rattle.rtlsim_command_faults.specs.Lines.{memory_line};
 ghost use Rattle.rtlsim_command_faults.specs.declared.status.Status.TheVariants as status;
+ghost use Rattle.vhdl_slips.specs.Words.{read_of};
 
 use crate::job::Job;
 use crate::prepared::prepare;
@@ -22,7 +25,7 @@ use rtl_progress::{Progress, stop_of};
 use rtlsim_command_line::{Call, Order, Request};
 use rtlsim_commands::{
     CheckNet, Command, Compared, EvalNet, Form, Forward, Front, ListNet, Pick, Reverse, RunEvents,
-    RunLevels, RunMachine, Status, Telling, describe, serve,
+    RunLevels, RunMachine, Simulate, Status, Telling, Traced, describe, serve,
 };
 use std::alloc::{AllocError, Global};
 use vhdl_lexer::{LexFault, Token, lex};
@@ -43,7 +46,7 @@ pub(crate) fn perform_texts<'b, F: Front, O: Sink, E: Sink, G: Sink>(
         Silently (TellsInput memory_line status.Memory result) s
         ⊎ ServesTexts (call_view call.now) (texts_view texts.now) result s }
 {
-    let Ok(prepared) = prepare(alloc, &call.sets, texts) else {
+    let Ok(prepared) = prepare(alloc, call, texts) else {
         return refuse_input(ReadFault::NoMemory, false, out, err);
     };
     let source = prepared.source();
@@ -59,25 +62,32 @@ pub(crate) fn perform_texts<'b, F: Front, O: Sink, E: Sink, G: Sink>(
         },
         stimulus: stimulus_name(call),
         stimulus_text: call.stimulus.map(|_name| stimulus),
+        expected: expected_name(call),
+        expected_text: texts.expected(),
+        trace: &prepared.traced,
         explains: call.explains,
     };
     let job = Job {
         request: call.request,
         source,
         top: call.top.as_bytes(),
+        generics: &prepared.generics,
         telling: &telling,
         sets: &prepared.sets,
         stimulus,
+        traced: &prepared.traced,
+        is_untraced: call.is_untraced,
         expected: texts.expected(),
     };
     perform_shown::<F, _, _, _>(alloc, &job, call.shows_progress, out, err, progress)
 }
 
-/// Whether an explanation or an object is asked for, which tell places.
+/// Whether an explanation or an object is asked for, which tell places, or what is expected is
+/// given, which names literals.
 fn asks_places(call: &Call<'_>) -> bool
     ensures { result ≡ asks_places (call_view call.now) }
 {
-    call.explains || matches!(call.request, Request::Json)
+    call.explains || matches!(call.request, Request::Json) || call.expected.is_some()
 }
 
 /// The tokens of a source by which places are told, where they are asked for; none of a source that
@@ -107,6 +117,16 @@ fn stimulus_name<'b>(call: &'b Call<'_>) -> &'b [u8]
     }
 }
 
+/// The name of the file of what is expected; nothing without one.
+fn expected_name<'b>(call: &'b Call<'_>) -> &'b [u8]
+    ensures { result.now ≡ unwrap_or (call_view call.now).expected [] }
+{
+    match call.expected {
+        Some(name) => name.as_bytes(),
+        None => &[],
+    }
+}
+
 /// Does what is asked for, and shows how far a run is where `shows` says so.
 fn perform_shown<F: Front, O: Sink, E: Sink, G: Sink>(
     alloc: Global,
@@ -119,8 +139,8 @@ fn perform_shown<F: Front, O: Sink, E: Sink, G: Sink>(
     requires { AreIntact (O.state out.old) (E.state err.old) }
     ensures serves { let s = sinks (O.state out.old) (O.state out.new) (E.state err.old) (E.state err.new)
         (G.state progress.old) (G.state progress.new) in
-        ServesBy job.now.telling.now job.now.source.now job.now.top.now result (outputs s)
-        (ShowsIf shows job.now.stimulus.now s) job.now.request
+        ServesBy job.now.telling.now (asked_in job.now) result (outputs s)
+        (ShowsIf shows job.now.stimulus.now s) (choice_in job.now) job.now.request
         (map (λ set. set.now) job.now.sets.now) job.now.stimulus.now (option_map (λ text. text.now) job.now.expected) }
     ensures silent { shows ≡ false → G.state progress.new ≡ G.state progress.old }
 {
@@ -142,12 +162,12 @@ fn perform_job<F: Front, V: Watch, O: Sink, E: Sink>(
     err: &mut E,
 ) -> Status
     requires { AreIntact (O.state out.old) (E.state err.old) }
-    ensures { ServesBy job.now.telling.now job.now.source.now job.now.top.now result
+    ensures { ServesBy job.now.telling.now (asked_in job.now) result
         (both (O.state out.old) (O.state out.new) (E.state err.old) (E.state err.new))
-        (λ stands. V.told watch.old stands watch.new) job.now.request
+        (λ stands. V.told watch.old stands watch.new) (choice_in job.now) job.now.request
         (map (λ set. set.now) job.now.sets.now) job.now.stimulus.now (option_map (λ text. text.now) job.now.expected) }
 {
-    let (telling, stimulus, expected) = (job.telling, job.stimulus, job.expected);
+    let (telling, stimulus) = (job.telling, job.stimulus);
     match job.request {
         Request::Eval => {
             let sets = job.sets;
@@ -162,7 +182,7 @@ fn perform_job<F: Front, V: Watch, O: Sink, E: Sink>(
             let form = Form::ToldGraph(telling);
             serve_job::<F, _, _, _, _>(alloc, &mut CheckNet { form }, job, watch, out, err)
         }
-        Request::Json => describe::<F, _, _>(alloc, job.source, job.top, telling, out, err),
+        Request::Json => describe::<F, _, _>(alloc, job.asked(), telling, out, err),
         Request::Run {
             is_event,
             order: Order::Forward,
@@ -172,8 +192,7 @@ fn perform_job<F: Front, V: Watch, O: Sink, E: Sink>(
             order: Order::Reverse,
         } => simulate::<F, _, _, _, _>(alloc, is_event, &mut Reverse, job, watch, out, err),
         Request::Levels => {
-            let run = RunLevels { stimulus };
-            serve_job::<F, _, _, _, _>(alloc, &mut Compared { run, expected }, job, watch, out, err)
+            serve_run::<F, _, _, _, _>(alloc, RunLevels { stimulus }, job, watch, out, err)
         }
     }
 }
@@ -191,19 +210,49 @@ fn simulate<F: Front, P: Pick, V: Watch, O: Sink, E: Sink>(
 ) -> Status
     requires order { GoesBy job.now.request P.picks }
     requires intact { AreIntact (O.state out.old) (E.state err.old) }
-    ensures { ServesRun job.now.telling.now job.now.source.now job.now.top.now result
+    ensures { ServesRun job.now.telling.now (asked_in job.now) result
         (both (O.state out.old) (O.state out.new) (E.state err.old) (E.state err.new))
-        (λ stands. V.told watch.old stands watch.new) is_event job.now.stimulus.now
+        (λ stands. V.told watch.old stands watch.new) (choice_in job.now) is_event job.now.stimulus.now
         (option_map (λ text. text.now) job.now.expected) }
 {
-    let (stimulus, expected) = (job.stimulus, job.expected);
+    let stimulus = job.stimulus;
     if is_event {
         let run = RunEvents { stimulus, pick };
-        serve_job::<F, _, _, _, _>(alloc, &mut Compared { run, expected }, job, watch, out, err)
+        serve_run::<F, _, _, _, _>(alloc, run, job, watch, out, err)
     } else {
         let run = RunMachine { stimulus, pick };
-        serve_job::<F, _, _, _, _>(alloc, &mut Compared { run, expected }, job, watch, out, err)
+        serve_run::<F, _, _, _, _>(alloc, run, job, watch, out, err)
     }
+}
+
+/// Makes a run of the source of a job, by what is asked of its trace, while this watch looks on,
+/// and compares it with what is expected if that is given.
+fn serve_run<F: Front, R: Simulate + Drop, V: Watch, O: Sink, E: Sink>(
+    alloc: Global,
+    run: R,
+    job: &Job<'_>,
+    watch: &mut V,
+    out: &mut O,
+    err: &mut E,
+) -> Status
+    requires { AreIntact (O.state out.old) (E.state err.old) }
+    ensures { Serves (Seeing (R.sight run)
+        (Comparing (R.sight run) (Tracing (choice_in job.now) (R.shows run)) (read_of job.now.telling.now.source)
+        (option_map (λ text. text.now) job.now.expected))
+        (λ stands. V.told watch.old stands watch.new))
+        (record { text = R.Answer.text; status = R.Answer.said; events = events_of (R.sight run) })
+        job.now.telling.now (asked_in job.now) result
+        (both (O.state out.old) (O.state out.new) (E.state err.old) (E.state err.new)) }
+{
+    let mut run = Compared {
+        run: Traced {
+            run,
+            choice: job.choice(),
+        },
+        source: job.telling.source,
+        expected: job.expected,
+    };
+    serve_job::<F, _, _, _, _>(alloc, &mut run, job, watch, out, err)
 }
 
 /// Does a command on the source of a job, while this watch looks on, and tells what it answers.
@@ -218,9 +267,8 @@ fn serve_job<F: Front, C: Command, V: Watch, O: Sink, E: Sink>(
     requires { AreIntact (O.state out.old) (E.state err.old) }
     ensures { Serves (Seeing (C.sight command.old) (C.does command.old) (λ stands. V.told watch.old stands watch.new))
         (record { text = C.Answer.text; status = C.Answer.said; events = events_of (C.sight command.old) })
-        job.now.telling.now job.now.source.now job.now.top.now result
+        job.now.telling.now (asked_in job.now) result
         (both (O.state out.old) (O.state out.new) (E.state err.old) (E.state err.new)) }
 {
-    let (source, top, telling) = (job.source, job.top, job.telling);
-    serve::<F, _, _, _, _>(alloc, source, top, telling, command, watch, out, err)
+    serve::<F, _, _, _, _>(alloc, job.asked(), job.telling, command, watch, out, err)
 }

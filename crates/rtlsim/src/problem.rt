@@ -22,6 +22,8 @@ pub enum InputProblem {
     TooLong,
     /// Its end didn't come within as many reads as that.
     Endless,
+    /// It names no file, or one in other bytes than UTF-8, where it should be a list of files.
+    NoList,
 }
 
 impl InputProblem {
@@ -53,6 +55,7 @@ impl InputProblem {
             InputProblem::ReadFailed => "reading it failed",
             InputProblem::TooLong => "it has more than 33554432 bytes",
             InputProblem::Endless => "33554432 reads of it came to no end",
+            InputProblem::NoList => "it isn't a list of files",
         }
     }
 
@@ -70,6 +73,8 @@ impl InputProblem {
                 "copy it by another program: that shows whether its disk or the other end of its pipe is at fault",
             InputProblem::TooLong => "split it; of a source no more than 4194304 bytes are read",
             InputProblem::Endless => "write what it gives into a file, and name that",
+            InputProblem::NoList =>
+                "write a file's name a line, in UTF-8, as it is from the list's folder; # begins a comment",
         }
     }
 }

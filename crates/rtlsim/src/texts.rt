@@ -1,7 +1,7 @@
 //! What calls read.
 
-ghost use Rattle.std.specs.Prelude.{◌≡◌, Some, Ok, Err, IfOk, IfErr, map, option_map};
-ghost use Rattle.rtlsim.specs.Requests.{GivesTexts};
+ghost use Rattle.std.specs.Prelude.{◌≡◌, Some, Ok, Err, IfOk, IfErr, map, option_map, string_bytes};
+ghost use Rattle.rtlsim.specs.Requests.{GivesFiles, GivesSources};
 ghost use Rattle.rtlsim.specs.Reads.{GivesAll, GivesBoth, GivesMain, GivesMaybe, GivesOne};
 ghost use Rattle.rtlsim.specs.Texts.{read_view, texts_of, texts_view};
 ghost use Rattle.rtlsim.specs.Unread.{Unread, unread_of};
@@ -10,10 +10,11 @@ ghost use Rattle.vhdl_source_files.specs.Files.{file_view};
 
 use crate::halves::halves_at_line;
 use crate::inputs::Inputs;
+use crate::problem::InputProblem;
 use crate::unread::ReadFault;
 use rtlsim_command_line::Call;
-use std::alloc::Global;
-use vhdl_source_files::SourceFile;
+use std::alloc::{AllocError, Global};
+use vhdl_source_files::{SourceFile, listed};
 
 /// What was read for a call.
 #[derive(Drop)]
@@ -84,24 +85,76 @@ impl ReadFile<'_> {
     }
 }
 
+/// The names of the source's files, those before the last and the last: they stand in the list of
+/// the call, if there is one, or in the call.
+pub(crate) fn read_sources<'a, I: Inputs>(
+    alloc: Global,
+    call: &Call<'a>,
+    inputs: &mut I,
+) -> Result<(Vec<String>, String), ReadFault<'a>>
+    ensures given { IfOk result (λ names.
+        GivesSources I.gives (call_view call.now) (call_view call.now).list (I.state inputs.old) (I.state inputs.new)
+        (Ok (record { before = map string_bytes names.0.items; last = string_bytes names.1 }))) }
+    ensures failed { IfErr result (λ fault. (unread : Unread) → unread_of fault ≡ Some unread
+        → GivesSources I.gives (call_view call.now) (call_view call.now).list (I.state inputs.old) (I.state inputs.new)
+        (Err unread)) }
+{
+    let Some(name) = call.list else {
+        return match own_sources(alloc, &call.with, call.file) {
+            Ok(names) => Ok(names),
+            Err(_) => Err(ReadFault::NoMemory),
+        };
+    };
+    let text = read_one(alloc, name, inputs)?;
+    match listed(alloc, name.as_bytes(), &text) {
+        Ok(Some(names)) => Ok(names),
+        Ok(None) => Err(ReadFault::Unread {
+            name,
+            problem: InputProblem::NoList,
+        }),
+        Err(_) => Err(ReadFault::NoMemory),
+    }
+}
+
+/// The same names, held.
+fn own_sources(
+    alloc: Global,
+    with: &[&str],
+    file: &str,
+) -> Result<(Vec<String>, String), AllocError>
+    ensures before { IfOk result (λ names. map string_bytes names.0.items ≡ map (λ name. name.now) with.now) }
+    ensures last { IfOk result (λ names. string_bytes names.1 ≡ file.now) }
+{
+    let mut before = Vec::with_capacity(alloc, with.len())?;
+    for name in with {
+        before.push(String::from_str(alloc, name)?)?;
+    }
+    Ok((before, String::from_str(alloc, file)?))
+}
+
 /// Reads the files that a call names: those before the source, the source, the stimulus, and that
 /// of what is expected. The first that isn't read is told.
 pub(crate) fn read_texts<'a, I: Inputs>(
     alloc: Global,
-    call: &Call<'a>,
+    call: &'a Call<'_>,
+    before: &'a [String],
+    file: &'a str,
     inputs: &mut I,
 ) -> Result<Texts<'a>, ReadFault<'a>>
-    ensures given { IfOk result (λ texts.
-        GivesTexts I.gives (call_view call.now) (I.state inputs.old) (I.state inputs.new) (Ok (texts_view texts))) }
+    ensures given { IfOk result (λ texts. GivesFiles I.gives (call_view call.now)
+        (record { before = map string_bytes before.now; last = file.now })
+        (I.state inputs.old) (I.state inputs.new) (Ok (texts_view texts))) }
     ensures failed { IfErr result (λ fault. (unread : Unread) → unread_of fault ≡ Some unread
-        → GivesTexts I.gives (call_view call.now) (I.state inputs.old) (I.state inputs.new) (Err unread)) }
+        → GivesFiles I.gives (call_view call.now)
+        (record { before = map string_bytes before.now; last = file.now })
+        (I.state inputs.old) (I.state inputs.new) (Err unread)) }
 {
-    let before = read_files(alloc, &call.with, inputs)?;
-    let main = read_main(alloc, call.file, call.stimulus, inputs)?;
+    let before = read_files(alloc, before, inputs)?;
+    let main = read_main(alloc, file, call.stimulus, inputs)?;
     let expected = read_maybe(alloc, call.expected, inputs)?;
     Ok(Texts {
         before,
-        file: call.file,
+        file,
         main,
         expected,
     })
@@ -127,20 +180,23 @@ fn read_one<'a, I: Inputs>(
 /// Reads the files of these names, in order.
 fn read_files<'a, I: Inputs>(
     alloc: Global,
-    names: &[&'a str],
+    names: &'a [String],
     inputs: &mut I,
 ) -> Result<Vec<ReadFile<'a>>, ReadFault<'a>>
     ensures given { IfOk result (λ files.
-        GivesAll I.gives (map (λ name. name.now) names.now) (I.state inputs.old) (I.state inputs.new)
+        GivesAll I.gives (map string_bytes names.now) (I.state inputs.old) (I.state inputs.new)
         (Ok (map read_view files.items))) }
     ensures failed { IfErr result (λ fault. (unread : Unread) → unread_of fault ≡ Some unread
-        → GivesAll I.gives (map (λ name. name.now) names.now) (I.state inputs.old) (I.state inputs.new) (Err unread)) }
+        → GivesAll I.gives (map string_bytes names.now) (I.state inputs.old) (I.state inputs.new) (Err unread)) }
 {
     let mut files = Vec::new(alloc);
     let mut left = names;
     while let [name, others @ ..] = left {
-        let text = read_one(alloc, name, inputs)?;
-        files.push(ReadFile { name, text })?;
+        let text = read_one(alloc, name.as_str(), inputs)?;
+        files.push(ReadFile {
+            name: name.as_str(),
+            text,
+        })?;
         left = others;
     }
     Ok(files)

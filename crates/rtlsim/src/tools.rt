@@ -12,7 +12,7 @@ use crate::first_line::serve_reader_line;
 use crate::inputs::{Inputs, Standard};
 use crate::performing::perform_texts;
 use crate::refusals::{refuse_input, refuse_words};
-use crate::texts::read_texts;
+use crate::texts::{read_sources, read_texts};
 use byte_streams::{Reader, Sink};
 use rtlsim_command_line::{Call, parse_words};
 use rtlsim_commands::{Front, Status};
@@ -66,11 +66,11 @@ pub fn tool_with<F: Front, I: Inputs, O: Sink, E: Sink, G: Sink>(
     }
 }
 
-/// Does what is asked for: reads the files before the source, the source, the stimulus and what is
-/// expected by `inputs`, and then does what the command does with the joined source: writes the
-/// result to `out`, what is told of it to `err`, and how far a run is to `progress`, and answers
-/// the status. The first input that isn't read is told. It takes memory for the files, once more
-/// for the source where it is that of several, and as the command does.
+/// Does what is asked for: reads the list if there is one, the files before the source, the source,
+/// the stimulus and what is expected by `inputs`, and then does what the command does with the
+/// joined source: writes the result to `out`, what is told of it to `err`, and how far a run is to
+/// `progress`, and answers the status. The first input that isn't read is told. It takes memory for
+/// the files, once more for the source where it is that of several, and as the command does.
 pub fn perform<F: Front, I: Inputs, O: Sink, E: Sink, G: Sink>(
     alloc: Global,
     call: &Call<'_>,
@@ -84,7 +84,11 @@ pub fn perform<F: Front, I: Inputs, O: Sink, E: Sink, G: Sink>(
         (sinks (O.state out.old) (O.state out.new) (E.state err.old) (E.state err.new)
         (G.state progress.old) (G.state progress.new)) }
 {
-    match read_texts(alloc, call, inputs) {
+    let (before, file) = match read_sources(alloc, call, inputs) {
+        Ok(names) => names,
+        Err(fault) => return refuse_input(fault, call.explains, out, err),
+    };
+    match read_texts(alloc, call, &before, file.as_str(), inputs) {
         Ok(texts) => perform_texts::<F, _, _, _>(alloc, call, &texts, out, err, progress),
         Err(fault) => refuse_input(fault, call.explains, out, err),
     }

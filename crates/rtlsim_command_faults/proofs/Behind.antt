@@ -4,7 +4,7 @@ use Rattle.std.proofs.lemmas.Bool.Decides.{nat_tests}
 use Rattle.std.specs.Global.{Vec}
 use Rattle.std.specs.Prelude.{IsErrAnd, is_ok}
 use Rattle.rtlsim_refusals.specs.Explained.{Told}
-use Rattle.rtlsim_command_faults.specs.Further.{Asked, Found, Further, NamesBehind, Reads, Tells, before, ended, name_told}
+use Rattle.rtlsim_command_faults.specs.Further.{Sought, Found, Further, NamesBehind, Reads, Tells, before, ended, name_told}
 use Rattle.rtlsim_command_faults.specs.Behind as behind
 use Rattle.rtlsim_command_faults.specs.Next.{Adds, Finds}
 use Rattle.rtlsim_command_faults.specs.declared.faults.Fault.{Fault}
@@ -19,7 +19,7 @@ use Rattle.vhdl_names_further.specs.Known.{is_known}
 use Rattle.vhdl_names_further.specs.Taken.{past}
 use Rattle.vhdl_names_rules.specs.declared.fault.NameFault.{NameFault}
 use Rattle.vhdl_parser.specs.declared.fault.SyntaxFault.{SyntaxFault}
-use Rattle.vhdl_front_rules.specs.declared.fault.SourceFault.TheVariants.{Name}
+use Rattle.vhdl_front_rules.specs.Asking.{Asked}
 
 -- ---- counts
 
@@ -31,21 +31,21 @@ less n = omega arith
 
 -- ---- what is left is read
 
-module _ (top : List ℕ) (So : List ℕ → NameFault → Type 0) where
-  reads_fault : (p : Option (List ℕ)) (found : Found) (next : Vec ℕ) (other : NameFault) → Finds top p (n.Found next other) → So next.items other → Reads top So p found
+module _ (asked : Asked) (So : List ℕ → NameFault → Type 0) where
+  reads_fault : (p : Option (List ℕ)) (found : Found) (next : Vec ℕ) (other : NameFault) → Finds asked p (n.Found next other) → So next.items other → Reads asked So p found
   reads_fault None found next other finds so = absurd finds
   reads_fault (Some left) found next other finds so = inr (inr (other, finds.1, rw (← finds.0) so))
 
-  reads_nothing : (p : Option (List ℕ)) → Finds top p n.Nothing → Reads top So p (ended end.Whole)
+  reads_nothing : (p : Option (List ℕ)) → Finds asked p n.Nothing → Reads asked So p (ended end.Whole)
   reads_nothing None finds = refl
   reads_nothing (Some left) finds = inr (inl (finds, refl))
 
-  reads_no_memory : (p : Option (List ℕ)) → Finds top p n.NoMemory → Reads top So p (ended end.NoMemory)
+  reads_no_memory : (p : Option (List ℕ)) → Finds asked p n.NoMemory → Reads asked So p (ended end.NoMemory)
   reads_no_memory None finds = absurd finds
   reads_no_memory (Some left) finds = inl refl
 
   -- memory to tell of the fault is refused
-  reads_untold : (p : Option (List ℕ)) (next : Vec ℕ) (other : NameFault) → Finds top p (n.Found next other) → Reads top So p (ended end.NoMemory)
+  reads_untold : (p : Option (List ℕ)) (next : Vec ℕ) (other : NameFault) → Finds asked p (n.Found next other) → Reads asked So p (ended end.NoMemory)
   reads_untold None next other finds = absurd finds
   reads_untold (Some left) next other finds = inl refl
 
@@ -75,82 +75,82 @@ adds_none So told e so = record { found = ended e; is = so; grown = sym (append-
 pub adds_so : (So Then : Found → Type 0) (old new : List Told) (e : End) → ((found : Found) → So found → Then found) → Adds So old new e → Adds Then old new e
 adds_so So Then old new e go adds = record { found = adds.found; is = go adds.found adds.is; grown = adds.grown; ends = adds.ends }
 
-module _ (a : Asked) (more : ℕ) (left : List ℕ) (fault : NameFault) (told : List Told) where
+module _ (a : Sought) (more : ℕ) (left : List ℕ) (fault : NameFault) (told : List Told) where
   -- no more readings
   pub behind_last : (steps : ℕ) → (steps == 0) ≡ true → Adds (Further a steps more left fault) told told end.More
   behind_last zero none = adds_none (Further a zero more left fault) told end.More refl
   behind_last (suc steps) none = absurd (true≢false (sym none ∙ suc_some steps))
 
-  pub behind_nothing : (steps : ℕ) → (steps == 0) ≡ false → Finds a.top (past a.source a.tokens left fault) n.Nothing → Adds (Further a steps more left fault) told told end.Whole
+  pub behind_nothing : (steps : ℕ) → (steps == 0) ≡ false → Finds a.asked (past a.asked.source a.tokens left fault) n.Nothing → Adds (Further a steps more left fault) told told end.Whole
   behind_nothing zero some finds = absurd (true≢false some)
-  behind_nothing (suc steps) some finds = adds_none (Further a (suc steps) more left fault) told end.Whole (reads_nothing a.top _ (past a.source a.tokens left fault) finds)
+  behind_nothing (suc steps) some finds = adds_none (Further a (suc steps) more left fault) told end.Whole (reads_nothing a.asked _ (past a.asked.source a.tokens left fault) finds)
 
-  pub behind_no_memory : (steps : ℕ) → (steps == 0) ≡ false → Finds a.top (past a.source a.tokens left fault) n.NoMemory → Adds (Further a steps more left fault) told told end.NoMemory
+  pub behind_no_memory : (steps : ℕ) → (steps == 0) ≡ false → Finds a.asked (past a.asked.source a.tokens left fault) n.NoMemory → Adds (Further a steps more left fault) told told end.NoMemory
   behind_no_memory zero some finds = absurd (true≢false some)
   behind_no_memory (suc steps) some finds =
-      adds_none (Further a (suc steps) more left fault) told end.NoMemory (reads_no_memory a.top _ (past a.source a.tokens left fault) finds)
+      adds_none (Further a (suc steps) more left fault) told end.NoMemory (reads_no_memory a.asked _ (past a.asked.source a.tokens left fault) finds)
 
-module _ (a : Asked) (more : ℕ) (left : List ℕ) (next : Vec ℕ) (fault other : NameFault) (old new : List Told) (e : End) where
+module _ (a : Sought) (more : ℕ) (left : List ℕ) (next : Vec ℕ) (fault other : NameFault) (old new : List Told) (e : End) where
   -- a fault whose cause is told already
-  pub behind_known : (steps : ℕ) → (steps == 0) ≡ false → Finds a.top (past a.source a.tokens left fault) (n.Found next other) → is_known a.source a.tokens next.items other ≡ true
+  pub behind_known : (steps : ℕ) → (steps == 0) ≡ false → Finds a.asked (past a.asked.source a.tokens left fault) (n.Found next other) → is_known a.asked.source a.tokens next.items other ≡ true
       → Adds (Further a (steps - 1) more next.items other) old new e → Adds (Further a steps more left fault) old new e
   behind_known zero some finds known adds = absurd (true≢false some)
   behind_known (suc steps) some finds known adds =
       adds_so (Further a (suc steps - 1) more next.items other) (Further a (suc steps) more left fault) old new e
       (λ found is.
-      reads_fault a.top _ (past a.source a.tokens left fault) found next other finds
+      reads_fault a.asked _ (past a.asked.source a.tokens left fault) found next other finds
       (tells_known more (name_told a other) _ _ found known (subst (λ (k : ℕ). Further a k more next.items other found) (less steps) is)))
       adds
 
   -- one is told, and then the others
-  pub behind_one : (steps : ℕ) (between : List Told) → (steps == 0) ≡ false → Finds a.top (past a.source a.tokens left fault) (n.Found next other)
-      → is_known a.source a.tokens next.items other ≡ false → (more == 0) ≡ false → between ≡ old ++ name_told a other
+  pub behind_one : (steps : ℕ) (between : List Told) → (steps == 0) ≡ false → Finds a.asked (past a.asked.source a.tokens left fault) (n.Found next other)
+      → is_known a.asked.source a.tokens next.items other ≡ false → (more == 0) ≡ false → between ≡ old ++ name_told a other
       → Adds (Further a (steps - 1) (more - 1) next.items other) between new e → Adds (Further a steps more left fault) old new e
   behind_one zero between some finds known enough grown adds = absurd (true≢false some)
   behind_one (suc steps) between some finds known enough grown adds = record {
     found = before (name_told a other) adds.found;
-    is = reads_fault a.top _ (past a.source a.tokens left fault) _ next other finds
+    is = reads_fault a.asked _ (past a.asked.source a.tokens left fault) _ next other finds
         (tells_one _ more (name_told a other) _ adds.found known enough (subst (λ (k : ℕ). Further a k (more - 1) next.items other adds.found) (less steps) adds.is));
     grown = adds.grown ∙ ap (λ (told : List Told). told ++ adds.found.told) grown ∙ append_assoc old (name_told a other) adds.found.told;
     ends = adds.ends;
   }
 
-module _ (a : Asked) (more : ℕ) (left : List ℕ) (next : Vec ℕ) (fault other : NameFault) (told : List Told) where
+module _ (a : Sought) (more : ℕ) (left : List ℕ) (next : Vec ℕ) (fault other : NameFault) (told : List Told) where
   -- no more faults are told
-  pub behind_full : (steps : ℕ) → (steps == 0) ≡ false → Finds a.top (past a.source a.tokens left fault) (n.Found next other) → is_known a.source a.tokens next.items other ≡ false
+  pub behind_full : (steps : ℕ) → (steps == 0) ≡ false → Finds a.asked (past a.asked.source a.tokens left fault) (n.Found next other) → is_known a.asked.source a.tokens next.items other ≡ false
       → (more == 0) ≡ true → Adds (Further a steps more left fault) told told end.More
   behind_full zero some finds known none = absurd (true≢false some)
   behind_full (suc steps) some finds known none =
       adds_none (Further a (suc steps) more left fault) told end.More
-      (reads_fault a.top _ (past a.source a.tokens left fault) _ next other finds (tells_last _ more (name_told a other) _ known none))
+      (reads_fault a.asked _ (past a.asked.source a.tokens left fault) _ next other finds (tells_last _ more (name_told a other) _ known none))
 
   -- memory to tell one is refused
-  pub behind_untold : (steps : ℕ) → (steps == 0) ≡ false → Finds a.top (past a.source a.tokens left fault) (n.Found next other) → Adds (Further a steps more left fault) told told end.NoMemory
+  pub behind_untold : (steps : ℕ) → (steps == 0) ≡ false → Finds a.asked (past a.asked.source a.tokens left fault) (n.Found next other) → Adds (Further a steps more left fault) told told end.NoMemory
   behind_untold zero some finds = absurd (true≢false some)
   behind_untold (suc steps) some finds =
-      adds_none (Further a (suc steps) more left fault) told end.NoMemory (reads_untold a.top _ (past a.source a.tokens left fault) next other finds)
+      adds_none (Further a (suc steps) more left fault) told end.NoMemory (reads_untold a.asked _ (past a.asked.source a.tokens left fault) next other finds)
 
 -- ---- behind the first fault of a source
 
-pub names_all : (files : List FileView) (source top : List ℕ) (first : NameFault) (tokens : List Token) (left : List ℕ) (old new : List Told) (e : End)
-    → Cuts None 0 source tokens → left ≡ source
-    → Adds (Further (record { files = files; source = source; tokens = tokens; top = top }) 100 19 left first) old new e
-    → Adds (NamesBehind files source top first) old new e
-names_all files source top first tokens left old new e cuts same adds =
-    adds_so _ (NamesBehind files source top first) old new e
+pub names_all : (files : List FileView) (asked : Asked) (first : NameFault) (tokens : List Token) (left : List ℕ) (old new : List Told) (e : End)
+    → Cuts None 0 asked.source tokens → left ≡ asked.source
+    → Adds (Further (record { files = files; asked = asked; tokens = tokens }) 100 19 left first) old new e
+    → Adds (NamesBehind files asked first) old new e
+names_all files asked first tokens left old new e cuts same adds =
+    adds_so _ (NamesBehind files asked first) old new e
     (λ found is.
-    inl (tokens, cuts, subst (λ (l : List ℕ). Further (record { files = files; source = source; tokens = tokens; top = top }) 100 19 l first found) same is))
+    inl (tokens, cuts, subst (λ (l : List ℕ). Further (record { files = files; asked = asked; tokens = tokens }) 100 19 l first found) same is))
     adds
 
-pub names_none : (files : List FileView) (source top : List ℕ) (first : NameFault) (told : List Told) → Adds (NamesBehind files source top first) told told end.NoMemory
-names_none files source top first told = adds_none (NamesBehind files source top first) told end.NoMemory (inr refl)
+pub names_none : (files : List FileView) (asked : Asked) (first : NameFault) (told : List Told) → Adds (NamesBehind files asked first) told told end.NoMemory
+names_none files asked first told = adds_none (NamesBehind files asked first) told end.NoMemory (inr refl)
 
-pub others_none : (files : List FileView) (source top : List ℕ) (first : Fault) (told : List Told) → ((x : SyntaxFault) → first ≡ f.Syntax x → ⊥)
+pub others_none : (files : List FileView) (asked : Asked) (first : Fault) (told : List Told) → ((x : SyntaxFault) → first ≡ f.Syntax x → ⊥)
     → ((x : NameFault) → first ≡ f.Name x → ⊥)
-    → Adds (behind.Behind files source top first) told told end.Whole
-others_none files source top first told no_syntax no_name = adds_none (behind.Behind files source top first) told end.Whole (alone first no_syntax no_name)
+    → Adds (behind.Behind files asked first) told told end.Whole
+others_none files asked first told no_syntax no_name = adds_none (behind.Behind files asked first) told end.Whole (alone first no_syntax no_name)
   where
-    alone : (fault : Fault) → ((x : SyntaxFault) → fault ≡ f.Syntax x → ⊥) → ((x : NameFault) → fault ≡ f.Name x → ⊥) → behind.Behind files source top fault (ended end.Whole)
+    alone : (fault : Fault) → ((x : SyntaxFault) → fault ≡ f.Syntax x → ⊥) → ((x : NameFault) → fault ≡ f.Name x → ⊥) → behind.Behind files asked fault (ended end.Whole)
     alone (f.Syntax x) no_syntax no_name = absurd (no_syntax x refl)
     alone (f.Name x) no_syntax no_name = absurd (no_name x refl)
     alone _ no_syntax no_name = refl

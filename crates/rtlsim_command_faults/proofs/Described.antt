@@ -12,12 +12,13 @@ use Rattle.vhdl_names_rules.specs.declared.fault.NameFault.{NameFault}
 use Rattle.vhdl_parser.specs.declared.fault.SyntaxFault.{SyntaxFault}
 use Rattle.vhdl_front_rules.specs.declared.fault.SourceFault.{SourceFault}
 use Rattle.vhdl_front_rules.specs.declared.fault.SourceFault.TheVariants as source
+use Rattle.vhdl_front_rules.specs.Asking.{Asked}
 
 -- of want of memory there is none
-pub described : (files : List FileView) (text top : List ℕ) (fault : SourceFault) (object : List ℕ) (old new : SinkState) → IsObject files text top (of_source fault) object
-    → Goes old new object → Describes files text top fault old new
-described files text top source.NoMemory object old new is goes = let none : Some is.1.first ≡ None = is.1.is in absurd (cc)
-described files text top _ object old new is goes = (object, is, goes)
+pub described : (files : List FileView) (asked : Asked) (fault : SourceFault) (object : List ℕ) (old new : SinkState) → IsObject files asked (of_source fault) object
+    → Goes old new object → Describes files asked fault old new
+described files asked source.NoMemory object old new is goes = let none : Some is.1.first ≡ None = is.1.is in absurd (cc)
+described files asked _ object old new is goes = (object, is, goes)
 
 -- of a fault that is no source's nothing is told
 pub first_none : (files : List FileView) (text : List ℕ) (fault : Fault) → ((x : LexFault) → fault ≡ f.Lex x → ⊥) → ((x : SyntaxFault) → fault ≡ f.Syntax x → ⊥)

@@ -1,6 +1,6 @@
 -- Faults of a source.
 use Rattle.std.proofs.Common.{◌≡◌, ℕ, false, refl}
-use Rattle.rtlsim_command_faults.specs.Faults.{of_source, has_names}
+use Rattle.rtlsim_command_faults.specs.Faults.{of_source, is_of_names}
 use Rattle.rtlsim_command_faults.specs.Places.{IsTold}
 use Rattle.vhdl_front_rules.specs.Faults.{LiesIn}
 use Rattle.vhdl_front_rules.specs.declared.fault.SourceFault.{SourceFault}
@@ -11,7 +11,7 @@ pub source_told : (size : ℕ) (fault : SourceFault) → LiesIn size fault → I
 source_told size source.NoMemory h = tt
 source_told size _ h = h
 
--- a source's fault has no names in its line
-pub nameless : (fault : SourceFault) → has_names (of_source fault) ≡ false
+-- they aren't told by a netlist
+pub nameless : (fault : SourceFault) → is_of_names (of_source fault) ≡ false
 nameless source.NoMemory = refl
 nameless _ = refl

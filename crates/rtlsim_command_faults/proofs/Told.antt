@@ -2,7 +2,9 @@
 use Rattle.std.proofs.Common.{◌≡◌, ℕ, Bool, true, false, List, [], ◌++◌, Option, Some, None, inl, inr, refl, ap, sym, ◌∙◌, subst, append-nil, true≢false}
 use Rattle.std.specs.Prelude.{if◌then◌else◌}
 use Rattle.rtl_net.specs.Nets.{NetlistView}
+use Rattle.fault_rules.specs.declared.expecting.ExpectRule.TheVariants as expecting
 use Rattle.fault_rules.specs.declared.report.Report.{Report}
+use Rattle.rtl_expect.specs.declared.faults.ExpectFault.TheVariants as expect
 use Rattle.byte_streams.proofs.Writing.{Goes-append}
 use Rattle.rtl_stim_lines.specs.declared.faults.StimFault.{StimFault}
 use Rattle.rtl_stim_lines.specs.declared.faults.StimFault.TheVariants as stim
@@ -58,8 +60,10 @@ explains_none telling (f.Name x) old new names lex syntax name elab time goes = 
 explains_none telling (f.Elab x) old new names lex syntax name elab time goes = absurd (elab x refl)
 explains_none telling (f.NoSettling t) old new names lex syntax name elab time goes = absurd (time t refl)
 explains_none telling (f.Rejected x) old new names lex syntax name elab time goes = absurd (true≢false names)
+explains_none telling (f.Expect (expect.InLine expecting.NotASignal line)) old new names lex syntax name elab time goes = absurd (true≢false names)
 explains_none telling (f.Stim x) old new names lex syntax name elab time goes = absurd (true≢false names)
 explains_none telling (f.Differs x) old new names lex syntax name elab time goes = absurd (true≢false names)
+explains_none telling (f.Untraced x) old new names lex syntax name elab time goes = absurd (true≢false names)
 explains_none telling fault old new names lex syntax name elab time goes = explains_plain telling fault true old new refl refl (λ net. goes)
 
 -- ---- a race takes memory for its names, and an input that is set twice for the words of lines
@@ -68,10 +72,10 @@ abbrev pub report_takes : Option Report → Bool
 report_takes None = false
 report_takes (Some report) = refusing.takes_memory report
 
-pub fault_takes : (fault : StimFault) → report_takes (stim_report fault) ≡ true → takes_memory (f.Stim fault) ≡ true
-fault_takes (stim.Race time input clock) takes = refl
-fault_takes (stim.InLine its_rule line) takes = takes
-fault_takes _ takes = absurd (true≢false (sym takes))
+pub fault_takes : (explains : Bool) (fault : StimFault) → report_takes (stim_report fault) ≡ true → takes_memory explains (f.Stim fault) ≡ true
+fault_takes explains (stim.Race time input clock) takes = refl
+fault_takes explains (stim.InLine its_rule line) takes = takes
+fault_takes explains _ takes = absurd (true≢false (sym takes))
 
 -- a fault of a stimulus without names
 pub nameless_stim : (files : List FileView) (net : NetlistView) (fault : StimFault) → has_names (f.Stim fault) ≡ false
@@ -138,6 +142,6 @@ module _ (telling : Telling) (net : NetlistView) (fault : Fault) (old between ne
     is,
   )
 
-  pub named_part : takes_memory fault ≡ true → TakesBeginning old between (told telling unread net fault) → Goes between new memory_line → outcome ≡ status.Memory
+  pub named_part : takes_memory telling.explains fault ≡ true → TakesBeginning old between (told telling unread net fault) → Goes between new memory_line → outcome ≡ status.Memory
       → TellsFault telling net fault old new outcome
   named_part takes part memory is = inr (inl (record { takes = takes; between = between; part = part; memory = memory }), is)

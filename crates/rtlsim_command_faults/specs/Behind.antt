@@ -11,13 +11,14 @@ use Rattle.rtlsim_command_faults.specs.declared.search.End.{End}
 use Rattle.rtlsim_command_faults.specs.declared.search.End.TheVariants as end
 use Rattle.rtlsim_command_faults.specs.declared.telling.Telling.{Telling}
 use Rattle.vhdl_source_files.specs.Files.{FileView}
+use Rattle.vhdl_front_rules.specs.Asking.{Asked}
 use Rattle.vhdl_parser.specs.Fault.{fault_byte}
 
 -- behind a first fault; of other layers there is one alone
-abbrev pub Behind : List FileView → (source top : List ℕ) → (first : Fault) → Found → Type 0
-Behind files source top (f.Syntax first) found = GrammarBehind files source (fault_byte first) found
-Behind files source top (f.Name first) found = NamesBehind files source top first found
-Behind files source top first found = found ≡ ended end.Whole
+abbrev pub Behind : List FileView → Asked → (first : Fault) → Found → Type 0
+Behind files asked (f.Syntax first) found = GrammarBehind files asked.source (fault_byte first) found
+Behind files asked (f.Name first) found = NamesBehind files asked first found
+Behind files asked first found = found ≡ ended end.Whole
 
 -- others are looked for behind it
 abbrev pub has_others : Fault → Bool
@@ -39,7 +40,7 @@ abbrev pub found_text : Found → List ℕ
 found_text found = flat_map paragraph found.told ++ end_text found.end
 
 -- the faults behind the first are told
-pub record TellsFurther (telling : Telling) (source top : List ℕ) (first : Fault) (old new : SinkState) : Type 0 where
+pub record TellsFurther (telling : Telling) (asked : Asked) (first : Fault) (old new : SinkState) : Type 0 where
   pub found : Found
-  pub is : Behind (files_of telling) source top first found
+  pub is : Behind (files_of telling) asked first found
   pub goes : Goes old new (found_text found)

@@ -1,9 +1,10 @@
 -- What a layer's fault is to the caller of a command, and the status that it ends with.
 use Rattle.std.specs.Prelude.{Bool, true, false}
 use Rattle.rtlsim_command_faults.specs.declared.faults.Fault.{Fault}
-use Rattle.rtlsim_command_faults.specs.declared.faults.Fault.TheVariants.{Lex, Syntax, Name, Elab, Rejected, Stim, Expect, Differs, NoSettling, Memory, Output}
+use Rattle.rtlsim_command_faults.specs.declared.faults.Fault.TheVariants.{Lex, Syntax, Name, Elab, Rejected, Stim, Expect, Differs, Untraced, NoSettling, Memory, Output}
 use Rattle.rtlsim_command_faults.specs.declared.status.Status.{Status}
 use Rattle.rtlsim_command_faults.specs.declared.status.Status.TheVariants as status
+use Rattle.fault_rules.specs.declared.expecting.ExpectRule.TheVariants as expecting
 use Rattle.fault_rules.specs.declared.report.Rule.TheVariants as rule
 use Rattle.rtl_expect.specs.declared.faults.ExpectFault.{ExpectFault}
 use Rattle.rtl_expect.specs.declared.faults.ExpectFault.TheVariants as expect
@@ -61,27 +62,34 @@ status_of (Stim stim.NoMemory) = status.Memory
 status_of (Stim fault) = status.Stimulus
 status_of (Expect expect.NoMemory) = status.Memory
 status_of (Expect fault) = status.Stimulus
-status_of (Differs difference) = status.Differs
+status_of (Differs differences) = status.Differs
+status_of (Untraced place) = status.Stimulus
 status_of (NoSettling time) = status.Unsettled
 status_of Memory = status.Memory
 status_of Output = status.Failed
 
--- one of the checker, of a stimulus or of a value, whose lines may name signals, nets or processes
+-- one of the checker, of a stimulus, of a value, or of a name that no signal has, which is told by the netlist: what is
+-- told of it may name signals, nets or processes
 abbrev pub is_of_names : Fault → Bool
 is_of_names (Rejected faults) = true
 is_of_names (Stim fault) = true
-is_of_names (Differs difference) = true
+is_of_names (Expect (expect.InLine expecting.NotASignal line)) = true
+is_of_names (Differs differences) = true
+is_of_names (Untraced place) = true
 is_of_names _ = false
 
 -- the lines of a fault name signals, nets or processes
 abbrev pub has_names : Fault → Bool
 has_names (Rejected faults) = true
 has_names (Stim (stim.Race time input clock)) = true
-has_names (Differs difference) = true
+has_names (Differs differences) = true
 has_names _ = false
 
--- these names take memory, and so do the words of lines, to find the first of two that can't both stand
-abbrev pub takes_memory : Fault → Bool
-takes_memory (Differs difference) = false
-takes_memory (Stim (stim.InLine its_rule line)) = is_of_two (rule.Stim its_rule)
-takes_memory fault = has_names fault
+-- These names take memory, but for those of a value, and so do the words of lines, to find the first of two that can't
+-- both stand. A name that no signal has takes memory to explain it alone.
+abbrev pub takes_memory : (explains : Bool) → Fault → Bool
+takes_memory explains (Expect (expect.InLine expecting.NotASignal line)) = explains
+takes_memory explains (Differs differences) = false
+takes_memory explains (Untraced place) = explains
+takes_memory explains (Stim (stim.InLine its_rule line)) = is_of_two (rule.Stim its_rule)
+takes_memory explains fault = has_names fault

@@ -11,6 +11,7 @@ use Rattle.rtlsim_refusals.specs.Explained.{Told, told_of_source}
 use Rattle.vhdl_slips.specs.Words.{Read, with_tokens}
 use Rattle.vhdl_source_files.specs.Files.{FileView}
 use Rattle.vhdl_expected.specs.Told.{Expected, nothing}
+use Rattle.vhdl_front_rules.specs.Asking.{Asked, of_text}
 use Rattle.vhdl_lexer.specs.Cut.{Cuts}
 use Rattle.vhdl_lexer.specs.declared.token.Token.{Token}
 use Rattle.vhdl_names_further.specs.Known.{is_known}
@@ -26,11 +27,10 @@ abbrev pub most_steps : ℕ
 most_steps = 100
 
 -- what faults are looked for in
-pub record Asked : Type 0 where
+pub record Sought : Type 0 where
   pub files : List FileView
-  pub source : List ℕ
+  pub asked : Asked
   pub tokens : List Token
-  pub top : List ℕ
 
 -- what is told of a report, if there is one
 abbrev pub told_by : (tell : Report → Option Told) → Option Report → Option Told
@@ -41,8 +41,8 @@ abbrev pub told_of : List FileView → Read → Expected → Option Report → O
 told_of files read expected report = told_by (told_of_source files read expected) report
 
 -- what is told of a fault of names
-abbrev pub name_told : Asked → NameFault → List Told
-name_told a fault = option_to_list (told_of a.files (with_tokens a.source a.tokens) nothing (name_report fault))
+abbrev pub name_told : Sought → NameFault → List Told
+name_told a fault = option_to_list (told_of a.files (with_tokens a.asked.source a.tokens) nothing (name_report fault))
 
 -- what is told of the faults that are found, in order, and how the search for them ends
 pub record Found : Type 0 where
@@ -65,18 +65,18 @@ IsOther (Name fault) = ⊥
 IsOther NoMemory = ⊥
 IsOther fault = Unit {0}
 
--- the text has a netlist, or another layer refuses it
-abbrev pub HasNames : (text top : List ℕ) → Type 0
-HasNames text top =
-    ((net : NetlistView) × IsNetOf text top net) ⊎ ((fault : SourceFault) × IsOther fault × Refuses text top fault)
+-- the source has a netlist, or another layer refuses it
+abbrev pub HasNames : Asked → Type 0
+HasNames asked =
+    ((net : NetlistView) × IsNetOf asked net) ⊎ ((fault : SourceFault) × IsOther fault × Refuses asked fault)
 
 -- What is left is read: memory is refused; or its names are in order; or they have a fault, and this is so of it.
-abbrev pub Reads : (top : List ℕ) → (So : (left : List ℕ) → NameFault → Type 0) → Option (List ℕ) → Found → Type 0
-Reads top So None found = found ≡ ended end.Whole
-Reads top So (Some left) found =
+abbrev pub Reads : Asked → (So : (left : List ℕ) → NameFault → Type 0) → Option (List ℕ) → Found → Type 0
+Reads asked So None found = found ≡ ended end.Whole
+Reads asked So (Some left) found =
     (found ≡ ended end.NoMemory)
-    ⊎ ((HasNames left top × (found ≡ ended end.Whole))
-    ⊎ ((fault : NameFault) × Refuses left top (Name fault) × So left fault))
+    ⊎ ((HasNames (of_text asked left) × (found ≡ ended end.Whole))
+    ⊎ ((fault : NameFault) × Refuses (of_text asked left) (Name fault) × So left fault))
 
 -- A fault whose cause is told already isn't told. Else it is, where so many may be told still, and then the others are.
 abbrev pub Tells : (known : Bool) → (more : ℕ) → (told : List Told)
@@ -86,19 +86,19 @@ Tells false zero told So found = found ≡ ended end.More
 Tells false (suc more) told So found = (others : Found) × (found ≡ before told others) × So more others
 
 -- what is found behind a fault of what is left of the source, in so many readings and of so many faults at most
-abbrev pub Further : Asked → (steps more : ℕ) → (left : List ℕ) → NameFault → Found → Type 0
+abbrev pub Further : Sought → (steps more : ℕ) → (left : List ℕ) → NameFault → Found → Type 0
 Further a zero more left fault found = found ≡ ended end.More
 Further a (suc steps) more left fault found =
-    Reads a.top
-    (λ next other. Tells (is_known a.source a.tokens next other) more
+    Reads a.asked
+    (λ next other. Tells (is_known a.asked.source a.tokens next other) more
     (name_told a other) (λ fewer others. Further a steps fewer next other others) found)
-    (past a.source a.tokens left fault) found
+    (past a.asked.source a.tokens left fault) found
 
 -- ---- of a source
 
 -- behind a first fault of names or types; memory for the tokens may be refused
-abbrev pub NamesBehind : List FileView → (source top : List ℕ) → (first : NameFault) → Found → Type 0
-NamesBehind files source top first found =
-    ((tokens : List Token) × Cuts None 0 source tokens
-    × Further (record { files = files; source = source; tokens = tokens; top = top }) most_steps 19 source first found)
+abbrev pub NamesBehind : List FileView → Asked → (first : NameFault) → Found → Type 0
+NamesBehind files asked first found =
+    ((tokens : List Token) × Cuts None 0 asked.source tokens
+    × Further (record { files = files; asked = asked; tokens = tokens }) most_steps 19 asked.source first found)
     ⊎ (found ≡ ended end.NoMemory)

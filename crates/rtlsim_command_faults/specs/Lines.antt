@@ -7,11 +7,11 @@ use Rattle.fault_rules.specs.declared.report.Report.{Report}
 use Rattle.fault_rules.specs.declared.report.Rule.{Rule}
 use Rattle.fault_rules.specs.declared.report.Rule.TheVariants as rules
 use Rattle.fault_rules.specs.declared.stimuli.StimRule.TheVariants as stimuli
-use Rattle.rtlsim_command_faults.specs.Reports.{lex_report, syntax_report, name_report, elab_report, stim_report, expect_report, settle_report}
+use Rattle.rtlsim_command_faults.specs.Reports.{lex_report, syntax_report, name_report, elab_report, stim_report, expect_report, untraced_report, settle_report}
 use Rattle.rtlsim_command_faults.specs.declared.faults.Fault.{Fault}
-use Rattle.rtlsim_command_faults.specs.declared.faults.Fault.TheVariants.{Lex, Syntax, Name, Elab, Rejected, Stim, Expect, Differs, NoSettling, Memory, Output}
-use Rattle.rtl_expect.specs.Telling.{difference_line}
-use Rattle.rtl_expect.specs.Watching.{difference_view}
+use Rattle.rtlsim_command_faults.specs.declared.faults.Fault.TheVariants.{Lex, Syntax, Name, Elab, Rejected, Stim, Expect, Differs, Untraced, NoSettling, Memory, Output}
+use Rattle.rtl_expect.specs.Telling.{first_line}
+use Rattle.rtl_expect.specs.Watching.{told_view}
 use Rattle.rtlsim_listing.specs.CheckText.{rejection_text}
 use Rattle.rtl_net.specs.Names.{net_name}
 use Rattle.rtl_net.specs.Nets.{NetlistView}
@@ -35,11 +35,14 @@ place_text files (Line line) = codes " line " ++ decimal line
 place_text files (Time time) = codes " " ++ decimal time
 place_text files _ = []
 
+-- "LAYER NUMBER NAME"
+abbrev pub rule_words : Rule → List ℕ
+rule_words rule =
+    (words_of rule).layer.now ++ codes " " ++ decimal (words_of rule).number ++ codes " " ++ (words_of rule).name.now
+
 -- "rtlsim: LAYER NUMBER NAME"
 abbrev pub rule_text : Rule → List ℕ
-rule_text rule =
-    codes "rtlsim: " ++ (words_of rule).layer.now ++ codes " "
-    ++ decimal (words_of rule).number ++ codes " " ++ (words_of rule).name.now
+rule_text rule = codes "rtlsim: " ++ rule_words rule
 
 -- the rule, and where it is broken
 abbrev pub report_text : List FileView → Report → List ℕ
@@ -78,7 +81,8 @@ fault_lines files net (Elab fault) = told_line files (elab_report fault)
 fault_lines files net (Rejected faults) = rejection_text net faults.items
 fault_lines files net (Stim fault) = stim_line files net fault
 fault_lines files net (Expect fault) = told_line files (expect_report fault)
-fault_lines files net (Differs difference) = difference_line net (difference_view difference)
+fault_lines files net (Differs differences) = first_line net (told_view differences)
+fault_lines files net (Untraced place) = told_line files (Some (untraced_report place))
 fault_lines files net (NoSettling time) = told_line files (Some (settle_report time))
 fault_lines files net Memory = memory_line
 fault_lines files net Output = output_line

@@ -19,6 +19,7 @@ use Rattle.vhdl_lexer.specs.Cut.{Cuts}
 use Rattle.vhdl_lexer.specs.declared.token.Token.{Token}
 use Rattle.vhdl_front_rules.specs.declared.fault.SourceFault.{SourceFault}
 use Rattle.vhdl_front_rules.specs.declared.fault.SourceFault.TheVariants as refused
+use Rattle.vhdl_front_rules.specs.Asking.{Asked}
 
 -- this is told of a report on a source that has tokens
 abbrev pub TellsRead : List FileView → (source : List ℕ) → Option Report → Option Told → Type 0
@@ -36,21 +37,21 @@ TellsFirst files source (Elab fault) told = TellsRead files source (elab_report 
 TellsFirst files source fault told = told ≡ None
 
 -- this is told of the first fault and of those behind it, for which memory sufficed
-pub record AreTold (files : List FileView) (source top : List ℕ) (fault : Fault) (told : List Told) : Type 0 where
+pub record AreTold (files : List FileView) (asked : Asked) (fault : Fault) (told : List Told) : Type 0 where
   pub first : Told
-  pub is : TellsFirst files source fault (Some first)
+  pub is : TellsFirst files asked.source fault (Some first)
   pub found : Found
-  pub behind : Behind files source top fault found
+  pub behind : Behind files asked fault found
   pub whole : found.end ≢ end.NoMemory
   pub are : told ≡ first ∷ found.told
 
 -- the object of all of them
-abbrev pub IsObject : List FileView → (source top : List ℕ) → Fault → (text : List ℕ) → Type 0
-IsObject files source top fault text =
-    (told : List Told) × AreTold files source top fault told × (text ≡ refused_text told)
+abbrev pub IsObject : List FileView → Asked → Fault → (text : List ℕ) → Type 0
+IsObject files asked fault text =
+    (told : List Told) × AreTold files asked fault told × (text ≡ refused_text told)
 
 -- it is written; of want of memory nothing is
-abbrev pub Describes : List FileView → (source top : List ℕ) → SourceFault → (old new : SinkState) → Type 0
-Describes files source top refused.NoMemory old new = new ≡ old
-Describes files source top fault old new =
-    (text : List ℕ) × IsObject files source top (of_source fault) text × Goes old new text
+abbrev pub Describes : List FileView → Asked → SourceFault → (old new : SinkState) → Type 0
+Describes files asked refused.NoMemory old new = new ≡ old
+Describes files asked fault old new =
+    (text : List ℕ) × IsObject files asked (of_source fault) text × Goes old new text

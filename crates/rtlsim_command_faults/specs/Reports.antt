@@ -10,7 +10,7 @@ use Rattle.fault_rules.specs.declared.report.Rule.{Rule}
 use Rattle.fault_rules.specs.declared.report.Rule.TheVariants as rule
 use Rattle.fault_rules.specs.declared.report.Subject.{Subject}
 use Rattle.fault_rules.specs.declared.report.Subject.TheVariants.{Lengths, Nothing, Race, Word}
-use Rattle.fault_rules.specs.declared.settling.RunRule.TheVariants.{NoSettling}
+use Rattle.fault_rules.specs.declared.settling.RunRule.TheVariants.{NoSettling, NotTraced}
 use Rattle.fault_rules.specs.declared.stimuli.StimRule.TheVariants as stimuli
 use Rattle.rtl_stim_lines.specs.declared.faults.StimFault.{StimFault}
 use Rattle.rtl_stim_lines.specs.declared.faults.StimFault.TheVariants as stim
@@ -74,6 +74,10 @@ abbrev pub expect_report : ExpectFault → Option Report
 expect_report (expect.InLine its_rule line) =
     Some (record { rule = rule.Expect its_rule; place = Line line; subject = Nothing })
 expect_report expect.NoMemory = None
+
+-- the name at this place, from 1, that chooses nothing to be traced
+abbrev pub untraced_report : (place : ℕ) → Report
+untraced_report place = record { rule = rule.Run NotTraced; place = Line place; subject = Nothing }
 
 -- a moment that doesn't settle
 abbrev pub settle_report : (time : ℕ) → Report

@@ -40,7 +40,7 @@ pub record TellsWhole (telling : Telling) (net : NetlistView) (fault : Fault) (o
 
 -- Where memory for its names, or to explain it, is refused, a beginning of what is told goes out, and then the refusal.
 pub record TellsInPart (telling : Telling) (net : NetlistView) (fault : Fault) (old new : SinkState) : Type 0 where
-  pub takes : takes_memory fault ≡ true
+  pub takes : takes_memory telling.explains fault ≡ true
   pub between : SinkState
   pub part : TakesBeginning old between (told telling unread net fault)
   pub memory : Goes between new memory_line

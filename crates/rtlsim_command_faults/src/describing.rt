@@ -6,6 +6,7 @@ ghost use Rattle.rtlsim_command_faults.specs.Further.{told_by};
 ghost use Rattle.rtlsim_command_faults.specs.Refusal as spec;
 ghost use Rattle.vhdl_source_files.specs.Files.{file_view};
 ghost use Rattle.rtlsim_findings_text.specs.Refusals.{refused_text};
+ghost use Rattle.vhdl_front_rules.specs.Asking.{asked_view};
 
 use crate::expecting::expected_by;
 use crate::faults::Fault;
@@ -16,7 +17,7 @@ use fault_rules::Report;
 use rtlsim_findings_text::refused_text;
 use rtlsim_refusals::{Lexed, Told, told_refusal};
 use std::alloc::{AllocError, Global};
-use vhdl_front_rules::{Front, SourceFault};
+use vhdl_front_rules::{Asked, Front, SourceFault};
 use vhdl_lexer::lex;
 use vhdl_source_files::SourceFile;
 
@@ -26,16 +27,15 @@ use vhdl_source_files::SourceFile;
 pub fn describe_refusal<F: Front, S: Sink>(
     alloc: Global,
     files: &[SourceFile<'_>],
-    source: &[u8],
-    top: &[u8],
+    asked: Asked<'_>,
     fault: SourceFault,
     out: &mut S,
 ) -> SourceFault
     ensures fault { (result ≡ fault) ⊎ (result ≡ SourceFault.NoMemory) }
-    ensures described { spec.Describes (map file_view files.now) source.now top.now result (S.state out.old)
+    ensures described { spec.Describes (map file_view files.now) (asked_view asked.entry) result (S.state out.old)
         (S.state out.new) }
 {
-    match object_of::<F>(alloc, files, source, top, &Fault::from(fault)) {
+    match object_of::<F>(alloc, files, asked, &Fault::from(fault)) {
         Ok(object) => {
             push_text(out, &object);
             fault
@@ -48,14 +48,13 @@ pub fn describe_refusal<F: Front, S: Sink>(
 fn object_of<F: Front>(
     alloc: Global,
     files: &[SourceFile<'_>],
-    source: &[u8],
-    top: &[u8],
+    asked: Asked<'_>,
     first: &Fault,
 ) -> Result<Vec<u8>, AllocError>
     ensures { IfOk result (λ object.
-        spec.IsObject (map file_view files.now) source.now top.now first.now object.items) }
+        spec.IsObject (map file_view files.now) (asked_view asked.entry) first.now object.items) }
 {
-    let told = told_of_all::<F>(alloc, files, source, top, first)?;
+    let told = told_of_all::<F>(alloc, files, asked, first)?;
     refused_text(alloc, &told)
 }
 
@@ -63,19 +62,18 @@ fn object_of<F: Front>(
 fn told_of_all<'f, F: Front>(
     alloc: Global,
     files: &[SourceFile<'f>],
-    source: &[u8],
-    top: &[u8],
+    asked: Asked<'_>,
     first: &Fault,
 ) -> Result<Vec<Told<'f>>, AllocError>
-    ensures { IfOk result (λ told. spec.AreTold (map file_view files.now) source.now top.now first.now
+    ensures { IfOk result (λ told. spec.AreTold (map file_view files.now) (asked_view asked.entry) first.now
         (map told_view told.items)) }
 {
-    let Some(one) = told_of_first(alloc, files, source, first)? else {
+    let Some(one) = told_of_first(alloc, files, asked.source, first)? else {
         return Err(AllocError);
     };
     let mut told = Vec::new(alloc);
     told.push(one)?;
-    match find_further::<F>(alloc, files, source, top, first, &mut told) {
+    match find_further::<F>(alloc, files, asked, first, &mut told) {
         End::NoMemory => Err(AllocError),
         _ => Ok(told),
     }

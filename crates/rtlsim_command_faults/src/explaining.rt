@@ -9,12 +9,14 @@ ghost use Rattle.vhdl_source_files.specs.Files.{file_view};
 ghost use Rattle.rtlsim_listing.specs.Printing.{Prints};
 ghost use Rattle.rtlsim_refusals.specs.Explained.{explained, told_view};
 
+use crate::comparing::{explain_differences, explain_unnamed, explain_untraced};
 use crate::describing::told_read;
 use crate::faults::Fault;
 use crate::reports::{elab_report, lex_report, name_report, stim_report, syntax_report};
 use crate::telling::{Site, Telling};
 use byte_streams::{Sink, push_text};
 use fault_rules::Report;
+use rtl_expect::ExpectFault;
 use rtl_net::NoMemory;
 use rtl_stim::StimFault;
 use rtlsim_findings_text::explain_rejection;
@@ -22,7 +24,7 @@ use rtlsim_refusals::{Told, explain_refusal, explain_stim, explain_unsettled, pu
 use std::alloc::Global;
 use vhdl_source_files::{SourceFile, joined, source_name};
 
-/// Explains a fault of the checker or of a stimulus, where that is asked for.
+/// Explains a fault that is told by the netlist, where that is asked for.
 pub(crate) fn explain_fault<S: Sink>(
     site: &Site<'_>,
     fault: &Fault,
@@ -32,7 +34,7 @@ pub(crate) fn explain_fault<S: Sink>(
     ensures printed { Prints result (S.state sink.old) (S.state sink.new)
         (if site.now.telling.now.explains
         then spec.explanation site.now.telling.now spec.unread site.now.net.now fault.now else []) }
-    ensures named { OnErr result (takes_memory fault.now ≡ true) }
+    ensures named { OnErr result (takes_memory site.now.telling.now.explains fault.now ≡ true) }
 {
     if site.telling.explains {
         explain_named(site, fault, sink)
@@ -41,12 +43,13 @@ pub(crate) fn explain_fault<S: Sink>(
     }
 }
 
-/// Explains a fault of the checker or of a stimulus.
+/// Explains a fault that is told by the netlist.
 fn explain_named<S: Sink>(site: &Site<'_>, fault: &Fault, sink: &mut S) -> Result<(), NoMemory>
     requires names { is_of_names fault.now ≡ true }
+    requires asked { site.now.telling.now.explains ≡ true }
     ensures printed { Prints result (S.state sink.old) (S.state sink.new)
         (spec.explanation site.now.telling.now spec.unread site.now.net.now fault.now) }
-    ensures named { OnErr result (takes_memory fault.now ≡ true) }
+    ensures named { OnErr result (takes_memory site.now.telling.now.explains fault.now ≡ true) }
 {
     match fault {
         Fault::Rejected(faults) => {
@@ -61,6 +64,12 @@ fn explain_named<S: Sink>(site: &Site<'_>, fault: &Fault, sink: &mut S) -> Resul
             )
         }
         Fault::Stim(stim) => explain_stimulus(site, *stim, sink),
+        Fault::Expect(ExpectFault::InLine { line, .. }) => explain_unnamed(site, *line, sink),
+        Fault::Differs(differences) => {
+            explain_differences(site, differences, sink);
+            Ok(())
+        }
+        Fault::Untraced { place } => explain_untraced(site, *place, sink),
         _ => Ok(()),
     }
 }
@@ -73,7 +82,7 @@ fn explain_stimulus<S: Sink>(
 ) -> Result<(), NoMemory>
     ensures printed { Prints result (S.state sink.old) (S.state sink.new)
         (spec.explanation site.now.telling.now spec.unread site.now.net.now (Fault.Stim fault)) }
-    ensures named { OnErr result (takes_memory (Fault.Stim fault) ≡ true) }
+    ensures named { OnErr result (takes_memory site.now.telling.now.explains (Fault.Stim fault) ≡ true) }
 {
     let Some(report) = stim_report(fault) else {
         return Ok(());

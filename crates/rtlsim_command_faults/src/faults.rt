@@ -7,7 +7,7 @@ ghost use Rattle.rtlsim_command_faults.specs.declared.faults.Fault.TheVariants.{
 use crate::status::Status;
 use fault_rules::{ExpectRule, RunRule};
 use rtl_check::CheckFault;
-use rtl_expect::{Difference, ExpectFault};
+use rtl_expect::{ExpectFault, FirstDifferences};
 use rtl_run::{MachineFault, RunFault};
 use rtl_stim::StimFault;
 use std::alloc::AllocError;
@@ -44,9 +44,12 @@ pub enum Fault {
     /// The expected values are refused.
     #[error(transparent)]
     Expect(ExpectFault),
-    /// The first value that isn't the expected one.
+    /// The first values that aren't the expected ones.
     #[error("{rule}", rule = ExpectRule::Differs.words())]
-    Differs(Difference),
+    Differs(FirstDifferences),
+    /// The name at this place, from 1, chooses nothing to be traced.
+    #[error("{rule}, name {place}", rule = RunRule::NotTraced.words())]
+    Untraced { place: usize },
     /// The simulation does not settle at this time, in ns.
     #[error("{rule}, at {time} ns", rule = RunRule::NoSettling.words())]
     NoSettling { time: u64 },
@@ -73,7 +76,7 @@ impl Fault {
             | Fault::Memory => Status::Memory,
             Fault::Lex(_) | Fault::Syntax(_) | Fault::Name(_) | Fault::Elab(_) => Status::Source,
             Fault::Rejected(_) => Status::Rejected,
-            Fault::Stim(_) | Fault::Expect(_) => Status::Stimulus,
+            Fault::Stim(_) | Fault::Expect(_) | Fault::Untraced { .. } => Status::Stimulus,
             Fault::Differs(_) => Status::Differs,
             Fault::NoSettling { .. } => Status::Unsettled,
             Fault::Output => Status::Failed,

@@ -4,6 +4,7 @@ ghost use Rattle.std.specs.Prelude.{flat_map, map};
 ghost use Rattle.byte_streams.specs.Written.{Goes};
 ghost use Rattle.rtlsim_refusals.specs.Explained.{paragraph, told_view};
 ghost use Rattle.rtlsim_command_faults.specs.Behind.{TellsFurther, end_text};
+ghost use Rattle.vhdl_front_rules.specs.Asking.{asked_view};
 
 use crate::faults::Fault;
 use crate::search::{End, find_further};
@@ -11,7 +12,7 @@ use crate::telling::Telling;
 use byte_streams::{Sink, push_text};
 use rtlsim_refusals::{Told, push_paragraph};
 use std::alloc::Global;
-use vhdl_front_rules::Front;
+use vhdl_front_rules::{Asked, Front};
 
 /// Tells the faults of a source behind its first, each by its explanation: 20 at most with the
 /// first, and then a line `and more`. Behind one of grammar each is the parser's refusal of the
@@ -23,15 +24,14 @@ use vhdl_front_rules::Front;
 pub fn push_further_faults<F: Front, S: Sink>(
     alloc: Global,
     telling: &Telling<'_>,
-    source: &[u8],
-    top: &[u8],
+    asked: Asked<'_>,
     first: &Fault,
     sink: &mut S,
 )
-    ensures { TellsFurther telling.now source.now top.now first.now (S.state sink.old) (S.state sink.new) }
+    ensures { TellsFurther telling.now (asked_view asked.entry) first.now (S.state sink.old) (S.state sink.new) }
 {
     let mut told = Vec::new(alloc);
-    let end = find_further::<F>(alloc, telling.files, source, top, first, &mut told);
+    let end = find_further::<F>(alloc, telling.files, asked, first, &mut told);
     push_paragraphs(&told, sink);
     push_end(end, sink);
 }

@@ -11,6 +11,7 @@
 #![tactic(auto)]
 
 mod changing;
+mod comparing;
 mod describing;
 mod expecting;
 mod explaining;

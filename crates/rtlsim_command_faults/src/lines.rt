@@ -7,7 +7,7 @@ ghost use Rattle.byte_streams.specs.Written.{Goes, IsIntact};
 ghost use Rattle.rtlsim_command_faults.specs.Faults.{has_names, takes_memory, of_source};
 ghost use Rattle.rtlsim_command_faults.specs.Explanations.{files_of, told, unread};
 ghost use Rattle.vhdl_source_files.specs.Files.{file_view, spot_view};
-ghost use Rattle.rtlsim_command_faults.specs.Lines.{byte_text, spot_text, place_text, rule_text, told_line, race_line, stim_line, fault_lines, memory_line};
+ghost use Rattle.rtlsim_command_faults.specs.Lines.{byte_text, spot_text, place_text, rule_text, rule_words, told_line, race_line, stim_line, fault_lines, memory_line};
 ghost use Rattle.rtlsim_command_faults.specs.Told.{TellsFault, summary_line, levels_line};
 ghost use Rattle.rtlsim_command_faults.specs.Faults as faults;
 
@@ -15,12 +15,13 @@ use crate::explaining::{explain_fault, explain_nameless};
 use crate::faults::Fault;
 use crate::reports::{
     elab_report, expect_report, lex_report, name_report, settle_report, stim_report, syntax_report,
+    untraced_report,
 };
 use crate::status::Status;
 use crate::telling::{Site, Telling};
 use byte_streams::{Sink, push_number, push_text};
-use fault_rules::{Place, Report, Rule, StimRule};
-use rtl_expect::push_difference;
+use fault_rules::{ExpectRule, Place, Report, Rule, StimRule};
+use rtl_expect::{ExpectFault, push_first};
 use rtl_net::{Net, NoMemory};
 use rtl_run::{LevelSummary, Summary};
 use rtl_stim::StimFault;
@@ -80,10 +81,11 @@ pub fn tell_source_fault<E: Sink>(
 fn is_of_names(fault: &Fault) -> bool
     ensures { result ≡ faults.is_of_names fault.now }
 {
-    matches!(
-        fault,
-        Fault::Rejected(_) | Fault::Stim(_) | Fault::Differs(_)
-    )
+    match fault {
+        Fault::Rejected(_) | Fault::Stim(_) | Fault::Differs(_) | Fault::Untraced { .. } => true,
+        Fault::Expect(ExpectFault::InLine { rule, .. }) => matches!(rule, ExpectRule::NotASignal),
+        _ => false,
+    }
 }
 
 /// Writes the line of any other fault, and its explanation where that is asked for, and answers the
@@ -146,7 +148,7 @@ fn push_told<S: Sink>(site: &Site<'_>, fault: &Fault, sink: &mut S) -> Result<()
     requires names { faults.is_of_names fault.now ≡ true }
     ensures printed { Prints result (S.state sink.old) (S.state sink.new)
         (told site.now.telling.now unread site.now.net.now fault.now) }
-    ensures named { OnErr result (takes_memory fault.now ≡ true) }
+    ensures named { OnErr result (takes_memory site.now.telling.now.explains fault.now ≡ true) }
 {
     push_fault(site, fault, sink)?;
     explain_fault(site, fault, sink)
@@ -156,13 +158,13 @@ fn push_told<S: Sink>(site: &Site<'_>, fault: &Fault, sink: &mut S) -> Result<()
 fn push_fault<S: Sink>(site: &Site<'_>, fault: &Fault, sink: &mut S) -> Result<(), NoMemory>
     ensures printed { Prints result (S.state sink.old) (S.state sink.new)
         (fault_lines (files_of site.now.telling.now) site.now.net.now fault.now) }
-    ensures named { OnErr result (takes_memory fault.now ≡ true) }
+    ensures named { OnErr result (takes_memory site.now.telling.now.explains fault.now ≡ true) }
 {
     match fault {
         Fault::Rejected(faults) => show_faults(site.alloc, site.net, faults, sink),
         Fault::Stim(stim) => push_stim(site, *stim, sink),
-        Fault::Differs(difference) => {
-            push_difference(site.net, difference, sink);
+        Fault::Differs(differences) => {
+            push_first(site.net, differences, sink);
             Ok(())
         }
         _ => {
@@ -176,7 +178,7 @@ fn push_fault<S: Sink>(site: &Site<'_>, fault: &Fault, sink: &mut S) -> Result<(
 fn push_stim<S: Sink>(site: &Site<'_>, stim: StimFault, sink: &mut S) -> Result<(), NoMemory>
     ensures printed { Prints result (S.state sink.old) (S.state sink.new)
         (stim_line (files_of site.now.telling.now) site.now.net.now stim) }
-    ensures named { OnErr result (takes_memory (Fault.Stim stim) ≡ true) }
+    ensures named { OnErr result (takes_memory site.now.telling.now.explains (Fault.Stim stim) ≡ true) }
 {
     match stim {
         StimFault::Race { time, input, clock } => push_race(site, time, input, clock, sink),
@@ -224,6 +226,7 @@ fn push_nameless<S: Sink>(files: &[SourceFile<'_>], fault: &Fault, sink: &mut S)
         Fault::Elab(elab) => push_reported(files, elab_report(*elab), sink),
         Fault::Stim(stim) => push_reported(files, stim_report(*stim), sink),
         Fault::Expect(expect) => push_reported(files, expect_report(*expect), sink),
+        Fault::Untraced { place } => push_reported(files, Some(untraced_report(*place)), sink),
         Fault::NoSettling { time } => push_reported(files, Some(settle_report(*time)), sink),
         Fault::Output => push_text(sink, b"rtlsim: output\n"),
         Fault::Memory | Fault::Rejected(_) | Fault::Differs(_) => push_memory(sink),
@@ -248,8 +251,15 @@ fn push_reported<S: Sink>(files: &[SourceFile<'_>], report: Option<Report>, sink
 fn push_rule<S: Sink>(rule: Rule, sink: &mut S)
     ensures { Goes (S.state sink.old) (S.state sink.new) (rule_text rule) }
 {
-    let words = rule.words();
     push_text(sink, b"rtlsim: ");
+    push_rule_words(rule, sink);
+}
+
+/// Writes the layer of a rule, its number and its name.
+pub(crate) fn push_rule_words<S: Sink>(rule: Rule, sink: &mut S)
+    ensures { Goes (S.state sink.old) (S.state sink.new) (rule_words rule) }
+{
+    let words = rule.words();
     push_text(sink, words.layer.as_bytes());
     push_text(sink, b" ");
     push_number(sink, u64::from(words.number));

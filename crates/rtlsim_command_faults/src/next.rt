@@ -4,9 +4,10 @@ ghost use Rattle.std.specs.Prelude.{None, Some};
 ghost use Rattle.rtlsim_command_faults.specs.Next.{Finds};
 ghost use Rattle.vhdl_lexer.specs.Cut.{Cuts};
 ghost use Rattle.vhdl_names_further.specs.Taken.{past};
+ghost use Rattle.vhdl_front_rules.specs.Asking.{asked_view};
 
 use std::alloc::Global;
-use vhdl_front_rules::{Front, SourceFault};
+use vhdl_front_rules::{Asked, Front, SourceFault};
 use vhdl_lexer::Token;
 use vhdl_names_further::take_out;
 use vhdl_names_rules::NameFault;
@@ -25,27 +26,30 @@ pub(crate) enum Next {
 /// Takes out what is at fault, and reads what is left of the source.
 pub(crate) fn next_fault<F: Front>(
     alloc: Global,
-    source: &[u8],
+    asked: Asked<'_>,
     tokens: &[Token],
-    top: &[u8],
     mut left: Vec<u8>,
     fault: NameFault,
 ) -> Next
-    requires { Cuts None 0 source.now tokens.now }
-    ensures { Finds top.now (past source.now tokens.now left.items fault) result }
+    requires { Cuts None 0 asked.source.now tokens.now }
+    ensures { Finds (asked_view asked.entry) (past (asked_view asked.entry).source tokens.now left.items fault) result }
 {
-    if take_out(source, tokens, fault, &mut left) {
-        read::<F>(alloc, top, left)
+    if take_out(asked.source, tokens, fault, &mut left) {
+        read::<F>(alloc, asked, left)
     } else {
         Next::Nothing
     }
 }
 
 /// Reads what is left of the source.
-fn read<F: Front>(alloc: Global, top: &[u8], left: Vec<u8>) -> Next
-    ensures { Finds top.now (Some left.items) result }
+fn read<F: Front>(alloc: Global, asked: Asked<'_>, left: Vec<u8>) -> Next
+    ensures { Finds (asked_view asked.entry) (Some left.items) result }
 {
-    match F::open(alloc, &left, top) {
+    let asked = Asked {
+        source: &left,
+        top: asked.top,
+    };
+    match F::open(alloc, asked) {
         Err(SourceFault::Name(fault)) => Next::Found { left, fault },
         Err(SourceFault::NoMemory) => Next::NoMemory,
         Ok(_) | Err(_) => Next::Nothing,

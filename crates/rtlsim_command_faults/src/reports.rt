@@ -122,6 +122,17 @@ pub(crate) fn expect_report(fault: ExpectFault) -> Option<Report>
     }
 }
 
+/// What a name reports that chooses nothing to be traced.
+pub(crate) fn untraced_report(place: usize) -> Report
+    ensures { result ≡ spec.untraced_report place }
+{
+    Report {
+        rule: Rule::Run(RunRule::NotTraced),
+        place: Place::Line(place),
+        subject: Subject::Nothing,
+    }
+}
+
 /// What a moment reports that doesn't settle.
 pub(crate) fn settle_report(time: u64) -> Report
     ensures { result ≡ spec.settle_report time }

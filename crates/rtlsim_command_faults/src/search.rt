@@ -5,10 +5,11 @@ ghost use Rattle.rtlsim_refusals.specs.Explained.{told_view};
 ghost use Rattle.vhdl_slips.specs.Words.{read_of};
 ghost use Rattle.rtlsim_command_faults.specs.Behind.{Behind};
 ghost use Rattle.rtlsim_command_faults.specs.Further as spec;
-ghost use Rattle.rtlsim_command_faults.specs.Next.{Adds, asked_of};
+ghost use Rattle.rtlsim_command_faults.specs.Next.{Adds, sought_of};
 ghost use Rattle.vhdl_source_files.specs.Files.{file_view};
 ghost use Rattle.vhdl_expected.specs.Told.{expected_of};
 ghost use Rattle.vhdl_lexer.specs.Cut.{Cuts};
+ghost use Rattle.vhdl_front_rules.specs.Asking.{asked_view};
 
 use crate::faults::Fault;
 use crate::next::{Next, next_fault};
@@ -18,7 +19,7 @@ use fault_rules::Report;
 use rtlsim_refusals::{Lexed, Told, told_source};
 use std::alloc::{AllocError, Global};
 use vhdl_expected::Expected;
-use vhdl_front_rules::Front;
+use vhdl_front_rules::{Asked, Front};
 use vhdl_lexer::{Token, lex};
 use vhdl_names_further::is_known;
 use vhdl_names_rules::NameFault;
@@ -45,9 +46,8 @@ pub(crate) enum End {
 #[derive(Clone, Copy)]
 pub(crate) struct Search<'s, 'f> {
     pub files: &'s [SourceFile<'f>],
-    pub source: &'s [u8],
+    pub asked: Asked<'s>,
     pub tokens: &'s [Token],
-    pub top: &'s [u8],
 }
 
 /// Finds the faults of a source behind its first, and appends what is told of them: behind one of
@@ -55,17 +55,16 @@ pub(crate) struct Search<'s, 'f> {
 pub(crate) fn find_further<'f, F: Front>(
     alloc: Global,
     files: &[SourceFile<'f>],
-    source: &[u8],
-    top: &[u8],
+    asked: Asked<'_>,
     first: &Fault,
     told: &mut Vec<Told<'f>>,
 ) -> End
-    ensures { Adds (Behind (map file_view files.now) source.now top.now first.now)
+    ensures { Adds (Behind (map file_view files.now) (asked_view asked.entry) first.now)
         (map told_view told.old.items) (map told_view told.new.items) result }
 {
     match first {
-        Fault::Syntax(first) => find_grammar(alloc, files, source, first.byte(), told),
-        Fault::Name(first) => find_names::<F>(alloc, files, source, top, *first, told),
+        Fault::Syntax(first) => find_grammar(alloc, files, asked.source, first.byte(), told),
+        Fault::Name(first) => find_names::<F>(alloc, files, asked, *first, told),
         _ => End::Whole,
     }
 }
@@ -74,25 +73,23 @@ pub(crate) fn find_further<'f, F: Front>(
 fn find_names<'f, F: Front>(
     alloc: Global,
     files: &[SourceFile<'f>],
-    source: &[u8],
-    top: &[u8],
+    asked: Asked<'_>,
     first: NameFault,
     told: &mut Vec<Told<'f>>,
 ) -> End
-    ensures { Adds (spec.NamesBehind (map file_view files.now) source.now top.now first)
+    ensures { Adds (spec.NamesBehind (map file_view files.now) (asked_view asked.entry) first)
         (map told_view told.old.items) (map told_view told.new.items) result }
 {
-    let Ok(tokens) = lex(alloc, source) else {
+    let Ok(tokens) = lex(alloc, asked.source) else {
         return End::NoMemory;
     };
-    let Ok(left) = Vec::from_slice(alloc, source) else {
+    let Ok(left) = Vec::from_slice(alloc, asked.source) else {
         return End::NoMemory;
     };
     let search = Search {
         files,
-        source,
+        asked,
         tokens: &tokens,
-        top,
     };
     find_behind::<F>(alloc, &search, left, first, MOST_STEPS, MOST_TOLD - 1, told)
 }
@@ -108,23 +105,23 @@ fn find_behind<'f, F: Front>(
     more: u32,
     told: &mut Vec<Told<'f>>,
 ) -> End
-    requires { Cuts None 0 search.now.source.now search.now.tokens.now }
-    ensures { Adds (spec.Further (asked_of search.now) steps more left.items fault)
+    requires { Cuts None 0 search.now.asked.source.now search.now.tokens.now }
+    ensures { Adds (spec.Further (sought_of search.now) steps more left.items fault)
         (map told_view told.old.items) (map told_view told.new.items) result }
 {
     if is_none(steps) {
         return End::More;
     }
-    match next_fault::<F>(alloc, search.source, search.tokens, search.top, left, fault) {
+    match next_fault::<F>(alloc, search.asked, search.tokens, left, fault) {
         Next::Found { left, fault } => {
-            if is_known(search.source, search.tokens, &left, fault) {
+            if is_known(search.asked.source, search.tokens, &left, fault) {
                 return find_behind::<F>(alloc, search, left, fault, steps - 1, more, told);
             }
             if is_none(more) {
                 return End::More;
             }
             let lexed = Lexed {
-                text: search.source,
+                text: search.asked.source,
                 tokens: search.tokens,
             };
             match push_report(

@@ -14,7 +14,8 @@ pub enum Status {
     Source,
     /// The checker says no.
     Rejected,
-    /// The stimulus is refused, or it has a race; or the expected values are refused.
+    /// The stimulus is refused, or it has a race; or the expected values, or a name to be traced,
+    /// are refused.
     Stimulus,
     /// The simulation does not settle.
     Unsettled,

@@ -17,6 +17,12 @@ pub struct Telling<'a> {
     pub stimulus: &'a [u8],
     /// Its text, if it has one.
     pub stimulus_text: Option<&'a [u8]>,
+    /// The name of the file of expected values; nothing without one.
+    pub expected: &'a [u8],
+    /// Its text, if there is one.
+    pub expected_text: Option<&'a [u8]>,
+    /// The names of signals that a trace is to show.
+    pub trace: &'a [&'a [u8]],
     /// Whether an explanation stands below the line of a fault.
     pub explains: bool,
 }

@@ -1,11 +1,13 @@
 -- Which words of the command line say which call: the command, and behind it its operands in their order, with its
 -- options anywhere between them. `PARTS` is the table of what each command takes.
-use Rattle.std.specs.Prelude.{◌≡◌, ℕ, Bool, true, false, not, ◌&&◌, ◌||◌, ◌==◌, if◌then◌else◌, List, [], ◌∷◌, ◌++◌, Option, Some, None, is_some, option_and_then, option_map, bytes_eq, codes, count_by, drop, map, take, length}
+use Rattle.std.specs.Prelude.{◌≡◌, ℕ, ◌+◌, Bool, true, false, not, ◌&&◌, ◌||◌, ◌==◌, if◌then◌else◌, List, [], ◌∷◌, ◌++◌, Option, Some, None, is_some, option_and_then, option_map, bytes_eq, codes, count_by, drop, map, take, length}
 use Rattle.std.specs.Borrow.{Bor}
 use Rattle.clap.specs.Lexer.{name_and_value}
+use Rattle.rtlsim_command_line.specs.Settings.{Setting, settings_from}
 use Rattle.rtlsim_command_line.specs.declared.call.Call.{Call}
 use Rattle.rtlsim_command_line.specs.declared.call.Order.{Order}
 use Rattle.rtlsim_command_line.specs.declared.call.Order.TheVariants.{Forward, Reverse}
+use Rattle.rtlsim_command_line.specs.declared.generics.Setting as code
 use Rattle.rtlsim_command_line.specs.declared.reading.Refused.{Refused}
 use Rattle.rtlsim_command_line.specs.declared.reading.Refused.TheVariants as refused
 use Rattle.rtlsim_command_line.specs.declared.call.Request.{Request}
@@ -13,7 +15,7 @@ use Rattle.rtlsim_command_line.specs.declared.call.Request.TheVariants.{Eval, Ne
 use Rattle.rtlsim_command_line.specs.declared.parsed.Parsed.{Parsed}
 use Rattle.rtlsim_command_line.specs.declared.parsed.Use.{Use}
 use Rattle.rtlsim_command_line.specs.declared.parts.Form.{Form}
-use Rattle.rtlsim_command_line.specs.declared.parts.Form.TheVariants.{Operand, Operands, Flag, Files}
+use Rattle.rtlsim_command_line.specs.declared.parts.Form.TheVariants.{Operand, Operands, Flag, Files, Names, Setting as SettingOption}
 use Rattle.rtlsim_command_line.specs.declared.parts.Part.{Part}
 use Rattle.rtlsim_command_line.specs.declared.parts.TheConstants.{PARTS}
 
@@ -97,7 +99,16 @@ is_valued (part ∷ parts) name = if bytes_eq part.name.now name then takes_valu
 -- whether an option may be given again
 abbrev pub repeats : Form → Bool
 repeats Files = true
+repeats Names = true
+repeats SettingOption = true
 repeats _ = false
+
+-- `-g` is short for the option of a generic: its value stands behind it
+abbrev pub short : Word
+short = codes "-g"
+
+abbrev pub short_value : Word → Option Word
+short_value word = if begins_with short word then Some (drop (length short) word) else None
 
 -- how reading goes on, after what is given
 abbrev pub Onward : Type 0
@@ -112,6 +123,11 @@ takes (Some false) name (Some value) given onward next = None
 takes (Some true) name (Some value) given onward next = onward (with_use given name value)
 takes (Some true) name None given onward next = next
 
+-- of a word that begins with `-` alone
+abbrev pub takes_short : (value : Option Word) → Givens → Onward → Option Givens
+takes_short None given onward = None
+takes_short (Some value) given onward = onward (with_use given (codes "generic") value)
+
 -- What is given once the words are read too, after what was given before. Behind `--` every word is an operand.
 module _ (parts : List Row) where
   abbrev mutual
@@ -123,7 +139,8 @@ module _ (parts : List Row) where
         takes (is_valued parts (name_of (behind_dashes word)))
         (name_of (behind_dashes word)) (own_value (behind_dashes word)) given
         (λ g. reads g words) (takes_next given (name_of (behind_dashes word)) words)
-        else (if is_option word then None else reads (with_operands given (word ∷ [])) words))
+        else (if is_option word then takes_short (short_value word) given (λ g. reads g words)
+        else reads (with_operands given (word ∷ [])) words))
 
     -- the first word is the value of the option of this name
     pub takes_next : Givens → (name : Word) → List Word → Option Givens
@@ -216,22 +233,23 @@ parted _ rest = none_parted rest
 abbrev pub standard_count : List Word → ℕ
 standard_count names = count_by (λ name. bytes_eq name (codes "@")) names
 
--- the files beside FILE and STIM
-abbrev pub files_beside : (with : List Word) → (expected : Option Word) → List Word
-files_beside with None = with
-files_beside with (Some name) = name ∷ with
+-- the same of a name that may be given
+abbrev pub standard_of : Option Word → ℕ
+standard_of None = 0
+standard_of (Some name) = if bytes_eq name (codes "@") then 1 else 0
 
--- one of those may stand in it, and then no other input
-abbrev pub is_read_once : (with : List Word) → (expected : Option Word) → (operands : List Word) → Bool
-is_read_once with expected operands =
-    let beside =
-    standard_count (files_beside with expected) in beside == 0 || (beside == 1 && standard_count operands == 0)
+-- one of the files beside FILE and STIM may be it, and then no other input
+abbrev pub is_read_once : (with : List Word) → (list expected : Option Word) → (operands : List Word) → Bool
+is_read_once with list expected operands =
+    let beside = standard_count with + standard_of list + standard_of expected in
+    beside == 0 || (beside == 1 && standard_count operands == 0)
 
 -- ---- calls
 
 pub record CallView : Type 0 where
   pub request : Request
   pub file : Word
+  pub list : Option Word
   pub top : Word
   pub sets : List Word
   pub stimulus : Option Word
@@ -239,12 +257,19 @@ pub record CallView : Type 0 where
   pub explains : Bool
   pub expected : Option Word
   pub shows_progress : Bool
+  pub generics : List Setting
+  pub traced : List Word
+  pub is_untraced : Bool
+
+abbrev pub setting_view : code.Setting → Setting
+setting_view s = record { name = s.name.now; value = s.value }
 
 abbrev pub call_view : Call → CallView
 call_view call =
     record {
       request = call.request;
       file = call.file.now;
+      list = option_map text_of call.list;
       top = call.top.now;
       sets = map text_of call.sets.items;
       stimulus = option_map text_of call.stimulus;
@@ -252,34 +277,53 @@ call_view call =
       explains = call.explains;
       expected = option_map text_of call.expected;
       shows_progress = call.shows_progress;
+      generics = map setting_view call.generics.items;
+      traced = map text_of call.traced.items;
+      is_untraced = call.is_untraced;
     }
 
--- the call of these, unless the standard input would be read twice
-abbrev pub call_of : Givens → (file top : Word) → Request → Parted → Option CallView
-call_of given file top request apart =
-    if is_read_once (values given.uses (codes "with")) (value given.uses (codes "expect")) given.operands then
+-- FILE, which is empty where a list stands for it, TOP, and the words behind them
+abbrev pub Named : Type 0
+Named = Word × Word × List Word
+
+abbrev pub named : (list : Option Word) → (operands : List Word) → Option Named
+named None (file ∷ top ∷ rest) = Some (file, top, rest)
+named (Some list) (top ∷ rest) = Some ([], top, rest)
+named _ _ = None
+
+-- the call of these, unless a generic is set wrongly or the standard input would be read twice
+abbrev pub call_of : Givens → Named → Request → Parted → Option CallView
+call_of given n request apart =
+    option_and_then (λ settings.
+    if is_read_once (values given.uses (codes "with")) (value given.uses (codes "files"))
+    (value given.uses (codes "expect")) given.operands then
     Some (record {
       request = request;
-      file = file;
-      top = top;
+      file = n.0;
+      list = value given.uses (codes "files");
+      top = n.1;
       sets = apart.0;
       stimulus = apart.1;
       with = values given.uses (codes "with");
       explains = has given.uses (codes "explain");
       expected = value given.uses (codes "expect");
       shows_progress = has given.uses (codes "progress");
+      generics = settings;
+      traced = values given.uses (codes "trace");
+      is_untraced = has given.uses (codes "no-trace");
     })
-    else None
+    else None)
+    (settings_from [] (values given.uses (codes "generic")))
 
-abbrev pub call_from : (command : Word) → Givens → (operands : List Word) → Option CallView
-call_from command given (file ∷ top ∷ rest) =
-    option_and_then (λ request. option_and_then (call_of given file top request) (parted request rest))
+abbrev pub call_from : (command : Word) → Givens → Named → Option CallView
+call_from command given n =
+    option_and_then (λ request. option_and_then (call_of given n request) (parted request n.2))
     (request_of command given.uses)
-call_from command given _ = None
 
 -- the call of a command, with what is given behind it
 abbrev pub call_with : (command : Word) → Givens → Option CallView
-call_with command given = call_from command given given.operands
+call_with command given =
+    option_and_then (call_from command given) (named (value given.uses (codes "files")) given.operands)
 
 -- the call that the words say, if they say one, by this table
 abbrev pub said_by : List Row → List Word → Option CallView
@@ -307,6 +351,9 @@ use_view used = (used.name.now, used.value.now)
 
 abbrev pub parsed_view : Parsed → Givens
 parsed_view parsed = record { uses = map use_view parsed.uses.items; operands = map text_of parsed.operands.items }
+
+abbrev pub named_view : Bor Word × Bor Word × Bor (List (Bor Word)) → Named
+named_view n = (n.0.now, n.1.now, map text_of n.2.now)
 
 abbrev pub parted_view : Bor (List (Bor Word)) × Option (Bor Word) → Parted
 parted_view apart = (map text_of apart.0.now, option_map text_of apart.1)

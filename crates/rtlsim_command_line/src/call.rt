@@ -1,5 +1,7 @@
 //! Calls.
 
+use crate::generics::Setting;
+
 /// In which order the resumed processes of a simulation cycle run.
 #[derive(Clone, Copy)]
 pub enum Order {
@@ -33,8 +35,10 @@ pub enum Request {
 #[derive(Drop)]
 pub struct Call<'a> {
     pub request: Request,
-    /// The name of the source.
+    /// The name of the source, which is empty where a list has it.
     pub file: &'a str,
+    /// The name of a list of the source's files, if one stands for the source.
+    pub list: Option<&'a str>,
     /// The name of the top.
     pub top: &'a str,
     /// The words that set inputs; none beside any request but `Eval`.
@@ -50,4 +54,11 @@ pub struct Call<'a> {
     pub expected: Option<&'a str>,
     /// Whether a run shows how far it is; `false` beside any other request.
     pub shows_progress: bool,
+    /// What is set of the top's generics, each once.
+    pub generics: Vec<Setting<'a>>,
+    /// The names of what the trace of a run shows; none where it shows all, and beside any other
+    /// request.
+    pub traced: Vec<&'a str>,
+    /// Whether a run writes no trace; `false` beside any other request.
+    pub is_untraced: bool,
 }

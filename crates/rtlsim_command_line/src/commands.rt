@@ -12,26 +12,34 @@ static COMMANDS: [Told; 4] = [
     (
         "eval",
         "Prints the outputs under these inputs",
-        "rtlsim eval [--with <FILE>]... [--explain] <FILE> <TOP> [NAME=VALUE]...",
+        "rtlsim eval [--with <FILE>]... [--explain] <FILE> <TOP> [NAME=VALUE]...
+       rtlsim eval --files <LIST> [OPTIONS] <TOP> [NAME=VALUE]...
+       and with each of them [--generic <NAME=VALUE>]...",
         "Example: rtlsim eval and2.vhd and2 a=L b=H",
     ),
     (
         "net",
         "Prints the nets and what drives each",
-        "rtlsim net [--with <FILE>]... [--explain] <FILE> <TOP>",
+        "rtlsim net [--with <FILE>]... [--explain] <FILE> <TOP>
+       rtlsim net --files <LIST> [OPTIONS] <TOP>
+       and with each of them [--generic <NAME=VALUE>]...",
         "Example: rtlsim net counter.vhd counter",
     ),
     (
         "check",
         "Says whether the design is sure to settle",
-        "rtlsim check [--dot | --json] [--with <FILE>]... [--explain] <FILE> <TOP>",
+        "rtlsim check [--dot | --json] [--with <FILE>]... [--explain] <FILE> <TOP>
+       rtlsim check --files <LIST> [OPTIONS] <TOP>
+       and with each of them [--generic <NAME=VALUE>]...",
         "Example: rtlsim check counter.vhd counter",
     ),
     (
         "run",
         "Prints the trace under a stimulus",
         "rtlsim run [--event] [--order <ORDER>] [--expect <FILE>] [--progress] [--with <FILE>]... [--explain] <FILE> <TOP> <STIM>
-       rtlsim run --levels [--expect <FILE>] [--progress] [--with <FILE>]... [--explain] <FILE> <TOP> <STIM>",
+       rtlsim run --levels [--expect <FILE>] [--progress] [--with <FILE>]... [--explain] <FILE> <TOP> <STIM>
+       rtlsim run --files <LIST> [OPTIONS] <TOP> <STIM>
+       and with each of them [--no-trace | [--trace <NAME>]...] [--generic <NAME=VALUE>]...",
         "Example: rtlsim run counter.vhd counter counter.stim",
     ),
 ];
@@ -41,7 +49,7 @@ static ORDERS: [&str; 2] = ["forward", "reverse"];
 
 /// What stands below the help of all commands.
 static EXAMPLES: &str =
-    "A FILE or STIM may be @, the standard input. Files of --with stand before the source's, in order.
+    "A FILE, LIST or STIM may be @, the standard input. Files of --with stand before the source's, in order.
 
 Examples:
   rtlsim eval and2.vhd and2 a=L b=H
@@ -49,16 +57,19 @@ Examples:
   rtlsim check counter.vhd counter
   rtlsim check --dot counter.vhd counter
   rtlsim check --explain --with alu.vhd --with fetch.vhd cpu.vhd cpu
+  rtlsim check --files rtlsim.files cpu
+  rtlsim check --generic bits=8 adder.vhd adder
   rtlsim run counter.vhd counter counter.stim
   rtlsim run --levels counter.vhd counter counter.stim
+  rtlsim run --trace count counter.vhd counter counter.stim
   rtlsim run --expect counter.expect counter.vhd counter counter.stim
   rtlsim run --event --order reverse counter.vhd counter counter.stim";
 
-/// The commands.
-pub(crate) fn command<'a>(alloc: Global) -> Result<Command<'a>, AllocError> {
+/// The commands; without FILE where a list is given.
+pub(crate) fn command<'a>(alloc: Global, is_listed: bool) -> Result<Command<'a>, AllocError> {
     let mut commands = Vec::new(alloc);
     for told in &COMMANDS {
-        commands.push(told_command(alloc, told)?)?;
+        commands.push(told_command(alloc, told, is_listed)?)?;
     }
     Command::new(alloc, "rtlsim")
         .version("0.1.0")
@@ -70,11 +81,16 @@ pub(crate) fn command<'a>(alloc: Global) -> Result<Command<'a>, AllocError> {
 }
 
 /// A command.
-fn told_command<'a>(alloc: Global, told: &Told) -> Result<Command<'a>, AllocError> {
+fn told_command<'a>(
+    alloc: Global,
+    told: &Told,
+    is_listed: bool,
+) -> Result<Command<'a>, AllocError> {
     let (name, about, usage, example) = *told;
     let mut args = Vec::new(alloc);
     for part in &PARTS {
-        if part.command.is_empty() || part.command == name {
+        let is_there = !(is_listed && part.name == "FILE");
+        if is_there && (part.command.is_empty() || part.command == name) {
             args.push(told_part(alloc, part)?)?;
         }
     }
@@ -105,6 +121,16 @@ fn formed<'a>(arg: Arg<'a>, part: &Part<&'static str>) -> Arg<'a> {
             .long(part.name)
             .value_name("FILE")
             .action(ArgAction::Append),
+        Form::List => arg.long(part.name).value_name("LIST"),
+        Form::Names => arg
+            .long(part.name)
+            .value_name("NAME")
+            .action(ArgAction::Append),
         Form::Order => arg.long(part.name).value_parser(ORDERS.as_slice()),
+        Form::Setting => arg
+            .long(part.name)
+            .short('g')
+            .value_name("NAME=VALUE")
+            .action(ArgAction::Append),
     }
 }

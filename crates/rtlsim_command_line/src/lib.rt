@@ -7,9 +7,11 @@
 
 mod call;
 mod commands;
+mod generics;
 mod parsed;
 mod parts;
 mod reading;
 
 pub use call::{Call, Order, Request};
+pub use generics::Setting;
 pub use reading::{Refused, parse_words};

@@ -69,7 +69,11 @@ impl<'a> Parsed<'a> {
             return self.take_option(parts, text, others);
         }
         if is_option(word) {
-            return Ok(None);
+            let Some(value) = short_value(word) else {
+                return Ok(None);
+            };
+            self.add("generic", value)?;
+            return Ok(Some(0));
         }
         self.operands.push(word)?;
         Ok(Some(0))
@@ -187,8 +191,15 @@ fn is_option(word: &str) -> bool
     }
 }
 
+/// What stands behind `-g`, where a word begins with that.
+fn short_value(word: &str) -> Option<&str>
+    ensures { option_map text_of result ≡ words.short_value word.now }
+{
+    word.strip_prefix("-g")
+}
+
 /// The name of an option, and the value in its word.
-fn cut_option(text: &str) -> (&str, Option<&str>)
+pub(crate) fn cut_option(text: &str) -> (&str, Option<&str>)
     ensures { (result.0.now, option_map text_of result.1) ≡ name_and_value text.now }
 {
     match text.split_once('=') {

@@ -18,8 +18,14 @@ pub enum Form {
     File,
     /// The same, any number of times.
     Files,
+    /// An option that names a list of files.
+    List,
+    /// An option that names a signal or an instance, any number of times.
+    Names,
     /// An option that names an order.
     Order,
+    /// An option that sets a generic, any number of times.
+    Setting,
 }
 
 /// An operand or an option.
@@ -49,10 +55,12 @@ macro_rules! part {
 }
 
 /// What each command takes, in the order of the help.
-pub const PARTS: [Part<&str>; 13] = [
+pub const PARTS: [Part<&str>; 17] = [
     part! { "" Operand "FILE": "The source, or @ for the standard input" },
     part! { "" Operand "TOP": "The entity at the top" },
     part! { "" Files "with": "A file whose text stands before the source's; any number" },
+    part! { "" List "files" without "with": "A list of the source's files, in place of FILE: a name a line" },
+    part! { "" Setting "generic": "An integer for a generic of the top, also as -gNAME=VALUE; any number" },
     part! { "" Flag "explain": "Explains each fault: its place, the line, and what to do" },
     part! { "eval" Operands "NAME=VALUE": "An input's value, of the characters U X 0 1 Z W L H -" },
     part! { "check" Flag "dot": "Draws the levels of one that is, as a graph of Graphviz" },
@@ -61,6 +69,8 @@ pub const PARTS: [Part<&str>; 13] = [
     part! { "run" Flag "event" without "levels": "Simulates by events alone, without the checker" },
     part! { "run" Order "order" without "levels": "The order in which resumed processes run" },
     part! { "run" Flag "levels": "Runs each process once a moment, in order of level" },
+    part! { "run" Names "trace": "Shows this signal, or all below this instance; any number" },
+    part! { "run" Flag "no-trace" without "trace": "Writes no trace" },
     part! { "run" File "expect": "Compares with the values that FILE expects" },
     part! { "run" Flag "progress": "Shows how far the run is" },
 ];
@@ -73,7 +83,7 @@ impl Form {
         match self {
             Form::Operand | Form::Operands => None,
             Form::Flag => Some(false),
-            Form::File | Form::Files | Form::Order => Some(true),
+            _ => Some(true),
         }
     }
 
@@ -82,7 +92,7 @@ impl Form {
         ensures { result ≡ words.repeats self }
     {
         match self {
-            Form::Files => true,
+            Form::Files | Form::Names | Form::Setting => true,
             _ => false,
         }
     }

@@ -9,6 +9,7 @@ ghost use Rattle.clap.specs.declared.error.kind.ErrorKind.TheVariants.{OutOfMemo
 
 use crate::call::{Call, Order, Request};
 use crate::commands::command;
+use crate::generics::settings_of;
 use crate::parsed::{Parsed, read_words};
 use crate::parts::{Part, table};
 use clap::Error;
@@ -32,12 +33,31 @@ impl From<AllocError> for Refused {
     }
 }
 
-/// What is told of words that clap has nothing against.
+/// What is told of a generic that clap has nothing against.
+static BAD_GENERIC: &str =
+    "error: a generic is set as --generic NAME=VALUE or -gNAME=VALUE, once, VALUE an integer of at most 2147483647 or, with a minus, \
+    of no less than -2147483647
+
+For more information, try '--help'.
+";
+
+/// What is told of other words that clap has nothing against.
 static READ_TWICE: &str =
     "error: the standard input, @, is named twice: where a file of --with or --expect is @, no other FILE or STIM may be
 
 For more information, try '--help'.
 ";
+
+/// The same where a list is given.
+static LIST_READ_TWICE: &str =
+    "error: the standard input, @, is named twice: where the list of --files or the file of --expect is @, no STIM may be
+
+For more information, try '--help'.
+";
+
+/// What helps where `--with` is given and an operand is one too many.
+static ONE_FILE: &str =
+    "\n\n  tip: --with takes one file, and stands before each: --with a.vhd --with b.vhd; --files LIST names any number";
 
 /// Reads the words after the program's name. It takes memory in proportion to their number.
 ///
@@ -85,7 +105,8 @@ fn call_with<'a>(
 ) -> Result<Option<Call<'a>>, AllocError>
     ensures { IfOk result (λ call. option_map call_view call ≡ words.call_with command.now (parsed_view given.now)) }
 {
-    let [file, top, rest @ ..] = given.operands.as_slice() else {
+    let list = given.value("files");
+    let Some((file, top, rest)) = named(list, &given.operands) else {
         return Ok(None);
     };
     let Some(request) = request_of(command, given) else {
@@ -94,13 +115,17 @@ fn call_with<'a>(
     let Some((sets, stimulus)) = parted(request, rest) else {
         return Ok(None);
     };
+    let Some(generics) = settings_of(alloc, &given.values(alloc, "generic")?)? else {
+        return Ok(None);
+    };
     let (with, expected) = (given.values(alloc, "with")?, given.value("expect"));
-    if !is_read_once(&with, expected, &given.operands) {
+    if !is_read_once(&with, list, expected, &given.operands) {
         return Ok(None);
     }
     Ok(Some(Call {
         request,
         file,
+        list,
         top,
         sets: sets.to_vec(alloc)?,
         stimulus,
@@ -108,7 +133,25 @@ fn call_with<'a>(
         explains: given.has("explain"),
         expected,
         shows_progress: given.has("progress"),
+        generics,
+        traced: given.values(alloc, "trace")?,
+        is_untraced: given.has("no-trace"),
     }))
+}
+
+/// FILE, which is empty where a list stands for it, TOP, and the words behind them.
+fn named<'r, 'a>(
+    list: Option<&str>,
+    operands: &'r [&'a str],
+) -> Option<(&'a str, &'a str, &'r [&'a str])>
+    ensures { option_map words.named_view result
+        ≡ words.named (option_map text_of list.entry) (map text_of operands.now) }
+{
+    match (list, operands) {
+        (None, [file, top, rest @ ..]) => Some((*file, *top, rest)),
+        (Some(_), [top, rest @ ..]) => Some(("", *top, rest)),
+        _ => None,
+    }
 }
 
 /// The request of a command with these options.
@@ -155,17 +198,28 @@ fn parted<'r, 'a>(request: Request, rest: &'r [&'a str]) -> Option<(&'r [&'a str
 
 /// Whether the standard input is read once at most: by one of the files beside the source and the
 /// stimulus, or by operands.
-fn is_read_once(with: &[&str], expected: Option<&str>, operands: &[&str]) -> bool
-    ensures { result
-        ≡ words.is_read_once (map text_of with.now) (option_map text_of expected.entry) (map text_of operands.now) }
+fn is_read_once(
+    with: &[&str],
+    list: Option<&str>,
+    expected: Option<&str>,
+    operands: &[&str],
+) -> bool
+    ensures { result ≡ words.is_read_once (map text_of with.now) (option_map text_of list.entry)
+        (option_map text_of expected.entry) (map text_of operands.now) }
 {
-    let named = standard_count(with);
-    let count = if expected == Some("@") {
-        1 + named
-    } else {
-        named
-    };
-    count == 0 || count == 1 && standard_count(operands) == 0
+    let beside = standard_count(with) + standard_of(list) + standard_of(expected);
+    beside == 0 || beside == 1 && standard_count(operands) == 0
+}
+
+/// One where this name is given and is the standard input's.
+fn standard_of(name: Option<&str>) -> usize
+    ensures count { result ≡ words.standard_of (option_map text_of name.entry) }
+    ensures within { result ≤ 1 }
+{
+    match name {
+        Some("@") => 1,
+        _ => 0,
+    }
 }
 
 /// How many of these names are the standard input's.
@@ -178,10 +232,63 @@ fn standard_count(names: &[&str]) -> usize
 
 /// What clap tells of words that say no request: a mistake, or the help that is asked for.
 fn refusal_text<'a>(alloc: Global, words: &'a [&'a str]) -> Result<String, AllocError> {
-    match command(alloc)?.try_get_matches_from(words) {
-        Ok(_) => String::from_str(alloc, READ_TWICE),
-        Err(error) => error_text(alloc, &error),
+    let is_listed = has_option(words, "--files");
+    match command(alloc, is_listed)?.try_get_matches_from(words) {
+        Ok(_) => String::from_str(alloc, unsaid(alloc, words, is_listed)?),
+        Err(error) => {
+            let is_unknown = error.kind() == ErrorKind::UnknownArgument;
+            let text = error_text(alloc, &error)?;
+            if is_unknown && has_option(words, "--with") {
+                return with_tip(alloc, text);
+            }
+            Ok(text)
+        }
     }
+}
+
+/// Whether an option stands among words.
+fn has_option(words: &[&str], name: &str) -> bool {
+    words.iter().any(|word| word.starts_with(name))
+}
+
+/// The text of an operand that is one too many, and below its first line what helps; another text
+/// stays.
+fn with_tip(alloc: Global, text: String) -> Result<String, AllocError> {
+    if text.starts_with("error: unexpected argument '-") {
+        return Ok(text);
+    }
+    let Some((fault, others)) = text.split_once("\n\n") else {
+        return Ok(text);
+    };
+    let mut told = String::from_str(alloc, fault)?;
+    told.push_str(ONE_FILE)?;
+    told.push_str("\n\n")?;
+    told.push_str(others)?;
+    Ok(told)
+}
+
+/// What is told of words that clap has nothing against.
+fn unsaid(alloc: Global, words: &[&str], is_listed: bool) -> Result<&'static str, AllocError> {
+    if !sets_generics(alloc, words)? {
+        return Ok(BAD_GENERIC);
+    }
+    Ok(if is_listed {
+        LIST_READ_TWICE
+    } else {
+        READ_TWICE
+    })
+}
+
+/// Whether each generic that words set is set rightly.
+fn sets_generics(alloc: Global, words: &[&str]) -> Result<bool, AllocError> {
+    let [_command, others @ ..] = words else {
+        return Ok(true);
+    };
+    let Some(given) = read_words(alloc, table(), others)? else {
+        return Ok(false);
+    };
+    let settings = settings_of(alloc, &given.values(alloc, "generic")?)?;
+    Ok(settings.is_some())
 }
 
 /// The text of an error of clap's, which is want of memory where clap had none.

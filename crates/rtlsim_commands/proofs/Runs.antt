@@ -8,7 +8,7 @@ use Rattle.rtl_run.specs.declared.fault.MachineFault.{MachineFault}
 use Rattle.rtl_run.specs.declared.fault.MachineFault.TheVariants as machine
 use Rattle.rtl_model.specs.simulation.Faults.{AreStored}
 use Rattle.rtl_net.specs.Core.{core}
-use Rattle.rtl_net.specs.Nets.{NetlistView}
+use Rattle.rtl_net.specs.Nets.{NetlistView, SignalView}
 use Rattle.rtl_run.specs.simulations.Answered.{Answers}
 use Rattle.rtl_run.specs.simulations.Watched.{WasTold}
 use Rattle.rtl_run.specs.declared.summary.RunFault.{RunFault}
@@ -23,7 +23,7 @@ use Rattle.rtlsim_command_faults.specs.Faults.{of_run, of_stim}
 use Rattle.rtlsim_command_faults.specs.declared.faults.Fault.{Fault}
 use Rattle.rtlsim_command_faults.specs.declared.faults.Fault.TheVariants.{Lex, Syntax, Name, Elab, Rejected, Stim, Differs, NoSettling, Memory, Output}
 use Rattle.rtlsim_commands.specs.Sights.{events, IsOfNet}
-use Rattle.rtlsim_commands.specs.Simulated.{HasNoneStored, RefusesStored, Simulates, RunsEvents, most_deltas}
+use Rattle.rtlsim_commands.specs.Simulated.{HasNoneStored, RefusesStored, Simulates, ShowsEvents, most_deltas}
 use Rattle.rtlsim_commands.specs.Machine.{as_answer}
 use Rattle.rtlsim_commands.specs.Watched.{IfWhole, Watched}
 use Rattle.rtlsim_commands.proofs.Watched.{machine_part}
@@ -57,19 +57,20 @@ none_stored net [] count h is none = h
 none_stored net (f ∷ fs) count h is none = let some = sym is ∙ none in absurd (omega (arith, some))
 
 -- what a simulation answers, where it began
-pub began : (text : List ℕ) (net : NetlistView) (s : StimulusView) (answer : Result Summary RunFault) (old new : SinkState) → HasNoneStored net → IsRead net text (Ok s)
-    → Answers net s most_deltas old new answer → Simulates text net answer old new
-began text net s answer old new none said answers = record { none_stored = none; stimulus = s; said = said; answers = answers }
+pub began : (text : List ℕ) (names : List SignalView) (net : NetlistView) (s : StimulusView) (answer : Result Summary RunFault) (old new : SinkState) → HasNoneStored net → IsRead net text (Ok s)
+    → Answers net names s most_deltas old new answer → Simulates text names net answer old new
+began text names net s answer old new none said answers = record { none_stored = none; stimulus = s; said = said; answers = answers }
 
-pub failed_run : (text : List ℕ) (net : NetlistView) (fault : RunFault) (old new : SinkState) → Simulates text net (Err fault) old new → RunsEvents text net (Err (of_run fault)) old new
-failed_run text net run.Memory old new h = inl h
-failed_run text net _ old new h = h
+pub failed_run : (text : List ℕ) (names : List SignalView) (net : NetlistView) (fault : RunFault) (old new : SinkState) → Simulates text names net (Err fault) old new
+    → ShowsEvents text names net (Err (of_run fault)) old new
+failed_run text names net run.Memory old new h = inl h
+failed_run text names net _ old new h = h
 
 -- a netlist with stored variables, or want of memory for them: nothing is written
-pub refused : (text : List ℕ) (net : NetlistView) (fault : Fault) (old : SinkState) → RefusesStored net (Err fault) → RunsEvents text net (Err fault) old old
-refused text net (Rejected x) old h = (h.0, h.1, refl)
-refused text net Memory old h = inr refl
-refused text net _ old h = absurd h
+pub refused : (text : List ℕ) (names : List SignalView) (net : NetlistView) (fault : Fault) (old : SinkState) → RefusesStored net (Err fault) → ShowsEvents text names net (Err fault) old old
+refused text names net (Rejected x) old h = (h.0, h.1, refl)
+refused text names net Memory old h = inr refl
+refused text names net _ old h = absurd h
 
 pub refused_part : (net : NetlistView) (fault : Fault) (So : Type 0) → RefusesStored net (Err fault) → IfWhole {A = Summary} (Err fault) So
 refused_part net (Differs x) So h = absurd h
@@ -90,9 +91,10 @@ unknown_stored net (Ok x) is = absurd is
 unknown_stored net (Err f) is = let So : Fault → Type 0 = λ f. RefusesStored net (Err f) in subst So (sym is) tt
 
 -- a stimulus that isn't read
-pub unread : (text : List ℕ) (net : NetlistView) (fault : StimFault) (old : SinkState) → HasNoneStored net → IsRead net text (Err fault) → RunsEvents text net (Err (of_stim fault)) old old
-unread text net stim.NoMemory old none read = inr refl
-unread text net _ old none read = (none, read (λ e. cc), refl)
+pub unread : (text : List ℕ) (names : List SignalView) (net : NetlistView) (fault : StimFault) (old : SinkState) → HasNoneStored net → IsRead net text (Err fault)
+    → ShowsEvents text names net (Err (of_stim fault)) old old
+unread text names net stim.NoMemory old none read = inr refl
+unread text names net _ old none read = (none, read (λ e. cc), refl)
 
 pub unread_part : (fault : StimFault) (So : Type 0) → IfWhole {A = Summary} (Err (of_stim fault)) So
 unread_part stim.NoMemory So = tt

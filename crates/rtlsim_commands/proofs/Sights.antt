@@ -1,7 +1,7 @@
 -- What is seen of a command, and which faults it answers.
 use Rattle.std.proofs.Common.{◌≡◌, ℕ, List, Option, Some, None, Result, Ok, Err, sym, subst}
 use Rattle.std.specs.Prelude.{IfErr, IsErrAnd}
-use Rattle.rtl_expect.specs.declared.difference.Difference.{Difference}
+use Rattle.rtl_expect.specs.declared.difference.FirstDifferences.{FirstDifferences}
 use Rattle.rtl_net.specs.Nets.{NetlistView}
 use Rattle.byte_streams.specs.Written.{SinkState}
 use Rattle.byte_streams.specs.Stands.{Stand}
@@ -48,6 +48,12 @@ module _ {A : Type 0} where
         if_whole_so (Seen sight P net) (Seen sight Q net) answer (seen_so sight net P Q go) (seeing_sees sight Does P net answer old new h),
       )
 
+  -- another command, between other states
+  pub seeing_as : (sight : Sight) (Does As : NetlistView → Result A Fault → SinkState → SinkState → Type 0) (P : List Stand → Type 0) (net : NetlistView) (answer : Result A Fault)
+      (old new from to : SinkState) → (Does net answer from to → As net answer old new) → Seeing sight Does P net answer from to → Seeing sight As P net answer old new
+  seeing_as sight Does As P net answer old new from to go h =
+      seeing_of sight As P net answer old new (go (seeing_does sight Does P net answer from to h), seeing_sees sight Does P net answer from to h)
+
 -- ---- faults
 
 -- what is so of it is so of what follows
@@ -88,7 +94,7 @@ fault_by So (Ok x) fault is h = absurd is
 fault_by So (Err f) fault is h = subst So (sym is) h
 
 -- an answer that is compared
-pub compared_fault : {A : Type 0} (So : Fault → Type 0) (answer : Result A Fault) (d : Option Difference) (result : Result A Fault) → ((difference : Difference) → So (Differs difference))
+pub compared_fault : {A : Type 0} (So : Fault → Type 0) (answer : Result A Fault) (d : Option FirstDifferences) (result : Result A Fault) → ((differences : FirstDifferences) → So (Differs differences))
     → result ≡ unless_differs answer d → IfErr answer So → IfErr result So
 compared_fault {A} So answer None result differs is h = subst (λ (r : Result A Fault). IfErr r So) (sym is) h
 compared_fault {A} So (Ok x) (Some d) result differs is h = subst (λ (r : Result A Fault). IfErr r So) (sym is) (differs d)

@@ -14,6 +14,7 @@ use Rattle.rtlsim_commands.specs.Answered.{TellsText}
 use Rattle.rtlsim_commands.specs.Told.{Done, TellsNets, TellsOthers, TellsBehind, asks_others}
 use Rattle.rtlsim_commands.specs.Remarked.{TellsRemarks}
 use Rattle.rtlsim_commands.specs.Unsettled.{TellsChanging}
+use Rattle.vhdl_front_rules.specs.Asking.{Asked}
 use Rattle.rtl_net.specs.Nets.{NetlistView}
 use Rattle.byte_streams.specs.Written.{SinkState}
 use Rattle.vhdl_front_rules.specs.Designs.{IsNetOf}
@@ -23,17 +24,17 @@ use Rattle.vhdl_front_rules.specs.declared.fault.SourceFault.{SourceFault}
 use Rattle.vhdl_front_rules.specs.declared.fault.SourceFault.TheVariants as front
 
 -- what is told behind the fault of a source that has a netlist
-behind_nets : (events : Option (List ℕ)) (telling : Telling) (source top : List ℕ) (fault : Fault) (said : Status) (old new : SinkState)
-    → TellsNets events telling source top fault old new → TellsBehind events telling source top fault said old new
-behind_nets events telling source top (NoSettling time) said old new h = h
-behind_nets events telling source top _ said old new h = inl h
+behind_nets : (events : Option (List ℕ)) (telling : Telling) (asked : Asked) (fault : Fault) (said : Status) (old new : SinkState)
+    → TellsNets events telling asked fault old new → TellsBehind events telling asked fault said old new
+behind_nets events telling asked (NoSettling time) said old new h = h
+behind_nets events telling asked _ said old new h = inl h
 
 -- behind that of one that is refused
-behind_others : (events : Option (List ℕ)) (telling : Telling) (source top : List ℕ) (fault : SourceFault) (said : Status) (old new : SinkState)
-    → TellsOthers (asks_others telling.explains (of_source fault) said) telling source top (of_source fault) old new
-    → TellsBehind events telling source top (of_source fault) said old new
-behind_others events telling source top (front.Lex x) said old new h = inr h
-behind_others events telling source top _ said old new h = inr h
+behind_others : (events : Option (List ℕ)) (telling : Telling) (asked : Asked) (fault : SourceFault) (said : Status) (old new : SinkState)
+    → TellsOthers (asks_others telling.explains (of_source fault) said) telling asked (of_source fault) old new
+    → TellsBehind events telling asked (of_source fault) said old new
+behind_others events telling asked (front.Lex x) said old new h = inr h
+behind_others events telling asked _ said old new h = inr h
 
 no_net : NetlistView
 no_net = record { types = []; starts = []; idle = []; inputs = []; processes = []; scopes = []; signals = [] }
@@ -44,9 +45,9 @@ told_so So fault told (inl same) memory so = subst So (sym same) so
 told_so So fault told (inr is) memory so = subst So (sym is) memory
 
 module _ {A : Type 0} (Refused : SourceFault → SinkState → SinkState → Type 0) (Does : NetlistView → Result A Fault → SinkState → SinkState → Type 0) (done : Done A)
-    (telling : Telling) (source top : List ℕ) (outcome : Status) (o : Outputs) where
+    (telling : Telling) (asked : Asked) (outcome : Status) (o : Outputs) where
   -- what is so of a source that is never refused
-  pub serves_so : ServesOr Unrefused Does done telling source top outcome o → ServesOr Refused Does done telling source top outcome o
+  pub serves_so : ServesOr Unrefused Does done telling asked outcome o → ServesOr Refused Does done telling asked outcome o
   serves_so s = record {
     answer = s.answer;
     output = elim (s.output) [ inl x ↦ inl x | inr y ↦ absurd (y.3) ];
@@ -57,28 +58,28 @@ module _ {A : Type 0} (Refused : SourceFault → SinkState → SinkState → Typ
   }
 
   -- the source is refused
-  pub serves_refused : (fault : SourceFault) → Refuses source top fault → LiesIn (length source) fault → Refused fault o.out o.out_after
-      → (said : Status) → RefusesSource telling source top (of_source fault) o.err o.err_after said → outcome ≡ ended said o.out_after o.err_after
-      → ServesOr Refused Does done telling source top outcome o
+  pub serves_refused : (fault : SourceFault) → Refuses asked fault → LiesIn (length asked.source) fault → Refused fault o.out o.out_after
+      → (said : Status) → RefusesSource telling asked (of_source fault) o.err o.err_after said → outcome ≡ ended said o.out_after o.err_after
+      → ServesOr Refused Does done telling asked outcome o
   serves_refused fault refuses lies refused said tells ends = record {
     answer = Err (of_source fault);
     output = inr (fault, refl, refuses, refused);
-    placed = source_told (length source) fault lies;
+    placed = source_told (length asked.source) fault lies;
     said = said;
     told = (
       no_net,
       (λ named. absurd (true≢false (sym named ∙ nameless fault))),
       tells.between,
       tells.first no_net,
-      behind_others done.events telling source top fault said tells.between o.err_after tells.others,
+      behind_others done.events telling asked fault said tells.between o.err_after tells.others,
     );
     ends = ends;
   }
 
   -- the work on its netlist is done
-  pub serves_done : (net : NetlistView) (answer : Result A Fault) (x : A) → answer ≡ Ok x → IsNetOf source top net → Does net answer o.out o.out_after
+  pub serves_done : (net : NetlistView) (answer : Result A Fault) (x : A) → answer ≡ Ok x → IsNetOf asked net → Does net answer o.out o.out_after
       → (between : SinkState) → TellsText (done.text x) o.err between → TellsRemarks telling net between o.err_after
-      → outcome ≡ ended (done.status x) o.out_after o.err_after → ServesOr Refused Does done telling source top outcome o
+      → outcome ≡ ended (done.status x) o.out_after o.err_after → ServesOr Refused Does done telling asked outcome o
   serves_done net answer x at is does between tells remarks ends = record {
     answer = Ok x;
     output = inl (net, is, subst (λ (r : Result A Fault). Does net r o.out o.out_after) at does);
@@ -89,14 +90,14 @@ module _ {A : Type 0} (Refused : SourceFault → SinkState → SinkState → Typ
   }
 
   -- it ends with a fault, behind which this is told
-  pub serves_told : (net : NetlistView) (answer : Result A Fault) (fault : Fault) → answer ≡ Err fault → IsNetOf source top net → Does net answer o.out o.out_after
-      → IsTold (length source) fault → (said : Status) (between : SinkState) → TellsFault telling net fault o.err between said
-      → TellsChanging done.events telling.explains net fault between o.err_after → outcome ≡ ended said o.out_after o.err_after → ServesOr Refused Does done telling source top outcome o
+  pub serves_told : (net : NetlistView) (answer : Result A Fault) (fault : Fault) → answer ≡ Err fault → IsNetOf asked net → Does net answer o.out o.out_after
+      → IsTold (length asked.source) fault → (said : Status) (between : SinkState) → TellsFault telling net fault o.err between said
+      → TellsChanging done.events telling.explains net fault between o.err_after → outcome ≡ ended said o.out_after o.err_after → ServesOr Refused Does done telling asked outcome o
   serves_told net answer fault at is does placed said between tells behind ends = record {
     answer = Err fault;
     output = inl (net, is, subst (λ (r : Result A Fault). Does net r o.out o.out_after) at does);
     placed = placed;
     said = said;
-    told = (net, (λ named. is), between, tells, behind_nets done.events telling source top fault said between o.err_after (net, is, behind));
+    told = (net, (λ named. is), between, tells, behind_nets done.events telling asked fault said between o.err_after (net, is, behind));
     ends = ends;
   }

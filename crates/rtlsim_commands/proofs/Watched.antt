@@ -4,7 +4,7 @@ use Rattle.std.specs.Prelude.{IsErrAnd}
 use Rattle.rtlsim_commands.specs.Watched.{OfMachine, OfEvents, IfWhole, Watched}
 use Rattle.rtlsim_command_faults.specs.Faults.{of_machine, of_run}
 use Rattle.rtlsim_command_faults.specs.declared.faults.Fault.{Fault}
-use Rattle.rtlsim_command_faults.specs.declared.faults.Fault.TheVariants.{Differs, Memory}
+use Rattle.rtlsim_command_faults.specs.declared.faults.Fault.TheVariants.{Differs}
 use Rattle.rtl_run.specs.declared.fault.MachineFault.{MachineFault}
 use Rattle.rtl_run.specs.declared.fault.MachineFault.TheVariants as machine
 use Rattle.rtl_net.specs.Nets.{NetlistView}

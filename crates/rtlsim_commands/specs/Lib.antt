@@ -4,6 +4,7 @@ pub mod Answered
 pub mod Listed
 pub mod Simulated
 pub mod Machine
+pub mod Tracing
 -- what is seen of it
 pub mod Watched
 pub mod Sights

@@ -7,7 +7,7 @@ use Rattle.rtl_run.specs.declared.level_summary.LevelSummary.{LevelSummary}
 use Rattle.rtl_run.specs.Answered.{RunsNet}
 use Rattle.rtl_run.specs.Evaluated.{Evaluates}
 use Rattle.rtl_run.specs.declared.fault.MachineFault.{MachineFault}
-use Rattle.rtl_net.specs.Nets.{NetlistView}
+use Rattle.rtl_net.specs.Nets.{NetlistView, SignalView}
 use Rattle.rtl_run.specs.declared.summary.Summary.{Summary}
 use Rattle.byte_streams.specs.Written.{SinkState}
 
@@ -15,16 +15,26 @@ abbrev pub as_answer : {A : Type 0} → Result A MachineFault → Result A Fault
 as_answer (Ok x) = Ok x
 as_answer (Err fault) = Err (of_machine fault)
 
--- The trace of the synchronous machine's run under the stimulus that the text says, or why there is none.
+-- The trace of these signals of the synchronous machine's run under the stimulus that the text says, or why there is
+-- none.
+abbrev pub ShowsMachine : (text : List ℕ) → (names : List SignalView) → NetlistView
+    → Result Summary Fault → (old new : SinkState) → Type 0
+ShowsMachine text names net answer old new =
+    (given : Result Summary MachineFault) × (answer ≡ as_answer given) × RunsNet net names text old new given
+
+-- that of all signals
 abbrev pub RunsMachine : (text : List ℕ) → NetlistView → Result Summary Fault → (old new : SinkState) → Type 0
-RunsMachine text net answer old new =
-    (given : Result Summary MachineFault) × (answer ≡ as_answer given) × RunsNet net text old new given
+RunsMachine text net = ShowsMachine text net.signals net
 
 -- The same trace, by levels and without delta cycles, or why there is none.
+abbrev pub ShowsLevels : (text : List ℕ) → (names : List SignalView) → NetlistView
+    → Result LevelSummary Fault → (old new : SinkState) → Type 0
+ShowsLevels text names net answer old new =
+    (given : Result LevelSummary MachineFault) × (answer ≡ as_answer given) × RunsLevels net names text old new given
+
 abbrev pub RunsMachineByLevels : (text : List ℕ) → NetlistView
     → Result LevelSummary Fault → (old new : SinkState) → Type 0
-RunsMachineByLevels text net answer old new =
-    (given : Result LevelSummary MachineFault) × (answer ≡ as_answer given) × RunsLevels net text old new given
+RunsMachineByLevels text net = ShowsLevels text net.signals net
 
 -- The out ports' values in the machine's first valuation under NAME=VALUE words, or why there are none.
 abbrev pub EvaluatesMachine : (words : List (List ℕ)) → NetlistView

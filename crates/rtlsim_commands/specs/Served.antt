@@ -1,5 +1,5 @@
 -- What a command leaves on both outputs, and the status that it ends with.
-use Rattle.std.specs.Prelude.{◌≡◌, ◌||◌, ℕ, Bool, true, false, List, length, Result, IfErr}
+use Rattle.std.specs.Prelude.{◌≡◌, ◌||◌, Bool, true, false, length, Result, IfErr}
 use Rattle.rtlsim_commands.specs.Listed.{ChecksNetJson}
 use Rattle.rtlsim_commands.specs.Opened.{OpensOr, Writeless}
 use Rattle.rtlsim_command_faults.specs.Explanations.{files_of}
@@ -12,6 +12,7 @@ use Rattle.rtlsim_command_faults.specs.declared.status.Status.TheVariants as sta
 use Rattle.rtlsim_command_faults.specs.declared.telling.Telling.{Telling}
 use Rattle.rtl_net.specs.Nets.{NetlistView}
 use Rattle.byte_streams.specs.Written.{SinkState}
+use Rattle.vhdl_front_rules.specs.Asking.{Asked}
 use Rattle.vhdl_front_rules.specs.Designs.{IsNetOf}
 use Rattle.vhdl_front_rules.specs.declared.fault.SourceFault.{SourceFault}
 
@@ -37,24 +38,24 @@ ended outcome out err = ended_by (out.failed || err.failed) outcome
 -- The command answers on the source; what is told of the answer goes to the standard error, and decides the status.
 pub record ServesOr {A : Type 0} (Refused : SourceFault → (old new : SinkState) → Type 0)
     (Does : NetlistView → Result A Fault → SinkState → SinkState → Type 0)
-    (done : Done A) (telling : Telling) (source top : List ℕ) (outcome : Status) (o : Outputs) : Type 0 where
+    (done : Done A) (telling : Telling) (asked : Asked) (outcome : Status) (o : Outputs) : Type 0 where
   pub answer : Result A Fault
-  pub output : OpensOr Refused Does source top answer o.out o.out_after
-  pub placed : IfErr answer (IsTold (length source))
+  pub output : OpensOr Refused Does asked answer o.out o.out_after
+  pub placed : IfErr answer (IsTold (length asked.source))
   pub said : Status
-  pub told : Tells done telling source top answer o.err o.err_after said
+  pub told : Tells done telling asked answer o.err o.err_after said
   pub ends : outcome ≡ ended said o.out_after o.err_after
 
 -- nothing is written to the standard output where the source is refused
 abbrev pub Serves : {A : Type 0} → (Does : NetlistView → Result A Fault → SinkState → SinkState → Type 0)
-    → Done A → Telling → (source top : List ℕ)
+    → Done A → Telling → Asked
     → (outcome : Status) → Outputs → Type 0
-Serves Does done telling source top outcome o = ServesOr Writeless Does done telling source top outcome o
+Serves Does done telling asked outcome o = ServesOr Writeless Does done telling asked outcome o
 
 -- the verdict as an object, or that of a source that is refused
-abbrev pub ServesObject : Telling → (source top : List ℕ) → (outcome : Status) → Outputs → Type 0
-ServesObject telling source top outcome o =
-    ServesOr (Describes (files_of telling) source top) (ChecksNetJson telling) verdict telling source top outcome o
+abbrev pub ServesObject : Telling → Asked → (outcome : Status) → Outputs → Type 0
+ServesObject telling asked outcome o =
+    ServesOr (Describes (files_of telling) asked) (ChecksNetJson telling) verdict telling asked outcome o
 
 -- ---- a step of the code: on the netlist of whichever source
 
@@ -65,4 +66,4 @@ abbrev pub ServesNet : {A : Type 0} → (Does : NetlistView → Result A Fault �
     → Done A → Telling → NetlistView
     → (outcome : Status) → Outputs → Type 0
 ServesNet Does done telling net outcome o =
-    (source top : List ℕ) → IsNetOf source top net → ServesOr Unrefused Does done telling source top outcome o
+    (asked : Asked) → IsNetOf asked net → ServesOr Unrefused Does done telling asked outcome o

@@ -8,7 +8,7 @@ use Rattle.rtlsim_command_faults.specs.declared.faults.Fault.TheVariants.{Reject
 use Rattle.rtl_model.specs.simulation.Faults.{AreStored}
 use Rattle.rtl_stim.specs.Ports.{inputs_of}
 use Rattle.rtl_stim.specs.Stimuli.{StimulusView, IsRead}
-use Rattle.rtl_net.specs.Nets.{NetlistView}
+use Rattle.rtl_net.specs.Nets.{NetlistView, SignalView}
 use Rattle.rtl_run.specs.simulations.Answered.{Answers}
 use Rattle.rtl_run.specs.declared.summary.RunFault.{RunFault}
 use Rattle.rtl_run.specs.declared.summary.RunFault.TheVariants as run
@@ -32,27 +32,33 @@ RefusesStored net (Err (Rejected faults)) = AreStored (core net) (map fault_view
 RefusesStored net (Err Memory) = ⊤
 RefusesStored net (Err _) = ⊥
 
--- The netlist is simulated under what the text says, within so many delta cycles at each moment, and the trace is
--- written as `Answers` says: whole; up to the first moment that doesn't settle; or a beginning of it, where memory is
--- refused or the sink fails.
-pub record Simulates (text : List ℕ) (net : NetlistView)
+-- The netlist is simulated under what the text says, within so many delta cycles at each moment, and the trace of these
+-- signals is written as `Answers` says: whole; up to the first moment that doesn't settle; or a beginning of it, where
+-- memory is refused or the sink fails.
+pub record Simulates (text : List ℕ) (names : List SignalView) (net : NetlistView)
     (answer : Result Summary RunFault) (old new : SinkState) : Type 0 where
   pub none_stored : HasNoneStored net
   pub stimulus : StimulusView
   pub said : IsRead net text (Ok stimulus)
-  pub answers : Answers net stimulus most_deltas old new answer
+  pub answers : Answers net names stimulus most_deltas old new answer
 
-abbrev pub RunsEvents : (text : List ℕ) → NetlistView → Result Summary Fault → (old new : SinkState) → Type 0
-RunsEvents text net (Ok summary) old new = Simulates text net (Ok summary) old new
+abbrev pub ShowsEvents : (text : List ℕ) → (names : List SignalView) → NetlistView
+    → Result Summary Fault → (old new : SinkState) → Type 0
+ShowsEvents text names net (Ok summary) old new = Simulates text names net (Ok summary) old new
 -- all variables that are stored
-RunsEvents text net (Err (Rejected faults)) old new =
+ShowsEvents text names net (Err (Rejected faults)) old new =
     AreStored (core net) (map fault_view faults.items) × (faults.items ≢ []) × (new ≡ old)
-RunsEvents text net (Err (Stim stim.NoMemory)) old new = ⊥
+ShowsEvents text names net (Err (Stim stim.NoMemory)) old new = ⊥
 -- the first bad line of the stimulus, or that none says when to stop
-RunsEvents text net (Err (Stim fault)) old new =
+ShowsEvents text names net (Err (Stim fault)) old new =
     HasNoneStored net × (schedule_of (inputs_of net) text ≡ Err fault) × (new ≡ old)
-RunsEvents text net (Err (NoSettling time)) old new = Simulates text net (Err (run.NoSettling time)) old new
-RunsEvents text net (Err Output) old new = Simulates text net (Err run.Output) old new
+ShowsEvents text names net (Err (NoSettling time)) old new =
+    Simulates text names net (Err (run.NoSettling time)) old new
+ShowsEvents text names net (Err Output) old new = Simulates text names net (Err run.Output) old new
 -- memory may be refused before the trace begins
-RunsEvents text net (Err Memory) old new = Simulates text net (Err run.Memory) old new ⊎ (new ≡ old)
-RunsEvents text net (Err _) old new = ⊥
+ShowsEvents text names net (Err Memory) old new = Simulates text names net (Err run.Memory) old new ⊎ (new ≡ old)
+ShowsEvents text names net (Err _) old new = ⊥
+
+-- that of all signals
+abbrev pub RunsEvents : (text : List ℕ) → NetlistView → Result Summary Fault → (old new : SinkState) → Type 0
+RunsEvents text net = ShowsEvents text net.signals net

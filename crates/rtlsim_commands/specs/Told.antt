@@ -1,6 +1,6 @@
 -- What is told of a command's answer on the standard error, and the status that the program ends with.
 use Rattle.std.specs.Prelude.{◌≡◌, ◌⊎◌, ◌&&◌, not, ℕ, Bool, true, false, List, [], Option, Some, None, Result, Ok, Err}
-use Rattle.rtlsim_command_faults.specs.Faults.{has_names}
+use Rattle.rtlsim_command_faults.specs.Faults.{is_of_names}
 use Rattle.rtlsim_command_faults.specs.Told.{TellsFault, summary_line, levels_line}
 use Rattle.rtlsim_command_faults.specs.declared.faults.Fault.{Fault}
 use Rattle.rtlsim_command_faults.specs.declared.faults.Fault.TheVariants.{NoSettling}
@@ -15,11 +15,12 @@ use Rattle.rtl_run.specs.declared.level_summary.LevelSummary.{LevelSummary}
 use Rattle.rtl_net.specs.Nets.{NetlistView}
 use Rattle.rtl_run.specs.declared.summary.Summary.{Summary}
 use Rattle.byte_streams.specs.Written.{SinkState}
+use Rattle.vhdl_front_rules.specs.Asking.{Asked}
 use Rattle.vhdl_front_rules.specs.Designs.{IsNetOf}
 
--- a fault whose lines have names is one of the source's netlist
-abbrev pub HasNet : (source top : List ℕ) → Fault → NetlistView → Type 0
-HasNet source top fault net = has_names fault ≡ true → IsNetOf source top net
+-- a fault that is told by a netlist is told by that of the source
+abbrev pub HasNet : Asked → Fault → NetlistView → Type 0
+HasNet asked fault net = is_of_names fault ≡ true → IsNetOf asked net
 
 -- what is told where a command has done its work, and its status then
 pub record Done (A : Type 0) : Type 0 where
@@ -39,37 +40,37 @@ abbrev pub asks_others : (explains : Bool) → (first : Fault) → (said : Statu
 asks_others explains first said = explains && has_others first && not (is_memory said)
 
 -- else nothing
-abbrev pub TellsOthers : (asked : Bool) → Telling → (source top : List ℕ)
+abbrev pub TellsOthers : (others : Bool) → Telling → Asked
     → (first : Fault) → (old new : SinkState) → Type 0
-TellsOthers true telling source top first old new = TellsFurther telling source top first old new
-TellsOthers false telling source top first old new = new ≡ old
+TellsOthers true telling asked first old new = TellsFurther telling asked first old new
+TellsOthers false telling asked first old new = new ≡ old
 
 -- Behind the fault of a source that has a netlist the nets are told that still change, where it is a moment of a
 -- simulation by events that doesn't settle, and else nothing.
 abbrev pub TellsNets : (events : Option (List ℕ)) → Telling
-    → (source top : List ℕ) → Fault → (old new : SinkState) → Type 0
-TellsNets events telling source top fault old new =
-    (net : NetlistView) × IsNetOf source top net × TellsChanging events telling.explains net fault old new
+    → Asked → Fault → (old new : SinkState) → Type 0
+TellsNets events telling asked fault old new =
+    (net : NetlistView) × IsNetOf asked net × TellsChanging events telling.explains net fault old new
 
 -- what is told behind a fault that was told with this status; where a moment doesn't settle, the source has a netlist
-abbrev pub TellsBehind : (events : Option (List ℕ)) → Telling → (source top : List ℕ)
+abbrev pub TellsBehind : (events : Option (List ℕ)) → Telling → Asked
     → Fault → (said : Status) → (old new : SinkState) → Type 0
-TellsBehind events telling source top (NoSettling time) said old new =
-    TellsNets events telling source top (NoSettling time) old new
-TellsBehind events telling source top fault said old new =
-    TellsNets events telling source top fault old new
-    ⊎ TellsOthers (asks_others telling.explains fault said) telling source top fault old new
+TellsBehind events telling asked (NoSettling time) said old new =
+    TellsNets events telling asked (NoSettling time) old new
+TellsBehind events telling asked fault said old new =
+    TellsNets events telling asked fault old new
+    ⊎ TellsOthers (asks_others telling.explains fault said) telling asked fault old new
 
-abbrev pub Tells : {A : Type 0} → Done A → Telling → (source top : List ℕ)
+abbrev pub Tells : {A : Type 0} → Done A → Telling → Asked
     → Result A Fault → (old new : SinkState) → (outcome : Status) → Type 0
-Tells done telling source top (Ok x) old new outcome =
-    (net : NetlistView) × IsNetOf source top net
+Tells done telling asked (Ok x) old new outcome =
+    (net : NetlistView) × IsNetOf asked net
     × (between : SinkState) × TellsText (done.text x) old between
     × TellsRemarks telling net between new × (outcome ≡ done.status x)
-Tells done telling source top (Err fault) old new outcome =
-    (net : NetlistView) × HasNet source top fault net
+Tells done telling asked (Err fault) old new outcome =
+    (net : NetlistView) × HasNet asked fault net
     × (between : SinkState) × TellsFault telling net fault old between outcome
-    × TellsBehind done.events telling source top fault outcome between new
+    × TellsBehind done.events telling asked fault outcome between new
 
 -- ---- of each command
 

@@ -3,31 +3,35 @@
 ghost use Rattle.std.specs.Prelude.{◌≡◌, option_map};
 ghost use Rattle.rtlsim_commands.specs.Expected as spec;
 ghost use Rattle.rtlsim_commands.specs.Expected.{Comparing};
+ghost use Rattle.vhdl_slips.specs.Words.{read_of};
 
 use crate::both::Both;
 use crate::command::{Command, Run, Site};
 use byte_streams::{Sink, Watch};
-use rtl_expect::{Difference, Expectations};
+use rtl_expect::{Expectations, FirstDifferences};
 use rtlsim_command_faults::Fault;
+use vhdl_literals::SourceLiterals;
+use vhdl_slips::Lexed;
 
-/// A run that is compared with what the lines of `expected` say, if these are given. It takes
-/// memory for each of them.
+/// A run that is compared with what the lines of `expected` say, if these are given. Literals are
+/// those of the source, by its tokens. It takes memory for each line.
 ///
 /// # Errors
 ///
 /// - `Expect`: the first bad line of `expected`, before anything is simulated.
-/// - `Differs`: the first value that isn't the expected one, once the whole trace was written.
+/// - `Differs`: the first values that aren't the expected ones, once the whole trace was written.
 /// - Else as the run.
 #[derive(Drop)]
 pub struct Compared<'a, R: Run + Drop> {
     pub run: R,
+    pub source: Lexed<'a>,
     pub expected: Option<&'a [u8]>,
 }
 
 impl<R: Run + Drop> Command for Compared<'_, R> {
     type Answer = R::Answer;
 
-    ghost does = { λ command. Comparing (R.sight command.run) (R.does command.run)
+    ghost does = { λ command. Comparing (R.sight command.run) (R.does command.run) (read_of command.source)
         (option_map (λ text. text.now) command.expected) };
 
     ghost sight = { λ command. R.sight command.run };
@@ -41,7 +45,10 @@ impl<R: Run + Drop> Command for Compared<'_, R> {
         let Some(expected) = self.expected else {
             return self.run.on_net(site, watch, out);
         };
-        let expected = Expectations::read(site.alloc, site.net, expected)?;
+        let literals = SourceLiterals {
+            source: self.source,
+        };
+        let expected = Expectations::read(site.alloc, site.net, &literals, expected)?;
         let mut both = Both {
             expected,
             other: watch,
@@ -51,22 +58,22 @@ impl<R: Run + Drop> Command for Compared<'_, R> {
             expected,
             other: _watch,
         } = both;
-        unless_differs(answer, expected.difference())
+        unless_differs(answer, expected.differences())
     }
 }
 
 /// The answer of a run, unless a value isn't the expected one.
 fn unless_differs<A: Drop>(
     answer: Result<A, Fault>,
-    difference: Option<Difference>,
+    differences: Option<FirstDifferences>,
 ) -> Result<A, Fault>
-    ensures { result ≡ spec.unless_differs answer difference }
+    ensures { result ≡ spec.unless_differs answer differences }
 {
-    let Some(difference) = difference else {
+    let Some(differences) = differences else {
         return answer;
     };
     match answer {
-        Ok(_answer) => Err(Fault::Differs(difference)),
+        Ok(_answer) => Err(Fault::Differs(differences)),
         Err(fault) => Err(fault),
     }
 }

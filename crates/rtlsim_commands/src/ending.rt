@@ -7,6 +7,7 @@ ghost use Rattle.rtlsim_commands.specs.Refused.{RefusesSource};
 ghost use Rattle.rtlsim_commands.specs.Served.{ended};
 ghost use Rattle.rtlsim_commands.specs.Told as told;
 ghost use Rattle.rtlsim_commands.specs.Unsettled.{NamesIf, TellsRun};
+ghost use Rattle.vhdl_front_rules.specs.Asking.{asked_view};
 
 use byte_streams::Sink;
 use rtl_net::Net;
@@ -14,44 +15,41 @@ use rtlsim_command_faults::{
     Fault, Status, Telling, push_further_faults, tell_changing, tell_fault, tell_source_fault,
 };
 use std::alloc::Global;
-use vhdl_front_rules::{Front, SourceFault};
+use vhdl_front_rules::{Asked, Front, SourceFault};
 
 /// Tells why a source is refused, and its other faults too where that is told whole and
 /// explanations are asked for, and answers the status.
 pub(crate) fn refuse_source<F: Front, O: Sink, E: Sink>(
     alloc: Global,
-    source: &[u8],
-    top: &[u8],
+    asked: Asked<'_>,
     telling: &Telling<'_>,
     fault: SourceFault,
     out: &O,
     err: &mut E,
 ) -> Status
-    ensures { (said : Status) × RefusesSource telling.now source.now top.now (of_source fault) (E.state err.old)
+    ensures { (said : Status) × RefusesSource telling.now (asked_view asked.entry) (of_source fault) (E.state err.old)
         (E.state err.new) said
         × (result ≡ ended said (O.state out.now) (E.state err.new)) }
 {
     let said = tell_source_fault(alloc, telling, fault, err);
-    tell_others::<F, E>(alloc, source, top, telling, &Fault::from(fault), said, err);
+    tell_others::<F, E>(alloc, asked, telling, &Fault::from(fault), said, err);
     ended_by_writes(said, out, err)
 }
 
 /// Tells the other faults of a source that is refused behind its first, where they are asked for.
 fn tell_others<F: Front, E: Sink>(
     alloc: Global,
-    source: &[u8],
-    top: &[u8],
+    asked: Asked<'_>,
     telling: &Telling<'_>,
     first: &Fault,
     said: Status,
     err: &mut E,
 )
-    ensures { told.TellsOthers (told.asks_others telling.now.explains first.now said) telling.now source.now top.now
-        first.now
-        (E.state err.old) (E.state err.new) }
+    ensures { told.TellsOthers (told.asks_others telling.now.explains first.now said) telling.now
+        (asked_view asked.entry) first.now (E.state err.old) (E.state err.new) }
 {
     if asks_others(telling.explains, first, said) {
-        push_further_faults::<F, E>(alloc, telling, source, top, first, err);
+        push_further_faults::<F, E>(alloc, telling, asked, first, err);
     }
 }
 

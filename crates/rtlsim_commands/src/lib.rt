@@ -6,11 +6,11 @@
 //! of `Front`.
 //!
 //! `specs/Listed.antt` says what `net` and `check` write, `specs/Machine.antt` what `run`, `run
-//! --levels` and `eval` do, `specs/Simulated.antt` what `run --event` does, `specs/Watched.antt`
-//! what is seen of a run, and `specs/Expected.antt` what is compared with what is expected of it.
-//! `specs/Opened.antt` says what a command answers that opens a source, `specs/Served.antt` and
-//! `specs/Told.antt` what it leaves on both outputs, and `specs/Unsettled.antt` what is told of
-//! nets that still change.
+//! --levels` and `eval` do, `specs/Simulated.antt` what `run --event` does, `specs/Tracing.antt`
+//! what is shown of a run, `specs/Watched.antt` what is seen of it, and `specs/Expected.antt` what
+//! is compared with what is expected of it. `specs/Opened.antt` says what a command answers that
+//! opens a source, `specs/Served.antt` and `specs/Told.antt` what it leaves on both outputs, and
+//! `specs/Unsettled.antt` what is told of nets that still change.
 #![tactic(auto)]
 
 mod both;
@@ -24,6 +24,7 @@ mod printing;
 mod remarking;
 mod running;
 mod serving;
+mod tracing;
 
 pub use byte_streams::{Sink, Unwatched, Watch};
 pub use command::{Answer, Command, Run, Site};
@@ -42,9 +43,10 @@ pub use rtl_stim::StimFault;
 pub use rtlsim_command_faults::{
     Fault, Status, Telling, push_memory, tell_fault, tell_levels, tell_source_fault, tell_summary,
 };
-pub use running::{MAX_DELTAS, RunEvents, RunLevels, RunMachine};
+pub use running::{MAX_DELTAS, RunEvents, RunLevels, RunMachine, Simulate};
 pub use serving::{describe, serve};
+pub use tracing::{Choice, Traced};
 pub use vhdl_expand_rules::{ElabFault, ElabProblem};
-pub use vhdl_front_rules::{Front, SourceFault};
+pub use vhdl_front_rules::{Asked, Front, SourceFault};
 pub use vhdl_names_rules::{NameFault, NameProblem};
 pub use vhdl_source_files::SourceFile;

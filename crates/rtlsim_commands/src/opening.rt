@@ -12,12 +12,13 @@ use crate::command::{Command, Site};
 use crate::listing::Form;
 use crate::printing::{CheckNet, EvalNet, ListNet};
 use crate::running::{RunEvents, RunLevels, RunMachine};
+use crate::tracing::{Choice, Traced};
 use byte_streams::{Sink, Unwatched};
 use rtl_kernel::Pick;
 use rtl_run::{LevelSummary, Summary};
 use rtlsim_command_faults::Fault;
 use std::alloc::Global;
-use vhdl_front_rules::Front;
+use vhdl_front_rules::{Asked, Front};
 
 /// Opens a source, and does a command on its netlist: `source` has the bytes of the file, `top` the
 /// name of an entity in it, in letters of either case. It takes memory for the source's netlist,
@@ -38,7 +39,7 @@ pub fn on_source<F: Front, C: Command, S: Sink>(
     ensures does { Opens (C.does command.old) source.now top.now result (S.state out.old) (S.state out.new) }
     ensures told { IfErr result (IsTold (length source.now)) }
 {
-    let net = F::open(alloc, source, top)?;
+    let net = F::open(alloc, Asked::plain(source, top))?;
     command.on_net(Site { alloc, net: &net }, &mut Unwatched, out)
 }
 
@@ -127,7 +128,9 @@ pub fn run<F: Front, P: Pick, S: Sink>(
     ensures runs { Opens (RunsMachine stimulus.now) source.now top.now result (S.state out.old) (S.state out.new) }
     ensures told { IfErr result (IsTold (length source.now)) }
 {
-    on_source::<F, _, S>(alloc, source, top, &mut RunMachine { stimulus, pick }, out)
+    let run = RunMachine { stimulus, pick };
+    let choice = Choice::Whole;
+    on_source::<F, _, S>(alloc, source, top, &mut Traced { run, choice }, out)
 }
 
 /// Simulates the netlist of a source under a stimulus, where `run` does, and writes the trace that
@@ -150,7 +153,9 @@ pub fn run_levels<F: Front, S: Sink>(
         (S.state out.new) }
     ensures told { IfErr result (IsTold (length source.now)) }
 {
-    on_source::<F, _, S>(alloc, source, top, &mut RunLevels { stimulus }, out)
+    let run = RunLevels { stimulus };
+    let choice = Choice::Whole;
+    on_source::<F, _, S>(alloc, source, top, &mut Traced { run, choice }, out)
 }
 
 /// Simulates the netlist of a source under a stimulus as `run` does, but by events: neither checker
@@ -176,7 +181,9 @@ pub fn run_event<F: Front, P: Pick, S: Sink>(
     ensures runs { Opens (RunsEvents stimulus.now) source.now top.now result (S.state out.old) (S.state out.new) }
     ensures told { IfErr result (IsTold (length source.now)) }
 {
-    on_source::<F, _, S>(alloc, source, top, &mut RunEvents { stimulus, pick }, out)
+    let run = RunEvents { stimulus, pick };
+    let choice = Choice::Whole;
+    on_source::<F, _, S>(alloc, source, top, &mut Traced { run, choice }, out)
 }
 
 /// Writes, for each out port of the top in order of declaration, the line `NAME=VALUE` with its

@@ -1,17 +1,21 @@
 //! Runs: the three ways to simulate a netlist under a stimulus.
 
-ghost use Rattle.std.specs.Prelude.{◌≡◌};
-ghost use Rattle.rtlsim_commands.specs.Machine.{RunsMachine, RunsMachineByLevels, as_answer};
-ghost use Rattle.rtlsim_commands.specs.Simulated.{RefusesStored, RunsEvents};
-ghost use Rattle.rtlsim_commands.specs.Sights.{machine, events};
-ghost use Rattle.rtlsim_commands.specs.Expected.{machine_unexpecting, events_unexpecting};
+ghost use Rattle.std.specs.Prelude.{◌≡◌, List, Result, Err, IfErr, map};
+ghost use Rattle.byte_streams.specs.Written.{SinkState, IsIntact};
+ghost use Rattle.rtl_net.specs.Nets.{NetlistView, SignalView, signal_view};
+ghost use Rattle.rtl_stim.specs.Ports.{HasOwnPorts};
+ghost use Rattle.rtlsim_command_faults.specs.declared.faults.Fault.{Fault};
+ghost use Rattle.rtlsim_commands.specs.Machine.{ShowsMachine, ShowsLevels, as_answer};
+ghost use Rattle.rtlsim_commands.specs.Simulated.{RefusesStored, ShowsEvents};
+ghost use Rattle.rtlsim_commands.specs.Sights.{Sight, machine, events, IsOfNet, Seeing};
+ghost use Rattle.rtlsim_commands.specs.Expected.{IsOfRun, machine_unexpecting, events_unexpecting};
 
-use crate::command::{Command, Run, Site};
+use crate::command::Answer;
 use byte_streams::{Sink, Watch};
 use rtl_check::stored;
 use rtl_eval_code::codes;
 use rtl_kernel::Pick;
-use rtl_net::Net;
+use rtl_net::{Net, Shown};
 use rtl_run;
 use rtl_run::{LevelSummary, MachineFault, SLOTS, Simulation, Summary};
 use rtl_stim::{Stimulus, Wheel};
@@ -21,6 +25,40 @@ use std::alloc::Global;
 /// The most delta cycles that a moment may take.
 pub const MAX_DELTAS: u32 = 1000;
 
+/// A run of which a trace may be shown.
+pub trait Simulate {
+    type Answer: Answer;
+
+    // What it does where its trace shows these signals, between two states of the standard output.
+    ghost shows: { Self → (names : List SignalView) → NetlistView → Result Self.Answer Fault
+        → (old new : SinkState) → Type 0 };
+
+    // What a watch sees of it.
+    ghost sight: { Self → Sight };
+
+    // None of its faults is one of what is expected.
+    ghost unexpecting: { (run : Self) (names : List SignalView) (net : NetlistView) (fault : Fault)
+        (old new : SinkState) → Self.shows run names net (Err fault) old new
+        → IsOfRun fault };
+
+    /// Does it on a netlist, and lets this watch look on: writes the trace of the signals that are
+    /// shown to `out`.
+    fn simulate<V: Watch, S: Sink>(
+        &mut self,
+        alloc: Global,
+        shown: Shown<'_>,
+        watch: &mut V,
+        out: &mut S,
+    ) -> Result<Self::Answer, Fault>
+        requires ports { HasOwnPorts shown.net.now }
+        requires intact { IsIntact (S.state out.old) }
+        ensures does { Seeing (sight self.old) (shows self.old (map signal_view shown.entry.signals.now))
+            (λ stands. V.told watch.old stands watch.new) shown.entry.net.now result
+            (S.state out.old) (S.state out.new) }
+        ensures faults { IfErr result (IsOfNet (sight self.old)
+            (λ stands before now at. V.stuck watch.old stands before now at watch.new) shown.entry.net.now) };
+}
+
 /// `run`: as a synchronous machine, where the checker accepts the netlist and the stimulus has no
 /// race. `pick` chooses the order of processes within a cycle.
 #[derive(Drop)]
@@ -29,25 +67,24 @@ pub struct RunMachine<'a, P: Pick> {
     pub pick: &'a mut P,
 }
 
-impl<P: Pick> Command for RunMachine<'_, P> {
+impl<P: Pick> Simulate for RunMachine<'_, P> {
     type Answer = Summary;
 
-    ghost does = { λ run. RunsMachine run.stimulus.now };
+    ghost shows = { λ run. ShowsMachine run.stimulus.now };
 
     ghost sight = { λ run. machine run.stimulus.now };
 
-    fn on_net<V: Watch, S: Sink>(
+    ghost unexpecting = { λ run names net fault old new does. machine_unexpecting does.0 fault does.1 };
+
+    fn simulate<V: Watch, S: Sink>(
         &mut self,
-        site: Site<'_>,
+        alloc: Global,
+        shown: Shown<'_>,
         watch: &mut V,
         out: &mut S,
     ) -> Result<Summary, Fault> {
-        answered(rtl_run::run_watched(site.alloc, site.net, self.stimulus, self.pick, watch, out))
+        answered(rtl_run::run_watched(alloc, shown, self.stimulus, self.pick, watch, out))
     }
-}
-
-impl<P: Pick> Run for RunMachine<'_, P> {
-    ghost unexpecting = { λ run net fault old new does. machine_unexpecting does.0 fault does.1 };
 }
 
 /// `run --levels`: the same trace without delta cycles: at each moment the clocked processes that
@@ -57,25 +94,24 @@ pub struct RunLevels<'a> {
     pub stimulus: &'a [u8],
 }
 
-impl Command for RunLevels<'_> {
+impl Simulate for RunLevels<'_> {
     type Answer = LevelSummary;
 
-    ghost does = { λ run. RunsMachineByLevels run.stimulus.now };
+    ghost shows = { λ run. ShowsLevels run.stimulus.now };
 
     ghost sight = { λ run. machine run.stimulus.now };
 
-    fn on_net<V: Watch, S: Sink>(
+    ghost unexpecting = { λ run names net fault old new does. machine_unexpecting does.0 fault does.1 };
+
+    fn simulate<V: Watch, S: Sink>(
         &mut self,
-        site: Site<'_>,
+        alloc: Global,
+        shown: Shown<'_>,
         watch: &mut V,
         out: &mut S,
     ) -> Result<LevelSummary, Fault> {
-        answered(rtl_run::run_levels_watched(site.alloc, site.net, self.stimulus, watch, out))
+        answered(rtl_run::run_levels_watched(alloc, shown, self.stimulus, watch, out))
     }
-}
-
-impl Run for RunLevels<'_> {
-    ghost unexpecting = { λ run net fault old new does. machine_unexpecting does.0 fault does.1 };
 }
 
 /// `run --event`: by events, of any netlist without a stored variable. `pick` chooses the order of
@@ -86,25 +122,29 @@ pub struct RunEvents<'a, P: Pick> {
     pub pick: &'a mut P,
 }
 
-impl<P: Pick> Command for RunEvents<'_, P> {
+impl<P: Pick> Simulate for RunEvents<'_, P> {
     type Answer = Summary;
 
-    ghost does = { λ run. RunsEvents run.stimulus.now };
+    ghost shows = { λ run. ShowsEvents run.stimulus.now };
 
     ghost sight = { λ run. events run.stimulus.now };
 
-    fn on_net<V: Watch, S: Sink>(
+    ghost unexpecting = { λ run names net fault old new does.
+        events_unexpecting run.stimulus.now names net fault old new does };
+
+    fn simulate<V: Watch, S: Sink>(
         &mut self,
-        site: Site<'_>,
+        alloc: Global,
+        shown: Shown<'_>,
         watch: &mut V,
         out: &mut S,
     ) -> Result<Summary, Fault> {
-        let Site { alloc, net } = site;
+        let net = shown.net;
         refuse_stored(alloc, net)?;
         let stimulus = Stimulus::read(alloc, net, self.stimulus)?;
         let bodies = codes(alloc, net)?;
         let simulation = Simulation {
-            net,
+            shown,
             bodies: &bodies,
             stimulus: &stimulus,
             limit: MAX_DELTAS,
@@ -115,10 +155,6 @@ impl<P: Pick> Command for RunEvents<'_, P> {
         let summary = simulation.run_watched(alloc, &mut agenda, self.pick, watch, out)?;
         Ok(summary)
     }
-}
-
-impl<P: Pick> Run for RunEvents<'_, P> {
-    ghost unexpecting = { λ run net fault old new does. events_unexpecting run.stimulus.now net fault old new does };
 }
 
 /// What the machine's answer is to the caller of a command.

@@ -6,6 +6,7 @@ ghost use Rattle.byte_streams.specs.Written.{IsIntact};
 ghost use Rattle.rtl_stim.specs.Ports.{HasOwnPorts};
 ghost use Rattle.rtlsim_commands.specs.Sights.{Seeing, IsOfNet, events_of};
 ghost use Rattle.rtlsim_commands.specs.Served.{Serves, ServesNet, ServesObject, both};
+ghost use Rattle.vhdl_front_rules.specs.Asking.{asked_view};
 
 use crate::command::{Answer, Command, Site};
 use crate::ending::{ended_by_writes, refuse_net, refuse_source};
@@ -17,15 +18,14 @@ use byte_streams::{Sink, Unwatched, Watch};
 use rtl_net::Net;
 use rtlsim_command_faults::{Fault, Status, Telling, describe_refusal};
 use std::alloc::Global;
-use vhdl_front_rules::Front;
+use vhdl_front_rules::{Asked, Front};
 
 /// Serves a command, while this watch looks on: opens the source, does the command on its netlist,
 /// writes what is told of its answer or the lines of a fault to `err`, and answers the status.
 /// Behind the explanation of a moment that doesn't settle stand the nets that still change.
 pub fn serve<F: Front, C: Command, V: Watch, O: Sink, E: Sink>(
     alloc: Global,
-    source: &[u8],
-    top: &[u8],
+    asked: Asked<'_>,
     telling: &Telling<'_>,
     command: &mut C,
     watch: &mut V,
@@ -36,12 +36,12 @@ pub fn serve<F: Front, C: Command, V: Watch, O: Sink, E: Sink>(
     requires err { IsIntact (E.state err.old) }
     ensures { Serves (Seeing (C.sight command.old) (C.does command.old) (λ stands. V.told watch.old stands watch.new))
         (record { text = C.Answer.text; status = C.Answer.said; events = events_of (C.sight command.old) }) telling.now
-        source.now top.now result
+        (asked_view asked.entry) result
         (both (O.state out.old) (O.state out.new) (E.state err.old) (E.state err.new)) }
 {
-    match F::open(alloc, source, top) {
+    match F::open(alloc, asked) {
         Ok(net) => serve_net(alloc, telling, &net, command, watch, out, err),
-        Err(fault) => refuse_source::<F, O, E>(alloc, source, top, telling, fault, out, err),
+        Err(fault) => refuse_source::<F, O, E>(alloc, asked, telling, fault, out, err),
     }
 }
 
@@ -50,26 +50,25 @@ pub fn serve<F: Front, C: Command, V: Watch, O: Sink, E: Sink>(
 /// answers the status. Where memory for the object is refused, that is told in place of the fault.
 pub fn describe<F: Front, O: Sink, E: Sink>(
     alloc: Global,
-    source: &[u8],
-    top: &[u8],
+    asked: Asked<'_>,
     telling: &Telling<'_>,
     out: &mut O,
     err: &mut E,
 ) -> Status
     requires out { IsIntact (O.state out.old) }
     requires err { IsIntact (E.state err.old) }
-    ensures { ServesObject telling.now source.now top.now result
+    ensures { ServesObject telling.now (asked_view asked.entry) result
         (both (O.state out.old) (O.state out.new) (E.state err.old) (E.state err.new)) }
 {
-    match F::open(alloc, source, top) {
+    match F::open(alloc, asked) {
         Ok(net) => {
             let form = Form::Object(telling);
             let mut command = CheckNet { form };
             serve_net(alloc, telling, &net, &mut command, &mut Unwatched, out, err)
         }
         Err(fault) => {
-            let told = describe_refusal::<F, O>(alloc, telling.files, source, top, fault, out);
-            refuse_source::<F, O, E>(alloc, source, top, telling, told, out, err)
+            let told = describe_refusal::<F, O>(alloc, telling.files, asked, fault, out);
+            refuse_source::<F, O, E>(alloc, asked, telling, told, out, err)
         }
     }
 }

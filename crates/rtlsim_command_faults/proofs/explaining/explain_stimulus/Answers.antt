@@ -8,4 +8,4 @@ returns-clause-printed g c = rw (← c.stim_report.ensures, c.in-Some.is) c.expl
 
 pub returns-clause-named : goal.returns-clause-named
 returns-clause-named g c =
-    on_err_weaker _ (λ takes. fault_takes c.args.fault (ap report_takes (sym c.stim_report.ensures ∙ c.in-Some.is) ∙ takes)) c.explain_stim.ensures.memory
+    on_err_weaker _ (λ takes. fault_takes c.args.site.now.telling.now.explains c.args.fault (ap report_takes (sym c.stim_report.ensures ∙ c.in-Some.is) ∙ takes)) c.explain_stim.ensures.memory

@@ -20,6 +20,9 @@ returns-in-Stim g c net =
     let quiet = rw c.in-Stim.is at c.requires.nameless in
     rw c.in-Stim.is (goes_along _ _ _ _ (nameless_stim (map file_view c.args.files.now) net c.in-Stim.stim quiet) (rw c.stim_report.ensures at c.push_reported-in-Stim.ensures))
 
+pub returns-in-Untraced : goal.returns-in-Untraced
+returns-in-Untraced g c net = rw c.in-Untraced.is (rw c.untraced_report.ensures at c.push_reported-in-Untraced.ensures)
+
 pub returns-in-NoSettling : goal.returns-in-NoSettling
 returns-in-NoSettling g c net = rw c.in-NoSettling.is (rw c.settle_report.ensures at c.push_reported-in-NoSettling.ensures)
 

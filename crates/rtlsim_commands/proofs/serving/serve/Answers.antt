@@ -1,12 +1,13 @@
 use Rattle.std.proofs.Common.{refl}
 use Rattle.rtlsim_commands.specs.Opened.{Writeless}
 use Rattle.rtlsim_commands.proofs.Told.{serves_refused, serves_so}
+use Rattle.vhdl_front_rules.specs.Asking.{asked_view}
 use Rattle.rtlsim_commands.proofs.serving.serve.Goals as goal
 
 pub returns-in-Ok : goal.returns-in-Ok
-returns-in-Ok g c = serves_so Writeless _ _ c.args.telling.now _ _ _ _ (c.serve_net.ensures c.args.source.now c.args.top.now c.in-Ok.ensures.net)
+returns-in-Ok g c = serves_so Writeless _ _ c.args.telling.now _ _ _ (c.serve_net.ensures (asked_view c.args.asked) c.in-Ok.ensures.net)
 
 pub returns-in-Err : goal.returns-in-Err
 returns-in-Err g c =
-    serves_refused Writeless _ _ c.args.telling.now _ _ _ _ c.in-Err.fault c.in-Err.ensures.refused c.in-Err.ensures.told refl
+    serves_refused Writeless _ _ c.args.telling.now _ _ _ c.in-Err.fault c.in-Err.ensures.refused c.in-Err.ensures.told refl
     c.refuse_source.ensures.0 c.refuse_source.ensures.1 c.refuse_source.ensures.2
