@@ -5,22 +5,31 @@
 _rtlsim_commands='eval net check run'
 _rtlsim_words_of() {
     case $1 in
-    eval) echo --with --explain --help ;;
+    eval) echo --with --files --generic --explain --help ;;
     eval--with) echo FILE ;;
+    eval--files) echo LIST ;;
+    eval--generic) echo NAME=VALUE ;;
     eval1) echo FILE ;;
     eval2) echo TOP ;;
     eval3) echo NAME=VALUE ;;
-    net) echo --with --explain --help ;;
+    net) echo --with --files --generic --explain --help ;;
     net--with) echo FILE ;;
+    net--files) echo LIST ;;
+    net--generic) echo NAME=VALUE ;;
     net1) echo FILE ;;
     net2) echo TOP ;;
-    check) echo --with --explain --dot --json --help ;;
+    check) echo --with --files --generic --explain --dot --json --help ;;
     check--with) echo FILE ;;
+    check--files) echo LIST ;;
+    check--generic) echo NAME=VALUE ;;
     check1) echo FILE ;;
     check2) echo TOP ;;
-    run) echo --with --explain --event --order --levels --expect --progress --help ;;
+    run) echo --with --files --generic --explain --event --order --levels --trace --no-trace --expect --progress --help ;;
     run--with) echo FILE ;;
+    run--files) echo LIST ;;
+    run--generic) echo NAME=VALUE ;;
     run--order) echo forward reverse ;;
+    run--trace) echo NAME ;;
     run--expect) echo FILE ;;
     run1) echo FILE ;;
     run2) echo TOP ;;
@@ -29,11 +38,11 @@ _rtlsim_words_of() {
 }
 # end of what tools/pages writes
 
-# The words of the command line that are operands of the command, up to the word that is completed.
+# The words of the command line that are operands of the command, up to the word that is completed. A list stands for FILE.
 _rtlsim_operands() {
     local at
     for ((at = 2; at < COMP_CWORD; at++)); do
-        case ${COMP_WORDS[at - 1]} in --order | --with | --expect) continue ;; esac
+        case ${COMP_WORDS[at - 1]} in --order | --with | --expect | --generic | --trace) continue ;; esac
         case ${COMP_WORDS[at]} in -?*) ;; *) echo "${COMP_WORDS[at]}" ;; esac
     done
 }
@@ -56,10 +65,13 @@ _rtlsim() {
         mapfile -t COMPREPLY < <(compgen -W "$_rtlsim_commands --help --version" -- "$word")
         return
     fi
-    if [ "$(_rtlsim_words_of "$command$before")" = FILE ]; then
+    case $(_rtlsim_words_of "$command$before") in
+    FILE | LIST)
         _rtlsim_files "$word"
         return
-    fi
+        ;;
+    NAME*) return ;;
+    esac
     if [ -n "$(_rtlsim_words_of "$command$before")" ]; then
         mapfile -t COMPREPLY < <(compgen -W "$(_rtlsim_words_of "$command$before")" -- "$word")
         return
