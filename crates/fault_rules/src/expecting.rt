@@ -27,7 +27,7 @@ static EXPECTING: [Words<&str>; 6] = [
     rule! { expect 2 AfterStop },
     rule! { expect 3 BadLine },
     rule! { expect 4 NotASignal: "no port or signal has this name"
-        => "write it behind the top's name: a signal of the top alone, another one behind its instances' labels, as u1.q" },
+        => "write a signal of the top by its name alone, another one behind its instances' labels, as u1.q" },
     rule! { expect 5 BadValue },
     rule! { expect 6 TimeTooLarge },
 ];

@@ -18,9 +18,8 @@ static SETTLING: [Words<&str>; 2] = [
     rule! { settle 1 NoSettling: "at " TIME " ns nets still change after 1000 delta cycles"
         => "see what check tells: processes that feed each other in a circle, or a latch or clock that is made \
             inside" },
-    rule! { trace 1 NotASignal: "no port, signal or instance has this name"
-        => "write it behind the top's name: what stands in the top alone, what stands in an instance behind its labels, \
-            as u1.q" },
+    rule! { trace 1 NotASignal: "this name chooses no port or signal"
+        => "write what stands in the top by its name alone, what stands in an instance behind its labels, as u1.q" },
 ];
 
 impl RunRule {

@@ -7,7 +7,8 @@ use Rattle.vhdl_names_rules.specs.units.Units.{Port, Entity}
 use Rattle.vhdl_expand_rules.specs.Tree.{Object, Instance, Parts, no_parts, inner, followed_by}
 use Rattle.vhdl_expand_rules.specs.Tree as t
 use Rattle.vhdl_expand_rules.specs.Expansion.{Spot, with_dot, process, Design}
-use Rattle.vhdl_expand_rules.proofs.laws.Expanded.{Any, any_ports, any_signals, process_made, OfParts, Filled, OfUnits, design_filled}
+use Rattle.vhdl_expand_rules.proofs.laws.Made.{process_made}
+use Rattle.vhdl_expand_rules.proofs.laws.Expanded.{Any, any_ports, any_signals, OfParts, Filled, OfUnits, design_filled}
 use Rattle.vhdl_expand_rules.proofs.laws.Labels.{more_text, StatementIsNamed, StatementsAreNamed, split_named, for_named, if_named, EntityIsNamed, architecture_named, units_named}
 use Rattle.vhdl_elab_rules.specs.Prefixes.{IsDotted, InstanceIsDotted, PartsAreDotted, EachTreeIsDotted}
 

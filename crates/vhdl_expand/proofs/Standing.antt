@@ -20,7 +20,7 @@ use Rattle.vhdl_expand_rules.specs.Tree.{Object}
 use Rattle.vhdl_expand_rules.specs.Declarations.{InstanceObjects, variable, interface, declarations, associations}
 use Rattle.vhdl_expand_rules.proofs.Steps.{ok, bound}
 use Rattle.vhdl_expand_rules.proofs.Tells.{tells_none, tells_then, tells_each, all_flat}
-use Rattle.vhdl_expand_rules.proofs.laws.Expanded.{interface_made}
+use Rattle.vhdl_expand_rules.proofs.laws.Made.{interface_made}
 use Rattle.vhdl_expand_rules.proofs.laws.Targets.{all_left, all_right}
 use Rattle.vhdl_expand_rules.proofs.laws.told.Declarations.{MayStand, EntityStands, entity_stands, interface_tells, top_interface_tells, declarations_tell, variable_tells, associations_tell}
 use Rattle.vhdl_expand_rules.proofs.laws.told.Statements.{statements_tells}

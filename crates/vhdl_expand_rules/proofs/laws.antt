@@ -3,6 +3,7 @@ pub mod Places
 pub mod Names
 pub mod Vectors
 pub mod Tests
+pub mod Made
 pub mod Expanded
 pub mod Kinds
 pub mod Statements

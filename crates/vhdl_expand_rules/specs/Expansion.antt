@@ -1,5 +1,5 @@
--- Expansion: from the units of a file and the name of a top to the tree of its instances (IEEE 1076-2008, 14.2 to 14.5,
--- clause 11). Numbers of nets and processes are no matter of it.
+-- Expansion: from the units of a file, the name of a top and values of its generics to the tree of its instances
+-- (IEEE 1076-2008, 14.2 to 14.5, clause 11). Numbers of nets and processes are no matter of it.
 use Rattle.std.specs.Prelude.{ℕ, zero, suc, ◌+◌, if◌then◌else◌, List, [], ◌∷◌, ◌++◌, length, map, sum, find, slice_get, Option, ℤ, Ok, bytes_eq, codes}
 use Rattle.std.specs.Fmt.{signed_decimal}
 use Rattle.std.specs.Char.{to_ascii_lowercase}

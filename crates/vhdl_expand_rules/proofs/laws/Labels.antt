@@ -19,7 +19,8 @@ use Rattle.vhdl_expand_rules.specs.Expansion.{Spot, process, Design}
 use Rattle.vhdl_expand_rules.specs.laws.Labels.{ProcessIsNamed, InstanceIsNamed, PartsAreNamed, EachTreeIsNamed}
 use Rattle.vhdl_expand_rules.proofs.Steps.{ok, bound}
 use Rattle.vhdl_expand_rules.proofs.Items.{all_pass, all_of_zip}
-use Rattle.vhdl_expand_rules.proofs.laws.Expanded.{object_made, OfObjects, OfSignal, process_made, OfParts, Filled, OfUnits, design_filled}
+use Rattle.vhdl_expand_rules.proofs.laws.Made.{process_made}
+use Rattle.vhdl_expand_rules.proofs.laws.Expanded.{object_made, OfObjects, OfSignal, OfParts, Filled, OfUnits, design_filled}
 
 pub some_text : (xs : List ℕ) → has_text xs ≡ true → xs ≢ []
 some_text [] h e = absurd cc

@@ -29,7 +29,7 @@ use Rattle.vhdl_expand_rules.specs.Expansion.{Spot, with_variables, process}
 use Rattle.vhdl_expand_rules.specs.laws.Sites.{IsOf, IsSite, kinds_types}
 use Rattle.vhdl_expand_rules.specs.laws.Trees.{object_kinds, object_types, object_roles, MayBeDriven, VariableIsSound, ProcessIsSound}
 use Rattle.vhdl_expand_rules.proofs.Steps.{ok, bound}
-use Rattle.vhdl_expand_rules.proofs.laws.Expanded.{process_made}
+use Rattle.vhdl_expand_rules.proofs.laws.Made.{process_made}
 use Rattle.vhdl_expand_rules.proofs.laws.Lengths.{starts-length}
 use Rattle.vhdl_expand_rules.proofs.laws.Kinds.{kind_is_of, is_kind, starts_below}
 use Rattle.vhdl_expand_rules.proofs.laws.Statements.{each-body-fits}

@@ -19,7 +19,8 @@ use Rattle.vhdl_expand_rules.specs.Tree as t
 use Rattle.vhdl_expand_rules.specs.Expansion.{Spot, instance, concurrents, instance_of}
 use Rattle.vhdl_expand_rules.specs.laws.Trees.{object_kinds, is_port, ObjectIsSound, InstanceIsSound, PartsAreSound, DesignIsSound, EachTreeIsSound}
 use Rattle.vhdl_expand_rules.proofs.Items.{all_pass, all_get, all_found, all_of_zip}
-use Rattle.vhdl_expand_rules.proofs.laws.Expanded.{OfParts, concurrents_hold, instance_made, BuiltInstance, instance_built, design_made}
+use Rattle.vhdl_expand_rules.proofs.laws.Made.{instance_made, BuiltInstance, instance_built, design_made}
+use Rattle.vhdl_expand_rules.proofs.laws.Expanded.{OfParts, concurrents_hold}
 use Rattle.vhdl_expand_rules.proofs.laws.Driven.{IsDeclared}
 use Rattle.vhdl_expand_rules.proofs.laws.Declared.{PortObject, Interface, interface-stands, Joined, port-sound, associations-sound, Stands, Anywhere, declarations-stand}
 use Rattle.vhdl_expand_rules.proofs.laws.Processes.{process-sound}
