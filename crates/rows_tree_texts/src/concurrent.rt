@@ -7,7 +7,7 @@ use crate::words::{Piece, push_at, push_end, push_identifier, push_if, push_labe
 use rows_calls::Text;
 use vhdl_tree::{
     Assignment, Concurrent, Generate, Instance, Instantiated, Process, Scheme, SelectedAssignment,
-    Sensitivity, Waveform,
+    Sensitivity, Wait, Waveform,
 };
 
 /// Adds statements, with a space before each.
@@ -95,8 +95,19 @@ fn push_process(out: &mut Text, process: &Process) {
         push_variables(out, variables);
     }
     out.push(" begin");
+    if let Some(wait) = &process.wait {
+        push_wait(out, wait);
+    }
     push_sequentials(out, &process.statements);
     push_end(out, " end process", &process.end_label);
+}
+
+fn push_wait(out: &mut Text, wait: &Wait) {
+    out.push(" ");
+    push_at(out, b"wait", wait.at);
+    out.push(" until ");
+    push_expr(out, &wait.condition);
+    out.push(";");
 }
 
 fn push_instance(out: &mut Text, instance: &Instance) {

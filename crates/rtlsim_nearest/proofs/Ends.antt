@@ -5,7 +5,7 @@ use Rattle.std.proofs.lemmas.Bool.Decides.{nat_tests}
 use Rattle.std.proofs.lemmas.List.{drop_more, get_or-reverse, length-drop, length-reverse}
 use Rattle.rtl_signal_names.specs.Names.{are_alike}
 use Rattle.rtlsim_nearest.specs.Likeness.{line_of, shared, stands_last}
-use Rattle.vhdl_expected.specs.Near.{is_same_letter}
+use Rattle.vhdl_parser_rules.specs.Near.{is_same_letter}
 
 -- the letter at a place from the end
 abbrev pub from_end : (name : List ℕ) → (i : ℕ) → ℕ

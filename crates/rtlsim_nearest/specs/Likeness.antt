@@ -4,7 +4,7 @@ use Rattle.rtl_net.specs.Nets.{NetlistView, label_at}
 use Rattle.rtl_signal_names.specs.Names.{are_alike, full_name}
 use Rattle.rtlsim_nearest.specs.declared.likeness.Way.{Way}
 use Rattle.rtlsim_nearest.specs.declared.likeness.Way.TheVariants.{OneLetter, TwoLetters, BehindTop, Unlabelled}
-use Rattle.vhdl_expected.specs.Near.{is_same_letter}
+use Rattle.vhdl_parser_rules.specs.Near.{is_same_letter}
 
 -- ---- letters
 

@@ -3,7 +3,7 @@
 ghost use Rattle.std.specs.Prelude.{◌≡◌, ◌≤◌, length, reverse};
 ghost use Rattle.rtl_signal_names.specs.Names as spelled;
 ghost use Rattle.rtlsim_nearest.specs.Likeness as spec;
-ghost use Rattle.vhdl_expected.specs.Near as near;
+ghost use Rattle.vhdl_parser_rules.specs.Near as near;
 
 /// In which way a name is like a full name.
 #[derive(Clone, Copy)]

@@ -2,7 +2,7 @@
 use Rattle.std.proofs.Common.{◌≡◌, ℕ, zero, suc, ◌-◌, ◌<◌, ◌≤◌, length, map, flat_map, slice_index_or, true, false, List, [], ◌∷◌, ◌++◌, inl, inr, ⊎_elim, Option, Some, None, is_some, option_map, drop, sym, subst, arith, true≢false}
 use Rattle.std.proofs.lemmas.Option.{none-some}
 use Rattle.vhdl_lexer.proofs.Walks.{rest, rest_is}
-use Rattle.vhdl_expected.specs.Changes.{Said}
+use Rattle.vhdl_parser_rules.specs.Expected.{Said}
 use Rattle.vhdl_expected.specs.Reading.{Reading}
 use Rattle.vhdl_expected.specs.Told.{Finds, Trial, respelt_first, respelt_back}
 

@@ -1,15 +1,13 @@
 -- Changes of a text at one of its tokens, and when the text then goes on.
 use Rattle.std.specs.Prelude.{ℕ, List, [], ◌∷◌, ◌++◌, ◌⊎◌, map, take, drop}
 use Rattle.std.specs.Borrow.{Bor}
+use Rattle.vhdl_lexer.specs.declared.language.Language.{Language}
 use Rattle.vhdl_lexer.specs.declared.token.Token.{Token}
 use Rattle.vhdl_lexer.specs.declared.token.TokenKind.{TokenKind}
-use Rattle.vhdl_parser.specs.Stuck.{Begins}
+use Rattle.vhdl_parser_rules.specs.Expected.{Said, Texts, said_of}
+use Rattle.vhdl_parser_rules.specs.Stuck.{BeginsIn}
 use Rattle.vhdl_tree.specs.Levels.{IsDeep, most_open}
 use Rattle.vhdl_tree.specs.Lexeme.{lexemes}
-
--- what is wrong, and what a designer does about it
-abbrev pub Said : Type 0
-Said = List ℕ × List ℕ
 
 -- of a token: what is put before it, and how many are taken away from it on, or all where fewer are there; and what is
 -- told where the text then goes on
@@ -22,12 +20,6 @@ abbrev pub change : (put : List TokenKind) → (taken : ℕ) → Said → Change
 change put taken said = record { put = put; taken = taken; said = said }
 
 -- ---- the same in the code
-
-abbrev pub Texts : Type 0
-Texts = Bor (List ℕ) × Bor (List ℕ)
-
-abbrev pub said_of : Texts → Said
-said_of texts = (texts.0.now, texts.1.now)
 
 abbrev pub Changed : Type 0
 Changed = Bor (List TokenKind) × ℕ × Texts
@@ -51,10 +43,10 @@ changed place c tokens = take place tokens ++ change_first c (drop place tokens)
 
 -- ---- a text that goes on
 
--- some tokens behind it make a file of it
-abbrev pub GoesOn : (source : List ℕ) → List Token → Type 0
-GoesOn source tokens = Begins (lexemes source tokens)
+-- some tokens behind it make a file of this language of it
+abbrev pub GoesOn : Language → (source : List ℕ) → List Token → Type 0
+GoesOn language source tokens = BeginsIn language (lexemes source tokens)
 
 -- none do, or too many levels are open
-abbrev pub Breaks : (source : List ℕ) → List Token → Type 0
-Breaks source tokens = (GoesOn source tokens → ⊥) ⊎ IsDeep most_open (lexemes source tokens)
+abbrev pub Breaks : Language → (source : List ℕ) → List Token → Type 0
+Breaks language source tokens = (GoesOn language source tokens → ⊥) ⊎ IsDeep most_open (lexemes source tokens)

@@ -1,4 +1,3 @@
-pub mod Near
 pub mod Reading
 pub mod Changes
 pub mod Told

@@ -4,19 +4,22 @@ use Rattle.std.specs.Prelude.{ℕ, ◌+◌, ◌≤◌, ◌&&◌, not, length, na
 use Rattle.std.specs.List.{prefix_len}
 use Rattle.vhdl_lexer.specs.Cut.{AreWithin}
 use Rattle.vhdl_lexer.specs.Kinds.{is_semicolon}
+use Rattle.vhdl_lexer.specs.declared.language.Language.{Language}
 use Rattle.vhdl_lexer.specs.declared.token.Token.{Token}
 use Rattle.vhdl_lexer.specs.declared.token.TokenKind.{TokenKind}
 use Rattle.vhdl_lexer.specs.declared.token.TokenKind.TheVariants as k
 use Rattle.vhdl_expected.specs.declared.reading.Reading as code
 
--- a source, tokens of it, and the place of the refused one among them
+-- in which language a source is read, tokens of it, and the place of the refused one among them
 pub record Reading : Type 0 where
+  pub language : Language
   pub source : List ℕ
   pub tokens : List Token
   pub refused : ℕ
 
 abbrev pub reading_of : code.Reading → Reading
-reading_of r = record { source = r.source.now; tokens = r.tokens.now; refused = r.refused }
+reading_of r =
+    record { language = r.language; source = r.source.now; tokens = r.tokens.now; refused = r.refused }
 
 -- its tokens are places in its source
 abbrev pub IsWithin : code.Reading → Type 0

@@ -3,17 +3,17 @@
 use Rattle.std.specs.Prelude.{◌≡◌, ℕ, zero, suc, ◌+◌, ◌-◌, ◌==◌, ◌&&◌, ◌||◌, not, nat_le, Bool, true, false, if◌then◌else◌, List, [], ◌∷◌, ◌++◌, ◌⊎◌, length, map, flat_map, drop, slice_range, min, Option, Some, None}
 use Rattle.std.specs.Borrow.{Bor}
 use Rattle.std.specs.List.{list_any}
+use Rattle.vhdl_lexer.specs.declared.language.Language.{Language}
 use Rattle.vhdl_lexer.specs.declared.token.Token.{Token}
 use Rattle.vhdl_lexer.specs.declared.token.TokenKind.{TokenKind}
 use Rattle.vhdl_lexer.specs.declared.token.TokenKind.TheVariants as k
-use Rattle.vhdl_parser.specs.declared.fault.SyntaxFault.{SyntaxFault}
-use Rattle.vhdl_parser.specs.declared.fault.SyntaxFault.TheVariants as fault
+use Rattle.vhdl_parser_rules.specs.declared.fault.SyntaxFault.{SyntaxFault}
+use Rattle.vhdl_parser_rules.specs.declared.fault.SyntaxFault.TheVariants as fault
 use Rattle.vhdl_tree.specs.Lexeme.{same_kind}
-use Rattle.vhdl_expected.specs.Changes.{Said, Change, Texts, change, changed, said_of, GoesOn, Breaks}
-use Rattle.vhdl_expected.specs.Near.{is_near}
+use Rattle.vhdl_expected.specs.Changes.{Change, change, changed, GoesOn, Breaks}
+use Rattle.vhdl_parser_rules.specs.Expected.{Expected, Said, Texts, nothing, perhaps, said_of, surely}
+use Rattle.vhdl_parser_rules.specs.Near.{is_near}
 use Rattle.vhdl_expected.specs.Reading.{Reading, before, from}
-use Rattle.vhdl_expected.specs.declared.telling.Expected as code
-use Rattle.vhdl_expected.specs.declared.telling.Expected.TheVariants as variant
 use Rattle.vhdl_expected.specs.declared.reading.TheConstants.{MOST_TOKENS}
 use Rattle.vhdl_expected.specs.declared.respelling.TheConstants.{MOST_PLACES}
 use Rattle.vhdl_expected.specs.declared.otherwise.TheConstants.{OTHERWISE}
@@ -24,18 +24,6 @@ use Rattle.vhdl_expected.specs.declared.table.TheConstants.{SLIPS, ENDED, OPERAN
 use Rattle.vhdl_expected.specs.declared.word.TheConstants.{EARLY, LATE, JOINED}
 use Rattle.vhdl_expected.specs.declared.reserved.TheConstants.{NO_NAMES}
 use Rattle.vhdl_expected.specs.declared.texts.TheConstants.{RESERVED}
-
-pub data Expected : Type 0 where
-  nothing : Expected
-  -- told whatever stands at the token
-  surely : Said → Expected
-  -- told where no form is known that isn't read
-  perhaps : Said → Expected
-
-abbrev pub expected_of : code.Expected → Expected
-expected_of variant.Nothing = nothing
-expected_of (variant.Surely said) = surely (said.0.now, said.1.now)
-expected_of (variant.Perhaps said) = perhaps (said.0.now, said.1.now)
 
 -- ---- trials
 
@@ -54,7 +42,8 @@ tried r t = changed t.place t.change r.tokens
 abbrev pub Finds : Reading → List Trial → Option Said → Type 0
 Finds r [] said = said ≡ None
 Finds r (t ∷ ts) said =
-    (GoesOn r.source (tried r t) × (said ≡ Some t.change.said)) ⊎ (Breaks r.source (tried r t) × Finds r ts said)
+    (GoesOn r.language r.source (tried r t) × (said ≡ Some t.change.said))
+    ⊎ (Breaks r.language r.source (tried r t) × Finds r ts said)
 
 -- the parser refuses a token
 abbrev pub is_wrong : SyntaxFault → Bool
@@ -270,10 +259,11 @@ abbrev pub IsToldIf : (is_read : Bool) → Reading → Expected → Type 0
 IsToldIf true r found = IsTold r found
 IsToldIf false r found = found ≡ nothing
 
-abbrev pub IsToldOf : (source : List ℕ) → (before from : List Token) → Expected → Type 0
-IsToldOf source before from found =
-    IsToldIf (is_read before from) (record { source = source; tokens = before ++ from; refused = length before }) found
+abbrev pub IsToldOf : Language → (source : List ℕ) → (before from : List Token) → Expected → Type 0
+IsToldOf language source before from found =
+    IsToldIf (is_read before from)
+    (record { language = language; source = source; tokens = before ++ from; refused = length before }) found
 
 -- this is told of the first token that doesn't start before the byte
-unfoldable pub IsExpected : (source : List ℕ) → List Token → (at : ℕ) → Expected → Type 0
-IsExpected source tokens byte found = IsToldOf source (before byte tokens) (from byte tokens) found
+unfoldable pub IsExpected : Language → (source : List ℕ) → List Token → (at : ℕ) → Expected → Type 0
+IsExpected language source tokens byte found = IsToldOf language source (before byte tokens) (from byte tokens) found

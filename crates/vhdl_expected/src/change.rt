@@ -1,11 +1,12 @@
 //! Changes of a text at one of its tokens.
 
-ghost use Rattle.std.specs.Prelude.{◌≡◌, ◌≤◌, ◌++◌, drop, IfOk, OnOk, length, map};
+ghost use Rattle.std.specs.Prelude.{◌≡◌, ◌≤◌, ◌++◌, IfOk, OnOk, length, map};
 ghost use Rattle.vhdl_expected.specs.Changes as spec;
 
 use crate::row::Change;
 use std::alloc::{AllocError, Global};
 use vhdl_lexer::{Token, TokenKind};
+use vhdl_parser_rules::behind;
 
 /// The tokens with a change at a place.
 pub(crate) fn changed(
@@ -39,15 +40,4 @@ fn push_kinds(tokens: &mut Vec<Token>, token: Token, kinds: &[TokenKind]) -> Res
         })?;
     }
     Ok(())
-}
-
-/// What stands behind so many.
-pub(crate) fn behind<T>(items: &[T], count: usize) -> &[T]
-    ensures { result.now ≡ drop count items.now }
-{
-    if count <= items.len() {
-        &items[count..]
-    } else {
-        &[]
-    }
 }

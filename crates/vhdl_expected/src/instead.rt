@@ -5,8 +5,9 @@ use crate::help::{
 };
 use crate::reading::MOST_TOKENS;
 use crate::row::{Row, before, here, in_place, in_place_here, row};
-use crate::texts::{SPARE, SPARE_BEFORE, STEP, Said};
+use crate::texts::{SPARE, SPARE_BEFORE, STEP};
 use vhdl_lexer::TokenKind;
+use vhdl_parser_rules::Said;
 
 const AT_LEAST: &str = "write a >= b where a is greater than b or equal to it";
 

@@ -3,9 +3,8 @@
 //!
 //! `specs/Reading.antt` says which tokens are looked at, `specs/Changes.antt` how they are changed
 //! and when they then go on, and `specs/Told.antt` in which order that is tried and what is told.
-//! `specs/Near.antt` says which words are nearly the same. The words and the changes stand in
-//! `word`, `table`, `closed`, `names`, `instead` and `otherwise`, with what is told of each there,
-//! in `texts` and in `help`.
+//! The words and the changes stand in `word`, `table`, `closed`, `names`, `instead` and
+//! `otherwise`, with what is told of each there, in `texts` and in `help`.
 #![tactic(auto)]
 
 mod change;
@@ -13,7 +12,6 @@ mod closed;
 mod help;
 mod instead;
 mod names;
-mod near;
 mod otherwise;
 mod reading;
 mod reserved;
@@ -25,7 +23,5 @@ mod texts;
 mod trial;
 mod word;
 
-pub use near::is_near;
 pub use reading::MOST_TOKENS;
-pub use telling::{Expected, expected_at};
-pub use texts::Said;
+pub use telling::expected_at;

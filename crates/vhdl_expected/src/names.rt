@@ -3,8 +3,9 @@
 use crate::help::{ALL, ENTITY, IN, LIBRARY, MAP, OBJECT, SIGNAL, TO, TYPE, VARIABLE};
 use crate::reading::MOST_TOKENS;
 use crate::row::{Row, here, in_place, row};
-use crate::texts::{SPARE, Said};
+use crate::texts::SPARE;
 use vhdl_lexer::TokenKind;
+use vhdl_parser_rules::Said;
 
 const UNDERSCORE: &str = "write an underscore in its place, as in last_pulse";
 

@@ -5,14 +5,15 @@ ghost use Rattle.std.specs.List.{prefix_len};
 ghost use Rattle.vhdl_expected.specs.Reading as spec;
 
 use std::alloc::{AllocError, Global};
-use vhdl_lexer::{Token, TokenKind, is_semicolon};
+use vhdl_lexer::{Language, Token, TokenKind, is_semicolon};
 
 /// Of a token in a longer text nothing is told: each trial reads the text once more.
 pub const MOST_TOKENS: usize = 4_096;
 
-/// A source, tokens of it, and the place of the refused one among them.
+/// In which language a source is read, tokens of it, and the place of the refused one among them.
 #[derive(Clone, Copy)]
 pub(crate) struct Reading<'a> {
+    pub language: Language,
     pub source: &'a [u8],
     pub tokens: &'a [Token],
     pub refused: usize,

@@ -1,18 +1,18 @@
 //! Reserved words in place of names.
 
 ghost use Rattle.std.specs.Prelude.{◌≡◌, ◌≤◌, length, option_map, IfOk};
-ghost use Rattle.vhdl_expected.specs.Changes.{said_of};
+ghost use Rattle.vhdl_parser_rules.specs.Expected.{said_of};
 ghost use Rattle.vhdl_expected.specs.Reading.{IsWithin, reading_of};
 ghost use Rattle.vhdl_expected.specs.Told as spec;
 ghost use Rattle.vhdl_tree.specs.Lexeme.{same_kind};
 
-use crate::change::behind;
 use crate::reading::Reading;
 use crate::row::kinds;
-use crate::texts::{RESERVED, Said};
+use crate::texts::RESERVED;
 use crate::trial::{is_same_kind, tried};
 use std::alloc::{AllocError, Global};
 use vhdl_lexer::{Token, TokenKind};
+use vhdl_parser_rules::{Said, behind};
 
 /// What is no reserved word, and those for which no name stands.
 pub static NO_NAMES: [TokenKind; 28] = kinds!(

@@ -1,18 +1,18 @@
 //! Words of the grammar that are meant by identifiers.
 
 ghost use Rattle.std.specs.Prelude.{◌≡◌, ◌≤◌, drop, flat_map, length, map, option_map, IfOk};
+ghost use Rattle.vhdl_parser_rules.specs.Expected.{said_of};
 ghost use Rattle.vhdl_expected.specs.Reading.{IsPart, IsWithin, reading_of};
-ghost use Rattle.vhdl_expected.specs.Changes.{change_of, said_of};
+ghost use Rattle.vhdl_expected.specs.Changes.{change_of};
 ghost use Rattle.vhdl_expected.specs.Told as spec;
 
-use crate::near::is_near;
 use crate::reading::Reading;
 use crate::row::Change;
-use crate::texts::Said;
 use crate::trial::tried;
 use crate::word::{Word, words};
 use std::alloc::{AllocError, Global};
 use vhdl_lexer::{Token, TokenKind};
+use vhdl_parser_rules::{Said, is_near};
 
 /// At how many places a word may be meant: the refused token and those before it.
 pub(crate) const MOST_PLACES: usize = 16;

@@ -1,7 +1,7 @@
 //! The rows of the tables of changes.
 
-use crate::texts::Said;
 use vhdl_lexer::TokenKind;
+use vhdl_parser_rules::Said;
 
 /// A change of a token: what is put before it, how many tokens from it on are taken away, and what
 /// is told where the text then goes on.

@@ -1,8 +1,8 @@
 //! What was expected at a refused token.
 
 ghost use Rattle.std.specs.Prelude.{◌≡◌, ◌++◌, ◌≤◌, length, option_map, None, IfOk};
+ghost use Rattle.vhdl_parser_rules.specs.Expected.{expected_of, said_of};
 ghost use Rattle.vhdl_lexer.specs.Cut.{AreWithin};
-ghost use Rattle.vhdl_expected.specs.Changes.{said_of};
 ghost use Rattle.vhdl_expected.specs.Reading.{IsWithin, reading_of};
 ghost use Rattle.vhdl_expected.specs.Told as spec;
 
@@ -11,25 +11,13 @@ use crate::reading::{MOST_TOKENS, Reading, halves_at, joined};
 use crate::reserved::named;
 use crate::respelling::respelt;
 use crate::table::missing;
-use crate::texts::Said;
 use crate::trial::{first_among, first_said};
 use std::alloc::{AllocError, Global};
-use vhdl_lexer::Token;
+use vhdl_lexer::{Language, Token};
+use vhdl_parser_rules::{Expected, Said};
 
-/// What is told of a refused token, behind it and as help.
-#[derive(Clone, Copy)]
-pub enum Expected {
-    /// Nothing with which the text goes on is known.
-    Nothing,
-    /// A word is meant or lacks.
-    Surely(Said),
-    /// Something else stands in the token's place or before it, unless a form is known that isn't
-    /// read.
-    Perhaps(Said),
-}
-
-/// What was expected at the first token that doesn't start before a byte, where the parser refuses
-/// it.
+/// What was expected at the first token that doesn't start before a byte, where the parser of this
+/// language refuses it.
 ///
 /// Changes at that token, and shortly before it, are tried in a fixed order, until the text goes on
 /// with one up to the next `;`, or, where a change takes away all that follows, as far as what it
@@ -43,12 +31,13 @@ pub enum Expected {
 /// Where memory for a trial is refused.
 pub fn expected_at(
     alloc: Global,
+    language: Language,
     source: &[u8],
     tokens: &[Token],
     at: usize,
 ) -> Result<Expected, AllocError>
     requires { AreWithin source.now tokens.now }
-    ensures { IfOk result (λ found. spec.IsExpected source.now tokens.now at (spec.expected_of found)) }
+    ensures { IfOk result (λ found. spec.IsExpected language source.now tokens.now at (expected_of found)) }
 {
     let (before, from) = halves_at(tokens, at);
     if !is_read(before, from) {
@@ -56,6 +45,7 @@ pub fn expected_at(
     }
     let tokens = joined(alloc, before, from)?;
     let reading = Reading {
+        language,
         source,
         tokens: &tokens,
         refused: before.len(),
@@ -77,7 +67,7 @@ fn is_read(before: &[Token], from: &[Token]) -> bool
 fn told(alloc: Global, reading: Reading<'_>) -> Result<Expected, AllocError>
     requires within { IsWithin reading }
     requires place { reading.refused ≤ length reading.tokens.now }
-    ensures { IfOk result (λ found. spec.IsTold (reading_of reading.entry) (spec.expected_of found)) }
+    ensures { IfOk result (λ found. spec.IsTold (reading_of reading.entry) (expected_of found)) }
 {
     match surely(alloc, reading)? {
         Some(said) => Ok(Expected::Surely(said)),
@@ -117,7 +107,7 @@ fn lacking(alloc: Global, reading: Reading<'_>) -> Result<Option<Said>, AllocErr
 fn perhaps(alloc: Global, reading: Reading<'_>) -> Result<Expected, AllocError>
     requires within { IsWithin reading }
     requires place { reading.refused ≤ length reading.tokens.now }
-    ensures { IfOk result (λ found. spec.IsToldBehind (reading_of reading.entry) None (spec.expected_of found)) }
+    ensures { IfOk result (λ found. spec.IsToldBehind (reading_of reading.entry) None (expected_of found)) }
 {
     match first_said(alloc, reading, otherwise())? {
         Some(said) => Ok(Expected::Perhaps(said)),

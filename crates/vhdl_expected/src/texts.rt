@@ -1,9 +1,7 @@
 //! What is told of a change: what is wrong, and what helps.
 
 use crate::help::{ASSIGN, COMPARE, END, OUTSIDE, SELECT, TO};
-
-/// What is wrong, and what a designer does about it.
-pub type Said = (&'static str, &'static str);
+use vhdl_parser_rules::Said;
 
 pub const TWICE: Said = ("is written twice", "leave one of the two out");
 

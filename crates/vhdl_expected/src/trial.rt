@@ -1,19 +1,20 @@
 //! Trials: whether a text goes on with a change of one of its tokens.
 
 ghost use Rattle.std.specs.Prelude.{◌≡◌, ◌≤◌, ◌∷◌, [], true, false, flat_map, length, map, option_map, IfOk};
+ghost use Rattle.vhdl_parser_rules.specs.Expected.{said_of};
 ghost use Rattle.vhdl_lexer.specs.Cut.{AreWithin};
 ghost use Rattle.vhdl_tree.specs.Lexeme.{same_kind};
-ghost use Rattle.vhdl_expected.specs.Changes.{GoesOn, Breaks, change_of, said_of};
+ghost use Rattle.vhdl_expected.specs.Changes.{GoesOn, Breaks, change_of};
 ghost use Rattle.vhdl_expected.specs.Reading.{IsWithin, reading_of};
 ghost use Rattle.vhdl_expected.specs.Told as spec;
 
-use crate::change::{behind, changed};
+use crate::change::changed;
 use crate::reading::Reading;
 use crate::row::{Change, Row};
-use crate::texts::Said;
 use std::alloc::{AllocError, Global};
-use vhdl_lexer::{Token, TokenKind};
-use vhdl_parser::{SyntaxFault, parse};
+use vhdl_lexer::{Language, Token, TokenKind};
+use vhdl_parser::parse_in;
+use vhdl_parser_rules::{Said, SyntaxFault, behind};
 
 /// What is said of the first row of these tables with which the text goes on.
 pub(crate) fn first_among(
@@ -112,17 +113,22 @@ pub(crate) fn tried(
         (option_map said_of said)) }
 {
     let tokens = changed(alloc, reading.tokens, place, change)?;
-    let goes_on = goes_on(alloc, reading.source, &tokens)?;
+    let goes_on = goes_on(alloc, reading.language, reading.source, &tokens)?;
     Ok(if goes_on { Some(change.2) } else { None })
 }
 
-/// Whether some tokens behind these make a file of them.
-fn goes_on(alloc: Global, source: &[u8], tokens: &[Token]) -> Result<bool, AllocError>
+/// Whether some tokens behind these make a file of this language of them.
+fn goes_on(
+    alloc: Global,
+    language: Language,
+    source: &[u8],
+    tokens: &[Token],
+) -> Result<bool, AllocError>
     requires { AreWithin source.now tokens.now }
-    ensures on { IfOk result (λ on. on ≡ true → GoesOn source.now tokens.now) }
-    ensures off { IfOk result (λ on. on ≡ false → Breaks source.now tokens.now) }
+    ensures on { IfOk result (λ on. on ≡ true → GoesOn language source.now tokens.now) }
+    ensures off { IfOk result (λ on. on ≡ false → Breaks language source.now tokens.now) }
 {
-    let Err(fault) = parse(alloc, source, tokens) else {
+    let Err(fault) = parse_in(alloc, language, source, tokens) else {
         return Ok(true);
     };
     if is_wrong(fault) {

@@ -3,8 +3,8 @@
 ghost use Rattle.std.specs.Prelude.{◌≡◌, map};
 ghost use Rattle.vhdl_expected.specs.Told as spec;
 
-use crate::texts::Said;
 use vhdl_lexer::TokenKind;
+use vhdl_parser_rules::Said;
 
 /// A word: how it is written; the tokens that stand for it, and in place of how many; and what is
 /// told where it is meant by the refused token, or by one before that.

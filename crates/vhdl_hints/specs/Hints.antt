@@ -24,7 +24,7 @@ use Rattle.vhdl_slips.specs.Interfaces.{formal_at, formals, interface_of}
 use Rattle.vhdl_slips.specs.Parts.{begins, behind_last, first_of, from, has, in_parentheses, up_to}
 use Rattle.vhdl_hints.specs.declared.end_name.Begun.{Begun}
 use Rattle.vhdl_hints.specs.declared.end_name.Begun.TheVariants as begun_as
-use Rattle.vhdl_hints.specs.declared.form.TheConstants.{ARCHITECTURE, BELOW, CAST, ELSEWHERE, FORMAL_ARROW, FORMAL_TWICE, INDEX, ITSELF, LIBRARY, LISTED, LITERALS, NO_NAME, NO_SIGNAL, NO_VARIABLE, OTHERS, PORT_TWICE, WORDS}
+use Rattle.vhdl_hints.specs.declared.form.TheConstants.{ARCHITECTURE, BELOW, CAST, ELSEWHERE, FORMAL_ARROW, FORMAL_TWICE, INDEX, ITSELF, LIBRARY, LISTED, LITERALS, NO_EDGE, NO_NAME, NO_SIGNAL, NO_VARIABLE, OTHERS, PORT_TWICE, WORDS}
 use Rattle.vhdl_lexer.specs.declared.token.Token.{Token}
 use Rattle.vhdl_lexer.specs.declared.token.TokenKind.{TokenKind}
 use Rattle.vhdl_lexer.specs.declared.token.TokenKind.TheVariants as k
@@ -375,6 +375,10 @@ wrong_kind source before from =
     (or_else (or_else (or_else (other_name before) (no_target before from)) (component source (last_two before) from))
     (assigned source before from)) (misplaced source.text before from)) (position source before from)
 
+-- a process has no sensitivity list, and waits for something else than an edge alone
+abbrev pub no_edge : (from : List Token) → Hint
+no_edge from = if begins k.Wait from then form NO_EDGE else Nothing
+
 -- at a byte of a source, of whose tokens these start before it, and the others from it on
 abbrev pub hint_at : (source : Read) → (before from : List Token) → Rule → Subject → Hint
 hint_at source before from (rule.Name naming.Undeclared) subject = undeclared source before from
@@ -387,4 +391,5 @@ hint_at source before from (rule.Elab elaboration.Length) subject =
     or_else (actual source before from subject) (measure_hint subject (measured source.text from))
 hint_at source before from (rule.Elab elaboration.Index) subject = outside source before from
 hint_at source before from (rule.Elab elaboration.Unassociated) subject = open_port source from
+hint_at source before from (rule.Name naming.NoSensitivity) subject = no_edge from
 hint_at source before from rule subject = Nothing

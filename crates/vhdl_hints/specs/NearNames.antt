@@ -3,7 +3,7 @@ use Rattle.std.specs.Prelude.{ℕ, ◌&&◌, ◌||◌, not, nat_le, Bool, false,
 use Rattle.std.specs.Str.{str_eq_ignore_ascii_case}
 use Rattle.vhdl_slips.specs.Words.{Read, text_of, text_of_first}
 use Rattle.vhdl_hints.specs.Hinted.{Hint, Meant, NearEntity, Nothing}
-use Rattle.vhdl_expected.specs.Near.{is_near}
+use Rattle.vhdl_parser_rules.specs.Near.{is_near}
 use Rattle.vhdl_misfits.specs.Places.{begins_one_of}
 use Rattle.vhdl_slips.specs.Parts.{first_of, has}
 use Rattle.vhdl_lexer.specs.declared.token.Token.{Token}

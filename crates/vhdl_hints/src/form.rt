@@ -2,6 +2,12 @@
 
 use vhdl_slips::Said;
 
+pub const NO_EDGE: Said = (
+    "is for something else than an edge alone, so that nothing is known to resume the process",
+    "write wait until rising_edge(clk), and what stands beside the edge in an if behind it; a \
+     process without an edge is process (all)",
+);
+
 pub const NO_NAME: Said = (
     "stands at the end of what has no name at its beginning",
     "leave it out, or put it and a colon before what ends here",

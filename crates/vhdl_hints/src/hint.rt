@@ -9,7 +9,7 @@ ghost use Rattle.vhdl_hints.specs.Hinted.{hint_view, is_nothing, or_else};
 ghost use Rattle.vhdl_hints.specs.Hints as spec;
 
 use crate::end_name::{Begun, but_last_two, end_word, last_begun, last_two};
-use crate::form::{LITERALS, NO_NAME, WORDS};
+use crate::form::{LITERALS, NO_EDGE, NO_NAME, WORDS};
 use crate::misplaced::{actual, assigned, component, misplaced, position, unknown};
 use crate::word::{elsewhere, known_of, meant_among, misspelt, no_target, twice};
 use fault_rules::{ElabRule, NameRule, Report, Rule, Subject};
@@ -18,8 +18,8 @@ use vhdl_misfits::{
     Measure, begins_one_of, bounds_of, foreign, is_declared, is_empty, measured, misfit, range_at,
 };
 use vhdl_slips::{
-    Lexed, Said, associations, entity_of, first_choice, first_of, first_open, first_text, formals,
-    has, in_parentheses, interface_of, is_by_name, is_literal, is_same_kind, labelled,
+    Lexed, Said, associations, begins, entity_of, first_choice, first_of, first_open, first_text,
+    formals, has, in_parentheses, interface_of, is_by_name, is_literal, is_same_kind, labelled,
     open_instance, past, text_of, type_of,
 };
 
@@ -94,6 +94,7 @@ pub fn hint_at<'a>(
         Rule::Name(NameRule::TypeMismatch) => mismatch(source, before, from, report.subject),
         Rule::Name(NameRule::LeftOut) => assigned(source, before, from),
         Rule::Name(NameRule::NoOthers) => enumeration(source.text, before, from),
+        Rule::Name(NameRule::NoSensitivity) => no_edge(from),
         Rule::Elab(ElabRule::Length) => actual(source, before, from, report.subject).or_else(
             measure_hint(report.subject, measured(source.text, from)),
         ),
@@ -101,6 +102,16 @@ pub fn hint_at<'a>(
         Rule::Elab(ElabRule::Unassociated) => open_port(source, from),
         _ => Hint::Nothing,
     }
+}
+
+/// Of a process that has no sensitivity list, and waits for something else than an edge alone.
+fn no_edge(from: &[Token]) -> Hint<'static>
+    ensures { hint_view result ≡ spec.no_edge from.now }
+{
+    if begins(TokenKind::Wait, from) {
+        return Hint::Form(NO_EDGE);
+    }
+    Hint::Nothing
 }
 
 /// What is told of a word, or nothing.

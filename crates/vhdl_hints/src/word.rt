@@ -11,12 +11,12 @@ use crate::form::{
 };
 use crate::hint::Hint;
 use crate::misplaced::opens_list;
-use vhdl_expected::is_near;
 use vhdl_lexer::{Token, TokenKind};
 use vhdl_misfits::{
     Known, begins_one_of, begins_statement, behind_name, is_declared, is_inside_loop, known_object,
     ports_of,
 };
+use vhdl_parser_rules::is_near;
 use vhdl_slips::{
     Lexed, begins, behind_last, first_of, first_text, has, is_same_kind, is_same_word, past,
     text_of, up_to,

@@ -24,7 +24,7 @@ end_more opened last d (t ∷ ts) some goes_on = rw (rest_is t ts, goes_on) refl
 pub begins_more : (at depth : ℕ) (last : TokenKind) (here : List Token) (d : Token) (ts : List Token) → 1 ≤ length ts
     → nat_le at (slice_index_or ts 0 d).start ≡ false
     → beginning at (depth_behind depth last (slice_index_or ts 0 d).kind) (slice_index_or ts 0 d).kind
-    (if begins_behind (depth_behind depth last (slice_index_or ts 0 d).kind) last (slice_index_or ts 0 d).kind then rest ts else here) (rest ts)
+    (if begins_behind (depth_behind depth last (slice_index_or ts 0 d).kind) last (slice_index_or ts 0 d).kind (rest ts) then rest ts else here) (rest ts)
     ≡ beginning at depth last here ts
 begins_more at depth last here d [] some before = absurd (omega arith)
 begins_more at depth last here d (t ∷ ts) some before = rw (rest_is t ts, before) refl

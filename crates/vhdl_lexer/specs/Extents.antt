@@ -1,8 +1,9 @@
 -- Which bytes are taken out with a fault that stands at a byte: the innermost statement that has it, or the
--- declaration, up to its `;`. A process is taken out whole for what stands in its head, its variables too. What the
--- rest may stand on stays: context clauses, entities, interfaces, components, types, and the choices of a case.
-use Rattle.std.specs.Prelude.{ℕ, Bool, ◌+◌, ◌-◌, ◌==◌, ◌&&◌, nat_le, nat_lt, if◌then◌else◌, List, [], ◌∷◌, Option, Some, None}
-use Rattle.vhdl_lexer.specs.Kinds.{is_end, is_semicolon, opens, is_boundary, is_left, is_right, may_go}
+-- declaration, up to its `;`. A process is taken out whole for what stands in its head, its variables too, or in its
+-- wait. What the rest may stand on stays: context clauses, entities, interfaces, components, types, and the choices of
+-- a case.
+use Rattle.std.specs.Prelude.{ℕ, Bool, ◌+◌, ◌-◌, ◌==◌, ◌&&◌, not, false, nat_le, nat_lt, if◌then◌else◌, List, [], ◌∷◌, Option, Some, None}
+use Rattle.vhdl_lexer.specs.Kinds.{is_end, is_semicolon, is_wait, opens, is_boundary, is_left, is_right, may_go}
 use Rattle.vhdl_lexer.specs.declared.extent.Extent.{Extent}
 use Rattle.vhdl_lexer.specs.Bytes.{ends_line}
 use Rattle.vhdl_lexer.specs.declared.token.Token.{Token}
@@ -15,9 +16,14 @@ use Rattle.vhdl_lexer.specs.declared.token.TokenKind.TheVariants as k
 abbrev pub depth_behind : (depth : ℕ) → (last kind : TokenKind) → ℕ
 depth_behind depth last kind = if is_left last kind then depth + 1 else (if is_right kind then depth - 1 else depth)
 
--- a statement or declaration may begin behind this token, behind which so many parentheses are open
-abbrev pub begins_behind : (depth : ℕ) → (last kind : TokenKind) → Bool
-begins_behind depth last kind = (depth == 0) && is_boundary last kind
+-- a wait stands ahead
+abbrev pub waits : (ahead : List Token) → Bool
+waits [] = false
+waits (t ∷ ts) = is_wait t.kind
+
+-- a statement or declaration may begin behind this token, behind which so many parentheses are open; a wait doesn't
+abbrev pub begins_behind : (depth : ℕ) → (last kind : TokenKind) → (ahead : List Token) → Bool
+begins_behind depth last kind ahead = (depth == 0) && is_boundary last kind && not (waits ahead)
 
 -- The tokens from where the innermost statement begins that has the byte: behind the last boundary before the byte.
 -- `here`: from where the one begins that is being read.
@@ -26,7 +32,7 @@ beginning at depth last here [] = here
 beginning at depth last here (t ∷ ts) =
     if nat_le at t.start then here
     else beginning at (depth_behind depth last t.kind) t.kind
-    (if begins_behind (depth_behind depth last t.kind) last t.kind then ts else here) ts
+    (if begins_behind (depth_behind depth last t.kind) last t.kind ts then ts else here) ts
 
 -- ---- where it ends
 

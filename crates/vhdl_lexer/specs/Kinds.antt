@@ -15,6 +15,9 @@ is_end = is_one_of (k.End ∷ [])
 abbrev pub is_semicolon : TokenKind → Bool
 is_semicolon = is_one_of (k.Semicolon ∷ [])
 
+abbrev pub is_wait : TokenKind → Bool
+is_wait = is_one_of (k.Wait ∷ [])
+
 -- the words of statements that have an `end` of their own
 abbrev pub is_compound : TokenKind → Bool
 is_compound = is_one_of (k.If ∷ k.Case ∷ k.For ∷ k.Process ∷ [])

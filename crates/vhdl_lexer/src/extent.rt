@@ -15,7 +15,7 @@ pub struct Extent {
 
 /// What is taken out with a fault at byte `at` of the source that has these tokens: the innermost
 /// statement in which the fault stands, or the declaration, and for what stands in the head of a
-/// process that process; `None` where it stands in what the rest may stand on.
+/// process or in its wait that process; `None` where it stands in what the rest may stand on.
 pub fn statement_at(tokens: &[Token], at: usize) -> Option<Extent>
     ensures { result ≡ spec.statement_at tokens.now at }
 {
@@ -35,7 +35,7 @@ fn beginning(tokens: &[Token], at: usize) -> &[Token]
             return here;
         }
         depth = depth_behind(depth, last, token.kind);
-        here = chosen(begins_behind(depth, last, token.kind), rest, here);
+        here = chosen(begins_behind(depth, last, token.kind, rest), rest, here);
         last = token.kind;
         left = rest;
     }
@@ -72,11 +72,21 @@ pub fn depth_behind(depth: usize, last: TokenKind, kind: TokenKind) -> usize
 }
 
 /// Whether a statement or declaration may begin behind a token, behind which so many parentheses
-/// are open.
-pub fn begins_behind(depth: usize, last: TokenKind, kind: TokenKind) -> bool
-    ensures { result ≡ spec.begins_behind depth last kind }
+/// are open and these tokens are ahead. A wait is part of its process.
+pub fn begins_behind(depth: usize, last: TokenKind, kind: TokenKind, ahead: &[Token]) -> bool
+    ensures { result ≡ spec.begins_behind depth last kind ahead.now }
 {
-    depth == 0 && is_boundary(last, kind)
+    depth == 0 && is_boundary(last, kind) && !waits(ahead)
+}
+
+/// Whether a wait stands ahead.
+fn waits(ahead: &[Token]) -> bool
+    ensures { result ≡ spec.waits ahead.now }
+{
+    match ahead {
+        [token, ..] => matches!(token.kind, TokenKind::Wait),
+        [] => false,
+    }
 }
 
 /// The statement or declaration with which these tokens begin, if it may be taken out.

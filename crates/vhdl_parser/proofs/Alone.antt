@@ -1,5 +1,6 @@
 -- What the readers of concurrent statements say of an identifier that stands alone: they take it.
 use Rattle.std.proofs.Common.{◌≡◌, ℕ, List, [], ◌∷◌, Err, Option, None, refl}
+use Rattle.vhdl_lexer.specs.declared.language.Language.{Language}
 use Rattle.vhdl_parser_expressions.specs.declared.stop.Stop.TheVariants.{EndOfFile}
 use Rattle.vhdl_tree.specs.Tree.{Ident}
 use Rattle.vhdl_parser_expressions.specs.reader.Input.{token, expect, next_kind}
@@ -17,6 +18,6 @@ assign_with_alone n label at text = rw (assign_alone n label at text) refl
 pub instance_with_alone : (n : ℕ) (label : Ident) (at : ℕ) (text : List ℕ) → instance_with n label (word at text ∷ []) ≡ Err (EndOfFile, [])
 instance_with_alone n label at text = rw (instance_alone n at text) refl
 
-pub unlabelled_alone : (n at : ℕ) (text : List ℕ) → unlabelled n (word at text ∷ []) ≡ Err (EndOfFile, [])
+pub unlabelled_alone : (language : Language) (n at : ℕ) (text : List ℕ) → unlabelled language n (word at text ∷ []) ≡ Err (EndOfFile, [])
 unfolding unlabelled next_kind
-unlabelled_alone n at text = rw (assign_with_alone n None at text) refl
+unlabelled_alone language n at text = rw (assign_with_alone n None at text) refl

@@ -1,12 +1,13 @@
 -- What the readers of concurrent statements make.
 use Rattle.std.proofs.Common.{◌≡◌, ℕ, zero, suc, ◌≤◌, Bool, false, List, [], ◌∷◌, ◌++◌, Option, Some, None, refl, sym, ap, append-nil, arith}
+use Rattle.vhdl_lexer.specs.declared.language.Language.{Language}
 use Rattle.vhdl_lexer.specs.declared.token.TokenKind.{TokenKind}
 use Rattle.vhdl_lexer.specs.declared.token.TokenKind.TheVariants as k
 use Rattle.vhdl_tree.specs.Lexeme.{Lexeme, same_kind}
 use Rattle.vhdl_tree.specs.Tree.{Ident, Scheme, for_each, if_holds, Concurrent, assignment, selected, process, instance, generated, concurrents_of}
 use Rattle.vhdl_tree.specs.Pieces.{Piece, some, spell_option, spell_word, spell_each, IsEach}
 use Rattle.vhdl_tree.specs.grammar.Sequential.{spell_label, spell_end}
-use Rattle.vhdl_tree.specs.grammar.Concurrent.{spell_assignment, spell_scheme, spell_concurrent, spell_concurrents, IsAssignment, IsScheme, IsConcurrent, AreConcurrents}
+use Rattle.vhdl_tree.specs.grammar.Concurrent.{spell_assignment, spell_scheme, spell_concurrent, spell_concurrents, IsAssignment, IsScheme, IsConcurrentIn, AreConcurrentsIn}
 use Rattle.vhdl_parser_expressions.specs.reader.Input.{Parser, and_then, expect, eat, identifier, next_kind, second_kind}
 use Rattle.vhdl_parser_expressions.specs.reader.Expressions.{range}
 use Rattle.vhdl_parser_statements.specs.reader.Sequential.{end_of}
@@ -26,8 +27,8 @@ use Rattle.vhdl_parser.proofs.Alone.{assign_with_alone, instance_with_alone, unl
 use Rattle.vhdl_parser.proofs.Plain.{plain_concurrent, plain_for, plain_if, concurrent_long}
 
 -- behind its label
-abbrev Behind : ℕ → Option Ident → Parser Concurrent → Type 0
-Behind n label p = Walks n 0 false 0 (λ r. spell_option spell_label label ++ r) p spell_concurrent IsConcurrent
+abbrev Behind : Language → ℕ → Option Ident → Parser Concurrent → Type 0
+Behind language n label p = Walks n 0 false 0 (λ r. spell_option spell_label label ++ r) p spell_concurrent (IsConcurrentIn language)
 
 assign_rule : (n : ℕ) (label : Option Ident) → Walks n 0 false 0 (λ r. spell_option spell_label label ++ r) (assign n label) spell_assignment IsAssignment
 unfolding assign
@@ -38,17 +39,17 @@ assign_rule n label =
     w_some k.Semicolon refl (λ _.
     w_pure (omega arith) refl (named, good)))))
 
-assign_with_rule : (n : ℕ) (label : Option Ident) → Behind n label (assign_with n label)
-assign_with_rule n label = w_map assignment (λ a more good same. (same, good)) (assign_rule n label)
+assign_with_rule : (language : Language) (n : ℕ) (label : Option Ident) → Behind language n label (assign_with n label)
+assign_with_rule language n label = w_map assignment (λ a more good same. (same, good)) (assign_rule n label)
 
-select_with_rule : (n : ℕ) (label : Option Ident) → Behind n label (select_with n label)
-select_with_rule n label = w_last (λ s. selected label s) (selected_rule n) (λ s good. (refl, good))
+select_with_rule : (language : Language) (n : ℕ) (label : Option Ident) → Behind language n label (select_with n label)
+select_with_rule language n label = w_last (λ s. selected label s) (selected_rule n) (λ s good. (refl, good))
 
-process_with_rule : (n : ℕ) (label : Option Ident) → Behind n label (process_with n label)
-process_with_rule n label = w_last (λ p. process label p) (process_rule n) (λ p good. (refl, good))
+process_with_rule : (language : Language) (n : ℕ) (label : Option Ident) → Behind language n label (process_with language n label)
+process_with_rule language n label = w_last (λ p. process label p) (process_rule language n) (λ p good. (refl, good))
 
-instance_with_rule : (n : ℕ) (label : Ident) → Behind n (Some label) (instance_with n label)
-instance_with_rule n label = w_last (λ i. instance label i) (instance_rule n) (λ i good. (refl, good))
+instance_with_rule : (language : Language) (n : ℕ) (label : Ident) → Behind language n (Some label) (instance_with n label)
+instance_with_rule language n label = w_last (λ i. instance label i) (instance_rule n) (λ i good. (refl, good))
 
 component_two : (l next : Lexeme) (us vs : List Lexeme) → sees_component (l ∷ next ∷ us) ≡ sees_component (l ∷ next ∷ vs)
 unfolding next_kind second_kind
@@ -58,22 +59,22 @@ component_one : (t : Lexeme) (r m : List Lexeme) → same_kind t.kind k.Identifi
 unfolding next_kind second_kind
 component_one t r m e = rw e refl
 
-named_rule : (n : ℕ) (label : Ident) → Behind n (Some label) (named_with n label)
+named_rule : (language : Language) (n : ℕ) (label : Ident) → Behind language n (Some label) (named_with n label)
 unfolding named_with
-named_rule n label = w_by sees_component (instance_with_rule n label) (assign_with_rule n (Some label))
-    (steady_by sees_component k.Identifier component_two component_one (instance_with_rule n label).steady (assign_with_rule n (Some label)).steady
-    (eager k.Identifier (instance_with_rule n label).steady (λ at text. ap (λ o. left_of o) (instance_with_alone n label at text)))
-    (eager k.Identifier (assign_with_rule n (Some label)).steady (λ at text. ap (λ o. left_of o) (assign_with_alone n (Some label) at text))))
+named_rule language n label = w_by sees_component (instance_with_rule language n label) (assign_with_rule language n (Some label))
+    (steady_by sees_component k.Identifier component_two component_one (instance_with_rule language n label).steady (assign_with_rule language n (Some label)).steady
+    (eager k.Identifier (instance_with_rule language n label).steady (λ at text. ap (λ o. left_of o) (instance_with_alone n label at text)))
+    (eager k.Identifier (assign_with_rule language n (Some label)).steady (λ at text. ap (λ o. left_of o) (assign_with_alone n (Some label) at text))))
 
-unlabelled_next : (n : ℕ) (next : Option TokenKind) → Behind n None (unlabelled_by n next)
-unlabelled_next n (Some k.With) = select_with_rule n None
-unlabelled_next n (Some k.Process) = process_with_rule n None
-unlabelled_next n (Some k.Identifier) = assign_with_rule n None
-unlabelled_next n _ = w_refuse (plain_concurrent None)
+unlabelled_next : (language : Language) (n : ℕ) (next : Option TokenKind) → Behind language n None (unlabelled_by language n next)
+unlabelled_next language n (Some k.With) = select_with_rule language n None
+unlabelled_next language n (Some k.Process) = process_with_rule language n None
+unlabelled_next language n (Some k.Identifier) = assign_with_rule language n None
+unlabelled_next language n _ = w_refuse (plain_concurrent language None)
 
-unlabelled_rule : (n : ℕ) → Behind n None (unlabelled n)
+unlabelled_rule : (language : Language) (n : ℕ) → Behind language n None (unlabelled language n)
 unfolding unlabelled
-unlabelled_rule n = w_choose (unlabelled_next n)
+unlabelled_rule language n = w_choose (unlabelled_next language n)
 
 -- ---- generates
 
@@ -86,23 +87,23 @@ module _ {B : Type 0} {n d d2 : ℕ} {before : List Piece → List Piece} {spell
 abbrev pub spelled_all : List Concurrent → List Piece
 spelled_all cs = spell_concurrents (concurrents_of cs)
 
-abbrev pub formed_all : List Concurrent → Type 0
-formed_all cs = AreConcurrents (concurrents_of cs)
+abbrev pub formed_all : Language → List Concurrent → Type 0
+formed_all language cs = AreConcurrentsIn language (concurrents_of cs)
 
 pub spelled_all-each : (cs : List Concurrent) → spelled_all cs ≡ spell_each spell_concurrent cs
 spelled_all-each [] = refl
 spelled_all-each (c ∷ cs) = ap (λ ps. spell_concurrent c ++ ps) (spelled_all-each cs)
 
-formed_each : (cs : List Concurrent) → IsEach IsConcurrent cs → formed_all cs
-formed_each [] f = tt
-formed_each (c ∷ cs) f = (f.0, formed_each cs f.1)
+formed_each : (language : Language) (cs : List Concurrent) → IsEach (IsConcurrentIn language) cs → formed_all language cs
+formed_each language [] f = tt
+formed_each language (c ∷ cs) f = (f.0, formed_each language cs f.1)
 
 generate_spelled : (label : Ident) (at : ℕ) (s : Scheme) (w : Bool) (cs : List Concurrent) (l : Option Ident) →
     spell_concurrent (generated label at s w (concurrents_of cs) l) ≡ spell_label label ++ (spell_scheme at s ++ (some k.Generate ∷ (spell_word k.Begin w ++ (spelled_all cs ++ (spell_end k.Generate l ++ [])))))
 generate_spelled label at s w cs l = ap (λ ps. spell_label label ++ (spell_scheme at s ++ (some k.Generate ∷ (spell_word k.Begin w ++ (spelled_all cs ++ ps))))) (sym (append-nil (spell_end k.Generate l)))
 
-module _ (n : ℕ) (inner : Parser (List Concurrent)) (each : Rule n 1 inner spelled_all formed_all) where
-  generate_rest_rule : (label : Ident) (at : ℕ) (s : Scheme) → IsScheme s → 1 ≤ n → Walks n 1 false 0 (λ r. spell_label label ++ (spell_scheme at s ++ r)) (generate_rest inner label at s) spell_concurrent IsConcurrent
+module _ (language : Language) (n : ℕ) (inner : Parser (List Concurrent)) (each : Rule n 1 inner spelled_all (formed_all language)) where
+  generate_rest_rule : (label : Ident) (at : ℕ) (s : Scheme) → IsScheme s → 1 ≤ n → Walks n 1 false 0 (λ r. spell_label label ++ (spell_scheme at s ++ r)) (generate_rest inner label at s) spell_concurrent (IsConcurrentIn language)
   unfolding generate_rest generate_body same_kind
   generate_rest_rule label at s good le =
       w_inner (expect k.Generate) _ _ (w_generate (λ _.
@@ -110,44 +111,44 @@ module _ (n : ℕ) (inner : Parser (List Concurrent)) (each : Rule n 1 inner spe
       w_inner inner _ _ (w_then each (λ cs fine _.
       w_inner (end_of k.Generate) _ _ (w_end_of k.Generate refl refl refl le (λ l. w_pure (omega arith) (generate_spelled label at s w cs l) (good, fine)))))))))
 
-  for_rule : (label : Ident) → Behind n (Some label) (for_generate n inner label)
+  for_rule : (label : Ident) → Behind language n (Some label) (for_generate n inner label)
   unfolding for_generate for_scheme same_kind
-  for_rule label = w_open k.For refl refl refl (plain_for label) (below_met _ n) (λ at. w_below n (λ m e.
+  for_rule label = w_open k.For refl refl refl (plain_for language label) (below_met _ n) (λ at. w_below n (λ m e.
       w_inner identifier _ _ (w_ident (λ p. w_inner (expect k.In) _ _ (w_some k.In refl (λ _.
       w_inner (range m) _ _ (w_then (under e (range_rule m)) (λ r good le. generate_rest_rule label at (for_each p r) good le))))))))
 
-  if_rule : (label : Ident) → Behind n (Some label) (if_generate n inner label)
+  if_rule : (label : Ident) → Behind language n (Some label) (if_generate n inner label)
   unfolding if_generate same_kind
-  if_rule label = w_open k.If refl refl refl (plain_if label) (below_met _ n) (λ at. w_below n (λ m e. w_then (under e (expr_rule m)) (λ c good le. generate_rest_rule label at (if_holds c) good le)))
+  if_rule label = w_open k.If refl refl refl (plain_if language label) (below_met _ n) (λ at. w_below n (λ m e. w_then (under e (expr_rule m)) (λ c good le. generate_rest_rule label at (if_holds c) good le)))
 
-  labelled_next : (label : Ident) (next : Option TokenKind) → Behind n (Some label) (labelled_by n inner label next)
-  labelled_next label (Some k.With) = select_with_rule n (Some label)
-  labelled_next label (Some k.Process) = process_with_rule n (Some label)
-  labelled_next label (Some k.Entity) = instance_with_rule n label
-  labelled_next label (Some k.Component) = instance_with_rule n label
+  labelled_next : (label : Ident) (next : Option TokenKind) → Behind language n (Some label) (labelled_by language n inner label next)
+  labelled_next label (Some k.With) = select_with_rule language n (Some label)
+  labelled_next label (Some k.Process) = process_with_rule language n (Some label)
+  labelled_next label (Some k.Entity) = instance_with_rule language n label
+  labelled_next label (Some k.Component) = instance_with_rule language n label
   labelled_next label (Some k.For) = for_rule label
   labelled_next label (Some k.If) = if_rule label
-  labelled_next label (Some k.Identifier) = named_rule n label
-  labelled_next label _ = w_refuse (plain_concurrent (Some label))
+  labelled_next label (Some k.Identifier) = named_rule language n label
+  labelled_next label _ = w_refuse (plain_concurrent language (Some label))
 
-  label_next : (label : Option Ident) → Behind n label (by_label n inner label)
+  label_next : (label : Option Ident) → Behind language n label (by_label language n inner label)
   unfolding labelled
-  label_next None = unlabelled_rule n
+  label_next None = unlabelled_rule language n
   label_next (Some label) = w_choose (labelled_next label)
 
-  concurrent_rule : Rule n 0 (concurrent n inner) spell_concurrent IsConcurrent
+  concurrent_rule : Rule n 0 (concurrent language n inner) spell_concurrent (IsConcurrentIn language)
   unfolding concurrent
-  concurrent_rule = w_labelled (by_label n inner) label_next (λ at text. ap (λ o. left_of o) (unlabelled_alone n at text))
+  concurrent_rule = w_labelled (by_label language n inner) label_next (λ at text. ap (λ o. left_of o) (unlabelled_alone language n at text))
 
-  with_rule : Rule n 0 (concurrents_with n inner) spelled_all formed_all
+  with_rule : Rule n 0 (concurrents_with language n inner) spelled_all (formed_all language)
   unfolding concurrents_with
-  with_rule = w_ends spelled_all-each formed_each (each_rule begins_concurrent (concurrent n inner) (omega arith) concurrent_rule refl concurrent_long)
+  with_rule = w_ends spelled_all-each (formed_each language) (each_rule begins_concurrent (concurrent language n inner) (omega arith) concurrent_rule refl concurrent_long)
 
-deeper_rule : (n : ℕ) → Rule n 1 (deeper_concurrents n) spelled_all formed_all
+deeper_rule : (language : Language) (n : ℕ) → Rule n 1 (deeper_concurrents language n) spelled_all (formed_all language)
 unfolding deeper_concurrents
-deeper_rule zero = under_none
-deeper_rule (suc m) = under refl (with_rule m (deeper_concurrents m) (deeper_rule m))
+deeper_rule language zero = under_none
+deeper_rule language (suc m) = under refl (with_rule language m (deeper_concurrents language m) (deeper_rule language m))
 
-pub concurrents_rule : (n : ℕ) → Rule n 0 (concurrents n) (spell_each spell_concurrent) (IsEach IsConcurrent)
+pub concurrents_rule : (language : Language) (n : ℕ) → Rule n 0 (concurrents language n) (spell_each spell_concurrent) (IsEach (IsConcurrentIn language))
 unfolding concurrents_with
-concurrents_rule n = each_rule begins_concurrent (concurrent n (deeper_concurrents n)) (omega arith) (concurrent_rule n (deeper_concurrents n) (deeper_rule n)) refl concurrent_long
+concurrents_rule language n = each_rule begins_concurrent (concurrent language n (deeper_concurrents language n)) (omega arith) (concurrent_rule language n (deeper_concurrents language n) (deeper_rule language n)) refl concurrent_long

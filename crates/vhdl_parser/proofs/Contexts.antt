@@ -1,10 +1,10 @@
 -- Context clauses: what is read is spelled so, and what is spelled is read.
-use Rattle.std.proofs.Common.{◌≡◌, ℕ, ◌≤◌, true, false, List, [], ◌∷◌, length, Option, Some, refl, arith}
+use Rattle.std.proofs.Common.{◌≡◌, ℕ, ◌≤◌, true, false, List, [], length, Option, refl, arith}
 use Rattle.vhdl_lexer.specs.declared.token.TokenKind.{TokenKind}
 use Rattle.vhdl_lexer.specs.declared.token.TokenKind.TheVariants as k
 use Rattle.vhdl_tree.specs.Lexeme.{same_kind}
 use Rattle.vhdl_tree.specs.Tree.{Ident, Selected, ContextItem, library, uses}
-use Rattle.vhdl_tree.specs.Pieces.{some, spell_each, spell_list, IsAny, IsEach, IsList}
+use Rattle.vhdl_tree.specs.Pieces.{spell_each, spell_list, IsAny, IsEach, IsList}
 use Rattle.vhdl_tree.specs.grammar.Units.{spell_selected, spell_context, IsContext}
 use Rattle.vhdl_parser_expressions.specs.reader.Input.{is_kind}
 use Rattle.vhdl_parser.specs.reader.Context.{selected, selecteds, library_clause, use_clause, context_item, begins_context, context}

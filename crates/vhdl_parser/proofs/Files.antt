@@ -1,5 +1,6 @@
 -- Units and files: what is read is spelled so, and what is spelled is read.
 use Rattle.std.proofs.Common.{◌≡◌, ◌+◌, ◌≤◌, Bool, true, false, List, [], ◌∷◌, ◌++◌, length, take, Ok, Err, Option, Some, None, inl, ⊎_elim, refl, sym, ap, ◌∙◌, subst, append-nil, arith}
+use Rattle.vhdl_lexer.specs.declared.language.Language.{Language}
 use Rattle.vhdl_lexer.specs.declared.token.TokenKind.{TokenKind}
 use Rattle.vhdl_lexer.specs.declared.token.TokenKind.TheVariants as k
 use Rattle.vhdl_parser_expressions.specs.declared.stop.Stop.{Stop}
@@ -9,7 +10,7 @@ use Rattle.vhdl_tree.specs.Tree.{Ident, Port, Entity, Architecture, ContextItem,
 use Rattle.vhdl_tree.specs.Pieces.{some, Spells, spell_ident, spell_option, spell_each, IsEach}
 use Rattle.vhdl_tree.specs.Levels.{opens, closes, IsShallow, IsDeep}
 use Rattle.vhdl_tree.specs.grammar.Declarations.{spell_ports}
-use Rattle.vhdl_tree.specs.grammar.Units.{spell_context, spell_end, spell_entity, spell_architecture, spell_library_unit, spell_unit, spell_file, IsEntity, IsArchitecture, IsLibraryUnit, IsUnit, IsFile}
+use Rattle.vhdl_tree.specs.grammar.Units.{spell_context, spell_end, spell_entity, spell_architecture, spell_library_unit, spell_unit, spell_file, IsEntity, IsArchitectureIn, IsLibraryUnitIn, IsUnitIn, IsFileIn}
 use Rattle.vhdl_parser_expressions.specs.reader.Input.{Outcome, and_then, expect, next_kind, is_kind, is_more, eat, identifier, optional, refusal}
 use Rattle.vhdl_parser.specs.reader.Context.{begins_context}
 use Rattle.vhdl_parser.specs.reader.Units.{max_open, entity_unit, architecture_unit, library_unit_by, library_unit, unit, units, finish, file}
@@ -44,9 +45,9 @@ entity_rule =
     w_some k.Semicolon refl (λ _.
     w_pure (omega arith) refl (fine, good))))))))))
 
-architecture_rule : Rule max_open 0 architecture_unit spell_architecture IsArchitecture
+architecture_rule : (language : Language) → Rule max_open 0 (architecture_unit language) spell_architecture (IsArchitectureIn language)
 unfolding architecture_unit
-architecture_rule =
+architecture_rule language =
     w_at k.Architecture refl (λ at.
     w_ident (λ name.
     w_some k.Of refl (λ _.
@@ -54,7 +55,7 @@ architecture_rule =
     w_some k.Is refl (λ _.
     w_then (declarations_rule max_open) (λ ds fine _.
     w_some k.Begin refl (λ _.
-    w_then (concurrents_rule max_open) (λ found good _.
+    w_then (concurrents_rule language max_open) (λ found good _.
     w_end (λ _.
     w_word k.Architecture refl (λ word e.
     w_option_ident (λ last e2.
@@ -62,23 +63,23 @@ architecture_rule =
     w_pure (omega arith) refl (fine, good)))))))))))))
 
 -- entity id is end ;
-plain_entity : Example afresh spell_library_unit IsLibraryUnit
-plain_entity =
+plain_entity : (language : Language) → Example afresh spell_library_unit (IsLibraryUnitIn language)
+plain_entity language =
     let e : Entity = record { at = 0; name = an_ident; generics = None; ports = None; end_word = false; end_name = None } in
     record { tree = entity e; more = spell_entity e; is = refl; formed = (tt, tt) }
 
-library_unit_rule : Rule max_open 0 library_unit spell_library_unit IsLibraryUnit
+library_unit_rule : (language : Language) → Rule max_open 0 (library_unit language) spell_library_unit (IsLibraryUnitIn language)
 unfolding library_unit
-library_unit_rule = w_choose (λ next. by_next next)
+library_unit_rule language = w_choose (λ next. by_next next)
   where
-    by_next : (next : Option TokenKind) → Rule max_open 0 (library_unit_by next) spell_library_unit IsLibraryUnit
+    by_next : (next : Option TokenKind) → Rule max_open 0 (library_unit_by language next) spell_library_unit (IsLibraryUnitIn language)
     by_next (Some k.Entity) = w_last entity entity_rule (λ e good. (refl, good))
-    by_next (Some k.Architecture) = w_last architecture architecture_rule (λ a good. (refl, good))
-    by_next _ = w_refuse plain_entity
+    by_next (Some k.Architecture) = w_last architecture (architecture_rule language) (λ a good. (refl, good))
+    by_next _ = w_refuse (plain_entity language)
 
-unit_rule : Rule max_open 0 unit spell_unit IsUnit
+unit_rule : (language : Language) → Rule max_open 0 (unit language) spell_unit (IsUnitIn language)
 unfolding unit
-unit_rule = w_then (context_rule max_open) (λ before good _. w_last (λ u. record { context = before; unit = u }) library_unit_rule (λ u fine. (refl, (good, fine))))
+unit_rule language = w_then (context_rule max_open) (λ before good _. w_last (λ u. record { context = before; unit = u }) (library_unit_rule language) (λ u fine. (refl, (good, fine))))
 
 unit_some : (u : DesignUnit) → 1 ≤ length (spell_unit u)
 unit_some u = by_parts u.context u.unit
@@ -89,9 +90,9 @@ unit_some u = by_parts u.context u.unit
     by_parts (library names ∷ more) x = omega arith
     by_parts (uses all ∷ more) x = omega arith
 
-pub units_rule : Rule max_open 0 units (spell_each spell_unit) (IsEach IsUnit)
+pub units_rule : (language : Language) → Rule max_open 0 (units language) (spell_each spell_unit) (IsEach (IsUnitIn language))
 unfolding units
-units_rule = each_rule is_more unit (omega arith) unit_rule refl unit_some
+units_rule language = each_rule is_more (unit language) (omega arith) (unit_rule language) refl unit_some
 
 -- end [ word ] [ id ] ;
 end_gives : {B : Type 0} (f : Bool → Option Ident → B) (kind : TokenKind) (word : Bool) (last : Option Ident) → same_kind kind kind ≡ true → same_kind k.Identifier kind ≡ false → same_kind k.Semicolon kind ≡ false →
@@ -118,32 +119,32 @@ entity_gives e good =
     no_generic None next = (refl, tt)
     no_generic (Some ps) next = (refl, tt)
 
-architecture_gives : (a : Architecture) → IsArchitecture a → Gives architecture_unit a (spell_architecture a) Whatever
+architecture_gives : (language : Language) (a : Architecture) → IsArchitectureIn language a → Gives (architecture_unit language) a (spell_architecture a) Whatever
 unfolding architecture_unit same_kind
-architecture_gives a good =
+architecture_gives language a good =
     g_at _ (g_ident _ (g_some (λ _. g_ident _ (g_some (λ _.
     g_then _ (declarations_gives max_open a.declarations good.0)
     (g_some (λ _.
-    g_then _ (concurrents_gives max_open a.statements good.1)
+    g_then _ (concurrents_gives language max_open a.statements good.1)
     (end_gives (λ w l. record { at = a.at; name = a.name; entity = a.entity; declarations = a.declarations; statements = a.statements; end_word = w; end_name = l }) k.Architecture a.end_word a.end_name refl refl refl)
     (λ next g. (refl, tt))))
     (λ next g. (refl, tt)))))))
 
-library_unit_gives : (u : LibraryUnit) → IsLibraryUnit u → Gives library_unit u (spell_library_unit u) Whatever
+library_unit_gives : (language : Language) (u : LibraryUnit) → IsLibraryUnitIn language u → Gives (library_unit language) u (spell_library_unit u) Whatever
 unfolding library_unit
-library_unit_gives (entity e) good = g_choose library_unit_by (Some k.Entity) (λ next g. refl) (g_map (λ x. entity x) (entity_gives e good))
-library_unit_gives (architecture a) good = g_choose library_unit_by (Some k.Architecture) (λ next g. refl) (g_map (λ x. architecture x) (architecture_gives a good))
+library_unit_gives language (entity e) good = g_choose (library_unit_by language) (Some k.Entity) (λ next g. refl) (g_map (λ x. entity x) (entity_gives e good))
+library_unit_gives language (architecture a) good = g_choose (library_unit_by language) (Some k.Architecture) (λ next g. refl) (g_map (λ x. architecture x) (architecture_gives language a good))
 
 no_context : (u : LibraryUnit) (next : Option TokenKind) → begins_context (front (spell_library_unit u) next) ≡ false
 no_context (entity e) next = refl
 no_context (architecture a) next = refl
 
-unit_gives : (u : DesignUnit) → IsUnit u → Gives unit u (spell_unit u) Whatever
+unit_gives : (language : Language) (u : DesignUnit) → IsUnitIn language u → Gives (unit language) u (spell_unit u) Whatever
 unfolding unit
-unit_gives u good = g_then _ (context_gives u.context good.0) (g_map (λ x. record { context = u.context; unit = x }) (library_unit_gives u.unit good.1)) (λ next g. (no_context u.unit next, tt))
+unit_gives language u good = g_then _ (context_gives u.context good.0) (g_map (λ x. record { context = u.context; unit = x }) (library_unit_gives language u.unit good.1)) (λ next g. (no_context u.unit next, tt))
 
-unit_begins : (u : DesignUnit) → IsUnit u → (next : Option TokenKind) → is_more (front (spell_unit u) next) ≡ true
-unit_begins u good next = by_parts u.context u.unit
+unit_begins : (language : Language) (u : DesignUnit) → IsUnitIn language u → (next : Option TokenKind) → is_more (front (spell_unit u) next) ≡ true
+unit_begins language u good next = by_parts u.context u.unit
   where
     by_parts : (cs : List ContextItem) (x : LibraryUnit) → is_more (front (spell_each spell_context cs ++ spell_library_unit x) next) ≡ true
     by_parts [] (entity e) = refl
@@ -151,9 +152,9 @@ unit_begins u good next = by_parts u.context u.unit
     by_parts (library names ∷ more) x = refl
     by_parts (uses all ∷ more) x = refl
 
-units_gives : (us : List DesignUnit) → IsEach IsUnit us → Gives units us (spell_each spell_unit us) (λ next. (is_more next ≡ false) × Whatever next)
+units_gives : (language : Language) (us : List DesignUnit) → IsEach (IsUnitIn language) us → Gives (units language) us (spell_each spell_unit us) (λ next. (is_more next ≡ false) × Whatever next)
 unfolding units
-units_gives us good = more_gives is_more unit_gives unit_begins unit_some (λ next e. tt) us good []
+units_gives language us good = more_gives is_more (unit_gives language) (unit_begins language) unit_some (λ next e. tt) us good []
 
 -- ---- files
 
@@ -173,13 +174,13 @@ finish_here [] why at h = absurd (cc)
 finish_here (u ∷ us) why at h = err_at Unexpected why (u ∷ us) at h
 
 -- what is known of a file that was read
-pub record FileMade (ts : List Lexeme) (f : File) : Type 0 where
+pub record FileMade (language : Language) (ts : List Lexeme) (f : File) : Type 0 where
   pub spelled : Spells (spell_file f) ts []
-  pub formed : IsFile f
+  pub formed : IsFileIn language f
   pub shallow : IsShallow max_open ts
 
-of_units : (ts us : List Lexeme) (all : List DesignUnit) → Made max_open 0 false 0 (λ r. r) (spell_each spell_unit) (IsEach IsUnit) ts all us → us ≡ [] → FileMade ts (record { units = all })
-of_units ts us all m e = record {
+of_units : (language : Language) (ts us : List Lexeme) (all : List DesignUnit) → Made max_open 0 false 0 (λ r. r) (spell_each spell_unit) (IsEach (IsUnitIn language)) ts all us → us ≡ [] → FileMade language ts (record { units = all })
+of_units language ts us all m e = record {
   spelled = subst (λ vs. Spells (spell_each spell_unit all) ts vs) e (subst (λ ps. Spells ps ts us) (sym m.is) m.spelled);
   formed = m.formed;
   shallow = λ j.
@@ -187,35 +188,35 @@ of_units ts us all m e = record {
       subst (λ vs. opens false (take j vs) ≤ closes false (take j vs) + max_open) (sym whole) (omega (arith, low_at max_open 0 0 false m.walk.front m.walk.low j));
 }
 
-pub file_made : (ts : List Lexeme) (f : File) (rest : List Lexeme) → file ts ≡ Ok (f, rest) → FileMade ts f
+pub file_made : (language : Language) (ts : List Lexeme) (f : File) (rest : List Lexeme) → file language ts ≡ Ok (f, rest) → FileMade language ts f
 unfolding file
-file_made ts f rest h =
-    let a = bind_ok (units ts) _ (f, rest) h in
+file_made language ts f rest h =
+    let a = bind_ok (units language ts) _ (f, rest) h in
     let b = bind_ok (finish a.0.1) _ (f, rest) a.2 in
     let same = pure_ok (record { units = a.0.0 }) f b.0.1 rest b.2 in
-    subst (λ g. FileMade ts g) same.0 (of_units ts a.0.1 a.0.0 (units_rule.reads ts a.0.0 a.0.1 a.1) (finish_ok a.0.1 b.0 b.1))
+    subst (λ g. FileMade language ts g) same.0 (of_units language ts a.0.1 a.0.0 ((units_rule language).reads ts a.0.0 a.0.1 a.1) (finish_ok a.0.1 b.0 b.1))
 
-pub file_deep : (ts at : List Lexeme) → file ts ≡ Err (TooDeep, at) → IsDeep max_open ts
+pub file_deep : (language : Language) (ts at : List Lexeme) → file language ts ≡ Err (TooDeep, at) → IsDeep max_open ts
 unfolding file
-file_deep ts at h = ⊎_elim (λ e. deep_is max_open ts (units_rule.deep ts at e))
+file_deep language ts at h = ⊎_elim (λ e. deep_is max_open ts ((units_rule language).deep ts at e))
     (λ a. ⊎_elim (finish_err a.0.1 at) (λ b. pure_err _ (TooDeep, at) b.2) (bind_err (finish a.0.1) _ (TooDeep, at) a.2))
-    (bind_err (units ts) _ (TooDeep, at) h)
+    (bind_err (units language ts) _ (TooDeep, at) h)
 
-file_gives : (f : File) → IsFile f → (ts : List Lexeme) → Spells (spell_file f) ts [] → Reaches (file ts) f []
+file_gives : (language : Language) (f : File) → IsFileIn language f → (ts : List Lexeme) → Spells (spell_file f) ts [] → Reaches (file language ts) f []
 unfolding file finish next_kind
-file_gives f good ts h =
-    yields_bind (λ all us. and_then (finish us) (λ _ vs. Ok (record { units = all }, vs))) ((units_gives f.units good).reads ts [] h (refl, tt)) (inl refl)
+file_gives language f good ts h =
+    yields_bind (λ all us. and_then (finish us) (λ _ vs. Ok (record { units = all }, vs))) ((units_gives language f.units good).reads ts [] h (refl, tt)) (inl refl)
 
 -- no other file is spelled by what was read
-pub file_only : (ts : List Lexeme) (f : File) (rest : List Lexeme) → file ts ≡ Ok (f, rest) → (other : File) → IsFile other → Spells (spell_file other) ts [] → other ≡ f
-file_only ts f rest h other good s = ⊎_elim
+pub file_only : (language : Language) (ts : List Lexeme) (f : File) (rest : List Lexeme) → file language ts ≡ Ok (f, rest) → (other : File) → IsFileIn language other → Spells (spell_file other) ts [] → other ≡ f
+file_only language ts f rest h other good s = ⊎_elim
     (λ e. (pure_ok other f [] rest (sym e ∙ h)).0)
     (λ d. let never : ◌≡◌ {A = Outcome File} (Ok (f, rest)) (Err (TooDeep, d.0)) = sym h ∙ d.1 in pure_err (f, rest) (TooDeep, d.0) never)
-    (file_gives other good ts s)
+    (file_gives language other good ts s)
 
 -- what is refused, and not for its depth, is the spelling of no file
-pub file_refused : (ts : List Lexeme) (why : Stop) (at : List Lexeme) → file ts ≡ Err (why, at) → (why ≡ TooDeep → ⊥) → (other : File) → IsFile other → Spells (spell_file other) ts [] → ⊥
-file_refused ts why at h shallow other good s = ⊎_elim
+pub file_refused : (language : Language) (ts : List Lexeme) (why : Stop) (at : List Lexeme) → file language ts ≡ Err (why, at) → (why ≡ TooDeep → ⊥) → (other : File) → IsFileIn language other → Spells (spell_file other) ts [] → ⊥
+file_refused language ts why at h shallow other good s = ⊎_elim
     (λ e. let never : ◌≡◌ {A = Outcome File} (Ok (other, [])) (Err (why, at)) = sym e ∙ h in pure_err (other, []) (why, at) never)
     (λ d. let is : ◌≡◌ {A = Outcome File} (Err (TooDeep, d.0)) (Err (why, at)) = sym d.1 ∙ h in shallow (sym (err_why TooDeep why d.0 at is)))
-    (file_gives other good ts s)
+    (file_gives language other good ts s)

@@ -1,5 +1,6 @@
 -- Concurrent statements that are spelled are read.
 use Rattle.std.proofs.Common.{◌≡◌, ℕ, suc, ◌≤◌, Bool, true, false, ◌||◌, cond, List, [], ◌∷◌, ◌++◌, length, Ok, Option, Some, None, refl, sym, ap, ◌∙◌, subst, append_assoc, arith}
+use Rattle.vhdl_lexer.specs.declared.language.Language.{Language}
 use Rattle.vhdl_lexer.specs.declared.token.TokenKind.{TokenKind}
 use Rattle.vhdl_lexer.specs.declared.token.TokenKind.TheVariants as k
 use Rattle.vhdl_tree.specs.Lexeme.{Lexeme, same_kind}
@@ -8,9 +9,9 @@ use Rattle.vhdl_tree.specs.Tree as tree
 use Rattle.vhdl_tree.specs.Pieces.{Piece, some, word_at, Spells, spell_ident, spell_option, spell_word, spell_each, IsEach}
 use Rattle.vhdl_tree.specs.grammar.Expressions.{spell_name, spell_range, IsName, IsRange}
 use Rattle.vhdl_tree.specs.grammar.Sequential.{spell_label, spell_end}
-use Rattle.vhdl_tree.specs.grammar.Process.{spell_process, spell_selected, IsProcess, IsSelected}
+use Rattle.vhdl_tree.specs.grammar.Process.{spell_process, spell_selected, IsProcessIn, IsSelected}
 use Rattle.vhdl_tree.specs.grammar.Instance.{spell_map, spell_instance, IsInstance}
-use Rattle.vhdl_tree.specs.grammar.Concurrent.{spell_waveforms, spell_scheme, spell_concurrent, AreWaveforms, IsScheme, IsConcurrent, AreConcurrents}
+use Rattle.vhdl_tree.specs.grammar.Concurrent.{spell_waveforms, spell_scheme, spell_concurrent, AreWaveforms, IsScheme, IsConcurrentIn, AreConcurrentsIn}
 use Rattle.vhdl_parser_expressions.specs.reader.Input.{Parser, Outcome, and_then, next_kind, is_kind, sees_both}
 use Rattle.vhdl_parser_statements.specs.reader.Sequential.{label, optional_label}
 use Rattle.vhdl_parser.specs.reader.Concurrent.{concurrent, assign, begins_concurrent, assign_with, instance_with, sees_component, named_with, unlabelled_by, unlabelled, GenerateBody, generate_body, generate_rest, for_scheme, for_generate, if_generate, labelled_by, labelled, by_label, concurrents_with, deeper_concurrents, concurrents}
@@ -25,14 +26,14 @@ use Rattle.vhdl_parser.proofs.Concurrents.{spelled_all, spelled_all-each}
 
 -- ---- labels
 
-module _ (n : ℕ) (inner : Parser (List Concurrent)) where
-  without_label : (c : Concurrent) (ps : List Piece) → 1 ≤ length ps → ((next : Option TokenKind) → both k.Identifier k.Colon ps next ≡ false) → Gives (unlabelled n) c ps Whatever → Gives (concurrent n inner) c ps Whatever
+module _ (language : Language) (n : ℕ) (inner : Parser (List Concurrent)) where
+  without_label : (c : Concurrent) (ps : List Piece) → 1 ≤ length ps → ((next : Option TokenKind) → both k.Identifier k.Colon ps next ≡ false) → Gives (unlabelled language n) c ps Whatever → Gives (concurrent language n inner) c ps Whatever
   unfolding concurrent optional_label
-  without_label c ps long none w = g_neither_then k.Identifier k.Colon long (λ ts. Ok (None, ts)) (λ ts. and_then (label ts) (λ x us. Ok (Some x, us))) (by_label n inner) (λ next _. none next) w
+  without_label c ps long none w = g_neither_then k.Identifier k.Colon long (λ ts. Ok (None, ts)) (λ ts. and_then (label ts) (λ x us. Ok (Some x, us))) (by_label language n inner) (λ next _. none next) w
 
-  with_label : (i : Ident) (c : Concurrent) (ps : List Piece) → Gives (labelled n inner i) c ps Whatever → Gives (concurrent n inner) c (spell_label i ++ ps) Whatever
+  with_label : (i : Ident) (c : Concurrent) (ps : List Piece) → Gives (labelled language n inner i) c ps Whatever → Gives (concurrent language n inner) c (spell_label i ++ ps) Whatever
   unfolding concurrent
-  with_label i c ps w = g_then (by_label n inner) (label_gives i) w (λ next _. tt)
+  with_label i c ps w = g_then (by_label language n inner) (label_gives i) w (λ next _. tt)
 
 -- ---- a component's name or a target
 
@@ -78,50 +79,50 @@ unfolding same_kind
 target_component i plain None ps next = refl
 target_component i _ _ ps next = refl
 
-assignment_ready : (n : ℕ) (inner : Parser (List Concurrent)) (l : Option Ident) (t : Name) (branches : List Branch) (last : Option Value) → IsName t → AreWaveforms branches last →
-    Gives (concurrent n inner) (assignment (record { label = l; target = t; branches = branches; otherwise = last })) (spell_option spell_label l ++ spell_behind t branches last) Whatever
+assignment_ready : (language : Language) (n : ℕ) (inner : Parser (List Concurrent)) (l : Option Ident) (t : Name) (branches : List Branch) (last : Option Value) → IsName t → AreWaveforms branches last →
+    Gives (concurrent language n inner) (assignment (record { label = l; target = t; branches = branches; otherwise = last })) (spell_option spell_label l ++ spell_behind t branches last) Whatever
 unfolding unlabelled labelled
-assignment_ready n inner None t branches last f g =
-    without_label n inner _ (spell_behind t branches last) (omega arith) (λ next. target_label t.identifier t.suffix t.attribute _ next)
-    (g_choose (unlabelled_by n) (Some k.Identifier) (λ next _. refl) (g_map (λ x. assignment x) (assign_gives n None t branches last f g)))
-assignment_ready n inner (Some i) t branches last f g =
-    with_label n inner i _ (spell_behind t branches last)
-    (g_choose (labelled_by n inner i) (Some k.Identifier) (λ next _. refl)
+assignment_ready language n inner None t branches last f g =
+    without_label language n inner _ (spell_behind t branches last) (omega arith) (λ next. target_label t.identifier t.suffix t.attribute _ next)
+    (g_choose (unlabelled_by language n) (Some k.Identifier) (λ next _. refl) (g_map (λ x. assignment x) (assign_gives n None t branches last f g)))
+assignment_ready language n inner (Some i) t branches last f g =
+    with_label language n inner i _ (spell_behind t branches last)
+    (g_choose (labelled_by language n inner i) (Some k.Identifier) (λ next _. refl)
     (target_gives n i _ (spell_behind t branches last) (omega arith) (λ next. target_component t.identifier t.suffix t.attribute _ next) (g_map (λ x. assignment x) (assign_gives n (Some i) t branches last f g))))
 
 -- ---- selected assignments, processes and instances
 
-selected_ready : (n : ℕ) (inner : Parser (List Concurrent)) (l : Option Ident) (s : SelectedAssignment) → IsSelected s → Gives (concurrent n inner) (selected l s) (spell_option spell_label l ++ spell_selected s) Whatever
+selected_ready : (language : Language) (n : ℕ) (inner : Parser (List Concurrent)) (l : Option Ident) (s : SelectedAssignment) → IsSelected s → Gives (concurrent language n inner) (selected l s) (spell_option spell_label l ++ spell_selected s) Whatever
 unfolding unlabelled labelled same_kind
-selected_ready n inner None s f = without_label n inner _ (spell_selected s) (omega arith) (λ next. refl) (g_choose (unlabelled_by n) (Some k.With) (λ next _. refl) (g_map (λ x. selected None x) (selected_gives n s f)))
-selected_ready n inner (Some i) s f = with_label n inner i _ (spell_selected s) (g_choose (labelled_by n inner i) (Some k.With) (λ next _. refl) (g_map (λ x. selected (Some i) x) (selected_gives n s f)))
+selected_ready language n inner None s f = without_label language n inner _ (spell_selected s) (omega arith) (λ next. refl) (g_choose (unlabelled_by language n) (Some k.With) (λ next _. refl) (g_map (λ x. selected None x) (selected_gives n s f)))
+selected_ready language n inner (Some i) s f = with_label language n inner i _ (spell_selected s) (g_choose (labelled_by language n inner i) (Some k.With) (λ next _. refl) (g_map (λ x. selected (Some i) x) (selected_gives n s f)))
 
-process_ready : (n : ℕ) (inner : Parser (List Concurrent)) (l : Option Ident) (p : Process) → IsProcess p → Gives (concurrent n inner) (process l p) (spell_option spell_label l ++ spell_process p) Whatever
+process_ready : (language : Language) (n : ℕ) (inner : Parser (List Concurrent)) (l : Option Ident) (p : Process) → IsProcessIn language p → Gives (concurrent language n inner) (process l p) (spell_option spell_label l ++ spell_process p) Whatever
 unfolding unlabelled labelled same_kind
-process_ready n inner None p f = without_label n inner _ (spell_process p) (omega arith) (λ next. refl) (g_choose (unlabelled_by n) (Some k.Process) (λ next _. refl) (g_map (λ x. process None x) (process_gives n p f)))
-process_ready n inner (Some i) p f = with_label n inner i _ (spell_process p) (g_choose (labelled_by n inner i) (Some k.Process) (λ next _. refl) (g_map (λ x. process (Some i) x) (process_gives n p f)))
+process_ready language n inner None p f = without_label language n inner _ (spell_process p) (omega arith) (λ next. refl) (g_choose (unlabelled_by language n) (Some k.Process) (λ next _. refl) (g_map (λ x. process None x) (process_gives language n p f)))
+process_ready language n inner (Some i) p f = with_label language n inner i _ (spell_process p) (g_choose (labelled_by language n inner i) (Some k.Process) (λ next _. refl) (g_map (λ x. process (Some i) x) (process_gives language n p f)))
 
 is_component : (name : Ident) (g p : Option (List Association)) (next : Option TokenKind) → component (spell_ident name ++ (spell_option (spell_map k.Generic) g ++ (spell_option (spell_map k.Port) p ++ some k.Semicolon ∷ []))) next ≡ true
 unfolding same_kind
 is_component name None None next = refl
 is_component name _ _ next = refl
 
-instance_ready : (n : ℕ) (inner : Parser (List Concurrent)) (i : Ident) (u : Instantiated) (g p : Option (List Association)) → IsInstance (record { unit = u; generics = g; ports = p }) →
-    Gives (concurrent n inner) (instance i (record { unit = u; generics = g; ports = p })) (spell_label i ++ spell_instance (record { unit = u; generics = g; ports = p })) Whatever
+instance_ready : (language : Language) (n : ℕ) (inner : Parser (List Concurrent)) (i : Ident) (u : Instantiated) (g p : Option (List Association)) → IsInstance (record { unit = u; generics = g; ports = p }) →
+    Gives (concurrent language n inner) (instance i (record { unit = u; generics = g; ports = p })) (spell_label i ++ spell_instance (record { unit = u; generics = g; ports = p })) Whatever
 unfolding labelled
-instance_ready n inner i (entity_unit library name chosen) g p f = with_label n inner i _ (spell_instance (record { unit = entity_unit library name chosen; generics = g; ports = p }))
-    (g_choose (labelled_by n inner i) (Some k.Entity) (λ next _. refl) (g_map (λ x. instance i x) (instance_gives n (record { unit = entity_unit library name chosen; generics = g; ports = p }) f)))
-instance_ready n inner i (component_unit true name) g p f = with_label n inner i _ (spell_instance (record { unit = component_unit true name; generics = g; ports = p }))
-    (g_choose (labelled_by n inner i) (Some k.Component) (λ next _. refl) (g_map (λ x. instance i x) (instance_gives n (record { unit = component_unit true name; generics = g; ports = p }) f)))
-instance_ready n inner i (component_unit false name) g p f = with_label n inner i _ (spell_instance (record { unit = component_unit false name; generics = g; ports = p }))
-    (g_choose (labelled_by n inner i) (Some k.Identifier) (λ next _. refl)
+instance_ready language n inner i (entity_unit library name chosen) g p f = with_label language n inner i _ (spell_instance (record { unit = entity_unit library name chosen; generics = g; ports = p }))
+    (g_choose (labelled_by language n inner i) (Some k.Entity) (λ next _. refl) (g_map (λ x. instance i x) (instance_gives n (record { unit = entity_unit library name chosen; generics = g; ports = p }) f)))
+instance_ready language n inner i (component_unit true name) g p f = with_label language n inner i _ (spell_instance (record { unit = component_unit true name; generics = g; ports = p }))
+    (g_choose (labelled_by language n inner i) (Some k.Component) (λ next _. refl) (g_map (λ x. instance i x) (instance_gives n (record { unit = component_unit true name; generics = g; ports = p }) f)))
+instance_ready language n inner i (component_unit false name) g p f = with_label language n inner i _ (spell_instance (record { unit = component_unit false name; generics = g; ports = p }))
+    (g_choose (labelled_by language n inner i) (Some k.Identifier) (λ next _. refl)
     (component_gives n i _ (spell_instance (record { unit = component_unit false name; generics = g; ports = p })) (omega arith) (λ next. is_component name g p next)
     (g_map (λ x. instance i x) (instance_gives n (record { unit = component_unit false name; generics = g; ports = p }) f))))
 
 -- ---- lists
 
-abbrev Ready : Concurrent → Type 0
-Ready c = (n : ℕ) → Gives (concurrent n (deeper_concurrents n)) c (spell_concurrent c) Whatever
+abbrev Ready : Language → Concurrent → Type 0
+Ready language c = (n : ℕ) → Gives (concurrent language n (deeper_concurrents language n)) c (spell_concurrent c) Whatever
 
 concurrent_begins : (c : Concurrent) (next : Option TokenKind) → begins_concurrent (front (spell_concurrent c) next) ≡ true
 concurrent_begins (assignment a) next = by a.label
@@ -136,15 +137,15 @@ concurrent_begins _ next = refl
 abbrev pub EndsConcurrents : Option TokenKind → Type 0
 EndsConcurrents next = (begins_concurrent next ≡ false) × Whatever next
 
-concurrents_from : (cs : List Concurrent) → IsEach Ready cs → (n : ℕ) → Gives (concurrents n) cs (spell_each spell_concurrent cs) EndsConcurrents
+concurrents_from : (language : Language) (cs : List Concurrent) → IsEach (Ready language) cs → (n : ℕ) → Gives (concurrents language n) cs (spell_each spell_concurrent cs) EndsConcurrents
 unfolding concurrents_with
-concurrents_from cs r n = more_gives begins_concurrent (λ c good. good n) (λ c _ next. concurrent_begins c next) concurrent_long (λ next _. tt) cs r []
+concurrents_from language cs r n = more_gives begins_concurrent (λ c good. good n) (λ c _ next. concurrent_begins c next) concurrent_long (λ next _. tt) cs r []
 
-deeper_from : (cs : List Concurrent) → IsEach Ready cs → (n m : ℕ) → n ≡ suc m → Gives (deeper_concurrents n) cs (spelled_all cs) EndsConcurrents
+deeper_from : (language : Language) (cs : List Concurrent) → IsEach (Ready language) cs → (n m : ℕ) → n ≡ suc m → Gives (deeper_concurrents language n) cs (spelled_all cs) EndsConcurrents
 unfolding deeper_concurrents
-deeper_from cs r n m e =
-    subst (λ x. Gives (deeper_concurrents x) cs (spelled_all cs) EndsConcurrents) (sym e)
-    (subst (λ ps. Gives (concurrents m) cs ps EndsConcurrents) (sym (spelled_all-each cs)) (concurrents_from cs r m))
+deeper_from language cs r n m e =
+    subst (λ x. Gives (deeper_concurrents language x) cs (spelled_all cs) EndsConcurrents) (sym e)
+    (subst (λ ps. Gives (concurrents language m) cs ps EndsConcurrents) (sym (spelled_all-each cs)) (concurrents_from language cs r m))
 
 -- ---- generates
 
@@ -167,35 +168,35 @@ after_begin (c ∷ cs) ps next = by (spelled_all cs)
     by : (qs : List Piece) → is_kind k.Begin (front ((spell_concurrent c ++ qs) ++ (some k.End ∷ ps)) next) ≡ false
     by qs = subst (λ x. is_kind k.Begin (front x next) ≡ false) (sym (append_assoc (spell_concurrent c) qs (some k.End ∷ ps))) (no_begin c (qs ++ (some k.End ∷ ps)) next)
 
-body_gives : (w : Bool) (cs : List Concurrent) → IsEach Ready cs → (l : Option Ident) (n m : ℕ) → n ≡ suc m →
-    Gives (generate_body (deeper_concurrents n)) (record { begin_word = w; statements = cs; end_label = l }) (some k.Generate ∷ (spell_word k.Begin w ++ (spelled_all cs ++ spell_end k.Generate l))) Whatever
+body_gives : (language : Language) (w : Bool) (cs : List Concurrent) → IsEach (Ready language) cs → (l : Option Ident) (n m : ℕ) → n ≡ suc m →
+    Gives (generate_body (deeper_concurrents language n)) (record { begin_word = w; statements = cs; end_label = l }) (some k.Generate ∷ (spell_word k.Begin w ++ (spelled_all cs ++ spell_end k.Generate l))) Whatever
 unfolding generate_body same_kind
-body_gives w cs r l n m e =
+body_gives language w cs r l n m e =
     g_some (λ _. g_then _ (eat_gives k.Begin w refl)
-    (g_then _ (deeper_from cs r n m e) (g_map (λ x. record { begin_word = w; statements = cs; end_label = x }) (end_gives k.Generate l)) (λ next _. (refl, tt)))
+    (g_then _ (deeper_from language cs r n m e) (g_map (λ x. record { begin_word = w; statements = cs; end_label = x }) (end_gives k.Generate l)) (λ next _. (refl, tt)))
     (λ next _. after_begin cs _ next))
 
-rest_gives : (i : Ident) (at : ℕ) (s : Scheme) (w : Bool) (cs : List Concurrent) → IsEach Ready cs → (l : Option Ident) (n m : ℕ) → n ≡ suc m →
-    Gives (generate_rest (deeper_concurrents n) i at s) (generated i at s w (concurrents_of cs) l) (some k.Generate ∷ (spell_word k.Begin w ++ (spelled_all cs ++ spell_end k.Generate l))) Whatever
+rest_gives : (language : Language) (i : Ident) (at : ℕ) (s : Scheme) (w : Bool) (cs : List Concurrent) → IsEach (Ready language) cs → (l : Option Ident) (n m : ℕ) → n ≡ suc m →
+    Gives (generate_rest (deeper_concurrents language n) i at s) (generated i at s w (concurrents_of cs) l) (some k.Generate ∷ (spell_word k.Begin w ++ (spelled_all cs ++ spell_end k.Generate l))) Whatever
 unfolding generate_rest
-rest_gives i at s w cs r l n m e = g_map (λ (b : GenerateBody). generated i at s b.begin_word (concurrents_of b.statements) b.end_label) (body_gives w cs r l n m e)
+rest_gives language i at s w cs r l n m e = g_map (λ (b : GenerateBody). generated i at s b.begin_word (concurrents_of b.statements) b.end_label) (body_gives language w cs r l n m e)
 
 -- id in range
 scheme_gives : (p : Ident) (r : Range) → IsRange r → (m : ℕ) → Gives (for_scheme m) (for_each p r) (word_at p.at p.text ∷ (some k.In ∷ spell_range r)) Ends
 unfolding for_scheme
 scheme_gives p r f m = g_ident _ (g_some (λ _. g_map (λ x. for_each p x) (range_gives m r f)))
 
-generate_ready : (i : Ident) (at : ℕ) (s : Scheme) → IsScheme s → (w : Bool) (cs : List Concurrent) → IsEach Ready cs → (l : Option Ident) (n : ℕ) →
-    Gives (concurrent n (deeper_concurrents n)) (generated i at s w (concurrents_of cs) l) (spell_concurrent (generated i at s w (concurrents_of cs) l)) Whatever
+generate_ready : (language : Language) (i : Ident) (at : ℕ) (s : Scheme) → IsScheme s → (w : Bool) (cs : List Concurrent) → IsEach (Ready language) cs → (l : Option Ident) (n : ℕ) →
+    Gives (concurrent language n (deeper_concurrents language n)) (generated i at s w (concurrents_of cs) l) (spell_concurrent (generated i at s w (concurrents_of cs) l)) Whatever
 unfolding labelled for_generate if_generate
-generate_ready i at (for_each p r) f w cs ready l n =
-    with_label n (deeper_concurrents n) i _ (spell_scheme at (for_each p r) ++ (some k.Generate ∷ (spell_word k.Begin w ++ (spelled_all cs ++ spell_end k.Generate l))))
-    (g_choose (labelled_by n (deeper_concurrents n) i) (Some k.For) (λ next _. refl)
-    (g_at _ (g_below _ n (λ m e. g_then _ (scheme_gives p r f m) (rest_gives i at (for_each p r) w cs ready l n m e) (λ next _. omega arith)))))
-generate_ready i at (if_holds c) f w cs ready l n =
-    with_label n (deeper_concurrents n) i _ (spell_scheme at (if_holds c) ++ (some k.Generate ∷ (spell_word k.Begin w ++ (spelled_all cs ++ spell_end k.Generate l))))
-    (g_choose (labelled_by n (deeper_concurrents n) i) (Some k.If) (λ next _. refl)
-    (g_at _ (g_below _ n (λ m e. g_then _ (expr_gives m c f) (rest_gives i at (if_holds c) w cs ready l n m e) (λ next _. omega arith)))))
+generate_ready language i at (for_each p r) f w cs ready l n =
+    with_label language n (deeper_concurrents language n) i _ (spell_scheme at (for_each p r) ++ (some k.Generate ∷ (spell_word k.Begin w ++ (spelled_all cs ++ spell_end k.Generate l))))
+    (g_choose (labelled_by language n (deeper_concurrents language n) i) (Some k.For) (λ next _. refl)
+    (g_at _ (g_below _ n (λ m e. g_then _ (scheme_gives p r f m) (rest_gives language i at (for_each p r) w cs ready l n m e) (λ next _. omega arith)))))
+generate_ready language i at (if_holds c) f w cs ready l n =
+    with_label language n (deeper_concurrents language n) i _ (spell_scheme at (if_holds c) ++ (some k.Generate ∷ (spell_word k.Begin w ++ (spelled_all cs ++ spell_end k.Generate l))))
+    (g_choose (labelled_by language n (deeper_concurrents language n) i) (Some k.If) (λ next _. refl)
+    (g_at _ (g_below _ n (λ m e. g_then _ (expr_gives m c f) (rest_gives language i at (if_holds c) w cs ready l n m e) (λ next _. omega arith)))))
 
 -- ---- all statements
 
@@ -211,23 +212,23 @@ concurrents_of-list_of (tree.concurrent c more) = ap (tree.concurrent c) (concur
 mutual
   unfolding list_of
 
-  concurrent_ready : (c : Concurrent) → IsConcurrent c → Ready c
-  concurrent_ready (assignment a) f n = assignment_ready n (deeper_concurrents n) a.label a.target a.branches a.otherwise f.0 f.1
-  concurrent_ready (selected l s) f n = selected_ready n (deeper_concurrents n) l s f
-  concurrent_ready (process l p) f n = process_ready n (deeper_concurrents n) l p f
-  concurrent_ready (instance i x) f n = instance_ready n (deeper_concurrents n) i x.unit x.generics x.ports f
-  concurrent_ready (generated i at s w cs l) f n =
-      subst (λ x. Gives (concurrent n (deeper_concurrents n)) (generated i at s w x l) (spell_concurrent (generated i at s w x l)) Whatever) (concurrents_of-list_of cs)
-      (generate_ready i at s f.0 w (list_of cs) (all_ready cs f.1) l n)
+  concurrent_ready : (language : Language) (c : Concurrent) → IsConcurrentIn language c → Ready language c
+  concurrent_ready language (assignment a) f n = assignment_ready language n (deeper_concurrents language n) a.label a.target a.branches a.otherwise f.0 f.1
+  concurrent_ready language (selected l s) f n = selected_ready language n (deeper_concurrents language n) l s f
+  concurrent_ready language (process l p) f n = process_ready language n (deeper_concurrents language n) l p f
+  concurrent_ready language (instance i x) f n = instance_ready language n (deeper_concurrents language n) i x.unit x.generics x.ports f
+  concurrent_ready language (generated i at s w cs l) f n =
+      subst (λ x. Gives (concurrent language n (deeper_concurrents language n)) (generated i at s w x l) (spell_concurrent (generated i at s w x l)) Whatever) (concurrents_of-list_of cs)
+      (generate_ready language i at s f.0 w (list_of cs) (all_ready language cs f.1) l n)
 
-  all_ready : (cs : Concurrents) → AreConcurrents cs → IsEach Ready (list_of cs)
-  all_ready no_concurrents f = tt
-  all_ready (tree.concurrent c more) f = (concurrent_ready c f.0, all_ready more f.1)
+  all_ready : (language : Language) (cs : Concurrents) → AreConcurrentsIn language cs → IsEach (Ready language) (list_of cs)
+  all_ready language no_concurrents f = tt
+  all_ready language (tree.concurrent c more) f = (concurrent_ready language c f.0, all_ready language more f.1)
 
-each_ready : (cs : List Concurrent) → IsEach IsConcurrent cs → IsEach Ready cs
-each_ready [] f = tt
-each_ready (c ∷ cs) f = (concurrent_ready c f.0, each_ready cs f.1)
+each_ready : (language : Language) (cs : List Concurrent) → IsEach (IsConcurrentIn language) cs → IsEach (Ready language) cs
+each_ready language [] f = tt
+each_ready language (c ∷ cs) f = (concurrent_ready language c f.0, each_ready language cs f.1)
 
 -- concurrent statements
-pub concurrents_gives : (n : ℕ) (cs : List Concurrent) → IsEach IsConcurrent cs → Gives (concurrents n) cs (spell_each spell_concurrent cs) EndsConcurrents
-concurrents_gives n cs f = concurrents_from cs (each_ready cs f) n
+pub concurrents_gives : (language : Language) (n : ℕ) (cs : List Concurrent) → IsEach (IsConcurrentIn language) cs → Gives (concurrents language n) cs (spell_each spell_concurrent cs) EndsConcurrents
+concurrents_gives language n cs f = concurrents_from language cs (each_ready language cs f) n

@@ -3,8 +3,8 @@ use Rattle.std.proofs.Common.{ℕ, zero, suc, ◌<◌, ◌≤◌, List, [], ◌�
 use Rattle.std.specs.Prelude.{slice_index_or}
 use Rattle.vhdl_lexer.specs.Cut.{AreWithin}
 use Rattle.vhdl_lexer.specs.declared.token.Token.{Token}
-use Rattle.vhdl_parser.specs.Fault.{IsStart}
-use Rattle.vhdl_parser.specs.Stuck.{IsNext}
+use Rattle.vhdl_parser_rules.specs.Fault.{IsStart}
+use Rattle.vhdl_parser_rules.specs.Stuck.{IsNext}
 
 pub start_within : (source : List ℕ) (ts : List Token) (i : ℕ) (d : Token) → AreWithin source ts → i < length ts → (slice_index_or ts i d).start ≤ length source
 start_within source [] i d w h = absurd (omega (arith, h))

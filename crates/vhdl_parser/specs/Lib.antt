@@ -1,3 +1,1 @@
 pub mod reader
-pub mod Fault
-pub mod Stuck

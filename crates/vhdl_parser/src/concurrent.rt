@@ -7,7 +7,7 @@ ghost use Rattle.vhdl_parser.specs.reader.Concurrent.{generate_body_view};
 ghost use Rattle.vhdl_parser_expressions.specs.reader.Input.{Reads};
 
 use crate::instances::instance;
-use vhdl_lexer::TokenKind;
+use vhdl_lexer::{Language, TokenKind};
 use vhdl_parser_expressions::{Parser, Stop, below, followed};
 use vhdl_parser_statements::{
     conditional_waveforms, ended, optional_label, process, selected_assignment,
@@ -59,12 +59,14 @@ fn selected(
 
 fn process_statement(
     parser: &mut Parser<'_>,
+    language: Language,
     levels: usize,
     label: Option<Identifier>,
 ) -> Result<Concurrent, Stop>
-    ensures { Reads concurrent_view (read.process_with levels (option_ident_view label) parser.old) result parser.new }
+    ensures { Reads concurrent_view (read.process_with language levels (option_ident_view label) parser.old) result
+        parser.new }
 {
-    let process = process(parser, levels)?;
+    let process = process(parser, language, levels)?;
     Ok(Concurrent::Process { label, process })
 }
 
@@ -104,12 +106,16 @@ fn instance_or_assignment(
 }
 
 #[tactic(auto, unfolding(crate::specs::reader::Concurrent::unlabelled))]
-fn unlabelled(parser: &mut Parser<'_>, levels: usize) -> Result<Concurrent, Stop>
-    ensures { Reads concurrent_view (read.unlabelled levels parser.old) result parser.new }
+fn unlabelled(
+    parser: &mut Parser<'_>,
+    language: Language,
+    levels: usize,
+) -> Result<Concurrent, Stop>
+    ensures { Reads concurrent_view (read.unlabelled language levels parser.old) result parser.new }
 {
     match parser.peek() {
         Some(TokenKind::With) => selected(parser, levels, None),
-        Some(TokenKind::Process) => process_statement(parser, levels, None),
+        Some(TokenKind::Process) => process_statement(parser, language, levels, None),
         Some(TokenKind::Identifier) => Ok(Concurrent::Assignment(assignment(
             parser, levels, None,
         )?)),
@@ -117,48 +123,62 @@ fn unlabelled(parser: &mut Parser<'_>, levels: usize) -> Result<Concurrent, Stop
     }
 }
 
-/// Concurrent statements, in which so many levels may be opened.
+/// Concurrent statements of this language, in which so many levels may be opened.
 #[cycle(concurrent)]
 #[tactic(auto, unfolding(crate::specs::reader::Concurrent::concurrents_with), using(vhdl_parser_statements::proofs::Taken::each_turn))]
-pub fn concurrents(parser: &mut Parser<'_>, levels: usize) -> Result<Vec<Concurrent>, Stop>
-    ensures { Reads concurrents_view (read.concurrents levels parser.old) result parser.new }
+pub fn concurrents(
+    parser: &mut Parser<'_>,
+    language: Language,
+    levels: usize,
+) -> Result<Vec<Concurrent>, Stop>
+    ensures { Reads concurrents_view (read.concurrents language levels parser.old) result parser.new }
 {
     let mut found = Vec::new(parser.alloc);
     for _turn in 0..parser.left() {
         if !begins_concurrent(parser.peek()) {
             return Ok(found);
         }
-        found.push(concurrent(parser, levels)?)?;
+        found.push(concurrent(parser, language, levels)?)?;
     }
     Ok(found)
 }
 
 #[cycle(concurrent)]
 #[tactic(auto, unfolding(crate::specs::reader::Concurrent::concurrent))]
-fn concurrent(parser: &mut Parser<'_>, levels: usize) -> Result<Concurrent, Stop>
-    ensures { Reads concurrent_view (read.concurrent levels (read.deeper_concurrents levels) parser.old) result
-        parser.new }
+fn concurrent(
+    parser: &mut Parser<'_>,
+    language: Language,
+    levels: usize,
+) -> Result<Concurrent, Stop>
+    ensures { Reads concurrent_view
+        (read.concurrent language levels (read.deeper_concurrents language levels) parser.old) result parser.new }
 {
     match optional_label(parser)? {
-        None => unlabelled(parser, levels),
-        Some(label) => labelled(parser, levels, label),
+        None => unlabelled(parser, language, levels),
+        Some(label) => labelled(parser, language, levels, label),
     }
 }
 
 #[cycle(concurrent)]
 #[tactic(auto, unfolding(crate::specs::reader::Concurrent::labelled))]
-fn labelled(parser: &mut Parser<'_>, levels: usize, label: Identifier) -> Result<Concurrent, Stop>
+fn labelled(
+    parser: &mut Parser<'_>,
+    language: Language,
+    levels: usize,
+    label: Identifier,
+) -> Result<Concurrent, Stop>
     ensures { Reads concurrent_view
-        (read.labelled levels (read.deeper_concurrents levels) (ident_view label) parser.old) result parser.new }
+        (read.labelled language levels (read.deeper_concurrents language levels) (ident_view label) parser.old) result
+        parser.new }
 {
     match parser.peek() {
         Some(TokenKind::With) => selected(parser, levels, Some(label)),
-        Some(TokenKind::Process) => process_statement(parser, levels, Some(label)),
+        Some(TokenKind::Process) => process_statement(parser, language, levels, Some(label)),
         Some(TokenKind::Entity) | Some(TokenKind::Component) => instance_statement(
             parser, levels, label,
         ),
-        Some(TokenKind::For) => for_generate(parser, levels, label),
-        Some(TokenKind::If) => if_generate(parser, levels, label),
+        Some(TokenKind::For) => for_generate(parser, language, levels, label),
+        Some(TokenKind::If) => if_generate(parser, language, levels, label),
         Some(TokenKind::Identifier) => instance_or_assignment(parser, levels, label),
         _ => Err(parser.refuse()),
     }
@@ -178,32 +198,36 @@ fn for_scheme(parser: &mut Parser<'_>, levels: usize) -> Result<Scheme, Stop>
 #[tactic(auto, unfolding(crate::specs::reader::Concurrent::for_generate))]
 fn for_generate(
     parser: &mut Parser<'_>,
+    language: Language,
     levels: usize,
     label: Identifier,
 ) -> Result<Concurrent, Stop>
     ensures { Reads concurrent_view
-        (read.for_generate levels (read.deeper_concurrents levels) (ident_view label) parser.old) result parser.new }
+        (read.for_generate levels (read.deeper_concurrents language levels) (ident_view label) parser.old) result
+        parser.new }
 {
     let at = parser.expect(TokenKind::For)?;
     let inner = below(levels)?;
     let scheme = for_scheme(parser, inner)?;
-    generated(parser, inner, label, at, scheme)
+    generated(parser, language, inner, label, at, scheme)
 }
 
 #[cycle(concurrent)]
 #[tactic(auto, unfolding(crate::specs::reader::Concurrent::if_generate))]
 fn if_generate(
     parser: &mut Parser<'_>,
+    language: Language,
     levels: usize,
     label: Identifier,
 ) -> Result<Concurrent, Stop>
     ensures { Reads concurrent_view
-        (read.if_generate levels (read.deeper_concurrents levels) (ident_view label) parser.old) result parser.new }
+        (read.if_generate levels (read.deeper_concurrents language levels) (ident_view label) parser.old) result
+        parser.new }
 {
     let at = parser.expect(TokenKind::If)?;
     let inner = below(levels)?;
     let condition = parser.expr(inner)?;
-    generated(parser, inner, label, at, Scheme::If { condition })
+    generated(parser, language, inner, label, at, Scheme::If { condition })
 }
 
 /// A generate statement by what stands before its statements, which may open so many levels.
@@ -211,16 +235,17 @@ fn if_generate(
 #[tactic(auto, unfolding(crate::specs::reader::Concurrent::generate_rest))]
 fn generated(
     parser: &mut Parser<'_>,
+    language: Language,
     levels: usize,
     label: Identifier,
     at: usize,
     scheme: Scheme,
 ) -> Result<Concurrent, Stop>
     ensures { Reads concurrent_view
-        (read.generate_rest (read.concurrents levels) (ident_view label) at (scheme_view scheme) parser.old) result
-        parser.new }
+        (read.generate_rest (read.concurrents language levels) (ident_view label) at (scheme_view scheme) parser.old)
+        result parser.new }
 {
-    let (begin_word, statements, end_label) = generate_body(parser, levels)?;
+    let (begin_word, statements, end_label) = generate_body(parser, language, levels)?;
     Ok(Concurrent::generated(label, at, scheme, begin_word, statements, end_label))
 }
 
@@ -229,13 +254,15 @@ fn generated(
 #[tactic(auto, unfolding(crate::specs::reader::Concurrent::generate_body))]
 fn generate_body(
     parser: &mut Parser<'_>,
+    language: Language,
     levels: usize,
 ) -> Result<(bool, Vec<Concurrent>, Option<Identifier>), Stop>
-    ensures { Reads generate_body_view (read.generate_body (read.concurrents levels) parser.old) result parser.new }
+    ensures { Reads generate_body_view (read.generate_body (read.concurrents language levels) parser.old) result
+        parser.new }
 {
     parser.expect(TokenKind::Generate)?;
     let begin_word = parser.eat(TokenKind::Begin)?;
-    let statements = concurrents(parser, levels)?;
+    let statements = concurrents(parser, language, levels)?;
     let (statements, end_label) = ended(parser, statements, TokenKind::Generate)?;
     Ok((begin_word, statements, end_label))
 }

@@ -5,7 +5,6 @@
 mod concurrent;
 mod context;
 mod declaration;
-mod fault;
 mod file;
 mod instances;
 mod interface;
@@ -13,7 +12,6 @@ mod unit;
 
 pub use context::context_clause;
 pub use declaration::declarations;
-pub use fault::SyntaxFault;
-pub use file::parse;
+pub use file::{parse, parse_in};
 pub use instances::instance;
 pub use interface::{optional_generics, optional_ports};

@@ -10,7 +10,7 @@ use crate::concurrent::concurrents;
 use crate::context::context_clause;
 use crate::declaration::declarations;
 use crate::interface::{optional_generics, optional_ports};
-use vhdl_lexer::TokenKind;
+use vhdl_lexer::{Language, TokenKind};
 use vhdl_parser_expressions::{Parser, Stop, followed, many};
 use vhdl_tree::{Architecture, DesignUnit, Entity, File, LibraryUnit, MAX_OPEN};
 
@@ -38,8 +38,8 @@ fn entity(parser: &mut Parser<'_>) -> Result<Entity, Stop>
 }
 
 #[tactic(auto, unfolding(crate::specs::reader::Units::architecture_unit))]
-fn architecture(parser: &mut Parser<'_>) -> Result<Architecture, Stop>
-    ensures { Reads architecture_view (read.architecture_unit parser.old) result parser.new }
+fn architecture(parser: &mut Parser<'_>, language: Language) -> Result<Architecture, Stop>
+    ensures { Reads architecture_view (read.architecture_unit language parser.old) result parser.new }
 {
     let at = parser.expect(TokenKind::Architecture)?;
     let name = parser.identifier()?;
@@ -48,7 +48,7 @@ fn architecture(parser: &mut Parser<'_>) -> Result<Architecture, Stop>
     let names = followed(parser, (name, entity), TokenKind::Is)?;
     let declarations = declarations(parser, MAX_OPEN)?;
     let front = followed(parser, (names, declarations), TokenKind::Begin)?;
-    let statements = concurrents(parser, MAX_OPEN)?;
+    let statements = concurrents(parser, language, MAX_OPEN)?;
     let (front, statements) = followed(parser, (front, statements), TokenKind::End)?;
     let end_word = parser.eat(TokenKind::Architecture)?;
     let end_name = parser.optional_identifier()?;
@@ -66,22 +66,24 @@ fn architecture(parser: &mut Parser<'_>) -> Result<Architecture, Stop>
 }
 
 #[tactic(auto, unfolding(crate::specs::reader::Units::library_unit))]
-fn library_unit(parser: &mut Parser<'_>) -> Result<LibraryUnit, Stop>
-    ensures { Reads library_unit_view (read.library_unit parser.old) result parser.new }
+fn library_unit(parser: &mut Parser<'_>, language: Language) -> Result<LibraryUnit, Stop>
+    ensures { Reads library_unit_view (read.library_unit language parser.old) result parser.new }
 {
     match parser.peek() {
         Some(TokenKind::Entity) => Ok(LibraryUnit::Entity(entity(parser)?)),
-        Some(TokenKind::Architecture) => Ok(LibraryUnit::Architecture(architecture(parser)?)),
+        Some(TokenKind::Architecture) => Ok(LibraryUnit::Architecture(architecture(
+            parser, language,
+        )?)),
         _ => Err(parser.refuse()),
     }
 }
 
 #[tactic(auto, unfolding(crate::specs::reader::Units::unit))]
-fn unit(parser: &mut Parser<'_>) -> Result<DesignUnit, Stop>
-    ensures { Reads unit_view (read.unit parser.old) result parser.new }
+fn unit(parser: &mut Parser<'_>, language: Language) -> Result<DesignUnit, Stop>
+    ensures { Reads unit_view (read.unit language parser.old) result parser.new }
 {
     let context = context_clause(parser)?;
-    let unit = library_unit(parser)?;
+    let unit = library_unit(parser, language)?;
     Ok(DesignUnit { context, unit })
 }
 
@@ -94,19 +96,19 @@ fn is_more(parser: &Parser<'_>) -> bool
     }
 }
 
-fn units(parser: &mut Parser<'_>) -> Result<Vec<DesignUnit>, Stop>
-    ensures { Reads units_view (read.units parser.old) result parser.new }
+fn units(parser: &mut Parser<'_>, language: Language) -> Result<Vec<DesignUnit>, Stop>
+    ensures { Reads units_view (read.units language parser.old) result parser.new }
 {
     let found = Vec::new(parser.alloc);
-    many(parser, is_more, unit, found)
+    many(parser, is_more, |parser| unit(parser, language), found)
 }
 
-/// A whole file.
+/// A whole file of this language.
 #[tactic(auto, unfolding(crate::specs::reader::Units::file, crate::specs::reader::Units::finish))]
-pub fn file(parser: &mut Parser<'_>) -> Result<File, Stop>
-    ensures { Reads file_view (read.file parser.old) result parser.new }
+pub fn file(parser: &mut Parser<'_>, language: Language) -> Result<File, Stop>
+    ensures { Reads file_view (read.file language parser.old) result parser.new }
 {
-    let units = units(parser)?;
+    let units = units(parser, language)?;
     if is_more(parser) {
         return Err(parser.refuse());
     }

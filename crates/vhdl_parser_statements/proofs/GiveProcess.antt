@@ -1,20 +1,23 @@
 -- Processes and selected assignments that are spelled are read.
-use Rattle.std.proofs.Common.{◌≡◌, ℕ, Bool, true, false, List, [], ◌∷◌, ◌++◌, Option, refl, arith}
+use Rattle.std.proofs.Common.{◌≡◌, ℕ, Bool, true, false, List, [], ◌∷◌, ◌++◌, Option, Some, None, refl, sym, subst, append_assoc, arith}
+use Rattle.vhdl_lexer.specs.declared.language.Language.{Language}
+use Rattle.vhdl_lexer.specs.declared.language.Language.TheVariants.{Profile, Wide}
 use Rattle.vhdl_lexer.specs.declared.token.TokenKind.{TokenKind}
 use Rattle.vhdl_lexer.specs.declared.token.TokenKind.TheVariants as k
 use Rattle.vhdl_tree.specs.Lexeme.{same_kind}
-use Rattle.vhdl_tree.specs.Tree.{Name, Variables, Process, statements_of, Sensitivity, absent, every, listed, Waveform, SelectedAssignment}
-use Rattle.vhdl_tree.specs.Pieces.{spell_word, spell_each, spell_list, IsEach, IsList}
+use Rattle.vhdl_tree.specs.Tree.{Ident, Name, Variables, Wait, Process, Statement, null_of, Sequential, statements_of, Sensitivity, absent, every, listed, Waveform, SelectedAssignment}
+use Rattle.vhdl_tree.specs.Pieces.{Piece, some, spell_option, spell_word, spell_each, spell_list, IsEach, IsList, IsOption}
 use Rattle.vhdl_tree.specs.grammar.Expressions.{spell_name, IsName}
-use Rattle.vhdl_tree.specs.grammar.Sequential.{AreStatements}
-use Rattle.vhdl_tree.specs.grammar.Process.{spell_sensitivity, spell_variables, spell_body, spell_process, spell_waveform, spell_selected, IsSensitivity, IsVariables, IsProcess, IsWaveform, IsSelected}
+use Rattle.vhdl_tree.specs.grammar.Sequential.{spell_label, spell_statement, AreStatements}
+use Rattle.vhdl_tree.specs.grammar.Process.{spell_sensitivity, spell_variables, spell_wait, spell_body, spell_process, spell_waveform, spell_selected, IsSensitivity, IsVariables, IsWaitIn, IsProcessIn, IsWaveform, IsSelected}
 use Rattle.vhdl_parser_expressions.specs.reader.Input.{is_kind}
-use Rattle.vhdl_parser_statements.specs.reader.Process.{names, sensitivity_list, sensitivity, optional_sensitivity, variables, all_variables, body, process}
+use Rattle.vhdl_parser_statements.specs.reader.Process.{names, sensitivity_list, sensitivity, optional_sensitivity, variables, all_variables, wait_until, optional_wait, body, process}
 use Rattle.vhdl_parser_statements.specs.reader.Waveforms.{waveform, waveforms, selected}
-use Rattle.vhdl_parser_expressions.proofs.Gives.{Gives, Whatever, front, g_pure, g_then, g_map, g_at, g_some, g_below, g_yes, g_no, eat_gives, more_gives, separated_gives}
+use Rattle.vhdl_parser_expressions.proofs.Gives.{Gives, Whatever, front, g_pure, g_then, g_map, g_at, g_some, g_below, g_yes, g_no, eat_gives, option_gives, more_gives, separated_gives}
 use Rattle.vhdl_parser_expressions.proofs.GiveValues.{Ends, EndsName, expr_gives, name_gives, value_gives, choices_gives}
 use Rattle.vhdl_parser_statements.proofs.Subtypes.{objects_gives}
 use Rattle.vhdl_parser_statements.proofs.GiveSequential.{end_gives, statements_gives}
+use Rattle.vhdl_parser_statements.proofs.WalkSequential.{spelled}
 
 abbrev EndsNames : Option TokenKind → Type 0
 EndsNames next = (is_kind k.Comma next ≡ false) × EndsName next
@@ -61,17 +64,49 @@ after_sensitivity true ds p next = refl
 after_sensitivity false [] p next = refl
 after_sensitivity false (d ∷ ds) p next = refl
 
-body_gives : (n : ℕ) (p : Process) → AreStatements (statements_of p.statements) → Gives (body n) (record { statements = p.statements; end_label = p.end_label }) (spell_body p) Whatever
-unfolding body
-body_gives n p f = g_some (λ _. g_then _ (statements_gives n p.statements f) (g_map (λ l. record { statements = p.statements; end_label = l }) (end_gives k.Process p.end_label)) (λ next _. refl))
+-- ---- a wait, and what follows it
 
-pub process_gives : (n : ℕ) (p : Process) → IsProcess p → Gives (process n) p (spell_process p) Whatever
+wait_gives : (n : ℕ) (w : Wait) → IsWaitIn Wide w → Gives (wait_until n) w (spell_wait w) Whatever
+unfolding wait_until
+wait_gives n w f = g_at _ (g_some (λ _. g_then _ (expr_gives n w.condition f.1) (g_some (λ _. g_pure)) (λ next _. omega arith)))
+
+optional_wait_gives : (language : Language) (n : ℕ) (o : Option Wait) → IsOption (IsWaitIn language) o → Gives (optional_wait language n) o (spell_option spell_wait o) (λ next. (is_kind k.Wait next ≡ false) × Whatever next)
+unfolding same_kind
+optional_wait_gives Profile n None f = g_pure
+optional_wait_gives Profile n (Some w) f = absurd f.0
+optional_wait_gives Wide n o f = option_gives (is_kind k.Wait) (wait_gives n) (λ w good next. refl) o f
+
+-- no statement begins with `wait`, nor does an end
+after_label : (l : Option Ident) (s : Statement) (ps : List Piece) (next : Option TokenKind) → is_kind k.Wait (front ((spell_option spell_label l ++ spell_statement s) ++ ps) next) ≡ false
+unfolding same_kind
+after_label (Some i) s ps next = refl
+after_label None (null_of at) ps next = refl
+after_label None _ ps next = refl
+
+after_wait : (ss : List Sequential) (ps : List Piece) (next : Option TokenKind) → is_kind k.Wait (front (spelled ss ++ (some k.End ∷ ps)) next) ≡ false
+unfolding same_kind
+after_wait [] ps next = refl
+after_wait (s ∷ ss) ps next = by (spelled ss)
+  where
+    by : (qs : List Piece) → is_kind k.Wait (front (((spell_option spell_label s.label ++ spell_statement s.statement) ++ qs) ++ (some k.End ∷ ps)) next) ≡ false
+    by qs = subst (λ x. is_kind k.Wait (front x next) ≡ false) (sym (append_assoc (spell_option spell_label s.label ++ spell_statement s.statement) qs (some k.End ∷ ps)))
+        (after_label s.label s.statement (qs ++ (some k.End ∷ ps)) next)
+
+body_gives : (language : Language) (n : ℕ) (p : Process) → IsOption (IsWaitIn language) p.wait → AreStatements (statements_of p.statements) →
+    Gives (body language n) (record { wait = p.wait; statements = p.statements; end_label = p.end_label }) (spell_body p) Whatever
+unfolding body
+body_gives language n p good f = g_some (λ _.
+    g_then _ (optional_wait_gives language n p.wait good)
+    (g_then _ (statements_gives n p.statements f) (g_map (λ l. record { wait = p.wait; statements = p.statements; end_label = l }) (end_gives k.Process p.end_label)) (λ next _. refl))
+    (λ next _. (after_wait p.statements _ next, tt)))
+
+pub process_gives : (language : Language) (n : ℕ) (p : Process) → IsProcessIn language p → Gives (process language n) p (spell_process p) Whatever
 unfolding process same_kind
-process_gives n p f =
+process_gives language n p f =
     g_at _ (g_then _ (sensitivity_gives n p.sensitivity f.0)
     (g_then _ (eat_gives k.Is p.is_word refl)
     (g_then _ (all_variables_gives n p.variables f.1)
-    (g_map (λ b. record { at = p.at; sensitivity = p.sensitivity; is_word = p.is_word; variables = p.variables; statements = b.statements; end_label = b.end_label }) (body_gives n p f.2))
+    (g_map (λ b. record { at = p.at; sensitivity = p.sensitivity; is_word = p.is_word; variables = p.variables; wait = b.wait; statements = b.statements; end_label = b.end_label }) (body_gives language n p f.2 f.3))
     (λ next _. (refl, tt)))
     (λ next _. after_word p.variables p next))
     (λ next _. after_sensitivity p.is_word p.variables p next))

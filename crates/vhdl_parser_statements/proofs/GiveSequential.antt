@@ -3,7 +3,7 @@ use Rattle.std.proofs.Common.{◌≡◌, ℕ, suc, true, false, List, [], ◌∷
 use Rattle.vhdl_lexer.specs.declared.token.TokenKind.{TokenKind}
 use Rattle.vhdl_lexer.specs.declared.token.TokenKind.TheVariants as k
 use Rattle.vhdl_tree.specs.Lexeme.{same_kind}
-use Rattle.vhdl_tree.specs.Tree.{Ident, Expr, Suffix, plain, arguments, sliced, Name, Value, Range, Choice, Statement, null_of, assigned, variable_assigned, if_of, case_of, for_of, Statements, done, step, Conditionals, no_conditionals, guarded, Otherwise, no_else, else_do, Alternatives, no_alternatives, alternative, Sequential, Conditional, Alternative, statements_of, conditionals_of, alternatives_of, otherwise_of}
+use Rattle.vhdl_tree.specs.Tree.{Ident, Expr, Suffix, plain, Name, Value, Range, Choice, Statement, null_of, assigned, variable_assigned, if_of, case_of, for_of, Statements, done, step, Conditionals, no_conditionals, guarded, Otherwise, no_else, else_do, Alternatives, no_alternatives, alternative, Sequential, Conditional, Alternative, statements_of, conditionals_of, alternatives_of, otherwise_of}
 use Rattle.vhdl_tree.specs.Pieces.{Piece, some, one_at, spell_ident, spell_option, spell_list, IsEach, IsList, IsOption}
 use Rattle.vhdl_tree.specs.grammar.Expressions.{spell, spell_name, spell_value, IsExpr, IsName, IsValue, IsRange, AreChoices}
 use Rattle.vhdl_tree.specs.grammar.Sequential.{spell_label, spell_end, spell_statement, spell_else, spell_sequential, IsStatement, AreStatements, AreElsifs, IsElse, AreAlternatives}

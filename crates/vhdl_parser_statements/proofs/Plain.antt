@@ -2,7 +2,7 @@
 use Rattle.std.proofs.Common.{ℕ, ◌≤◌, [], ◌∷◌, ◌++◌, length, length-append, None, refl, arith}
 use Rattle.vhdl_lexer.specs.declared.token.TokenKind.TheVariants as k
 use Rattle.vhdl_tree.specs.declared.operator.Direction.TheVariants.{To}
-use Rattle.vhdl_tree.specs.Tree.{Ident, Name, Range, single, otherwise, Statement, null_of, assigned, variable_assigned, if_of, case_of, for_of, done, no_conditionals, guarded, no_else, no_alternatives, alternative, Sequential}
+use Rattle.vhdl_tree.specs.Tree.{Ident, Name, Range, single, otherwise, Statement, null_of, assigned, if_of, case_of, for_of, done, no_conditionals, guarded, no_else, no_alternatives, alternative, Sequential}
 use Rattle.vhdl_tree.specs.Pieces.{Piece, some, one_at, word_at, text_at, spell_option}
 use Rattle.vhdl_tree.specs.grammar.Expressions.{spell_name, IsName}
 use Rattle.vhdl_tree.specs.grammar.Sequential.{spell_label, spell_end, spell_statement, spell_sequential, IsStatement}

@@ -1,16 +1,18 @@
 -- What the readers of processes and selected assignments make.
 use Rattle.std.proofs.Common.{◌≡◌, ℕ, List, [], ◌∷◌, ◌++◌, refl, sym, ap, append-nil, arith}
+use Rattle.vhdl_lexer.specs.declared.language.Language.{Language}
+use Rattle.vhdl_lexer.specs.declared.language.Language.TheVariants.{Profile, Wide}
 use Rattle.vhdl_lexer.specs.declared.token.TokenKind.TheVariants as k
 use Rattle.vhdl_tree.specs.Tree.{Sensitivity, absent, every, listed}
-use Rattle.vhdl_tree.specs.Pieces.{Piece, some, spell_list, IsList}
+use Rattle.vhdl_tree.specs.Pieces.{Piece, some, spell_option, spell_list, IsList, IsOption}
 use Rattle.vhdl_tree.specs.grammar.Expressions.{spell_name, IsName}
 use Rattle.vhdl_tree.specs.grammar.Sequential.{spell_end}
-use Rattle.vhdl_tree.specs.grammar.Process.{spell_sensitivity, spell_variables, spell_process, spell_waveform, spell_selected, IsSensitivity, IsVariables, IsProcess, IsWaveform, IsSelected}
+use Rattle.vhdl_tree.specs.grammar.Process.{spell_sensitivity, spell_variables, spell_wait, spell_process, spell_waveform, spell_selected, IsSensitivity, IsVariables, IsWaitIn, IsProcessIn, IsWaveform, IsSelected}
 use Rattle.vhdl_parser_expressions.specs.reader.Input.{is_kind}
-use Rattle.vhdl_parser_statements.specs.reader.Process.{names, sensitivity_list, sensitivity, optional_sensitivity, variables, Body, body, process}
+use Rattle.vhdl_parser_statements.specs.reader.Process.{names, sensitivity_list, sensitivity, optional_sensitivity, variables, wait_until, optional_wait, Body, body, process}
 use Rattle.vhdl_parser_statements.specs.reader.Waveforms.{waveform, waveforms, selected}
 use Rattle.vhdl_parser_expressions.proofs.Walks.{Rule, w_pure, w_then, w_last}
-use Rattle.vhdl_parser_expressions.proofs.Rules.{w_at, w_some, w_left, w_right, word_rule, w_test, w_below, below_met, under}
+use Rattle.vhdl_parser_expressions.proofs.Rules.{w_at, w_some, w_left, w_right, word_rule, w_test, w_below, below_met, under, option_rule}
 use Rattle.vhdl_parser_expressions.proofs.Repeats.{separated_rule, each_rule}
 use Rattle.vhdl_parser_expressions.proofs.WalkExpressions.{expr_rule, a_name_rule}
 use Rattle.vhdl_parser_expressions.proofs.WalkValues.{value_rule, choices_rule}
@@ -54,19 +56,32 @@ variables_rule : (n : ℕ) → Rule n 0 (variables n) spell_variables IsVariable
 unfolding variables
 variables_rule n = w_last (λ o. record { names = o.names; subtype = o.subtype; default = o.default }) (objects_rule n k.Variable refl) (λ o good. (refl, good))
 
--- begin { seq } end process [ id ] ;
+-- wait until expr ;
+wait_rule : (n : ℕ) → Rule n 0 (wait_until n) spell_wait (IsWaitIn Wide)
+unfolding wait_until
+wait_rule n = w_at k.Wait refl (λ at. w_some k.Until refl (λ _. w_then (expr_rule n) (λ e good _. w_some k.Semicolon refl (λ _. w_pure (omega arith) refl (tt, good)))))
+
+optional_wait_rule : (language : Language) (n : ℕ) → Rule n 0 (optional_wait language n) (spell_option spell_wait) (IsOption (IsWaitIn language))
+optional_wait_rule Profile n = w_pure (omega arith) refl tt
+optional_wait_rule Wide n = option_rule (is_kind k.Wait) (omega arith) (wait_rule n)
+
+-- begin [ wait until expr ; ] { seq } end process [ id ] ;
 abbrev spell_tail : Body → List Piece
-spell_tail b = some k.Begin ∷ (spelled b.statements ++ spell_end k.Process b.end_label)
+spell_tail b = some k.Begin ∷ (spell_option spell_wait b.wait ++ (spelled b.statements ++ spell_end k.Process b.end_label))
 
-body_rule : (n : ℕ) → Rule n 0 (body n) spell_tail (λ b. formed b.statements)
+abbrev IsBodyIn : Language → Body → Type 0
+IsBodyIn language b = IsOption (IsWaitIn language) b.wait × formed b.statements
+
+body_rule : (language : Language) (n : ℕ) → Rule n 0 (body language n) spell_tail (IsBodyIn language)
 unfolding body
-body_rule n = w_some k.Begin refl (λ _. w_then (statements_rule n) (λ ss fine _. w_end_neutral k.Process refl (λ l. w_pure (omega arith) (ap (λ ps. some k.Begin ∷ (spelled ss ++ ps)) (sym (append-nil (spell_end k.Process l)))) fine)))
+body_rule language n = w_some k.Begin refl (λ _. w_then (optional_wait_rule language n) (λ w good _. w_then (statements_rule n) (λ ss fine _. w_end_neutral k.Process refl (λ l.
+    w_pure (omega arith) (ap (λ ps. some k.Begin ∷ (spell_option spell_wait w ++ (spelled ss ++ ps))) (sym (append-nil (spell_end k.Process l)))) (good, fine)))))
 
-pub process_rule : (n : ℕ) → Rule n 0 (process n) spell_process IsProcess
+pub process_rule : (language : Language) (n : ℕ) → Rule n 0 (process language n) spell_process (IsProcessIn language)
 unfolding process
-process_rule n = w_at k.Process refl (λ at. w_then (sensitivity_rule n) (λ s good _. w_then (word_rule k.Is refl (omega arith)) (λ w _ _.
+process_rule language n = w_at k.Process refl (λ at. w_then (sensitivity_rule n) (λ s good _. w_then (word_rule k.Is refl (omega arith)) (λ w _ _.
     w_then (each_rule (is_kind k.Variable) (variables n) (omega arith) (variables_rule n) refl (λ d. omega arith)) (λ vs known _.
-    w_last (λ b. record { at = at; sensitivity = s; is_word = w; variables = vs; statements = b.statements; end_label = b.end_label }) (body_rule n) (λ b fine. (refl, (good, known, fine)))))))
+    w_last (λ b. record { at = at; sensitivity = s; is_word = w; variables = vs; wait = b.wait; statements = b.statements; end_label = b.end_label }) (body_rule language n) (λ b fine. (refl, (good, known, fine.0, fine.1)))))))
 
 waveform_rule : (n : ℕ) → Rule n 0 (waveform n) spell_waveform IsWaveform
 unfolding waveform

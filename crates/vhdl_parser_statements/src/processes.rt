@@ -1,7 +1,7 @@
 //! Processes.
 
 ghost use Rattle.std.specs.Prelude.{◌≡◌};
-ghost use Rattle.vhdl_tree.specs.View.{names_view, sensitivity_view, variables_view, all_variables_view, process_view};
+ghost use Rattle.vhdl_tree.specs.View.{names_view, sensitivity_view, variables_view, all_variables_view, wait_view, option_wait_view, process_view};
 ghost use Rattle.vhdl_parser_expressions.specs.reader.Input.{Reads};
 ghost use Rattle.vhdl_parser_statements.specs.reader.Process as read;
 ghost use Rattle.vhdl_parser_statements.specs.reader.Process.{body_view};
@@ -9,9 +9,9 @@ ghost use Rattle.vhdl_parser_statements.specs.reader.Process.{body_view};
 use crate::behind::ended;
 use crate::objects::object_declaration;
 use crate::sequential::statements;
-use vhdl_lexer::TokenKind;
-use vhdl_parser_expressions::{Parser, Stop, below, followed, many, separated};
-use vhdl_tree::{Identifier, Name, Process, Sensitivity, Sequential, Variables};
+use vhdl_lexer::{Language, TokenKind};
+use vhdl_parser_expressions::{Parser, Stop, below, followed, many, optional, separated};
+use vhdl_tree::{Identifier, Name, Process, Sensitivity, Sequential, Variables, Wait};
 
 fn names(parser: &mut Parser<'_>, levels: usize) -> Result<Vec<Name>, Stop>
     ensures { Reads names_view (read.names levels parser.old) result parser.new }
@@ -76,34 +76,64 @@ fn all_variables(parser: &mut Parser<'_>, levels: usize) -> Result<Vec<Variables
     )
 }
 
-/// The statements of a process, and the label at its end.
+#[tactic(auto, unfolding(crate::specs::reader::Process::wait_until))]
+fn wait_until(parser: &mut Parser<'_>, levels: usize) -> Result<Wait, Stop>
+    ensures { Reads wait_view (read.wait_until levels parser.old) result parser.new }
+{
+    let at = parser.expect(TokenKind::Wait)?;
+    parser.expect(TokenKind::Until)?;
+    let condition = parser.expr(levels)?;
+    let condition = followed(parser, condition, TokenKind::Semicolon)?;
+    Ok(Wait { at, condition })
+}
+
+/// What a process waits for first, if it does, where the wider language is read.
+#[tactic(auto, unfolding(vhdl_parser_expressions::specs::reader::Input::optional))]
+fn optional_wait(
+    parser: &mut Parser<'_>,
+    language: Language,
+    levels: usize,
+) -> Result<Option<Wait>, Stop>
+    ensures { Reads option_wait_view (read.optional_wait language levels parser.old) result parser.new }
+{
+    match language {
+        Language::Profile => Ok(None),
+        Language::Wide => optional!(parser, TokenKind::Wait, wait_until(parser, levels)?),
+    }
+}
+
+/// What a process waits for, its statements, and the label at its end.
 #[tactic(auto, unfolding(crate::specs::reader::Process::body))]
 fn body(
     parser: &mut Parser<'_>,
+    language: Language,
     levels: usize,
-) -> Result<(Vec<Sequential>, Option<Identifier>), Stop>
-    ensures { Reads body_view (read.body levels parser.old) result parser.new }
+) -> Result<(Option<Wait>, Vec<Sequential>, Option<Identifier>), Stop>
+    ensures { Reads body_view (read.body language levels parser.old) result parser.new }
 {
     parser.expect(TokenKind::Begin)?;
+    let wait = optional_wait(parser, language, levels)?;
     let statements = statements(parser, levels)?;
-    ended(parser, statements, TokenKind::Process)
+    let ((wait, statements), end_label) = ended(parser, (wait, statements), TokenKind::Process)?;
+    Ok((wait, statements, end_label))
 }
 
-/// A process behind its label, in which so many levels may be opened.
+/// A process of this language behind its label, in which so many levels may be opened.
 #[tactic(auto, unfolding(crate::specs::reader::Process::process))]
-pub fn process(parser: &mut Parser<'_>, levels: usize) -> Result<Process, Stop>
-    ensures { Reads process_view (read.process levels parser.old) result parser.new }
+pub fn process(parser: &mut Parser<'_>, language: Language, levels: usize) -> Result<Process, Stop>
+    ensures { Reads process_view (read.process language levels parser.old) result parser.new }
 {
     let at = parser.expect(TokenKind::Process)?;
     let sensitivity = optional_sensitivity(parser, levels)?;
     let is_word = parser.eat(TokenKind::Is)?;
     let variables = all_variables(parser, levels)?;
-    let (statements, end_label) = body(parser, levels)?;
+    let (wait, statements, end_label) = body(parser, language, levels)?;
     Ok(Process {
         at,
         sensitivity,
         is_word,
         variables,
+        wait,
         statements,
         end_label,
     })

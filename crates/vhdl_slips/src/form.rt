@@ -108,6 +108,11 @@ pub const WAIT: Said = (
      process (all); what a testbench waits for stands in the stimulus",
 );
 
+pub const WAIT_HEAD: Said = (
+    "isn't read here: a process waits at its head alone, for one edge, and has no list then",
+    "write process begin wait until rising_edge(clk); what a testbench waits for stands in the stimulus",
+);
+
 pub const DELAY: Said = (
     "isn't read here: assignments have no delay",
     "leave out the delay; inputs change at times that the stimulus says",

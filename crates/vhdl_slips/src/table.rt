@@ -4,7 +4,8 @@ use crate::form::{
     ABSOLUTE, ACTUAL, AGGREGATE, ALIAS, ARRAY, ATTRIBUTE, BLOCK, Behind, CHOICE, DEFAULT, DELAY,
     DYNAMIC_INDEX, ELEMENT, FUNCTION, FormWord, INSTANCE, LIBRARY, MESSAGE, MODE, NUMBER_RANGE,
     ORDER, OTHER_LOOP, OTHER_TYPE, PACKAGE, POWER, QUALIFIED, RANGE_ATTRIBUTE, RECORD, REDUCTION,
-    SECOND_INDEX, SHIFT, SIGNED, SUBPROGRAM, SUBTYPE, TRUTH, VECTOR, WAIT, WHOLE_NUMBERS,
+    SECOND_INDEX, SHIFT, SIGNED, SUBPROGRAM, SUBTYPE, TRUTH, VECTOR, WAIT, WAIT_HEAD,
+    WHOLE_NUMBERS,
 };
 use crate::slip::{
     ALTERNATIVE, ARROW, BEGIN, BEGIN_LINE, CASE_GENERATE, CASE_IS, CHOICE_RANGE, CHOICES, COMMA,
@@ -86,7 +87,7 @@ pub static SLIPS: [FormWord; 65] = [
 
 /// The words at which a form begins that the grammar hasn't, where none of these slips is told; of
 /// two lines that fit the first counts.
-pub static UNREAD: [FormWord; 73] = [
+pub static UNREAD: [FormWord; 76] = [
     (b"range", Behind::Kind(TokenKind::Tick), RANGE_ATTRIBUTE),
     (b"range", Behind::Anything, NUMBER_RANGE),
     (b"array", Behind::Anything, ARRAY),
@@ -111,6 +112,9 @@ pub static UNREAD: [FormWord; 73] = [
     (b"buffer", Behind::Anything, MODE),
     (b"linkage", Behind::Anything, MODE),
     (b"wait", Behind::Anything, WAIT),
+    (b"for", Behind::Kind(TokenKind::Wait), WAIT_HEAD),
+    (b"on", Behind::Kind(TokenKind::Wait), WAIT_HEAD),
+    (b";", Behind::Kind(TokenKind::Wait), WAIT_HEAD),
     (b"after", Behind::Anything, DELAY),
     (b"transport", Behind::Anything, DELAY),
     (b"inertial", Behind::Anything, DELAY),
@@ -163,7 +167,7 @@ pub static UNREAD: [FormWord; 73] = [
 ];
 
 /// The names of packages, types and attributes that are left out.
-pub static LEFT_OUT: [FormWord; 41] = [
+pub static LEFT_OUT: [FormWord; 42] = [
     (b"true", Behind::Anything, TRUTH),
     (b"false", Behind::Anything, TRUTH),
     (b"", Behind::Kind(TokenKind::Arrow), ACTUAL),
@@ -199,6 +203,7 @@ pub static LEFT_OUT: [FormWord; 41] = [
     (b"string", Behind::Anything, OTHER_TYPE),
     (b"character", Behind::Anything, OTHER_TYPE),
     (b"time", Behind::Anything, OTHER_TYPE),
+    (b"wait", Behind::Anything, WAIT_HEAD),
     (b"", Behind::Kind(TokenKind::Assign), DEFAULT),
     (b"", Behind::Kind(TokenKind::When), CHOICE),
     (b"work", Behind::Kind(TokenKind::Use), PACKAGE),

@@ -1,6 +1,7 @@
 -- How high concurrent statements, declarations, units and files are, where so many levels may be opened.
 use Rattle.std.proofs.Common.{ℕ, suc, ◌+◌, ◌*◌, ◌≤◌, Bool, true, false, List, [], ◌∷◌, ◌++◌, map, Vec, Global, Option, Some, None, refl, sym, subst, append-nil, arith}
 use Rattle.std.specs.Prelude.{max}
+use Rattle.vhdl_lexer.specs.declared.language.Language.TheVariants.{Wide}
 use Rattle.vhdl_lexer.specs.declared.token.TokenKind.{TokenKind}
 use Rattle.vhdl_lexer.specs.declared.token.TokenKind.TheVariants as k
 use Rattle.vhdl_tree.specs.declared.expression.Association.{Association}
@@ -9,6 +10,7 @@ use Rattle.vhdl_tree.specs.declared.expression.Value.{Value}
 use Rattle.vhdl_tree.specs.declared.process.Sensitivity.{Sensitivity}
 use Rattle.vhdl_tree.specs.declared.process.Sensitivity.TheVariants as se
 use Rattle.vhdl_tree.specs.declared.process.Process.{Process}
+use Rattle.vhdl_tree.specs.declared.process.Wait.{Wait}
 use Rattle.vhdl_tree.specs.declared.process.Waveform.{Waveform}
 use Rattle.vhdl_tree.specs.declared.process.SelectedAssignment.{SelectedAssignment}
 use Rattle.vhdl_tree.specs.declared.instance.Instance.{Instance}
@@ -25,7 +27,6 @@ use Rattle.vhdl_tree.specs.declared.declaration.Generic.{Generic}
 use Rattle.vhdl_tree.specs.declared.declaration.Port.{Port}
 use Rattle.vhdl_tree.specs.declared.declaration.Subtype.{Subtype}
 use Rattle.vhdl_tree.specs.declared.declaration.Signals.{Signals}
-use Rattle.vhdl_tree.specs.declared.declaration.Variables.{Variables}
 use Rattle.vhdl_tree.specs.declared.declaration.Constants.{Constants}
 use Rattle.vhdl_tree.specs.declared.declaration.Enumeration.{Enumeration}
 use Rattle.vhdl_tree.specs.declared.declaration.Component.{Component}
@@ -75,13 +76,20 @@ objects_are word plain room names s o is_subtype is_default = b_less {c = 8} (om
     (b_piece (some word) plain (b_then (b_idents names) (b_piece (some k.Colon) (refl, refl, refl)
     (b_then (subtype_is s is_subtype) (b_then (default_may_be o is_default) b_semicolon)))))
 
-process_is : (p : Process) → process.IsProcess (view.process_view p) → Bounds 10 (high.process_height p) (process.spell_process (view.process_view p))
+wait_is : (w : Wait) → process.IsWaitIn Wide (view.wait_view w) → Bounds 8 (high.wait_height w) (process.spell_wait (view.wait_view w))
+unfolding same_kind
+wait_is w good = b_less {c = 8} (omega arith)
+    (b_piece (one_at k.Wait w.at) (refl, refl, refl) (b_piece (some k.Until) (refl, refl, refl) (b_then (expr_height w.condition good.1) b_semicolon)))
+
+process_is : (p : Process) → process.IsProcessIn Wide (view.process_view p) → Bounds 10 (high.process_height p) (process.spell_process (view.process_view p))
 unfolding same_kind
 process_is p good = b_less {c = 9} (omega arith)
     (b_piece (one_at k.Process p.at) (refl, refl, refl) (b_then (b_raise 9 (omega arith) (sensitivity_is p.sensitivity good.0))
     (b_then (b_word k.Is p.is_word (refl, refl, refl))
     (b_then (b_each 9 view.variables_view high.variables_height process.spell_variables process.IsVariables (λ v fine. objects_are k.Variable (refl, refl, refl) (omega arith) (view.idents_view v.names) v.subtype v.default fine.1 fine.2) p.variables.items good.1)
-    (b_piece (some k.Begin) (refl, refl, refl) (b_then (body_is p.statements.items good.2) (b_end (some k.Process) (refl, refl, refl) (b_last (view.option_ident_view p.end_label)))))))))
+    (b_piece (some k.Begin) (refl, refl, refl)
+    (b_then (b_raise 9 (omega arith) (b_option 8 view.wait_view high.wait_height process.spell_wait (process.IsWaitIn Wide) wait_is p.wait good.2))
+    (b_then (body_is p.statements.items good.3) (b_end (some k.Process) (refl, refl, refl) (b_last (view.option_ident_view p.end_label))))))))))
 
 waveform_is : (w : Waveform) → process.IsWaveform (view.waveform_view w) → Bounds 8 (high.waveform_height w) (process.spell_waveform (view.waveform_view w))
 unfolding same_kind
@@ -157,7 +165,7 @@ generated_is at (sc.If condition) good closed =
 mutual
   unfolding same_kind
 
-  concurrent_is : (x : Concurrent) → concurrent.IsConcurrent (view.concurrent_view x) → Bounds 10 (high.concurrent_height x) (concurrent.spell_concurrent (view.concurrent_view x))
+  concurrent_is : (x : Concurrent) → concurrent.IsConcurrentIn Wide (view.concurrent_view x) → Bounds 10 (high.concurrent_height x) (concurrent.spell_concurrent (view.concurrent_view x))
   concurrent_is (c.Assignment a) good = assignment_is a good
   concurrent_is (c.Selected label s) good = b_less {c = 10} (omega arith) (b_then (b_optional_label (view.option_ident_view label)) (selected_is s good))
   concurrent_is (c.Process label p) good = b_less {c = 10} (omega arith) (b_then (b_optional_label (view.option_ident_view label)) (process_is p good))
@@ -167,7 +175,7 @@ mutual
       (b_piece (some k.Generate) (refl, refl, refl) (b_then (b_word k.Begin begin_word (refl, refl, refl))
       (b_then (concurrents_are statements good.1) (b_end_of k.Generate (refl, refl, refl) (view.option_ident_view last)))))))
 
-  concurrents_are : {m : _} (row : Row_of-Concurrent m) → concurrent.AreConcurrents (view.concurrents_row row) → Bounds 10 (high.concurrents_height row) (concurrent.spell_concurrents (view.concurrents_row row))
+  concurrents_are : {m : _} (row : Row_of-Concurrent m) → concurrent.AreConcurrentsIn Wide (view.concurrents_row row) → Bounds 10 (high.concurrents_height row) (concurrent.spell_concurrents (view.concurrents_row row))
   concurrents_are end_of-Concurrent good = b_none
   concurrents_are (more_of-Concurrent x rest) good = b_then (concurrent_is x good.0) (concurrents_are rest good.1)
 
@@ -261,17 +269,17 @@ entity_is n good = b_less {c = 9} (omega arith)
     (b_piece (one_at k.Entity n.at) (refl, refl, refl) (b_then (b_ident (view.ident_view n.name)) (b_piece (some k.Is) (refl, refl, refl)
     (b_then (generics_may_be n.generics good.0) (b_then (ports_may_be n.ports good.1) (end_is k.Entity (refl, refl, refl) n.end_word (view.option_ident_view n.end_name)))))))
 
-architecture_is : (a : Architecture) → unit.IsArchitecture (view.architecture_view a) → Bounds 11 (high.architecture_height a) (unit.spell_architecture (view.architecture_view a))
+architecture_is : (a : Architecture) → unit.IsArchitectureIn Wide (view.architecture_view a) → Bounds 11 (high.architecture_height a) (unit.spell_architecture (view.architecture_view a))
 unfolding same_kind
 architecture_is a good = b_less {c = 10} (omega arith)
     (b_piece (one_at k.Architecture a.at) (refl, refl, refl) (b_then (b_ident (view.ident_view a.name)) (b_piece (some k.Of) (refl, refl, refl)
     (b_then (b_ident (view.ident_view a.entity)) (b_piece (some k.Is) (refl, refl, refl)
     (b_then (b_each 10 view.declaration_view high.declaration_height declaration.spell_declaration declaration.IsDeclaration declaration_is a.declarations.items good.0)
     (b_piece (some k.Begin) (refl, refl, refl)
-    (b_then (b_each 10 view.concurrent_view high.concurrent_height concurrent.spell_concurrent concurrent.IsConcurrent concurrent_is a.statements.items good.1)
+    (b_then (b_each 10 view.concurrent_view high.concurrent_height concurrent.spell_concurrent (concurrent.IsConcurrentIn Wide) concurrent_is a.statements.items good.1)
     (end_is k.Architecture (refl, refl, refl) a.end_word (view.option_ident_view a.end_name))))))))))
 
-library_unit_is : (x : LibraryUnit) → unit.IsLibraryUnit (view.library_unit_view x) → Bounds 11 (high.library_unit_height x) (unit.spell_library_unit (view.library_unit_view x))
+library_unit_is : (x : LibraryUnit) → unit.IsLibraryUnitIn Wide (view.library_unit_view x) → Bounds 11 (high.library_unit_height x) (unit.spell_library_unit (view.library_unit_view x))
 library_unit_is (u.Entity n) good = entity_is n good
 library_unit_is (u.Architecture a) good = architecture_is a good
 
@@ -289,11 +297,11 @@ contexts_are : (xs : List t.ContextItem) → Bounds 11 0 (spell_each unit.spell_
 contexts_are [] = b_none
 contexts_are (x ∷ xs) = b_less {c = 11} (omega arith) (b_then (context_is x) (contexts_are xs))
 
-unit_is : (x : DesignUnit) → unit.IsUnit (view.unit_view x) → Bounds 11 (high.unit_height x) (unit.spell_unit (view.unit_view x))
+unit_is : (x : DesignUnit) → unit.IsUnitIn Wide (view.unit_view x) → Bounds 11 (high.unit_height x) (unit.spell_unit (view.unit_view x))
 unit_is x good = b_less {c = 11} (omega arith) (b_then (contexts_are (view.contexts_view x.context)) (library_unit_is x.unit good.1))
 
-pub file_height_bounded : (f : File) (n : ℕ) (ts : List Lexeme) → unit.IsFile (view.file_view f) → Spells (unit.spell_file (view.file_view f)) ts [] → IsShallow n ts → high.file_height f ≤ 8 * n + 12
+pub file_height_bounded : (f : File) (n : ℕ) (ts : List Lexeme) → unit.IsFileIn Wide (view.file_view f) → Spells (unit.spell_file (view.file_view f)) ts [] → IsShallow n ts → high.file_height f ≤ 8 * n + 12
 file_height_bounded f n ts good spelled shallow =
-    let whole = b_each 11 view.unit_view high.unit_height unit.spell_unit unit.IsUnit unit_is f.units.items good in
+    let whole = b_each 11 view.unit_view high.unit_height unit.spell_unit (unit.IsUnitIn Wide) unit_is f.units.items good in
     let all = unit.spell_file (view.file_view f) in
     omega (arith, (whole.holds n [] (subst (Fits n false) (sym (append-nil all)) (shallow_fits n all ts spelled shallow))).0)

@@ -6,3 +6,4 @@ pub mod Room
 pub mod HeightsExpressions
 pub mod HeightsStatements
 pub mod HeightsFiles
+pub mod Narrow

@@ -28,6 +28,7 @@ use Rattle.vhdl_tree.specs.declared.sequential.Alternative.{Alternative, Alterna
 use Rattle.vhdl_tree.specs.declared.process.Sensitivity.{Sensitivity}
 use Rattle.vhdl_tree.specs.declared.process.Sensitivity.TheVariants as se
 use Rattle.vhdl_tree.specs.declared.process.Process.{Process}
+use Rattle.vhdl_tree.specs.declared.process.Wait.{Wait}
 use Rattle.vhdl_tree.specs.declared.process.Waveform.{Waveform}
 use Rattle.vhdl_tree.specs.declared.process.SelectedAssignment.{SelectedAssignment}
 use Rattle.vhdl_tree.specs.declared.instance.Instance.{Instance}
@@ -182,10 +183,14 @@ sensitivity_height (se.Names all) = highest name_height all.items
 abbrev pub variables_height : Variables → ℕ
 variables_height d = suc (max (subtype_height d.subtype) (optional_height value_height d.default))
 
+abbrev pub wait_height : Wait → ℕ
+wait_height w = height w.condition
+
 abbrev pub process_height : Process → ℕ
 process_height p =
     suc (max (sensitivity_height p.sensitivity)
-    (max (highest variables_height p.variables.items) (highest sequential_height p.statements.items)))
+    (max (highest variables_height p.variables.items)
+    (max (optional_height wait_height p.wait) (highest sequential_height p.statements.items))))
 
 abbrev pub waveform_height : Waveform → ℕ
 waveform_height w = max (value_height w.value) (highest choice_height w.choices.items)

@@ -179,11 +179,17 @@ pub record Variables : Type 0 where
   pub subtype : Subtype
   pub default : Option Value
 
+-- what a process waits for before its statements, each time round (10.2): where `wait` starts, and the condition
+pub record Wait : Type 0 where
+  pub at : ℕ
+  pub condition : Expr
+
 pub record Process : Type 0 where
   pub at : ℕ
   pub sensitivity : Sensitivity
   pub is_word : Bool
   pub variables : List Variables
+  pub wait : Option Wait
   pub statements : List Sequential
   pub end_label : Option Ident
 

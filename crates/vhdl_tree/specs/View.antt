@@ -14,6 +14,7 @@ use Rattle.vhdl_tree.specs.declared.sequential.Alternative.{Alternative, Alterna
 use Rattle.vhdl_tree.specs.declared.process.Sensitivity.{Sensitivity}
 use Rattle.vhdl_tree.specs.declared.process.Sensitivity.TheVariants as se
 use Rattle.vhdl_tree.specs.declared.process.Process.{Process}
+use Rattle.vhdl_tree.specs.declared.process.Wait.{Wait}
 use Rattle.vhdl_tree.specs.declared.process.Waveform.{Waveform}
 use Rattle.vhdl_tree.specs.declared.process.SelectedAssignment.{SelectedAssignment}
 use Rattle.vhdl_tree.specs.declared.instance.Instantiated.{Instantiated}
@@ -140,12 +141,19 @@ variables_view d =
 abbrev pub all_variables_view : Vec Variables Global → List tree.Variables
 all_variables_view v = map variables_view v.items
 
+abbrev pub wait_view : Wait → tree.Wait
+wait_view w = record { at = w.at; condition = view w.condition }
+
+abbrev pub option_wait_view : Option Wait → Option tree.Wait
+option_wait_view = option_map wait_view
+
 abbrev pub process_view : Process → tree.Process
 process_view p = record {
   at = p.at;
   sensitivity = sensitivity_view p.sensitivity;
   is_word = p.is_word;
   variables = all_variables_view p.variables;
+  wait = option_wait_view p.wait;
   statements = sequentials_view p.statements;
   end_label = option_map ident_view p.end_label;
 }

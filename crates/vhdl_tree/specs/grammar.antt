@@ -1,4 +1,5 @@
 -- The grammar: how each tree is spelled, and which trees are well formed.
+pub mod Wide
 pub mod Expressions
 pub mod Subtypes
 pub mod Sequential

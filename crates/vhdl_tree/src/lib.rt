@@ -22,9 +22,9 @@ pub use expression::{
     Actual, Association, Chain, Choice, Expr, Identifier, Link, Literal, Name, Range, Suffix, Value,
 };
 pub use instance::{Instance, Instantiated};
-pub use laws::{file_height_is_bounded, height_is_bounded};
+pub use laws::{file_height_is_bounded, height_is_bounded, narrow_files_are_wide};
 pub use levels::MAX_OPEN;
 pub use operator::{Direction, Operator, Sign};
-pub use process::{Process, SelectedAssignment, Sensitivity, Waveform};
+pub use process::{Process, SelectedAssignment, Sensitivity, Wait, Waveform};
 pub use sequential::{Alternative, Case, Conditional, For, If, Sequential, Statement};
 pub use unit::{Architecture, ContextItem, DesignUnit, Entity, File, LibraryUnit, Selected};

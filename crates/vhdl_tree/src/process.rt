@@ -1,4 +1,4 @@
-//! Processes and selected assignments (IEEE 1076-2008 clauses 11.3 and 11.6).
+//! Processes and selected assignments (IEEE 1076-2008 clauses 11.3, 10.2 and 11.6).
 
 use crate::declaration::Variables;
 use crate::expression::{Choice, Expr, Identifier, Name, Value};
@@ -20,6 +20,19 @@ impl Drop for Sensitivity {
     }
 }
 
+/// What a process waits for before its statements (10.2): `wait until condition;`, and the byte at
+/// which `wait` starts.
+pub struct Wait {
+    pub at: usize,
+    pub condition: Expr,
+}
+
+impl Drop for Wait {
+    fn drop(self) {
+        take_apart!(self: { at, condition });
+    }
+}
+
 /// A process behind its label, and the byte at which it starts. `is_word` says whether `is`
 /// stands before its variables and statements.
 pub struct Process {
@@ -27,13 +40,14 @@ pub struct Process {
     pub sensitivity: Sensitivity,
     pub is_word: bool,
     pub variables: Vec<Variables>,
+    pub wait: Option<Wait>,
     pub statements: Vec<Sequential>,
     pub end_label: Option<Identifier>,
 }
 
 impl Drop for Process {
     fn drop(self) {
-        take_apart!(self: { at, sensitivity, is_word, variables, statements, end_label });
+        take_apart!(self: { at, sensitivity, is_word, variables, wait, statements, end_label });
     }
 }
 

@@ -1,6 +1,7 @@
 -- How the parser reads concurrent statements.
 use Rattle.std.specs.Prelude.{ℕ, zero, suc, Bool, true, false, ◌||◌, if◌then◌else◌, List, [], Vec, Option, Some, None}
 use Rattle.std.specs.Global.{Global}
+use Rattle.vhdl_lexer.specs.declared.language.Language.{Language}
 use Rattle.vhdl_lexer.specs.declared.token.TokenKind.{TokenKind}
 use Rattle.vhdl_lexer.specs.declared.token.TokenKind.TheVariants as k
 use Rattle.vhdl_tree.specs.declared.concurrent.Concurrent as code_concurrent
@@ -35,9 +36,6 @@ begins_concurrent _ = false
 abbrev pub select_with : ℕ → Option Ident → Parser Concurrent
 select_with n label = selected label <$> waveforms_reader.selected n
 
-abbrev pub process_with : ℕ → Option Ident → Parser Concurrent
-process_with n label = process label <$> process_reader.process n
-
 abbrev pub assign_with : ℕ → Option Ident → Parser Concurrent
 assign_with n label = assignment <$> assign n label
 
@@ -51,15 +49,6 @@ sees_component ts =
 
 unfoldable pub named_with : ℕ → Ident → Parser Concurrent
 named_with n label = λ ts. if sees_component ts then instance_with n label ts else assign_with n (Some label) ts
-
-abbrev pub unlabelled_by : ℕ → Option TokenKind → Parser Concurrent
-unlabelled_by n (Some k.With) = select_with n None
-unlabelled_by n (Some k.Process) = process_with n None
-unlabelled_by n (Some k.Identifier) = assign_with n None
-unlabelled_by n _ = refuse
-
-unfoldable pub unlabelled : ℕ → Parser Concurrent
-unlabelled n = choose (unlabelled_by n)
 
 -- whether `begin` stands there, the statements behind it, and the label at the end
 pub record GenerateBody : Type 0 where
@@ -101,13 +90,29 @@ module _ (n : ℕ) (inner : Parser (List Concurrent)) where
   if_generate label =
       opened k.If (λ m at. expr m >>= (λ condition. generate_rest inner label at (if_holds condition))) n
 
+-- ---- what reads a process, by the language
+
+abbrev pub process_with : Language → ℕ → Option Ident → Parser Concurrent
+process_with language n label = process label <$> process_reader.process language n
+
+abbrev pub unlabelled_by : Language → ℕ → Option TokenKind → Parser Concurrent
+unlabelled_by language n (Some k.With) = select_with n None
+unlabelled_by language n (Some k.Process) = process_with language n None
+unlabelled_by language n (Some k.Identifier) = assign_with n None
+unlabelled_by language n _ = refuse
+
+unfoldable pub unlabelled : Language → ℕ → Parser Concurrent
+unlabelled language n = choose (unlabelled_by language n)
+
+-- Where so many levels may be opened. The third parameter reads statements one level down.
+module _ (language : Language) (n : ℕ) (inner : Parser (List Concurrent)) where
   abbrev pub labelled_by : Ident → Option TokenKind → Parser Concurrent
   labelled_by label (Some k.With) = select_with n (Some label)
-  labelled_by label (Some k.Process) = process_with n (Some label)
+  labelled_by label (Some k.Process) = process_with language n (Some label)
   labelled_by label (Some k.Entity) = instance_with n label
   labelled_by label (Some k.Component) = instance_with n label
-  labelled_by label (Some k.For) = for_generate label
-  labelled_by label (Some k.If) = if_generate label
+  labelled_by label (Some k.For) = for_generate n inner label
+  labelled_by label (Some k.If) = if_generate n inner label
   labelled_by label (Some k.Identifier) = named_with n label
   labelled_by label _ = refuse
 
@@ -115,7 +120,7 @@ module _ (n : ℕ) (inner : Parser (List Concurrent)) where
   labelled label = choose (labelled_by label)
 
   abbrev pub by_label : Option Ident → Parser Concurrent
-  by_label None = unlabelled n
+  by_label None = unlabelled language n
   by_label (Some label) = labelled label
 
   unfoldable pub concurrent : Parser Concurrent
@@ -125,10 +130,10 @@ module _ (n : ℕ) (inner : Parser (List Concurrent)) where
   concurrents_with = many begins_concurrent concurrent []
 
 -- the statements one level down, where so many levels may be opened
-unfoldable pub deeper_concurrents : ℕ → Parser (List Concurrent)
-deeper_concurrents zero = too_deep
-deeper_concurrents (suc m) = concurrents_with m (deeper_concurrents m)
+unfoldable pub deeper_concurrents : Language → ℕ → Parser (List Concurrent)
+deeper_concurrents language zero = too_deep
+deeper_concurrents language (suc m) = concurrents_with language m (deeper_concurrents language m)
 
 -- concurrent statements, in which so many levels may be opened
-abbrev pub concurrents : ℕ → Parser (List Concurrent)
-concurrents n = concurrents_with n (deeper_concurrents n)
+abbrev pub concurrents : Language → ℕ → Parser (List Concurrent)
+concurrents language n = concurrents_with language n (deeper_concurrents language n)

@@ -1,5 +1,6 @@
 -- How the parser reads entities, architectures and files.
 use Rattle.std.specs.Prelude.{ℕ, List, [], Option, Some}
+use Rattle.vhdl_lexer.specs.declared.language.Language.{Language}
 use Rattle.vhdl_lexer.specs.declared.token.TokenKind.{TokenKind}
 use Rattle.vhdl_lexer.specs.declared.token.TokenKind.TheVariants as k
 use Rattle.vhdl_tree.specs.Tree.{Entity, Architecture, LibraryUnit, entity, architecture, DesignUnit, File}
@@ -25,8 +26,8 @@ entity_unit = do
   expect k.Semicolon
   pure (record { at = at; name = name; generics = gs; ports = ps; end_word = word; end_name = last })
 
-unfoldable pub architecture_unit : Parser Architecture
-architecture_unit = do
+unfoldable pub architecture_unit : Language → Parser Architecture
+architecture_unit language = do
   at ← expect k.Architecture
   name ← identifier
   expect k.Of
@@ -34,7 +35,7 @@ architecture_unit = do
   expect k.Is
   ds ← declarations max_open
   expect k.Begin
-  found ← concurrents max_open
+  found ← concurrents language max_open
   expect k.End
   word ← eat k.Architecture
   last ← optional (is_kind k.Identifier) identifier
@@ -49,28 +50,28 @@ architecture_unit = do
     end_name = last;
   })
 
-abbrev pub library_unit_by : Option TokenKind → Parser LibraryUnit
-library_unit_by (Some k.Entity) = entity <$> entity_unit
-library_unit_by (Some k.Architecture) = architecture <$> architecture_unit
-library_unit_by _ = refuse
+abbrev pub library_unit_by : Language → Option TokenKind → Parser LibraryUnit
+library_unit_by language (Some k.Entity) = entity <$> entity_unit
+library_unit_by language (Some k.Architecture) = architecture <$> architecture_unit language
+library_unit_by language _ = refuse
 
-unfoldable pub library_unit : Parser LibraryUnit
-library_unit = choose library_unit_by
+unfoldable pub library_unit : Language → Parser LibraryUnit
+library_unit language = choose (library_unit_by language)
 
-unfoldable pub unit : Parser DesignUnit
-unit = do
+unfoldable pub unit : Language → Parser DesignUnit
+unit language = do
   before ← context
-  u ← library_unit
+  u ← library_unit language
   pure (record { context = before; unit = u })
 
-unfoldable pub units : Parser (List DesignUnit)
-units = many is_more unit []
+unfoldable pub units : Language → Parser (List DesignUnit)
+units language = many is_more (unit language) []
 
 unfoldable pub finish : Parser (Unit {0})
 finish = test is_more refuse (pure tt)
 
-unfoldable pub file : Parser File
-file = do
-  found ← units
+unfoldable pub file : Language → Parser File
+file language = do
+  found ← units language
   finish
   pure (record { units = found })

@@ -1,13 +1,16 @@
 -- How the parser reads processes.
-use Rattle.std.specs.Prelude.{ℕ, List, [], Vec, Option}
+use Rattle.std.specs.Prelude.{ℕ, List, [], Vec, Option, None}
 use Rattle.std.specs.Global.{Global}
+use Rattle.vhdl_lexer.specs.declared.language.Language.{Language}
+use Rattle.vhdl_lexer.specs.declared.language.Language.TheVariants.{Profile, Wide}
 use Rattle.vhdl_lexer.specs.declared.token.TokenKind.TheVariants as k
 use Rattle.vhdl_tree.specs.declared.expression.Identifier as code_identifier
+use Rattle.vhdl_tree.specs.declared.process.Wait as code_wait
 use Rattle.vhdl_tree.specs.declared.sequential.Sequential as code_sequential
-use Rattle.vhdl_tree.specs.Tree.{Ident, Name, Variables, Process, Sensitivity, absent, every, listed, Sequential}
-use Rattle.vhdl_tree.specs.View.{option_ident_view, sequentials_view}
-use Rattle.vhdl_parser_expressions.specs.reader.Input.{Parser, ◌>>=◌, ◌>>◌, ◌<$>◌, pure, is_kind, test, expect, eat, many, separated, in_parens}
-use Rattle.vhdl_parser_expressions.specs.reader.Expressions.{inside, name}
+use Rattle.vhdl_tree.specs.Tree.{Ident, Name, Variables, Wait, Process, Sensitivity, absent, every, listed, Sequential}
+use Rattle.vhdl_tree.specs.View.{option_ident_view, option_wait_view, sequentials_view}
+use Rattle.vhdl_parser_expressions.specs.reader.Input.{Parser, ◌>>=◌, ◌>>◌, ◌<$>◌, pure, is_kind, test, expect, eat, optional, many, separated, in_parens}
+use Rattle.vhdl_parser_expressions.specs.reader.Expressions.{expr, inside, name}
 use Rattle.vhdl_parser_statements.specs.reader.Subtypes.{objects}
 use Rattle.vhdl_parser_statements.specs.reader.Sequential.{end_of, statements}
 
@@ -29,33 +32,52 @@ variables n = (λ o. record { names = o.names; subtype = o.subtype; default = o.
 abbrev pub all_variables : ℕ → Parser (List Variables)
 all_variables n = many (is_kind k.Variable) (variables n) []
 
--- the statements of a process, and the label at its end
+-- wait until expr ;
+unfoldable pub wait_until : ℕ → Parser Wait
+wait_until n = do
+  at ← expect k.Wait
+  expect k.Until
+  e ← expr n
+  expect k.Semicolon
+  pure (record { at = at; condition = e })
+
+-- where the wider language is read, one if it begins
+abbrev pub optional_wait : Language → ℕ → Parser (Option Wait)
+optional_wait Profile n = pure None
+optional_wait Wide n = optional (is_kind k.Wait) (wait_until n)
+
+-- what a process does, and the label at its end
 pub record Body : Type 0 where
+  pub wait : Option Wait
   pub statements : List Sequential
   pub end_label : Option Ident
 
-unfoldable pub body : ℕ → Parser Body
-body n = do
+unfoldable pub body : Language → ℕ → Parser Body
+body language n = do
   expect k.Begin
+  first ← optional_wait language n
   found ← statements n
   last ← end_of k.Process
-  pure (record { statements = found; end_label = last })
+  pure (record { wait = first; statements = found; end_label = last })
 
-abbrev pub body_view : Vec code_sequential.Sequential Global × Option code_identifier.Identifier → Body
-body_view b = record { statements = sequentials_view b.0; end_label = option_ident_view b.1 }
+abbrev pub body_view : Option code_wait.Wait × Vec code_sequential.Sequential Global × Option code_identifier.Identifier
+    → Body
+body_view b =
+    record { wait = option_wait_view b.0; statements = sequentials_view b.1; end_label = option_ident_view b.2 }
 
-unfoldable pub process : ℕ → Parser Process
-process n = do
+unfoldable pub process : Language → ℕ → Parser Process
+process language n = do
   at ← expect k.Process
   s ← optional_sensitivity n
   word ← eat k.Is
   vs ← all_variables n
-  b ← body n
+  b ← body language n
   pure (record {
     at = at;
     sensitivity = s;
     is_word = word;
     variables = vs;
+    wait = b.wait;
     statements = b.statements;
     end_label = b.end_label;
   })

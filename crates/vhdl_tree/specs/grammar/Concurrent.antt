@@ -1,11 +1,12 @@
 -- Concurrent statements (IEEE 1076-2008, 11): how they are spelled, and which are well formed.
 use Rattle.std.specs.Prelude.{ℕ, Option, Some, None, List, [], ◌∷◌, ◌++◌}
+use Rattle.vhdl_lexer.specs.declared.language.Language.{Language}
 use Rattle.vhdl_lexer.specs.declared.token.TokenKind.TheVariants as k
 use Rattle.vhdl_tree.specs.Tree.{Value, Branch, Assignment, Scheme, for_each, if_holds, Concurrent, assignment, selected, process, instance, generated, Concurrents, no_concurrents, concurrent}
 use Rattle.vhdl_tree.specs.Pieces.{Piece, some, one_at, word_at, spell_option, spell_word, IsEach, IsOption}
 use Rattle.vhdl_tree.specs.grammar.Expressions.{spell, spell_name, spell_value, spell_range, IsExpr, IsName, IsValue, IsRange}
 use Rattle.vhdl_tree.specs.grammar.Sequential.{spell_label, spell_end}
-use Rattle.vhdl_tree.specs.grammar.Process.{spell_process, spell_selected, IsProcess, IsSelected}
+use Rattle.vhdl_tree.specs.grammar.Process.{spell_process, spell_selected, IsProcessIn, IsSelected}
 use Rattle.vhdl_tree.specs.grammar.Instance.{spell_instance, IsInstance}
 
 -- value when expr
@@ -69,14 +70,15 @@ abbrev pub IsScheme : Scheme → Type 0
 IsScheme (for_each parameter range) = IsRange range
 IsScheme (if_holds condition) = IsExpr condition
 
-abbrev mutual
-  pub IsConcurrent : Concurrent → Type 0
-  IsConcurrent (assignment a) = IsAssignment a
-  IsConcurrent (selected label s) = IsSelected s
-  IsConcurrent (process label p) = IsProcess p
-  IsConcurrent (instance label i) = IsInstance i
-  IsConcurrent (generated label at scheme word statements last) = IsScheme scheme × AreConcurrents statements
+module _ (language : Language) where
+  abbrev mutual
+    pub IsConcurrentIn : Concurrent → Type 0
+    IsConcurrentIn (assignment a) = IsAssignment a
+    IsConcurrentIn (selected label s) = IsSelected s
+    IsConcurrentIn (process label p) = IsProcessIn language p
+    IsConcurrentIn (instance label i) = IsInstance i
+    IsConcurrentIn (generated label at scheme word statements last) = IsScheme scheme × AreConcurrentsIn statements
 
-  pub AreConcurrents : Concurrents → Type 0
-  AreConcurrents no_concurrents = Unit {0}
-  AreConcurrents (concurrent c more) = IsConcurrent c × AreConcurrents more
+    pub AreConcurrentsIn : Concurrents → Type 0
+    AreConcurrentsIn no_concurrents = Unit {0}
+    AreConcurrentsIn (concurrent c more) = IsConcurrentIn c × AreConcurrentsIn more

@@ -1,11 +1,14 @@
--- Processes and selected assignments (IEEE 1076-2008, 11.3, 11.6): how they are spelled, and which are well formed.
+-- Processes and selected assignments (IEEE 1076-2008, 11.3, 10.2, 11.6): how they are spelled, and which are well
+-- formed.
 use Rattle.std.specs.Prelude.{List, [], ◌∷◌, ◌++◌}
+use Rattle.vhdl_lexer.specs.declared.language.Language.{Language}
 use Rattle.vhdl_lexer.specs.declared.token.TokenKind.TheVariants as k
-use Rattle.vhdl_tree.specs.Tree.{Variables, Process, Sensitivity, absent, every, listed, Waveform, SelectedAssignment, statements_of}
+use Rattle.vhdl_tree.specs.Tree.{Variables, Wait, Process, Sensitivity, absent, every, listed, Waveform, SelectedAssignment, statements_of}
 use Rattle.vhdl_tree.specs.Pieces.{Piece, some, one_at, spell_idents, spell_word, spell_option, spell_each, spell_list, IsAny, IsEach, IsList, IsOption}
 use Rattle.vhdl_tree.specs.grammar.Expressions.{spell, spell_name, spell_value, spell_choices, IsExpr, IsName, IsValue, AreChoices}
 use Rattle.vhdl_tree.specs.grammar.Subtypes.{spell_subtype, spell_default, IsSubtype}
 use Rattle.vhdl_tree.specs.grammar.Sequential.{spell_statements, spell_end, AreStatements}
+use Rattle.vhdl_tree.specs.grammar.Wide.{IsWide}
 
 -- [ ( all ) | ( name { , name } ) ]
 abbrev pub spell_sensitivity : Sensitivity → List Piece
@@ -19,11 +22,18 @@ spell_variables d =
     some k.Variable ∷ (spell_idents d.names
     ++ (some k.Colon ∷ (spell_subtype d.subtype ++ (spell_option spell_default d.default ++ some k.Semicolon ∷ []))))
 
--- begin { seq } end process [ id ] ;
-abbrev pub spell_body : Process → List Piece
-spell_body p = some k.Begin ∷ (spell_statements (statements_of p.statements) ++ spell_end k.Process p.end_label)
+-- wait until expr ;
+abbrev pub spell_wait : Wait → List Piece
+spell_wait w = one_at k.Wait w.at ∷ (some k.Until ∷ (spell w.condition ++ some k.Semicolon ∷ []))
 
--- process = process [ .. ] [ is ] { variable ids : subtype [ := value ] ; } begin { seq } end process [ id ] ;
+-- begin [ wait until expr ; ] { seq } end process [ id ] ;
+abbrev pub spell_body : Process → List Piece
+spell_body p =
+    some k.Begin ∷ (spell_option spell_wait p.wait
+    ++ (spell_statements (statements_of p.statements) ++ spell_end k.Process p.end_label))
+
+-- process = process [ .. ] [ is ] { variable ids : subtype [ := value ] ; }
+--     begin [ wait until expr ; ] { seq } end process [ id ] ;
 abbrev pub spell_process : Process → List Piece
 spell_process p =
     one_at k.Process p.at ∷ (spell_sensitivity p.sensitivity
@@ -37,8 +47,15 @@ IsSensitivity (listed names) = IsList IsName names
 abbrev pub IsVariables : Variables → Type 0
 IsVariables d = IsList IsAny d.names × IsSubtype d.subtype × IsOption IsValue d.default
 
-abbrev pub IsProcess : Process → Type 0
-IsProcess p = IsSensitivity p.sensitivity × IsEach IsVariables p.variables × AreStatements (statements_of p.statements)
+module _ (language : Language) where
+  -- a process waits in the wider language alone
+  abbrev pub IsWaitIn : Wait → Type 0
+  IsWaitIn w = IsWide language × IsExpr w.condition
+
+  abbrev pub IsProcessIn : Process → Type 0
+  IsProcessIn p =
+      IsSensitivity p.sensitivity × IsEach IsVariables p.variables × IsOption IsWaitIn p.wait
+      × AreStatements (statements_of p.statements)
 
 -- value when choices
 abbrev pub spell_waveform : Waveform → List Piece

@@ -1,11 +1,13 @@
 -- Files, context clauses, entities and architectures (IEEE 1076-2008, 3.2, 3.3, 13): how they are spelled, and which
 -- are well formed.
 use Rattle.std.specs.Prelude.{Bool, Option, List, [], ◌∷◌, ◌++◌}
+use Rattle.vhdl_lexer.specs.declared.language.Language.{Language}
+use Rattle.vhdl_lexer.specs.declared.language.Language.TheVariants.{Profile}
 use Rattle.vhdl_lexer.specs.declared.token.TokenKind.{TokenKind}
 use Rattle.vhdl_lexer.specs.declared.token.TokenKind.TheVariants as k
 use Rattle.vhdl_tree.specs.Tree.{Ident, Entity, Architecture, Selected, ContextItem, library, uses, LibraryUnit, entity, architecture, DesignUnit, File}
 use Rattle.vhdl_tree.specs.Pieces.{Piece, some, one_at, spell_ident, spell_idents, spell_word, spell_option, spell_each, spell_list, IsAny, IsEach, IsList, IsOption}
-use Rattle.vhdl_tree.specs.grammar.Concurrent.{spell_concurrent, IsConcurrent}
+use Rattle.vhdl_tree.specs.grammar.Concurrent.{spell_concurrent, IsConcurrentIn}
 use Rattle.vhdl_tree.specs.grammar.Declarations.{spell_generics, spell_ports, spell_declaration, AreGenerics, ArePorts, IsDeclaration}
 
 -- id . id . all
@@ -54,15 +56,21 @@ IsContext (uses all) = IsList IsAny all
 abbrev pub IsEntity : Entity → Type 0
 IsEntity e = IsOption AreGenerics e.generics × IsOption ArePorts e.ports
 
-abbrev pub IsArchitecture : Architecture → Type 0
-IsArchitecture a = IsEach IsDeclaration a.declarations × IsEach IsConcurrent a.statements
+module _ (language : Language) where
+  abbrev pub IsArchitectureIn : Architecture → Type 0
+  IsArchitectureIn a = IsEach IsDeclaration a.declarations × IsEach (IsConcurrentIn language) a.statements
 
-abbrev pub IsLibraryUnit : LibraryUnit → Type 0
-IsLibraryUnit (entity e) = IsEntity e
-IsLibraryUnit (architecture a) = IsArchitecture a
+  abbrev pub IsLibraryUnitIn : LibraryUnit → Type 0
+  IsLibraryUnitIn (entity e) = IsEntity e
+  IsLibraryUnitIn (architecture a) = IsArchitectureIn a
 
-abbrev pub IsUnit : DesignUnit → Type 0
-IsUnit u = IsEach IsContext u.context × IsLibraryUnit u.unit
+  abbrev pub IsUnitIn : DesignUnit → Type 0
+  IsUnitIn u = IsEach IsContext u.context × IsLibraryUnitIn u.unit
 
+  -- a file of this language
+  abbrev pub IsFileIn : File → Type 0
+  IsFileIn f = IsEach IsUnitIn f.units
+
+-- a file of the language of docs/LANGUAGE.md
 abbrev pub IsFile : File → Type 0
-IsFile f = IsEach IsUnit f.units
+IsFile = IsFileIn Profile

@@ -1,5 +1,5 @@
 use Rattle.std.proofs.Common.{ℕ, ◌-◌, sym, ◌∙◌, subst, arith}
-use Rattle.vhdl_expected.specs.Changes.{said_of}
+use Rattle.vhdl_parser_rules.specs.Expected.{said_of}
 use Rattle.vhdl_expected.specs.Reading.{reading_of}
 use Rattle.vhdl_expected.specs.Told.{Finds, respelt_back}
 use Rattle.vhdl_expected.proofs.Trials.{some_at, none_at}

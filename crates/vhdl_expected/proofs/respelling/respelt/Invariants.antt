@@ -1,5 +1,5 @@
 use Rattle.std.proofs.Common.{◌≤◌, length, Option}
-use Rattle.vhdl_expected.specs.Changes.{Said}
+use Rattle.vhdl_parser_rules.specs.Expected.{Said}
 use Rattle.vhdl_expected.specs.Reading.{reading_of}
 use Rattle.vhdl_expected.specs.Told.{Finds, respelt, respelt_back}
 use Rattle.vhdl_expected.proofs.respelling.respelt.Given as goal

@@ -1,5 +1,5 @@
 use Rattle.std.proofs.Common.{sym, ◌∙◌}
-use Rattle.vhdl_expected.specs.Changes.{said_of}
+use Rattle.vhdl_parser_rules.specs.Expected.{said_of}
 use Rattle.vhdl_expected.specs.Reading.{reading_of}
 use Rattle.vhdl_expected.specs.Told.{respelt_in, words_of}
 use Rattle.vhdl_expected.proofs.Trials.{some_among, none_among}

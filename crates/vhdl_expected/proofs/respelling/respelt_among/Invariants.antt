@@ -1,5 +1,5 @@
 use Rattle.std.proofs.Common.{length, map, flat_map, Option}
-use Rattle.vhdl_expected.specs.Changes.{Said}
+use Rattle.vhdl_parser_rules.specs.Expected.{Said}
 use Rattle.vhdl_expected.specs.Reading.{reading_of}
 use Rattle.vhdl_expected.specs.Told.{Finds, respelt_in, words_of}
 use Rattle.vhdl_expected.proofs.respelling.respelt_among.Given as goal

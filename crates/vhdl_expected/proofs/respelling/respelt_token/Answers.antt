@@ -1,6 +1,6 @@
 use Rattle.std.proofs.Common.{List, Option, flat_map, map, option_map, subst}
 use Rattle.std.proofs.lemmas.Result.{IfOk-weaker}
-use Rattle.vhdl_expected.specs.Changes.{Texts, said_of}
+use Rattle.vhdl_parser_rules.specs.Expected.{Texts, said_of}
 use Rattle.vhdl_expected.specs.Reading.{reading_of}
 use Rattle.vhdl_expected.specs.Told.{Finds, Word, respelt_in, words, words_of}
 use Rattle.vhdl_expected.proofs.respelling.respelt_token.Goals as goal

@@ -1,5 +1,5 @@
 use Rattle.std.proofs.Common.{List, Option, Some, None, option_map, refl, subst}
-use Rattle.vhdl_expected.specs.Changes.{Texts, said_of}
+use Rattle.vhdl_parser_rules.specs.Expected.{Texts, said_of}
 use Rattle.vhdl_expected.specs.Reading.{reading_of}
 use Rattle.vhdl_expected.specs.Told.{Finds, Row, otherwise, tried_in}
 use Rattle.vhdl_expected.proofs.telling.perhaps.Goals as goal

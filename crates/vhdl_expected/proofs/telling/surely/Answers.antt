@@ -1,6 +1,6 @@
 use Rattle.std.proofs.Common.{◌++◌, Option, option_map, sym, ◌∙◌}
 use Rattle.std.proofs.lemmas.Result.{IfOk-weaker}
-use Rattle.vhdl_expected.specs.Changes.{Texts, said_of}
+use Rattle.vhdl_parser_rules.specs.Expected.{Texts, said_of}
 use Rattle.vhdl_expected.specs.Reading.{reading_of}
 use Rattle.vhdl_expected.specs.Told.{Finds, missing, named, respelt, sure}
 use Rattle.vhdl_expected.proofs.Trials.{some_first, none_first}

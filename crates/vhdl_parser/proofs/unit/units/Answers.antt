@@ -8,5 +8,5 @@ use Rattle.vhdl_parser.proofs.unit.units.Goals as goal
 pub returns : goal.returns
 unfolding units
 returns c =
-    let e = reads_many unit_view is_more unit (λ ts b h. search rules) (λ ts r rest h. search rules) c.many.ensures in
+    let e = reads_many unit_view is_more (unit c.args.language) (λ ts b h. search rules) (λ ts r rest h. search rules) c.many.ensures in
     search rules

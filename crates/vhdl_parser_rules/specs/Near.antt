@@ -3,7 +3,7 @@
 use Rattle.std.specs.Prelude.{ℕ, ◌==◌, ◌&&◌, ◌||◌, nat_le, Bool, false, if◌then◌else◌, List, [], ◌∷◌, drop, length}
 use Rattle.std.specs.Char.{to_ascii_lowercase}
 use Rattle.std.specs.Str.{str_eq_ignore_ascii_case}
-use Rattle.vhdl_expected.specs.declared.near.TheConstants.{LONG}
+use Rattle.vhdl_parser_rules.specs.declared.near.TheConstants.{LONG}
 
 abbrev pub is_same_letter : ℕ → ℕ → Bool
 is_same_letter a b = to_ascii_lowercase a == to_ascii_lowercase b

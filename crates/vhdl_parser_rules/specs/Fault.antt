@@ -1,8 +1,8 @@
 -- What a fault says.
 use Rattle.std.specs.Prelude.{◌≡◌, ℕ, ◌⊎◌, Option, Some, None, List, length, map, Contains}
 use Rattle.vhdl_lexer.specs.declared.token.Token.{Token}
-use Rattle.vhdl_parser.specs.declared.fault.SyntaxFault.{SyntaxFault}
-use Rattle.vhdl_parser.specs.declared.fault.SyntaxFault.TheVariants.{Unexpected, EndOfFile, TooDeep, NoMemory}
+use Rattle.vhdl_parser_rules.specs.declared.fault.SyntaxFault.{SyntaxFault}
+use Rattle.vhdl_parser_rules.specs.declared.fault.SyntaxFault.TheVariants.{Unexpected, EndOfFile, TooDeep, NoMemory}
 
 -- the tokens are no file
 abbrev pub IsRefusal : SyntaxFault → Type 0

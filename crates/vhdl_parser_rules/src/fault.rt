@@ -1,7 +1,7 @@
 //! Why tokens are no file.
 
 ghost use Rattle.std.specs.Prelude.{◌≡◌, Option};
-ghost use Rattle.vhdl_parser.specs.Fault.{fault_number, fault_byte};
+ghost use Rattle.vhdl_parser_rules.specs.Fault.{fault_number, fault_byte};
 
 use fault_rules::SyntaxRule;
 use thiserror::Error;

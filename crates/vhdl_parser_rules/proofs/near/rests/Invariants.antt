@@ -1,6 +1,6 @@
 use Rattle.std.proofs.Common.{◌≡◌, length}
-use Rattle.vhdl_expected.specs.Near as spec
-use Rattle.vhdl_expected.proofs.near.rests.Given as goal
+use Rattle.vhdl_parser_rules.specs.Near as spec
+use Rattle.vhdl_parser_rules.proofs.near.rests.Given as goal
 
 -- what is left of both decides
 abbrev pub invariant-loop-text : goal.invariant-loop-text

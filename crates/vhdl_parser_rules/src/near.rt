@@ -1,9 +1,7 @@
 //! Words that are nearly the same.
 
-ghost use Rattle.std.specs.Prelude.{◌≡◌};
-ghost use Rattle.vhdl_expected.specs.Near as spec;
-
-use crate::change::behind;
+ghost use Rattle.std.specs.Prelude.{◌≡◌, drop};
+ghost use Rattle.vhdl_parser_rules.specs.Near as spec;
 
 /// From this length on a word may differ by two slips.
 pub(crate) const LONG: usize = 6;
@@ -87,4 +85,15 @@ fn is_alike(text: &[u8], skipped: usize, word: &[u8], left_out: usize) -> bool
     ensures { result ≡ spec.is_alike skipped left_out text.now word.now }
 {
     behind(text, skipped).eq_ignore_ascii_case(behind(word, left_out))
+}
+
+/// What stands behind so many.
+pub fn behind<T>(items: &[T], count: usize) -> &[T]
+    ensures { result.now ≡ drop count items.now }
+{
+    if count <= items.len() {
+        &items[count..]
+    } else {
+        &[]
+    }
 }

@@ -1,0 +1,4 @@
+pub mod Fault
+pub mod Stuck
+pub mod Expected
+pub mod Near
