@@ -28,3 +28,4 @@ pub mod Tabling
 pub mod Walking
 pub mod Whole
 pub mod Spelled
+pub mod Written

@@ -20,7 +20,7 @@ places sight (n ∷ ns) = go (signal sight n) (each (signal sight) ns) ∙ ap (�
     go (Some x) None = refl
     go (Some x) (Some xs) = refl
 
-pub listed : (sight : Sight) (ns : List t.Name) → sensitivity sight (t.listed ns) ≡ option_map u.listed (each (place_of sight) ns)
+pub listed : (sight : Sight) (ns : List t.Name) → option_map (λ xs. u.listed (map (λ (x : SignalName). x.place) xs)) (each (signal sight) ns) ≡ option_map u.listed (each (place_of sight) ns)
 listed sight ns = go (each (signal sight) ns) ∙ ap (option_map u.listed) (places sight ns)
   where
     go : (p : Option (List SignalName)) → option_map (λ xs. u.listed (map (λ (x : SignalName). x.place) xs)) p

@@ -1,14 +1,21 @@
 -- What is told of the parts of processes and generates is told of the whole.
 use Rattle.std.proofs.Common.{◌≡◌, Bool, true, false, List, [], ◌∷◌, ◌++◌, Option, Some, None, Result, Ok, Err, IfOk, refl, ap, sym, ◌∙◌}
-use Rattle.std.specs.Prelude.{option_map}
+use Rattle.std.specs.Prelude.{option_map, is_some}
 use Rattle.vhdl_tree.specs.Tree as t
 use Rattle.vhdl_tree.specs.Tree.{Ident}
 use Rattle.vhdl_tree.specs.View as tree
+use Rattle.vhdl_tree.specs.declared.process.Wait.{Wait}
 use Rattle.vhdl_tree.specs.declared.concurrent.Generate.{Generate, out-Generate}
 use Rattle.vhdl_tree.specs.declared.concurrent.Concurrent.TheVariants as c
 use Rattle.vhdl_names_rules.specs.units.Statements as s
 use Rattle.vhdl_names_rules.specs.units.Units as u
 use Rattle.vhdl_names_rules.specs.declared.fault.NameFault.{NameFault}
+use Rattle.vhdl_names_rules.specs.declared.fault.NameFault.TheVariants.{At, NoMemory}
+use Rattle.vhdl_names_rules.specs.declared.fault.NameProblem.TheVariants.{NoSensitivity}
+use Rattle.vhdl_names_rules.specs.units.Expressions.{Test}
+use Rattle.vhdl_names_rules.specs.Edges.{Edge, waited_edge}
+use Rattle.vhdl_names_rules.specs.Expressions.{condition}
+use Rattle.vhdl_names_rules.specs.problems.Expressions as expressions
 use Rattle.vhdl_names_rules.specs.Rules.{met}
 use Rattle.vhdl_names_rules.specs.Gives.{Gives}
 use Rattle.vhdl_names_rules.specs.Visibility.{Sight, Declares, are_distinct, with_variables}
@@ -20,15 +27,16 @@ use Rattle.vhdl_names_units.specs.views.Concurrent.{concurrents_of}
 use Rattle.vhdl_names_rules.specs.Concurrent as rules
 use Rattle.vhdl_names_rules.specs.Concurrent.{sight_within, concurrent_labels}
 use Rattle.vhdl_names_rules.proofs.laws.Rules.{comes, kept}
-use Rattle.vhdl_names_rules.specs.problems.Broken.{Broken, Tells, ◌▸◌, where_given, any_of}
+use Rattle.vhdl_names_rules.specs.problems.Broken.{Broken, Tells, refused, lacking, ◌▸◌, where_given, any_of}
 use Rattle.vhdl_names_rules.specs.problems.Declarations.{in_order, variables, end_name}
 use Rattle.vhdl_names_rules.specs.problems.Concurrent as broken
 use Rattle.vhdl_names_rules.specs.problems.Statements.{end_label}
-use Rattle.vhdl_names_rules.proofs.Telling.{IsKept, told_same, told_left, told_right}
-use Rattle.vhdl_names_rules.proofs.kept.Keeping.{among_kept}
+use Rattle.vhdl_names_rules.proofs.Telling.{IsKept, both_kept, told_same, told_left, told_right, told_given}
+use Rattle.vhdl_names_rules.proofs.kept.Keeping.{among_kept, mapped}
+use Rattle.vhdl_names_rules.proofs.kept.Expressions.{condition_kept}
 use Rattle.vhdl_names_rules.proofs.kept.Statements.{statements_kept}
 use Rattle.vhdl_names_rules.proofs.kept.Declarations.{all_variables_kept}
-use Rattle.vhdl_names_rules.proofs.kept.Concurrent.{sensitivity_kept, inner_labels_kept, labels_kept, scheme_kept, concurrent_kept, concurrents_kept}
+use Rattle.vhdl_names_rules.proofs.kept.Concurrent.{sensitivity_kept, awaited_kept, inner_labels_kept, labels_kept, scheme_kept, concurrent_kept, concurrents_kept}
 use Rattle.vhdl_names.specs.steps.Concurrents as parts
 use Rattle.vhdl_names.specs.steps.Processes as steps
 use Rattle.vhdl_names.specs.steps.Told as told
@@ -56,15 +64,18 @@ process_body_kept sight qs y h =
 
 module _ (sight : Sight) (label : Option Ident) (p : t.Process) (f : NameFault) where
   abbrev resumed : Broken
-  resumed = broken.sensitivity sight p.at p.sensitivity
+  resumed = broken.sensitivity sight p.at p.sensitivity (is_some p.wait)
 
   abbrev declares : Broken
   declares = in_order with_variables declarations.variables variables sight p.variables
 
+  abbrev waits : Sight → Broken
+  waits inner = broken.awaited inner p.sensitivity p.wait
+
   abbrev does : Broken
   does =
       where_given (declarations.in_order with_variables declarations.variables sight p.variables)
-      (λ vs. broken.body (with_variables sight vs.declared) (t.statements_of p.statements))
+      (λ vs. waits (with_variables sight vs.declared) ▸ broken.body (with_variables sight vs.declared) (t.statements_of p.statements))
 
   abbrev ended : Broken
   ended = end_label label p.end_label
@@ -72,9 +83,9 @@ module _ (sight : Sight) (label : Option Ident) (p : t.Process) (f : NameFault) 
   pub process_resumed : Tells resumed f → Tells (broken.process sight label p) f
   process_resumed h = told_left resumed (declares ▸ (does ▸ ended)) f h
 
-  module _ (on : u.Sensitivity) (is : rules.sensitivity sight p.sensitivity ≡ Some on) where
+  module _ (on : u.Sensitivity) (is : rules.sensitivity sight p.sensitivity (is_some p.wait) ≡ Some on) where
     behind : Tells (declares ▸ (does ▸ ended)) f → Tells (broken.process sight label p) f
-    behind h = told_right resumed (declares ▸ (does ▸ ended)) f (sensitivity_kept sight p.at p.sensitivity on is) h
+    behind h = told_right resumed (declares ▸ (does ▸ ended)) f (sensitivity_kept sight p.at p.sensitivity (is_some p.wait) on is) h
 
     pub process_variables : Tells declares f → Tells (broken.process sight label p) f
     process_variables h = behind (told_left declares (does ▸ ended) f h)
@@ -95,20 +106,58 @@ module _ (sight : Sight) (label : Option Ident) (p : t.Process) (f : NameFault) 
       declares_kept : IsKept declares
       declares_kept = all_variables_kept p.variables sight made.declared made.from made.distinct
 
-      within : does ≡ broken.body entered (t.statements_of p.statements)
+      abbrev statements_do : Broken
+      statements_do = broken.body entered (t.statements_of p.statements)
+
+      within : does ≡ (waits entered ▸ statements_do)
       within =
-          ap (λ o. where_given o (λ vs. broken.body (with_variables sight vs.declared) (t.statements_of p.statements))) made.from
-          ∙ ap (λ s. broken.body s (t.statements_of p.statements)) made.same
+          ap (λ o. where_given o (λ vs. waits (with_variables sight vs.declared) ▸ broken.body (with_variables sight vs.declared) (t.statements_of p.statements))) made.from
+          ∙ ap (λ s. waits s ▸ broken.body s (t.statements_of p.statements)) made.same
 
-      pub process_body : Tells (broken.body entered (t.statements_of p.statements)) f → Tells (broken.process sight label p) f
-      process_body h =
-          behind (told_right declares (does ▸ ended) f declares_kept
-          (told_left does ended f (told_same (broken.body entered (t.statements_of p.statements)) does f (sym within) h)))
+      in_process : Tells (waits entered ▸ statements_do) f → Tells (broken.process sight label p) f
+      in_process h =
+          behind (told_right declares (does ▸ ended) f declares_kept (told_left does ended f (told_same (waits entered ▸ statements_do) does f (sym within) h)))
 
-      pub process_ends : (y : s.Statements) → steps.body entered p.statements ≡ Some y → Tells ended f → Tells (broken.process sight label p) f
-      process_ends y g h =
-          behind (told_right declares (does ▸ ended) f declares_kept
-          (told_right does ended f (within ∙ process_body_kept entered p.statements y g) h))
+      pub process_awaited : Tells (waits entered) f → Tells (broken.process sight label p) f
+      process_awaited h = in_process (told_left (waits entered) statements_do f h)
+
+      module _ (resumes : u.Sensitivity) (awaits : steps.resumed entered p on ≡ Some resumes) where
+        waits_kept : IsKept (waits entered)
+        waits_kept =
+            let m = mapped (λ (edge : Option Edge). rules.resumed_by edge on) (rules.awaited entered p.sensitivity p.wait) resumes awaits in
+            awaited_kept entered p.sensitivity p.wait m.value m.from
+
+        pub process_body : Tells statements_do f → Tells (broken.process sight label p) f
+        process_body h = in_process (told_right (waits entered) statements_do f waits_kept h)
+
+        -- what breaks nothing tells of no fault but for want of memory
+        pub process_again : Tells (waits entered) f → Tells (broken.process sight label p) f
+        process_again h = by f (told_same (waits entered) None f waits_kept h)
+          where
+            by : (f : NameFault) → Tells None f → Tells (broken.process sight label p) f
+            by (At q at) h = absurd cc
+            by NoMemory h = tt
+
+        pub process_ends : (y : s.Statements) → steps.body entered p.statements ≡ Some y → Tells ended f → Tells (broken.process sight label p) f
+        process_ends y g h =
+            behind (told_right declares (does ▸ ended) f declares_kept
+            (told_right does ended f (within ∙ both_kept (waits entered) statements_do waits_kept (process_body_kept entered p.statements y g)) h))
+
+-- ---- waits
+
+pub has_wait : (o : Option Wait) (b : Bool) → b ≡ is_some o → b ≡ is_some (tree.option_wait_view o)
+has_wait None b h = h
+has_wait (Some w) b h = h
+
+pub wait_condition : (sight : Sight) (w : t.Wait) (f : NameFault) → Tells (expressions.condition sight w.condition) f → Tells (broken.awaited sight t.absent (Some w)) f
+wait_condition sight w f h = told_left _ _ f h
+
+pub wait_no_edge : (sight : Sight) (w : t.Wait) (f : NameFault) (x : Test) → condition sight w.condition ≡ Some x → waited_edge x ≡ None
+    → Tells (refused NoSensitivity w.at) f → Tells (broken.awaited sight t.absent (Some w)) f
+wait_no_edge sight w f x is none h =
+    told_right _ _ f (condition_kept sight w.condition x is)
+    (told_given (λ x. lacking NoSensitivity w.at (waited_edge x)) (condition sight w.condition) x f is
+    (told_same (refused NoSensitivity w.at) (lacking NoSensitivity w.at (waited_edge x)) f (sym (ap (lacking NoSensitivity w.at) none)) h))
 
 -- ---- concurrent statements
 

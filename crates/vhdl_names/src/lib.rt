@@ -20,5 +20,5 @@ pub use process_labels::statement_labels_are_distinct;
 pub use processes::process;
 pub use schemes::scheme;
 pub use statements::concurrents;
-pub use units::analyse;
+pub use units::{analyse, analyse_in};
 pub use vhdl_names_rules::{NameFault, NameProblem};

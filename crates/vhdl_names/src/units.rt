@@ -18,7 +18,8 @@ ghost use Rattle.vhdl_names_rules.specs.Gives.{Gives};
 ghost use Rattle.vhdl_names_rules.specs.sound.Named.{are_named};
 ghost use Rattle.vhdl_names_rules.specs.sound.Units.{are_sound};
 ghost use Rattle.vhdl_tree.specs.View.{file_view};
-ghost use Rattle.vhdl_tree.specs.grammar.Units.{IsFile};
+ghost use Rattle.vhdl_tree.specs.grammar.Units.{IsFile, IsFileIn};
+ghost use Rattle.vhdl_names_rules.specs.Registers.{units_in};
 ghost use Rattle.vhdl_names_units.specs.views.Units as views;
 
 use crate::architectures::architectures_of;
@@ -28,7 +29,9 @@ use crate::outline::{Outline, outline_of};
 use crate::tables::{Given, table};
 use std::alloc::{AllocError, Global};
 use std::vec;
+use vhdl_lexer::Language;
 use vhdl_names_interfaces::{Entities, EntityInterface};
+use vhdl_names_registers::written;
 use vhdl_names_rules::NameFault;
 use vhdl_names_units::{Architecture, Entity, Units};
 use vhdl_tree::{File, Identifier};
@@ -120,6 +123,37 @@ fn read(alloc: Global, file: &File) -> Result<(Entities<'_>, Vec<Option<Architec
     beside(entities, told)
 }
 
+/// The units of a file, with their registers as they are written.
+fn analysed_units(alloc: Global, file: &File) -> Result<Units, NameFault>
+    ensures given { Gives views.units_view (units_of (file_view file.now)) result }
+    ensures told { IfErr result (Tells (broken.file (file_view file.now))) }
+{
+    let (entities, architectures) = read(alloc, file)?;
+    let entities = joined(alloc, entities, architectures)?;
+    Ok(Units { entities })
+}
+
+/// The units of a file that is read in this language; those of the wider one have their registers
+/// as the checker knows them. All else is as `analyse` says. It takes memory for both.
+pub fn analyse_in(alloc: Global, language: Language, file: &File) -> Result<Units, NameFault>
+    ensures given { Gives views.units_view (units_in language (file_view file.now)) result }
+    ensures told { IfErr result (Tells (broken.file (file_view file.now))) }
+
+    // As those of `analyse`.
+    ensures sound { IfOk result (λ units. IsFileIn language (file_view file.now)
+        → IsTrue (are_sound (views.units_view units))) }
+    ensures named { IfOk result (λ units. IsSpelled (file_view file.now)
+        → IsTrue (are_named (views.units_view units))) }
+    ensures ports { IfOk result (λ units. IsSpelled (file_view file.now)
+        → IsTrue (small_ports_are_distinct (views.units_view units))) }
+{
+    let units = analysed_units(alloc, file)?;
+    match language {
+        Language::Profile => Ok(units),
+        Language::Wide => Ok(written(alloc, units)?),
+    }
+}
+
 /// The units of a file: its entities in order of the text, each with its architecture if it has
 /// one. No two entities have one name, no entity has two architectures, and each architecture
 /// stands after its entity; instances may be of any entity of the file. It fails at the first byte
@@ -139,7 +173,5 @@ pub fn analyse(alloc: Global, file: &File) -> Result<Units, NameFault>
     ensures ports { IfOk result (λ units. IsSpelled (file_view file.now)
         → IsTrue (small_ports_are_distinct (views.units_view units))) }
 {
-    let (entities, architectures) = read(alloc, file)?;
-    let entities = joined(alloc, entities, architectures)?;
-    Ok(Units { entities })
+    analyse_in(alloc, Language::Profile, file)
 }

@@ -93,7 +93,7 @@ at_it at = grind (arith, nat_tests)
 
 pub walked_more : (tokens here : List Token) (depth : ℕ) (last : TokenKind) (d : Token) (others : List Token) → 1 ≤ length others
     → Walked tokens others here depth last
-    → Walked tokens (rest others) (if begins_behind (depth_behind depth last (slice_index_or others 0 d).kind) last (slice_index_or others 0 d).kind then rest others else here)
+    → Walked tokens (rest others) (if begins_behind (depth_behind depth last (slice_index_or others 0 d).kind) last (slice_index_or others 0 d).kind (rest others) then rest others else here)
     (depth_behind depth last (slice_index_or others 0 d).kind) (slice_index_or others 0 d).kind
 walked_more tokens here depth last d [] some walked = absurd (omega arith)
 walked_more tokens here depth last d (t ∷ ts) some walked = record {

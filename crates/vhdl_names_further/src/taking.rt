@@ -81,7 +81,7 @@ fn take_name(source: &[u8], tokens: &[Token], name: &[u8], at: usize, left: &mut
         }
         is_out = take_once(is_named(source, name, at, others), is_out, here, left);
         depth = depth_behind(depth, last, token.kind);
-        let begins = begins_behind(depth, last, token.kind);
+        let begins = begins_behind(depth, last, token.kind, rest);
         here = begun(begins, rest, here);
         is_out = is_still(is_out, begins);
         last = token.kind;

@@ -12,6 +12,7 @@ pub mod Formals
 pub mod Known
 pub mod Ports
 pub mod Declarations
+pub mod Awaiting
 pub mod Processes
 pub mod Instances
 pub mod Concurrent

@@ -171,7 +171,7 @@ module _ (i : Inside) (counts : Counts) where
   same_signal (e.port k) = refl
   same_signal (e.Signal.signal k) = refl
 
-  place_outside : (p : SignalPart) → is_static_part p.part ≡ true → place_shape i p ≡ Some one → place_shape (record i { loops = 0 }) p ≡ Some one
+  pub place_outside : (p : SignalPart) → is_static_part p.part ≡ true → place_shape i p ≡ Some one → place_shape (record i { loops = 0 }) p ≡ Some one
   place_outside p h t =
       let c = comes (signal_form i p.signal) (λ f. part_shape i f p.part) one t in
       ap (λ w. w >>= λ f. part_shape (record i { loops = 0 }) f p.part) (same_signal p.signal ∙ c.is) ∙ part_outside c.value p.part h c.rest

@@ -1,5 +1,5 @@
 -- Each process fits: its variables, what it is sensitive to and its body (IEEE 1076-2008, 11.3 and 11.6).
-use Rattle.std.proofs.Common.{◌≡◌, ℕ, suc, Bool, true, ◌&&◌, List, [], ◌∷◌, ◌++◌, length, map, Option, Some, None, refl, ap, sym, ◌∙◌, subst, arith, append_assoc, append-nil}
+use Rattle.std.proofs.Common.{◌≡◌, ℕ, suc, Bool, true, false, ◌&&◌, List, [], ◌∷◌, ◌++◌, length, map, Option, Some, None, refl, ap, sym, ◌∙◌, subst, arith, append_assoc, append-nil}
 use Rattle.std.specs.List.{list_all, AllByRecursion}
 use Rattle.std.specs.Option.{option_map, is_some}
 use Rattle.std.proofs.lemmas.Bool.{and_parts, and_from}
@@ -17,8 +17,8 @@ use Rattle.vhdl_names_rules.specs.Subtypes.{subtype, fixed_value, object}
 use Rattle.vhdl_names_rules.specs.Declarations.{in_order, within_variables, variables}
 use Rattle.vhdl_names_rules.specs.Expressions.{condition, value_given}
 use Rattle.vhdl_names_rules.specs.Statements.{SignalName, signal, target}
-use Rattle.vhdl_names_rules.specs.Concurrent.{assigning, assigned, alone, last_branch, branches, assignment_body, assignment, selected, sensitivity, process}
-use Rattle.vhdl_names_rules.specs.sound.Expressions.{Inside, shape_of, place_shape, value_shape, test_fits}
+use Rattle.vhdl_names_rules.specs.Concurrent.{assigning, assigned, alone, last_branch, branches, assignment_body, assignment, selected, sensitivity, awaited, resumed_by, behind_wait, process}
+use Rattle.vhdl_names_rules.specs.sound.Expressions.{Inside, edge_fits, shape_of, place_shape, value_shape, test_fits}
 use Rattle.vhdl_names_rules.specs.sound.Statements.{selector_fits, statement_fits, statements_fit, branches_fit, alternatives_fit}
 use Rattle.vhdl_names_rules.specs.sound.Units.{object_fits, objects_fit, sensitivity_fits, process_fits, concurrent_fits}
 use Rattle.vhdl_names_rules.specs.units.Units.{Units}
@@ -26,6 +26,9 @@ use Rattle.vhdl_names_laws.specs.Meanings.{Counts, type_shape, IsCounted, IsInsi
 use Rattle.vhdl_names_laws.proofs.Statics.{some_same, HasNumbers, HasMore, more_of, Keeps, keeps_all, keeps_before}
 use Rattle.vhdl_names_rules.proofs.kept.Keeping.{mapped}
 use Rattle.vhdl_names_laws.proofs.Expressions.{typed_fits}
+use Rattle.vhdl_names_rules.specs.Edges.{Edge, waited_edge}
+use Rattle.vhdl_names_rules.proofs.laws.Edges.{waited_fits}
+use Rattle.vhdl_names_laws.proofs.Awaiting.{level_fits, edge_is_place}
 use Rattle.vhdl_names_laws.proofs.Values.{given_is, condition_fits}
 use Rattle.vhdl_names_laws.proofs.Choices.{selector_is, each_all, covered_fits, arranged_fits}
 use Rattle.vhdl_names_laws.proofs.Statements.{signal_fits, TargetFits, target_fits, assigned_fits, statements_are}
@@ -110,15 +113,42 @@ mapped_all : {A B : Type 0} (f : A → B) (test : B → Bool) (xs : List A) → 
 mapped_all f test [] h = refl
 mapped_all f test (x ∷ xs) h = let a = and_parts (test (f x)) (list_all (λ x. test (f x)) xs) h in and_from (test (f x)) (list_all test (map f xs)) a.0 (mapped_all f test xs a.1)
 
-sensitivity_is : (i : Inside) (counts : Counts) (sight : Sight) (w : t.Sensitivity) (x : u.Sensitivity) → IsInside i counts sight → sensitivity sight w ≡ Some x → sensitivity_fits i x ≡ true
-sensitivity_is i counts sight t.absent x h q = absurd cc
-sensitivity_is i counts sight t.every x h q = subst (λ x. sensitivity_fits i x ≡ true) (some_same u.every x q) refl
-sensitivity_is i counts sight (t.listed ns) x h q =
+sensitivity_is : (i : Inside) (counts : Counts) (sight : Sight) (w : t.Sensitivity) (waits : Bool) (x : u.Sensitivity) → IsInside i counts sight → sensitivity sight w waits ≡ Some x
+    → sensitivity_fits i x ≡ true
+sensitivity_is i counts sight t.absent true x h q = subst (λ x. sensitivity_fits i x ≡ true) (some_same (u.listed []) x q) refl
+sensitivity_is i counts sight t.absent false x h q = absurd cc
+sensitivity_is i counts sight t.every waits x h q = subst (λ x. sensitivity_fits i x ≡ true) (some_same u.every x q) refl
+sensitivity_is i counts sight (t.listed ns) waits x h q =
     let place : SignalName → SignalPart = λ x. x.place in
     let a = mapped (λ xs. u.listed (map place xs)) (each (signal sight) ns) x q in
     subst (λ x. sensitivity_fits i x ≡ true) a.is
     (mapped_all place (λ p. is_some (place_shape i p)) a.value
     (each_all (signal sight) (λ x. is_some (place_shape i x.place)) (λ n y g. ap is_some (signal_fits i counts sight n y h g).shape) ns a.value a.from))
+
+-- what a process waits for is the place of an edge
+abbrev EdgeFits : Inside → Option Edge → Type 0
+EdgeFits i None = Unit {0}
+EdgeFits i (Some edge) = edge_fits i edge.place ≡ true
+
+awaited_is : (i : Inside) (counts : Counts) (sight : Sight) (o : t.Sensitivity) (wait : Option t.Wait) (edge : Option Edge) → IsInside i counts sight → awaited sight o wait ≡ Some edge → EdgeFits i edge
+awaited_is i counts sight o None edge h q = subst (EdgeFits i) (some_same None edge q) tt
+awaited_is i counts sight t.absent (Some w) edge h q =
+    let c = comes (condition sight w.condition) _ edge q in
+    let m = mapped Some (waited_edge c.value) edge c.rest in
+    let fits = condition_fits i counts sight w.condition c.value h c.is in
+    subst (EdgeFits i) m.is (waited_fits i c.value m.value fits (λ f g. level_fits i counts c.value f fits g) m.from)
+awaited_is i counts sight _ (Some w) edge h q = absurd cc
+
+resumed_is : (i : Inside) (vs : List Form) (edge : Option Edge) (on : u.Sensitivity) → EdgeFits (record i { variables = vs }) edge → sensitivity_fits i on ≡ true → sensitivity_fits i (resumed_by edge on) ≡ true
+resumed_is i vs None on h g = g
+resumed_is i vs (Some edge) on h g = and_from (is_some (place_shape i edge.place)) true (edge_is_place i vs edge.place h) refl
+
+behind_is : (i : Inside) (wait : Option t.Wait) (edge : Option Edge) (xs : s.Statements) → EdgeFits i edge → statements_fit i xs ≡ true → statements_fit i (behind_wait wait edge xs) ≡ true
+unfolding statements_fit
+behind_is i None edge xs h g = g
+behind_is i (Some w) None xs h g = g
+behind_is i (Some w) (Some edge) xs h g =
+    and_from (edge_fits i edge.place && statements_fit i xs && true) true (and_from (edge_fits i edge.place && statements_fit i xs) true (and_from (edge_fits i edge.place) (statements_fit i xs) h g) refl) refl
 
 -- ---- processes
 
@@ -152,11 +182,13 @@ process_is i counts sight label p x h q =
     let step = variables_are i counts sight p.variables d.own.value h d.own.is in
     let in' = within_process i counts sight d.own.value h step in
     let j : Inside = record i { variables = map (λ (o : u.Object). o.form) d.own.value.analysed } in
+    let edge = awaited_is j in'.0 (with_variables sight d.own.value.declared) p.sensitivity p.wait d.edge.value in'.1 d.edge.is in
     subst (λ x. process_fits i x ≡ true) d.is
-    (and_from (sensitivity_fits i d.on.value && objects_fit i d.own.value.analysed) (statements_fit j d.body.value)
-    (and_from (sensitivity_fits i d.on.value) (objects_fit i d.own.value.analysed) (sensitivity_is i counts sight p.sensitivity d.on.value h.inside d.on.is)
+    (and_from (sensitivity_fits i (resumed_by d.edge.value d.on.value) && objects_fit i d.own.value.analysed) (statements_fit j (behind_wait p.wait d.edge.value d.body.value))
+    (and_from (sensitivity_fits i (resumed_by d.edge.value d.on.value)) (objects_fit i d.own.value.analysed)
+    (resumed_is i j.variables d.edge.value d.on.value edge (sensitivity_is i counts sight p.sensitivity (is_some p.wait) d.on.value h.inside d.on.is))
     (alone_fit d.own.value.analysed i i (record { generics = omega arith; integers = omega arith; generates = omega arith; loops = omega arith }) (keeps_all i.constants) step.fit))
-    (statements_are (t.statements_of p.statements) j in'.0 (with_variables sight d.own.value.declared) d.body.value in'.1 d.body.is))
+    (behind_is j p.wait d.edge.value d.body.value edge (statements_are (t.statements_of p.statements) j in'.0 (with_variables sight d.own.value.declared) d.body.value in'.1 d.body.is)))
 
 -- ---- assignments
 

@@ -3,16 +3,17 @@ use Rattle.std.proofs.Common.{◌≡◌, ℕ, zero, suc, Bool, true, false, ◌&
 use Rattle.std.specs.List.{slice_get, list_all, filter_map, cons_option, find, AllByRecursion}
 use Rattle.std.specs.Str.{bytes_eq}
 use Rattle.std.proofs.lemmas.Bool.{and_parts, and_from}
+use Rattle.vhdl_lexer.specs.declared.language.Language.TheVariants.{Wide}
 use Rattle.vhdl_tree.specs.Tree as t
 use Rattle.vhdl_tree.specs.Tree.{File, DesignUnit, LibraryUnit, ContextItem}
 use Rattle.vhdl_tree.specs.Pieces.{IsEach}
 use Rattle.vhdl_tree.specs.grammar.Declarations.{IsDeclaration}
-use Rattle.vhdl_tree.specs.grammar.Units.{IsArchitecture, IsLibraryUnit, IsUnit as IsTreeUnit}
+use Rattle.vhdl_tree.specs.grammar.Units.{IsArchitectureIn, IsLibraryUnitIn, IsUnitIn}
 use Rattle.vhdl_names_rules.specs.units.Units as u
 use Rattle.vhdl_names_rules.specs.units.Units.{Units}
 use Rattle.vhdl_names_rules.specs.Rules.{each, if_any}
 use Rattle.vhdl_names_rules.specs.Visibility.{Name, are_distinct, with_declared}
-use Rattle.vhdl_names_rules.specs.Packages.{context, sight_of}
+use Rattle.vhdl_names_rules.specs.Packages.{sight_of}
 use Rattle.vhdl_names_rules.specs.Interfaces.{EntityView}
 use Rattle.vhdl_names_rules.specs.Concurrent.{concurrent_labels}
 use Rattle.vhdl_names_rules.specs.Files.{as_architecture, architectures_of, entities_of, architecture_of, viewed, declaration, labelled, architecture, unit}
@@ -62,7 +63,7 @@ each_declaration [] h = tt
 each_declaration (d ∷ ds) h = (h.0, each_declaration ds h.1)
 
 architecture_is : (units : Units) (entities : List EntityView) (e : EntityView) (items : List ContextItem) (a : t.Architecture) (x : u.Architecture) → AreUnits units entities → InterfaceFits e.interface
-    → IsArchitecture a → architecture entities e items a ≡ Some x → architecture_fits units (inside_entity e.interface.generics e.interface.ports) (Some x) ≡ true
+    → IsArchitectureIn Wide a → architecture entities e items a ≡ Some x → architecture_fits units (inside_entity e.interface.generics e.interface.ports) (Some x) ≡ true
 architecture_is units entities e items a x all f is q =
     let p = architecture_parts entities e items a x q in
     let labels = labelled (concurrent_labels (t.concurrents_of a.statements)) in
@@ -84,12 +85,12 @@ architecture_is units entities e items a x all f is q =
 
 -- ---- the architectures of a file
 
-architecture_at : (items : List ContextItem) (x : LibraryUnit) (as' : List (List ContextItem × t.Architecture)) → IsLibraryUnit x → AllByRecursion (λ (a : List ContextItem × t.Architecture). IsArchitecture a.1) as'
-    → AllByRecursion (λ (a : List ContextItem × t.Architecture). IsArchitecture a.1) (cons_option (as_architecture (record { context = items; unit = x })) as')
+architecture_at : (items : List ContextItem) (x : LibraryUnit) (as' : List (List ContextItem × t.Architecture)) → IsLibraryUnitIn Wide x → AllByRecursion (λ (a : List ContextItem × t.Architecture). IsArchitectureIn Wide a.1) as'
+    → AllByRecursion (λ (a : List ContextItem × t.Architecture). IsArchitectureIn Wide a.1) (cons_option (as_architecture (record { context = items; unit = x })) as')
 architecture_at items (t.LibraryUnit.entity e) as' h k = k
 architecture_at items (t.LibraryUnit.architecture a) as' h k = (h, k)
 
-architectures_are : (ds : List DesignUnit) → IsEach IsTreeUnit ds → AllByRecursion (λ (a : List ContextItem × t.Architecture). IsArchitecture a.1) (architectures_of ds)
+architectures_are : (ds : List DesignUnit) → IsEach (IsUnitIn Wide) ds → AllByRecursion (λ (a : List ContextItem × t.Architecture). IsArchitectureIn Wide a.1) (architectures_of ds)
 architectures_are [] h = tt
 architectures_are (d ∷ ds) h = architecture_at d.context d.unit (architectures_of ds) h.0.1 (architectures_are ds h.1)
 
@@ -150,7 +151,7 @@ are_units ds entities units h q k e at =
       ports = subst (AreFormals (filter_map port_formal e.interface.declared)) (sym o.ports) known.formals;
     }
 
-unit_is : (units : Units) (entities : List EntityView) (ds : List DesignUnit) (e : EntityView) (x : u.Entity) → IsEach IsTreeUnit ds → AreUnits units entities → InterfaceFits e.interface
+unit_is : (units : Units) (entities : List EntityView) (ds : List DesignUnit) (e : EntityView) (x : u.Entity) → IsEach (IsUnitIn Wide) ds → AreUnits units entities → InterfaceFits e.interface
     → unit entities ds e ≡ Some x → entity_fits units x ≡ true
 unfolding unit
 unit_is units entities ds e x is all f q =
@@ -172,7 +173,7 @@ unit_is units entities ds e x is all f q =
         let b = comes (architecture entities e p.0 p.1) _ y g in
         subst (λ y. architecture_fits units (inside_entity e.interface.generics e.interface.ports) y ≡ true) (some_same (Some b.value) y b.rest)
         (architecture_is units entities e p.0 p.1 b.value all f
-        (found (λ (a : List ContextItem × t.Architecture). IsArchitecture a.1) (λ (a : List ContextItem × t.Architecture). bytes_eq e.name a.1.entity.text) (architectures_of ds) p (architectures_are ds is) h) b.is)
+        (found (λ (a : List ContextItem × t.Architecture). IsArchitectureIn Wide a.1) (λ (a : List ContextItem × t.Architecture). bytes_eq e.name a.1.entity.text) (architectures_of ds) p (architectures_are ds is) h) b.is)
 
 -- the interfaces of a file's entities fit
 interfaces_fit : (f : File) (views : List EntityView) → each (viewed f.units) (entities_of f.units) ≡ Some views → AllByRecursion (λ (e : EntityView). InterfaceFits e.interface) views

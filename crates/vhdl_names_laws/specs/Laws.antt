@@ -2,13 +2,14 @@
 -- it breaks no rule.
 use Rattle.std.specs.Prelude.{◌≡◌, ℕ, ◌<◌, All, Bool, List, [], length, map, Some, None, IsTrue, IfSome, Contains}
 use Rattle.std.specs.List.{list_all}
+use Rattle.vhdl_lexer.specs.declared.language.Language.TheVariants.{Wide}
 use Rattle.vhdl_lexer.specs.declared.token.Token.{Token}
 use Rattle.vhdl_lexer.specs.Cut.{Cuts, AreWithin}
 use Rattle.vhdl_tree.specs.Lexeme.{lexemes}
 use Rattle.vhdl_tree.specs.Pieces.{Spells}
 use Rattle.vhdl_tree.specs.Tree as t
 use Rattle.vhdl_tree.specs.Tree.{Expr, File}
-use Rattle.vhdl_tree.specs.grammar.Units.{spell_file, IsFile}
+use Rattle.vhdl_tree.specs.grammar.Units.{spell_file, IsFileIn}
 use Rattle.vhdl_names_rules.specs.declared.fault.NameProblem.{NameProblem}
 use Rattle.vhdl_names_rules.specs.units.Units as u
 use Rattle.vhdl_names_rules.specs.units.Units.{Units}
@@ -41,10 +42,10 @@ abbrev pub StatementsFit : Type 0
 StatementsFit = (i : Inside) (counts : Counts) (sight : Sight) → IsInside i counts sight
     → (ys : t.Statements) (xs : s.Statements) → statements sight ys ≡ Some xs → IsTrue (statements_fit i xs)
 
--- The units of a file that the parser gives are sound: each numbers what it names, and each value has the shape of
--- its type.
+-- The units of a file that the parser gives, in either language, are sound: each numbers what it names, and each value
+-- has the shape of its type.
 abbrev pub UnitsAreSound : Type 0
-UnitsAreSound = (f : File) (units : Units) → IsFile f → units_of f ≡ Some units → IsTrue (are_sound units)
+UnitsAreSound = (f : File) (units : Units) → IsFileIn Wide f → units_of f ≡ Some units → IsTrue (are_sound units)
 
 -- no two ports of an entity have one name
 abbrev pub ports_are_distinct : Units → Bool
@@ -87,13 +88,13 @@ IllTypedFilesBreakARule = (f : File) → units_of f ≡ None → (p : NameProble
 
 -- The byte at which is told that a file breaks a rule is one at which a token of the file starts,
 abbrev pub FaultsStandAtTokens : Type 0
-FaultsStandAtTokens = (f : File) → IsFile f → IfSome (broken.file f) (λ told. Contains (bytes_of f) told.1)
+FaultsStandAtTokens = (f : File) → IsFileIn Wide f → IfSome (broken.file f) (λ told. Contains (bytes_of f) told.1)
 
 -- and lies in the text whose tokens the file spells.
 abbrev pub FaultsLieInTheText : Type 0
 FaultsLieInTheText =
     (source : List ℕ) (tokens : List Token) (f : File) → Cuts None 0 source tokens
-    → Spells (spell_file f) (lexemes source tokens) [] → IsFile f
+    → Spells (spell_file f) (lexemes source tokens) [] → IsFileIn Wide f
     → IfSome (broken.file f) (λ told. told.1 < length source)
 
 -- Each byte of the units of a file is one at which a token of the file starts,

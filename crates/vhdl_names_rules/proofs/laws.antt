@@ -1,6 +1,7 @@
 -- Proofs of the laws.
 pub mod Rules
 pub mod Parts
+pub mod Edges
 pub mod Once
 pub mod Choices
 pub mod Associations

@@ -1,12 +1,13 @@
 -- Concurrent statements (IEEE 1076-2008, clause 11), with the declarations in sight.
-use Rattle.std.specs.Prelude.{ℕ, List, [], ◌∷◌, ◌++◌, map, Option, Some, None, option_map}
+use Rattle.std.specs.Prelude.{ℕ, Bool, List, [], ◌∷◌, ◌++◌, map, Option, Some, None, option_map, is_some}
 use Rattle.vhdl_tree.specs.Tree as t
 use Rattle.vhdl_tree.specs.Tree.{Ident}
 use Rattle.vhdl_names_rules.specs.units.Statements as s
 use Rattle.vhdl_names_rules.specs.units.Units as u
-use Rattle.vhdl_names_rules.specs.declared.fault.NameProblem.TheVariants.{Twice, WrongKind}
-use Rattle.vhdl_names_rules.specs.Rules.{◌>>=◌, ◌>>◌, rule, each}
+use Rattle.vhdl_names_rules.specs.declared.fault.NameProblem.TheVariants.{Twice, WrongKind, NoSensitivity}
+use Rattle.vhdl_names_rules.specs.Rules.{◌>>=◌, ◌>>◌, rule, given_that, each}
 use Rattle.vhdl_names_rules.specs.Visibility.{Name, Sight, are_distinct, ends, label_ends, within_generate, with_variables}
+use Rattle.vhdl_names_rules.specs.Edges.{Edge, at_edge, waited_edge}
 use Rattle.vhdl_names_rules.specs.Expressions.{typed, static_range, condition, value_given, as_static_test}
 use Rattle.vhdl_names_rules.specs.Choices.{covered, selector, arranged}
 use Rattle.vhdl_names_rules.specs.Declarations.{in_order, variables}
@@ -77,22 +78,47 @@ selected sight label a = do
 
 -- ---- processes (11.3)
 
--- a process has a sensitivity list, whose names mean what they mean outside it
-abbrev pub sensitivity : Sight → t.Sensitivity → Option u.Sensitivity
-sensitivity sight t.absent = None
-sensitivity sight t.every = Some u.every
-sensitivity sight (t.listed ns) = option_map (λ xs. u.listed (map (λ x. x.place) xs)) (each (signal sight) ns)
+-- A process has a sensitivity list, whose names mean what they mean outside it; or it waits first, and nothing else
+-- resumes it.
+abbrev pub sensitivity : Sight → t.Sensitivity → (waits : Bool) → Option u.Sensitivity
+sensitivity sight t.absent waits = given_that NoSensitivity waits (u.listed [])
+sensitivity sight t.every waits = Some u.every
+sensitivity sight (t.listed ns) waits =
+    option_map (λ xs. u.listed (map (λ x. x.place) xs)) (each (signal sight) ns)
+
+-- What it waits for before its statements: an edge, and behind no sensitivity list (10.2).
+abbrev pub awaited : Sight → t.Sensitivity → Option t.Wait → Option (Option Edge)
+awaited sight list None = Some None
+awaited sight t.absent (Some w) = condition sight w.condition >>= λ c. option_map Some (waited_edge c)
+awaited sight list (Some w) = None
+
+-- that edge resumes it,
+abbrev pub resumed_by : Option Edge → u.Sensitivity → u.Sensitivity
+resumed_by None list = list
+resumed_by (Some e) list = u.listed (e.place ∷ [])
+
+-- and its statements are run then: in an if that starts where the wait does
+abbrev pub behind_wait : Option t.Wait → Option Edge → s.Statements → s.Statements
+behind_wait (Some w) (Some e) xs = alone (s.if_of w.at (at_edge e xs))
+behind_wait _ _ xs = xs
 
 -- its variables are a region that hides outer names, and so are its labels, which hide none
 unfoldable pub process : Sight → Option Ident → t.Process → Option u.Process
 process sight label p = do
-  on ← sensitivity sight p.sensitivity
+  on ← sensitivity sight p.sensitivity (is_some p.wait)
   vs ← in_order with_variables variables sight p.variables
   rule Twice (are_distinct (declared_names vs.declared))
   rule Twice (are_distinct (statement_labels (t.statements_of p.statements)))
+  edge ← awaited (with_variables sight vs.declared) p.sensitivity p.wait
   body ← statements (with_variables sight vs.declared) (t.statements_of p.statements)
   rule WrongKind (label_ends label p.end_label)
-  Some (record { at = p.at; label = label_of label; variables = vs.analysed; sensitivity = on; body = body })
+  Some (record {
+    at = p.at;
+    label = label_of label;
+    variables = vs.analysed;
+    sensitivity = resumed_by edge on;
+    body = behind_wait p.wait edge body;
+  })
 
 -- ---- the labels that stand directly among concurrent statements
 

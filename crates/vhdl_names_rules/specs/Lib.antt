@@ -15,8 +15,10 @@ pub mod Choices
 pub mod Statements
 pub mod Interfaces
 pub mod Instances
+pub mod Edges
 pub mod Concurrent
 pub mod Files
+pub mod Registers
 pub mod sound
 pub mod laws
 pub mod problems

@@ -2,3 +2,4 @@
 pub mod Integers
 pub mod Vectors
 pub mod Tests
+pub mod Parted

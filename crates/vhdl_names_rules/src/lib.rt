@@ -6,6 +6,7 @@
 //! the rule bears, and at which byte: what a fault of names tells.
 #![tactic(auto)]
 
+mod chains;
 mod fault;
 mod integer;
 mod kind;

@@ -1,12 +1,14 @@
 //! Truths as they are analysed.
 
-ghost use Rattle.std.specs.Prelude.{◌≡◌, false, IfOk, IfErr};
+ghost use Rattle.std.specs.Prelude.{◌≡◌, false, IfOk, IfErr, option_map};
+ghost use Rattle.vhdl_names_rules.specs.views.Parted as parts;
 ghost use Rattle.vhdl_names_rules.specs.Operators as table;
 ghost use Rattle.vhdl_names_rules.specs.units.Expressions as units;
 ghost use Rattle.vhdl_names_rules.specs.views.Integers.{static_view};
-ghost use Rattle.vhdl_names_rules.specs.views.Vectors.{value_view, vector_view};
-ghost use Rattle.vhdl_names_rules.specs.views.Tests.{static_test_view, static_start_view, static_test_chained, test_view, start_view, test_chained, is_fixed};
+ghost use Rattle.vhdl_names_rules.specs.views.Vectors.{place_view, value_view, vector_view};
+ghost use Rattle.vhdl_names_rules.specs.views.Tests.{static_test_view, test_view, start_view, test_chained, parts_view, is_fixed};
 
+use crate::chains::{chain_of, chain_with, parted_chain, static_chain_of, static_chain_with};
 use crate::integer::Static;
 use crate::vector::{SignalPart, Value, Vector};
 use drops::take_apart;
@@ -115,69 +117,28 @@ impl Drop for TestStart {
     }
 }
 
-/// A first operand with its operator, and further operators with their right operands.
-#[tactic(auto, using(crate::proofs::rows::Tests::view_static_chain))]
-fn static_chain(start: Box<StaticTestStart>, links: Vec<StaticTestLink>) -> StaticTest
-    ensures { static_test_view result ≡ static_test_chained (static_start_view start.value) links.items }
-{
-    StaticTest::Chain(start, links)
+impl TestLink {
+    /// The right operand.
+    pub(crate) fn into_operand(self) -> Test
+        ensures { result ≡ self.operand }
+    {
+        let TestLink {
+            operator: _,
+            operand,
+        } = self;
+        operand
+    }
 }
 
-/// A first operand with its operator, and further operators with their right operands.
-#[tactic(auto, using(crate::proofs::rows::Tests::view_chain))]
-fn chain(start: Box<TestStart>, links: Vec<TestLink>) -> Test
-    ensures { test_view result ≡ test_chained (start_view start.value) links.items }
-{
-    Test::Chain(start, links)
-}
-
-/// A chain with one more link.
-fn static_chain_with(
-    start: Box<StaticTestStart>,
-    mut links: Vec<StaticTestLink>,
-    link: StaticTestLink,
-) -> Result<StaticTest, AllocError>
-    ensures { IfOk result (λ t. static_test_view t
-        ≡ units.StaticTest.both link.operator (static_test_chained (static_start_view start.value) links.items)
-        (static_test_view link.operand)) }
-{
-    links.push(link)?;
-    Ok(static_chain(start, links))
-}
-
-/// A chain of one link.
-fn static_chain_of(
-    alloc: Global,
-    first: StaticTest,
-    link: StaticTestLink,
-) -> Result<StaticTest, AllocError>
-    ensures { IfOk result (λ t. static_test_view t ≡
-        units.StaticTest.both link.operator (static_test_view first) (static_test_view link.operand)) }
-{
-    let start = Box::new(alloc, StaticTestStart { first, link })?;
-    Ok(static_chain(start, Vec::new(alloc)))
-}
-
-/// A chain with one more link, over signals.
-fn chain_with(
-    start: Box<TestStart>,
-    mut links: Vec<TestLink>,
-    link: TestLink,
-) -> Result<Test, AllocError>
-    ensures { IfOk result (λ t. test_view t
-        ≡ units.Test.both link.operator (test_chained (start_view start.value) links.items) (test_view link.operand)) }
-{
-    links.push(link)?;
-    Ok(chain(start, links))
-}
-
-/// A chain of one link, over signals.
-fn chain_of(alloc: Global, first: Test, link: TestLink) -> Result<Test, AllocError>
-    ensures { IfOk result (λ t. test_view t ≡
-        units.Test.both link.operator (test_view first) (test_view link.operand)) }
-{
-    let start = Box::new(alloc, TestStart { first, link })?;
-    Ok(chain(start, Vec::new(alloc)))
+impl TestStart {
+    /// The first operand, and the operator behind it with its own.
+    pub(crate) fn into_parts(self) -> (Test, TestLink)
+        ensures first { result.0 ≡ self.first }
+        ensures link { result.1 ≡ self.link }
+    {
+        let TestStart { first, link } = self;
+        (first, link)
+    }
 }
 
 /// A logical operator between truths over static integers alone.
@@ -221,6 +182,14 @@ impl StaticTest {
 }
 
 impl Test {
+    /// A first operand with its operator, and further operators with their right operands.
+    #[tactic(auto, using(crate::proofs::rows::Tests::view_chain))]
+    pub fn chained(start: Box<TestStart>, links: Vec<TestLink>) -> Test
+        ensures { test_view result ≡ test_chained (start_view start.value) links.items }
+    {
+        Test::Chain(start, links)
+    }
+
     /// Equality of two values, by `=` at byte `at`. It takes the memory of two boxes, as `unlike`
     /// does.
     pub fn alike(alloc: Global, at: usize, left: Value, right: Value) -> Result<Test, AllocError>
@@ -304,6 +273,49 @@ impl Test {
         match self {
             Test::Fixed(test) => Ok(test),
             test => Err(test),
+        }
+    }
+
+    /// What `and` joins last, or else the test as it was.
+    #[tactic(auto, using(crate::proofs::rows::Tests::view_chain))]
+    pub fn parted(self) -> Result<(Test, Test), Test>
+        ensures { parts_view result ≡ parts.parted (test_view self) }
+    {
+        match self {
+            Test::Chain(start, links) => parted_chain(start, links),
+            test => Err(test),
+        }
+    }
+
+    /// The edge by a call that this is, or else this.
+    pub fn into_edge(self) -> Result<(Edge, SignalPart), Test>
+        ensures edge { IfOk result (λ p. test_view self ≡ units.edge p.0 (place_view p.1)) }
+        ensures same { IfErr result (λ t. t ≡ self) }
+        ensures other { IfErr result (λ t. parts.is_call (test_view t) ≡ false) }
+    {
+        match self {
+            Test::Edge(kind, place) => Ok((kind, place)),
+            test => Err(test),
+        }
+    }
+
+    /// The signal of which this is an event, if it is one.
+    pub fn into_event(self) -> Option<SignalPart>
+        ensures { option_map place_view result ≡ parts.event_of (test_view self) }
+    {
+        match self {
+            Test::Event(place) => Some(place),
+            _ => None,
+        }
+    }
+
+    /// The two values of which this asks whether they are alike, if it does.
+    pub fn into_alike(self) -> Option<(Value, Value)>
+        ensures { option_map (λ p. (value_view p.0, value_view p.1)) result ≡ parts.values_alike (test_view self) }
+    {
+        match self {
+            Test::Alike(_, left, right) => Some((Box::into_inner(left), Box::into_inner(right))),
+            _ => None,
         }
     }
 

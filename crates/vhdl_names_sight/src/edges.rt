@@ -74,7 +74,7 @@ fn are_static(links: &[StaticLink]) -> bool
 }
 
 /// Whether it is the whole, or an element at an index with no loop's parameter in it.
-fn is_static_part(part: &Part) -> bool
+pub fn is_static_part(part: &Part) -> bool
     ensures { result ≡ rules.is_static_part (part_view part.now) }
 {
     match part {

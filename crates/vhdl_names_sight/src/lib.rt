@@ -15,6 +15,7 @@ mod parts;
 mod sight;
 mod types;
 
+pub use edges::is_static_part;
 pub use literals::{bit_string_values, string_values};
 pub use meaning::{Declared, Meaning};
 pub use names::{attributed, denoted};

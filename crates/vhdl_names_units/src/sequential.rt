@@ -1,11 +1,13 @@
 //! Sequential statements as they are analysed (IEEE 1076-2008, clause 10).
 
-ghost use Rattle.std.specs.Prelude.{◌≡◌};
+ghost use Rattle.std.specs.Prelude.{◌≡◌, IfOk, IfErr};
 ghost use Rattle.vhdl_names_rules.specs.units.Statements as units;
 ghost use Rattle.vhdl_names_rules.specs.views.Integers.{range_view};
 ghost use Rattle.vhdl_names_rules.specs.views.Tests.{test_view};
 ghost use Rattle.vhdl_names_rules.specs.views.Vectors.{value_view};
 ghost use Rattle.vhdl_names_units.specs.views.Answers.{choices_view};
+ghost use Rattle.vhdl_names_units.specs.declared.sequential.If.{If};
+ghost use Rattle.vhdl_names_units.specs.declared.sequential.Statement.TheVariants as statements;
 ghost use Rattle.vhdl_names_units.specs.views.Sequential as views;
 
 use crate::answers::{Choice, Given};
@@ -129,6 +131,20 @@ impl Branch {
     }
 }
 
+impl Branch {
+    /// The condition, and the statements that it guards.
+    pub fn into_parts(self) -> (Test, Vec<Statement>)
+        ensures condition { result.0 ≡ self.condition }
+        ensures statements { result.1 ≡ self.statements }
+    {
+        let Branch {
+            condition,
+            statements,
+        } = self;
+        (condition, statements)
+    }
+}
+
 impl Alternative {
     /// Choices, and the statements that they guard.
     pub fn new(choices: Vec<Choice>, statements: Vec<Statement>) -> Alternative
@@ -143,6 +159,18 @@ impl Alternative {
 }
 
 impl Statement {
+    /// The if that it is, or else the statement as it was.
+    pub fn into_if(self) -> Result<If, Statement>
+        ensures conditional { IfOk result (λ x. self ≡ statements.If x) }
+        ensures same { IfErr result (λ y. y ≡ self) }
+        ensures other { IfErr result (λ y. (x : If) → self ≡ statements.If x → ⊥) }
+    {
+        match self {
+            Statement::If(x) => Ok(x),
+            statement => Err(statement),
+        }
+    }
+
     /// An if statement, which starts at byte `at`.
     pub fn conditional(
         at: usize,

@@ -1,5 +1,5 @@
 -- Processes in the order in which the code comes to their parts.
-use Rattle.std.specs.Prelude.{List, Option, Some}
+use Rattle.std.specs.Prelude.{List, Option, Some, option_map, is_some}
 use Rattle.vhdl_tree.specs.Tree as t
 use Rattle.vhdl_tree.specs.Tree.{Ident}
 use Rattle.vhdl_names_rules.specs.units.Expressions.{SignalPart}
@@ -10,7 +10,7 @@ use Rattle.vhdl_names_rules.specs.Rules.{◌>>=◌, ◌>>◌, rule}
 use Rattle.vhdl_names_rules.specs.Visibility.{Sight, are_distinct, label_ends, with_variables}
 use Rattle.vhdl_names_rules.specs.Declarations.{in_order, variables}
 use Rattle.vhdl_names_rules.specs.Statements.{signal, statements, statement_labels}
-use Rattle.vhdl_names_rules.specs.Concurrent.{sensitivity, label_of}
+use Rattle.vhdl_names_rules.specs.Concurrent.{sensitivity, awaited, resumed_by, behind_wait, label_of}
 use Rattle.vhdl_names_declarations.specs.Entered.{entering_variables}
 
 abbrev pub place_of : Sight → t.Name → Option SignalPart
@@ -24,10 +24,19 @@ abbrev pub body : Sight → List t.Sequential → Option s.Statements
 body sight qs =
     rule Twice (are_distinct (statement_labels (t.statements_of qs))) >> statements sight (t.statements_of qs)
 
+-- what resumes it, and what it does then, with what it waits for
+abbrev pub resumed : Sight → t.Process → u.Sensitivity → Option u.Sensitivity
+resumed sight p on = option_map (λ edge. resumed_by edge on) (awaited sight p.sensitivity p.wait)
+
+abbrev pub behind : Sight → t.Process → s.Statements → Option s.Statements
+behind sight p xs = option_map (λ edge. behind_wait p.wait edge xs) (awaited sight p.sensitivity p.wait)
+
 abbrev pub process : Sight → Option Ident → t.Process → Option u.Process
 process sight label p = do
-  on ← sensitivity sight p.sensitivity
+  on ← sensitivity sight p.sensitivity (is_some p.wait)
   w ← variables_in sight p.variables
+  resumes ← resumed w.0 p on
   b ← body w.0 p.statements
+  does ← behind w.0 p b
   rule WrongKind (label_ends label p.end_label)
-  Some (record { at = p.at; label = label_of label; variables = w.1; sensitivity = on; body = b })
+  Some (record { at = p.at; label = label_of label; variables = w.1; sensitivity = resumes; body = does })

@@ -1,6 +1,6 @@
 -- Concurrent statements that break no rule are given (IEEE 1076-2008, clause 11).
-use Rattle.std.proofs.Common.{◌≡◌, ℕ, true, List, [], ◌∷◌, ◌++◌, map, Option, Some, None, refl, ap, sym, ◌∙◌}
-use Rattle.std.specs.Prelude.{option_map}
+use Rattle.std.proofs.Common.{◌≡◌, ℕ, Bool, true, false, List, [], ◌∷◌, ◌++◌, map, Option, Some, None, refl, ap, sym, ◌∙◌}
+use Rattle.std.specs.Prelude.{option_map, is_some}
 use Rattle.std.proofs.lemmas.List.{length-map}
 use Rattle.vhdl_tree.specs.Tree as t
 use Rattle.vhdl_tree.specs.Tree.{Ident}
@@ -9,6 +9,8 @@ use Rattle.vhdl_names_rules.specs.units.Statements as s
 use Rattle.vhdl_names_rules.specs.units.Units as u
 use Rattle.vhdl_names_rules.specs.Rules.{◌>>=◌, each}
 use Rattle.vhdl_names_rules.specs.Visibility.{Name, Sight, are_distinct, ends, label_ends, with_variables}
+use Rattle.vhdl_names_rules.specs.declared.fault.NameProblem.TheVariants.{NoSensitivity}
+use Rattle.vhdl_names_rules.specs.Edges.{waited_edge}
 use Rattle.vhdl_names_rules.specs.Expressions.{typed, static_range, condition, value_given, as_static_test}
 use Rattle.vhdl_names_rules.specs.Choices.{choices, covered, selector, arranged}
 use Rattle.vhdl_names_rules.specs.Declarations.{in_order, variables}
@@ -17,7 +19,7 @@ use Rattle.vhdl_names_rules.specs.Instances.{instance}
 use Rattle.vhdl_names_rules.specs.Statements.{SignalName, signal, target, statements, statement_labels}
 use Rattle.vhdl_names_rules.specs.Concurrent as are
 use Rattle.vhdl_names_rules.specs.Concurrent.{alone, assigning, sight_within, concurrent_labels}
-use Rattle.vhdl_names_rules.specs.problems.Broken.{any_of, of_any}
+use Rattle.vhdl_names_rules.specs.problems.Broken.{◌▸◌, lacking, any_of, of_any}
 use Rattle.vhdl_names_rules.specs.problems.Twice.{twice}
 use Rattle.vhdl_names_rules.specs.problems.Labels as labels
 use Rattle.vhdl_names_rules.specs.problems.Expressions as expressions
@@ -27,7 +29,7 @@ use Rattle.vhdl_names_rules.proofs.Telling.{IsKept}
 use Rattle.vhdl_names_rules.proofs.kept.Keeping.{among_left, among_right}
 use Rattle.vhdl_names_rules.proofs.kept.Twice.{once_distinct}
 use Rattle.vhdl_names_rules.proofs.kept.Labels.{labels_named, statements_named}
-use Rattle.vhdl_names_laws.proofs.given.Giving.{IsGiven, this, bound, ruled, mapped_given, parts, of_given, each_given}
+use Rattle.vhdl_names_laws.proofs.given.Giving.{IsGiven, this, bound, ruled, mapped_given, parts, given, of_given, each_given}
 use Rattle.vhdl_names_laws.proofs.given.Expressions.{static_range_given, condition_given, static_condition_given, value_given_given}
 use Rattle.vhdl_names_laws.proofs.given.Choices.{choices_given, covered_is, of_alternatives, each_length, arranged_given, selected_given}
 use Rattle.vhdl_names_laws.proofs.given.Statements.{signal_given, target_given, statements_given, end_label_given}
@@ -118,12 +120,22 @@ selected_is sight label a h =
 
 -- ---- processes
 
-sensitivity_given : (sight : Sight) (p : t.Process) (o : t.Sensitivity) → IsKept (broken.sensitivity sight p.at o) → IsGiven (are.sensitivity sight o)
-sensitivity_given sight p t.absent h = absurd cc
-sensitivity_given sight p t.every h = this u.every
-sensitivity_given sight p (t.listed ns) h =
+sensitivity_given : (sight : Sight) (p : t.Process) (o : t.Sensitivity) (waits : Bool) → IsKept (broken.sensitivity sight p.at o waits) → IsGiven (are.sensitivity sight o waits)
+sensitivity_given sight p t.absent true h = this (u.listed [])
+sensitivity_given sight p t.absent false h = absurd cc
+sensitivity_given sight p t.every waits h = this u.every
+sensitivity_given sight p (t.listed ns) waits h =
     let places : List SignalName → u.Sensitivity = λ xs. u.listed (map (λ (x : SignalName). x.place) xs) in
     mapped_given places (each (signal sight) ns) (each_given (sequential.signal sight) (signal sight) (signal_given sight) ns h)
+
+awaited_given : (sight : Sight) (o : t.Sensitivity) (wait : Option t.Wait) → IsKept (broken.awaited sight o wait) → IsGiven (are.awaited sight o wait)
+awaited_given sight o None h = this None
+awaited_given sight t.absent (Some w) h =
+    let k = parts _ _ h in
+    let c = condition_given sight w.condition k.0 in
+    let l = of_given (λ x. lacking NoSensitivity w.at (waited_edge x)) (condition sight w.condition) c.value c.is k.1 in
+    bound (condition sight w.condition) _ c.value c.is (mapped_given Some (waited_edge c.value) (given NoSensitivity w.at (waited_edge c.value) l))
+awaited_given sight _ (Some w) h = absurd cc
 
 inner_labels_distinct : (xs : t.Statements) → IsKept (twice [] (labels.statement_labels xs)) → are_distinct (statement_labels xs) ≡ true
 inner_labels_distinct xs h = ap are_distinct (sym (statements_named xs)) ∙ once_distinct [] (labels.statement_labels xs) refl h
@@ -138,19 +150,24 @@ process_given sight label p none h =
     let k = parts _ _ h in
     let l = parts _ _ k.1 in
     let m = parts _ _ l.1 in
-    let on = sensitivity_given sight p p.sensitivity k.0 in
+    let on = sensitivity_given sight p p.sensitivity (is_some p.wait) k.0 in
     let vs = all_variables_given p.variables sight (ap (λ r. are_distinct (declared_names r)) none) l.0 in
     let distinct : are_distinct (declared_names vs.value.declared) ≡ true = ap (λ r. are_distinct (declared_names (r ++ vs.value.declared))) (sym none) ∙ vs.distinct in
     let inner : Sight = with_variables sight vs.value.declared in
-    let whole = of_given (λ vs. broken.body (with_variables sight vs.declared) xs) (in_order with_variables variables sight p.variables) vs.value vs.is m.0 in
+    let both =
+    parts _ _ (of_given (λ vs. broken.awaited (with_variables sight vs.declared) p.sensitivity p.wait ▸ broken.body (with_variables sight vs.declared) xs)
+    (in_order with_variables variables sight p.variables) vs.value vs.is m.0) in
+    let edge = awaited_given inner p.sensitivity p.wait both.0 in
+    let whole = both.1 in
     let body = statements_given xs inner (among_right (twice [] (labels.statement_labels xs)) (sequential.statements inner xs) whole) in
-    bound (are.sensitivity sight p.sensitivity) _ on.value on.is
+    bound (are.sensitivity sight p.sensitivity (is_some p.wait)) _ on.value on.is
     (bound (in_order with_variables variables sight p.variables) _ vs.value vs.is
     (ruled (are_distinct (declared_names vs.value.declared)) _ distinct
     (ruled (are_distinct (statement_labels xs)) _
     (inner_labels_distinct xs (among_left (twice [] (labels.statement_labels xs)) (sequential.statements inner xs) whole))
+    (bound (are.awaited inner p.sensitivity p.wait) _ edge.value edge.is
     (bound (statements inner xs) _ body.value body.is
-    (ruled (label_ends label p.end_label) _ (end_label_given label p.end_label m.1) (this _))))))
+    (ruled (label_ends label p.end_label) _ (end_label_given label p.end_label m.1) (this _)))))))
 
 -- ---- all statements
 

@@ -1,26 +1,29 @@
 -- What is told of concurrent statements stands at a piece of them.
-use Rattle.std.proofs.Common.{ℕ, List, [], ◌∷◌, map, Option, Some, None}
+use Rattle.std.proofs.Common.{ℕ, Bool, List, [], ◌∷◌, map, Option, Some, None}
 use Rattle.std.specs.List.{AllByRecursion}
+use Rattle.std.specs.Option.{is_some}
 use Rattle.vhdl_lexer.specs.declared.token.TokenKind.TheVariants as k
 use Rattle.vhdl_tree.specs.Tree as t
 use Rattle.vhdl_tree.specs.Tree.{Ident}
 use Rattle.vhdl_tree.specs.Pieces.{spell_ident, spell_option, spell_word, spell_each, spell_list}
 use Rattle.vhdl_tree.specs.grammar.Expressions.{spell, spell_name, spell_value, spell_choice}
 use Rattle.vhdl_tree.specs.grammar.Sequential.{spell_label, spell_statements}
-use Rattle.vhdl_tree.specs.grammar.Process.{spell_sensitivity, spell_variables, spell_process, spell_waveform, spell_selected}
+use Rattle.vhdl_tree.specs.grammar.Process.{spell_sensitivity, spell_variables, spell_wait, spell_process, spell_waveform, spell_selected}
 use Rattle.vhdl_tree.specs.grammar.Concurrent.{spell_branch, spell_otherwise, spell_waveforms, spell_assignment, spell_scheme, spell_concurrent, spell_concurrents}
 use Rattle.vhdl_names_rules.specs.declared.kind.ObjectType.{ObjectType}
-use Rattle.vhdl_names_rules.specs.declared.fault.NameProblem.TheVariants.{NoSensitivity}
+use Rattle.vhdl_names_rules.specs.declared.fault.NameProblem.TheVariants.{NoSensitivity, LeftOut}
 use Rattle.vhdl_names_rules.specs.Visibility.{Sight, with_variables}
+use Rattle.vhdl_names_rules.specs.Edges.{waited_edge}
+use Rattle.vhdl_names_rules.specs.Expressions as expressions
 use Rattle.vhdl_names_rules.specs.Declarations as declarations
 use Rattle.vhdl_names_rules.specs.Interfaces.{EntityView}
 use Rattle.vhdl_names_rules.specs.Concurrent.{sight_within}
 use Rattle.vhdl_names_rules.specs.problems.Labels.{labels_of, statement_labels}
-use Rattle.vhdl_names_rules.specs.problems.Broken.{any_of}
+use Rattle.vhdl_names_rules.specs.problems.Broken.{◌▸◌, lacking, any_of}
 use Rattle.vhdl_names_rules.specs.problems.Statements.{signal, assigned}
 use Rattle.vhdl_names_rules.specs.problems.Declarations.{variables}
 use Rattle.vhdl_names_rules.specs.problems.Concurrent as broken
-use Rattle.vhdl_names_laws.proofs.placed.Told.{Stand, EachStands, first, behind, Told, told_nothing, told_refused, told_given, told_behind, told_earlier, told_any, option_told, each_stands, list_stands}
+use Rattle.vhdl_names_laws.proofs.placed.Told.{Stand, EachStands, first, behind, Told, told_nothing, told_refused, told_unless, told_lacking, told_given, told_behind, told_earlier, told_any, option_told, each_stands, list_stands}
 use Rattle.vhdl_names_laws.proofs.placed.Expressions.{static_range_told, condition_told, static_condition_told}
 use Rattle.vhdl_names_laws.proofs.placed.Choices.{ChoicesStand, choices_told, covered_told, any_alternative_told}
 use Rattle.vhdl_names_laws.proofs.placed.Statements.{signal_told, target_told, assigned_told, end_told, by_selector_told, statements_told}
@@ -86,24 +89,34 @@ selected_told P sight a h =
 
 -- ---- processes
 
-sensitivity_told : (P : ℕ → Type 0) (sight : Sight) (at : ℕ) (s : t.Sensitivity) → P at → Stand P (spell_sensitivity s) → Told P (broken.sensitivity sight at s)
-sensitivity_told P sight at t.absent h g = told_refused NoSensitivity at h
-sensitivity_told P sight at t.every h g = told_nothing
-sensitivity_told P sight at (t.listed ns) h g =
+sensitivity_told : (P : ℕ → Type 0) (sight : Sight) (at : ℕ) (s : t.Sensitivity) (waits : Bool) → P at → Stand P (spell_sensitivity s) → Told P (broken.sensitivity sight at s waits)
+sensitivity_told P sight at t.absent waits h g = told_unless NoSensitivity at waits h
+sensitivity_told P sight at t.every waits h g = told_nothing
+sensitivity_told P sight at (t.listed ns) waits h g =
     told_any (λ n. Stand P (spell_name n)) (signal sight) (signal_told P sight) ns (list_stands P k.Comma spell_name ns (first P (spell_list k.Comma spell_name ns) _ g.1))
+
+awaited_told : (P : ℕ → Type 0) (sight : Sight) (s : t.Sensitivity) (wait : Option t.Wait) → Stand P (spell_option spell_wait wait) → Told P (broken.awaited sight s wait)
+awaited_told P sight s None h = told_nothing
+awaited_told P sight t.absent (Some w) h =
+    told_behind (condition_told P sight w.condition (first P (spell w.condition) _ h.1.1))
+    (told_given (expressions.condition sight w.condition) (λ x. lacking NoSensitivity w.at (waited_edge x)) (λ x. told_lacking NoSensitivity w.at (waited_edge x) h.0))
+awaited_told P sight _ (Some w) h = told_refused LeftOut w.at h.0
 
 process_told : (P : ℕ → Type 0) (sight : Sight) (label : Option Ident) (p : t.Process) → Stand P (spell_process p) → Told P (broken.process sight label p)
 process_told P sight label p h =
     let word = behind P (spell_sensitivity p.sensitivity) _ h.1 in
     let declared = behind P (spell_word k.Is p.is_word) _ word in
     let vs = each_stands P spell_variables p.variables (first P (spell_each spell_variables p.variables) _ declared) in
-    let body = (behind P (spell_each spell_variables p.variables) _ declared).1 in
+    let inner = (behind P (spell_each spell_variables p.variables) _ declared).1 in
+    let waits = first P (spell_option spell_wait p.wait) _ inner in
+    let body = behind P (spell_option spell_wait p.wait) _ inner in
     let xs = t.statements_of p.statements in
     let stands = first P (spell_statements xs) _ body in
-    told_behind (sensitivity_told P sight p.at p.sensitivity h.0 (first P (spell_sensitivity p.sensitivity) _ h.1))
+    told_behind (sensitivity_told P sight p.at p.sensitivity (is_some p.wait) h.0 (first P (spell_sensitivity p.sensitivity) _ h.1))
     (told_behind (in_order_told P (λ d. Stand P (spell_variables d)) with_variables declarations.variables variables (variables_told P) p.variables sight vs)
-    (told_behind (told_given (declarations.in_order with_variables declarations.variables sight p.variables) (λ vs. broken.body (with_variables sight vs.declared) xs)
-    (λ x. told_earlier (twice_told P (statement_labels xs) [] (statements_stand xs P stands)) (statements_told xs P (with_variables sight x.declared) stands)))
+    (told_behind (told_given (declarations.in_order with_variables declarations.variables sight p.variables) (λ vs. broken.awaited (with_variables sight vs.declared) p.sensitivity p.wait ▸ broken.body (with_variables sight vs.declared) xs)
+    (λ x. told_behind (awaited_told P (with_variables sight x.declared) p.sensitivity p.wait waits)
+    (told_earlier (twice_told P (statement_labels xs) [] (statements_stand xs P stands)) (statements_told xs P (with_variables sight x.declared) stands))))
     (end_told P k.Process label p.end_label (behind P (spell_statements xs) _ body))))
 
 -- ---- all statements

@@ -3,12 +3,13 @@ use Rattle.std.proofs.Common.{ℕ, Bool, true, false, not, ◌&&◌, List, [], �
 use Rattle.std.specs.Prelude.{nat_eq}
 use Rattle.std.specs.List.{AllByRecursion, cons_option, list_any}
 use Rattle.vhdl_lexer.specs.declared.token.TokenKind.TheVariants as k
+use Rattle.vhdl_lexer.specs.declared.language.Language.TheVariants.{Wide}
 use Rattle.vhdl_tree.specs.Tree as t
 use Rattle.vhdl_tree.specs.Tree.{File, DesignUnit, LibraryUnit, ContextItem}
 use Rattle.vhdl_tree.specs.Pieces.{spell_each, IsEach}
 use Rattle.vhdl_tree.specs.grammar.Declarations.{spell_declaration}
 use Rattle.vhdl_tree.specs.grammar.Concurrent.{spell_concurrent, spell_concurrents}
-use Rattle.vhdl_tree.specs.grammar.Units.{spell_context, spell_entity, spell_architecture, spell_library_unit, spell_unit, spell_file, IsContext, IsUnit, IsFile}
+use Rattle.vhdl_tree.specs.grammar.Units.{spell_context, spell_entity, spell_architecture, spell_library_unit, spell_unit, spell_file, IsContext, IsUnitIn, IsFileIn}
 use Rattle.vhdl_names_rules.specs.declared.fault.NameProblem.TheVariants.{Undeclared, Twice, SecondArchitecture}
 use Rattle.vhdl_names_rules.specs.Visibility.{Name, Sight, is_among, with_declared}
 use Rattle.vhdl_names_rules.specs.Packages as packages
@@ -88,7 +89,7 @@ items_stand P [] well h = tt
 items_stand P (c ∷ items) well h =
     ((well.0, first P (spell_context c) (spell_each spell_context items) h), items_stand P items well.1 (behind P (spell_context c) (spell_each spell_context items) h))
 
-units_stand : (P : ℕ → Type 0) (ds : List DesignUnit) → IsEach IsUnit ds → Stand P (spell_each spell_unit ds) → AllByRecursion (UnitStands P) ds
+units_stand : (P : ℕ → Type 0) (ds : List DesignUnit) → IsEach (IsUnitIn Wide) ds → Stand P (spell_each spell_unit ds) → AllByRecursion (UnitStands P) ds
 units_stand P [] well h = tt
 units_stand P (d ∷ ds) well h =
     let g = first P (spell_unit d) (spell_each spell_unit ds) h in (
@@ -139,7 +140,7 @@ described_told P ns entities (items, a) h = by_told (entity_named entities a.ent
     by_told None = context_told P items (record { has_ieee = true; has_logic = false; has_numbers = false }) h.0
     by_told (Some (n, e)) = up_to_told P (is_hidden ns entities) a (broken.architecture entities e items a) (architecture_told P entities e items a h.0 h.1)
 
-pub file_told : (P : ℕ → Type 0) (f : File) → IsFile f → Stand P (spell_file f) → Told P (broken.file f)
+pub file_told : (P : ℕ → Type 0) (f : File) → IsFileIn Wide f → Stand P (spell_file f) → Told P (broken.file f)
 file_told P f well h =
     let units = units_stand P f.units well h in
     told_earlier (names_told P f.units [] units)

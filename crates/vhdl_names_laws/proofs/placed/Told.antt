@@ -7,6 +7,7 @@ use Rattle.vhdl_tree.specs.Tree.{Ident}
 use Rattle.vhdl_tree.specs.Pieces as p
 use Rattle.vhdl_tree.specs.Pieces.{Piece, spell_ident, spell_option, spell_each, spell_list}
 use Rattle.vhdl_names_rules.specs.declared.fault.NameProblem.{NameProblem}
+pub use Rattle.vhdl_names_rules.proofs.laws.Edges.{all_of_both}
 use Rattle.vhdl_names_rules.specs.problems.Broken.{Broken, nothing, refused, ◌▸◌, unless, lacking, where_given, of_any, any_of, earlier}
 
 -- ---- pieces
@@ -104,7 +105,3 @@ list_stands P separator spell (x ∷ xs) h =
 -- identifiers
 abbrev pub NamesStand : (ℕ → Type 0) → List Ident → Type 0
 NamesStand P = EachStands P spell_ident
-
-pub all_of_both : {A : Type 0} (Q : A → Type 0) (xs ys : List A) → AllByRecursion Q xs → AllByRecursion Q ys → AllByRecursion Q (xs ++ ys)
-all_of_both Q [] ys h g = g
-all_of_both Q (x ∷ xs) ys h g = (h.0, all_of_both Q xs ys h.1 g)

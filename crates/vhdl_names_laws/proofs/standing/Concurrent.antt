@@ -1,14 +1,14 @@
 -- The bytes of an analysed concurrent statement are those of pieces of the statement.
-use Rattle.std.proofs.Common.{◌≡◌, ℕ, List, [], ◌∷◌, ◌++◌, map, Option, Some, None, subst}
+use Rattle.std.proofs.Common.{◌≡◌, ℕ, Bool, true, false, List, [], ◌∷◌, ◌++◌, map, Option, Some, None, subst}
 use Rattle.std.specs.List.{flat_map}
-use Rattle.std.specs.Option.{option_map}
+use Rattle.std.specs.Option.{option_map, is_some}
 use Rattle.vhdl_lexer.specs.declared.token.TokenKind.TheVariants as k
 use Rattle.vhdl_tree.specs.Tree as t
 use Rattle.vhdl_tree.specs.Tree.{Ident}
 use Rattle.vhdl_tree.specs.Pieces.{spell_option, spell_word, spell_each, spell_list}
 use Rattle.vhdl_tree.specs.grammar.Expressions.{spell, spell_name, spell_value}
 use Rattle.vhdl_tree.specs.grammar.Sequential.{spell_label, spell_statements}
-use Rattle.vhdl_tree.specs.grammar.Process.{spell_sensitivity, spell_variables, spell_process, spell_waveform, spell_selected}
+use Rattle.vhdl_tree.specs.grammar.Process.{spell_sensitivity, spell_variables, spell_wait, spell_process, spell_waveform, spell_selected}
 use Rattle.vhdl_tree.specs.grammar.Concurrent.{spell_branch, spell_waveforms, spell_assignment, spell_scheme, spell_concurrent, spell_concurrents}
 use Rattle.vhdl_names_rules.specs.units.Expressions.{SignalPart}
 use Rattle.vhdl_names_rules.specs.units.Statements as s
@@ -21,8 +21,10 @@ use Rattle.vhdl_names_rules.specs.Declarations.{variables}
 use Rattle.vhdl_names_rules.specs.Interfaces.{EntityView}
 use Rattle.vhdl_names_rules.specs.Instances.{instance}
 use Rattle.vhdl_names_rules.specs.Statements.{SignalName, signal, target}
-use Rattle.vhdl_names_rules.specs.Concurrent.{assigning, assigned, alone, last_branch, branches, assignment_body, assignment, selected, sensitivity, process, concurrent_labels, sight_within, generated, concurrent, concurrents}
+use Rattle.vhdl_names_rules.specs.Concurrent.{assigning, assigned, alone, last_branch, branches, assignment_body, assignment, selected, sensitivity, awaited, resumed_by, behind_wait, process, concurrent_labels, sight_within, generated, concurrent, concurrents}
 use Rattle.vhdl_names_rules.proofs.laws.Rules.{comes, kept}
+use Rattle.vhdl_names_rules.specs.Edges.{Edge, waited_edge}
+use Rattle.vhdl_names_rules.proofs.laws.Edges.{waited_holds}
 use Rattle.vhdl_names_rules.proofs.laws.Parts.{process_parts, selected_parts}
 use Rattle.vhdl_names_laws.proofs.Statics.{some_same}
 use Rattle.vhdl_names_rules.proofs.kept.Keeping.{mapped}
@@ -140,13 +142,40 @@ signals_hold P sight (n ∷ ns) xs h q =
     subst (λ xs. EachHolds P place_bytes (map place xs)) (some_same (a.value ∷ b.value) xs b.rest)
     (signal_holds P sight n a.value h.0 a.is, signals_hold P sight ns b.value h.1 b.is)
 
-sensitivity_holds : (P : ℕ → Type 0) (sight : Sight) (w : t.Sensitivity) (x : u.Sensitivity) → Stand P (spell_sensitivity w) → sensitivity sight w ≡ Some x → Hold P (sensitivity_bytes x)
-sensitivity_holds P sight t.absent x h q = absurd cc
-sensitivity_holds P sight t.every x h q = subst (λ x. Hold P (sensitivity_bytes x)) (some_same u.every x q) tt
-sensitivity_holds P sight (t.listed ns) x h q =
+sensitivity_holds : (P : ℕ → Type 0) (sight : Sight) (w : t.Sensitivity) (waits : Bool) (x : u.Sensitivity) → Stand P (spell_sensitivity w) → sensitivity sight w waits ≡ Some x
+    → Hold P (sensitivity_bytes x)
+sensitivity_holds P sight t.absent true x h q = subst (λ x. Hold P (sensitivity_bytes x)) (some_same (u.listed []) x q) tt
+sensitivity_holds P sight t.absent false x h q = absurd cc
+sensitivity_holds P sight t.every waits x h q = subst (λ x. Hold P (sensitivity_bytes x)) (some_same u.every x q) tt
+sensitivity_holds P sight (t.listed ns) waits x h q =
     let a = mapped (λ xs. u.listed (map place xs)) (each (signal sight) ns) x q in
     let names = list_stands P k.Comma spell_name ns (first P (spell_list k.Comma spell_name ns) _ h.1) in
     subst (λ x. Hold P (sensitivity_bytes x)) a.is (hold_each P place_bytes (map place a.value) (signals_hold P sight ns a.value names a.from))
+
+abbrev EdgeHolds : (ℕ → Type 0) → Option Edge → Type 0
+EdgeHolds P None = Unit {0}
+EdgeHolds P (Some edge) = Hold P (place_bytes edge.place)
+
+awaited_holds : (P : ℕ → Type 0) (sight : Sight) (o : t.Sensitivity) (wait : Option t.Wait) (edge : Option Edge) → Stand P (spell_option spell_wait wait) → awaited sight o wait ≡ Some edge
+    → EdgeHolds P edge
+awaited_holds P sight o None edge h q = subst (EdgeHolds P) (some_same None edge q) tt
+awaited_holds P sight t.absent (Some w) edge h q =
+    let c = comes (condition sight w.condition) _ edge q in
+    let m = mapped Some (waited_edge c.value) edge c.rest in
+    subst (EdgeHolds P) m.is (waited_holds P c.value m.value (condition_holds P sight w.condition c.value (first P (spell w.condition) _ h.1.1) c.is) m.from)
+awaited_holds P sight _ (Some w) edge h q = absurd cc
+
+resumed_holds : (P : ℕ → Type 0) (edge : Option Edge) (on : u.Sensitivity) → EdgeHolds P edge → Hold P (sensitivity_bytes on) → Hold P (sensitivity_bytes (resumed_by edge on))
+resumed_holds P None on h g = g
+resumed_holds P (Some edge) on h g = hold_both P (place_bytes edge.place) [] h tt
+
+behind_holds : (P : ℕ → Type 0) (wait : Option t.Wait) (edge : Option Edge) (xs : s.Statements) → Stand P (spell_option spell_wait wait) → EdgeHolds P edge → Hold P (statements_bytes xs)
+    → Hold P (statements_bytes (behind_wait wait edge xs))
+behind_holds P None edge xs h g k = k
+behind_holds P (Some w) None xs h g k = k
+behind_holds P (Some w) (Some edge) xs h g k =
+    hold_both P (w.at ∷ (place_bytes edge.place ++ (statements_bytes xs ++ []))) []
+    (h.0, hold_both P (place_bytes edge.place) (statements_bytes xs ++ []) g (hold_both P (statements_bytes xs) [] k tt)) tt
 
 process_holds : (P : ℕ → Type 0) (sight : Sight) (label : Option Ident) (p : t.Process) (x : u.Process) → Stand P (spell_process p) → process sight label p ≡ Some x
     → Hold P (process_bytes x)
@@ -155,17 +184,23 @@ process_holds P sight label p x h q =
     let declared = behind P (spell_word k.Is p.is_word) _ word in
     let ds = each_stands P spell_variables p.variables (first P (spell_each spell_variables p.variables) _ declared) in
     let xs = t.statements_of p.statements in
-    let inner = first P (spell_statements xs) _ (behind P (spell_each spell_variables p.variables) _ declared).1 in
+    let body = (behind P (spell_each spell_variables p.variables) _ declared).1 in
+    let waits = first P (spell_option spell_wait p.wait) _ body in
+    let inner = first P (spell_statements xs) _ (behind P (spell_option spell_wait p.wait) _ body) in
     let d = process_parts sight label p x q in
+    let edge = awaited_holds P (with_variables sight d.own.value.declared) p.sensitivity p.wait d.edge.value waits d.edge.is in
     subst (λ (x : u.Process). Hold P (process_bytes x)) d.is (
       h.0,
-      hold_both P (flat_map object_bytes d.own.value.analysed) (sensitivity_bytes d.on.value ++ statements_bytes d.body.value)
+      hold_both P (flat_map object_bytes d.own.value.analysed)
+          (sensitivity_bytes (resumed_by d.edge.value d.on.value) ++ statements_bytes (behind_wait p.wait d.edge.value d.body.value))
           (hold_each P object_bytes d.own.value.analysed
           (all_in_order with_variables variables (λ (d : t.Variables). Stand P (spell_variables d)) (λ (o : u.Object). Hold P (object_bytes o)) (λ sight d y g e. variables_hold P sight d y g e)
           p.variables sight d.own.value ds d.own.is))
-          (hold_both P (sensitivity_bytes d.on.value) (statements_bytes d.body.value)
-          (sensitivity_holds P sight p.sensitivity d.on.value (first P (spell_sensitivity p.sensitivity) _ h.1) d.on.is)
-          (statements_hold xs P (with_variables sight d.own.value.declared) d.body.value inner d.body.is)),
+          (hold_both P (sensitivity_bytes (resumed_by d.edge.value d.on.value)) (statements_bytes (behind_wait p.wait d.edge.value d.body.value))
+          (resumed_holds P d.edge.value d.on.value edge
+          (sensitivity_holds P sight p.sensitivity (is_some p.wait) d.on.value (first P (spell_sensitivity p.sensitivity) _ h.1) d.on.is))
+          (behind_holds P p.wait d.edge.value d.body.value waits edge
+          (statements_hold xs P (with_variables sight d.own.value.declared) d.body.value inner d.body.is))),
     )
 
 -- ---- all statements

@@ -13,7 +13,7 @@ use Rattle.vhdl_names_rules.specs.units.Units.{Units}
 use Rattle.vhdl_names_rules.specs.units.Bytes.{if_any_bytes, generic_bytes, port_bytes, declaration_bytes, concurrents_bytes, architecture_bytes, entity_bytes, units_bytes}
 use Rattle.vhdl_names_rules.specs.Rules.{each, if_any, all_of}
 use Rattle.vhdl_names_rules.specs.Visibility.{Name, Sight, are_distinct, with_declared}
-use Rattle.vhdl_names_rules.specs.Packages.{context, sight_of}
+use Rattle.vhdl_names_rules.specs.Packages.{sight_of}
 use Rattle.vhdl_names_rules.specs.Declarations.{in_order, generic, port}
 use Rattle.vhdl_names_rules.specs.Interfaces.{Interface, EntityView, declared_names, interface, entity}
 use Rattle.vhdl_names_rules.specs.Files.{as_entity, as_architecture, entities_of, architectures_of, architecture_of, viewed, declaration, architecture, unit, units_of}

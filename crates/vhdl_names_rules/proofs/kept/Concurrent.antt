@@ -1,6 +1,6 @@
 -- Concurrent statements that are given break no rule (IEEE 1076-2008, clause 11).
-use Rattle.std.proofs.Common.{◌≡◌, ℕ, true, List, [], ◌∷◌, ◌++◌, map, Option, Some, None, ap, ◌∙◌}
-use Rattle.std.specs.Prelude.{option_map}
+use Rattle.std.proofs.Common.{◌≡◌, ℕ, Bool, true, false, List, [], ◌∷◌, ◌++◌, map, Option, Some, None, ap, ◌∙◌}
+use Rattle.std.specs.Prelude.{option_map, is_some}
 use Rattle.vhdl_tree.specs.Tree as t
 use Rattle.vhdl_tree.specs.Tree.{Ident}
 use Rattle.vhdl_names_rules.specs.declared.kind.ObjectType.{ObjectType}
@@ -8,6 +8,8 @@ use Rattle.vhdl_names_rules.specs.units.Statements as s
 use Rattle.vhdl_names_rules.specs.units.Units as u
 use Rattle.vhdl_names_rules.specs.Rules.{◌>>=◌, each}
 use Rattle.vhdl_names_rules.specs.Visibility.{Name, Sight, are_distinct, ends, with_variables}
+use Rattle.vhdl_names_rules.specs.declared.fault.NameProblem.TheVariants.{NoSensitivity}
+use Rattle.vhdl_names_rules.specs.Edges.{Edge, waited_edge}
 use Rattle.vhdl_names_rules.specs.Expressions.{typed, static_range, condition, value_given, as_static_test}
 use Rattle.vhdl_names_rules.specs.Choices.{choices}
 use Rattle.vhdl_names_rules.specs.Declarations.{in_order, variables}
@@ -16,7 +18,7 @@ use Rattle.vhdl_names_rules.specs.Instances.{instance}
 use Rattle.vhdl_names_rules.specs.Statements.{SignalName, signal, target, statement_labels}
 use Rattle.vhdl_names_rules.specs.Concurrent as are
 use Rattle.vhdl_names_rules.specs.Concurrent.{alone, sight_within, concurrent_labels}
-use Rattle.vhdl_names_rules.specs.problems.Broken.{any_of, of_any}
+use Rattle.vhdl_names_rules.specs.problems.Broken.{◌▸◌, lacking, any_of, of_any}
 use Rattle.vhdl_names_rules.specs.problems.Twice.{twice}
 use Rattle.vhdl_names_rules.specs.problems.Labels as labels
 use Rattle.vhdl_names_rules.specs.problems.Covered.{any_alternative}
@@ -24,7 +26,7 @@ use Rattle.vhdl_names_rules.specs.problems.Statements as sequential
 use Rattle.vhdl_names_rules.specs.problems.Concurrent as broken
 use Rattle.vhdl_names_rules.proofs.laws.Rules.{comes, kept}
 use Rattle.vhdl_names_rules.proofs.laws.Parts.{selected_parts, process_parts}
-use Rattle.vhdl_names_rules.proofs.Telling.{IsKept, both_kept, given_kept}
+use Rattle.vhdl_names_rules.proofs.Telling.{IsKept, both_kept, lacking_kept, given_kept}
 use Rattle.vhdl_names_rules.proofs.kept.Keeping.{nothing_kept, mapped, each_kept, among_kept}
 use Rattle.vhdl_names_rules.proofs.kept.Twice.{twice_kept}
 use Rattle.vhdl_names_rules.proofs.kept.Labels.{labels_named, statements_named}
@@ -109,13 +111,25 @@ selected_kept sight label a y h =
 
 -- ---- processes
 
-pub sensitivity_kept : (sight : Sight) (at : ℕ) (o : t.Sensitivity) (y : u.Sensitivity) → are.sensitivity sight o ≡ Some y → IsKept (broken.sensitivity sight at o)
-sensitivity_kept sight at t.absent y h = absurd cc
-sensitivity_kept sight at t.every y h = nothing_kept
-sensitivity_kept sight at (t.listed ns) y h =
+pub sensitivity_kept : (sight : Sight) (at : ℕ) (o : t.Sensitivity) (waits : Bool) (y : u.Sensitivity) → are.sensitivity sight o waits ≡ Some y
+    → IsKept (broken.sensitivity sight at o waits)
+sensitivity_kept sight at t.absent true y h = nothing_kept
+sensitivity_kept sight at t.absent false y h = absurd cc
+sensitivity_kept sight at t.every waits y h = nothing_kept
+sensitivity_kept sight at (t.listed ns) waits y h =
     let places : List SignalName → u.Sensitivity = λ xs. u.listed (map (λ (x : SignalName). x.place) xs) in
     let m = mapped places (each (signal sight) ns) y h in
     each_kept (sequential.signal sight) (signal sight) (signal_kept sight) ns m.value m.from
+
+pub awaited_kept : (sight : Sight) (o : t.Sensitivity) (wait : Option t.Wait) (y : Option Edge) → are.awaited sight o wait ≡ Some y → IsKept (broken.awaited sight o wait)
+awaited_kept sight o None y h = nothing_kept
+awaited_kept sight t.absent (Some w) y h =
+    let c = comes (condition sight w.condition) _ y h in
+    let m = mapped Some (waited_edge c.value) y c.rest in
+    both_kept _ _ (condition_kept sight w.condition c.value c.is)
+    (given_kept (λ x. lacking NoSensitivity w.at (waited_edge x)) (condition sight w.condition) c.value c.is
+    (lacking_kept NoSensitivity w.at (waited_edge c.value) m.value m.from))
+awaited_kept sight _ (Some w) y h = absurd cc
 
 -- labels that are distinct stand once
 pub inner_labels_kept : (xs : t.Statements) → are_distinct (statement_labels xs) ≡ true → IsKept (twice [] (labels.statement_labels xs))
@@ -129,12 +143,15 @@ pub process_kept : (sight : Sight) (label : Option Ident) (p : t.Process) (y : u
     → IsKept (broken.process sight label p)
 process_kept sight label p y none h =
     let d = process_parts sight label p y h in
-    both_kept _ _ (sensitivity_kept sight p.at p.sensitivity d.on.value d.on.is)
+    both_kept _ _ (sensitivity_kept sight p.at p.sensitivity (is_some p.wait) d.on.value d.on.is)
     (both_kept _ _ (all_variables_kept p.variables sight d.own.value d.own.is (ap (λ r. are_distinct (declared_names (r ++ d.own.value.declared))) none ∙ d.own_distinct))
     (both_kept _ _
-    (given_kept (λ vs. broken.body (with_variables sight vs.declared) (t.statements_of p.statements)) (in_order with_variables variables sight p.variables) d.own.value d.own.is
+    (given_kept
+    (λ vs. broken.awaited (with_variables sight vs.declared) p.sensitivity p.wait ▸ broken.body (with_variables sight vs.declared) (t.statements_of p.statements))
+    (in_order with_variables variables sight p.variables) d.own.value d.own.is
+    (both_kept _ _ (awaited_kept (with_variables sight d.own.value.declared) p.sensitivity p.wait d.edge.value d.edge.is)
     (among_kept _ _ (inner_labels_kept (t.statements_of p.statements) d.labels_distinct)
-    (statements_kept (t.statements_of p.statements) (with_variables sight d.own.value.declared) d.body.value d.body.is)))
+    (statements_kept (t.statements_of p.statements) (with_variables sight d.own.value.declared) d.body.value d.body.is))))
     (end_label_kept label p.end_label d.ended)))
 
 -- ---- all statements

@@ -1,6 +1,6 @@
 -- What the parts of a thing are analysed as, where the whole is.
 use Rattle.std.proofs.Common.{◌≡◌, ℕ, true, ◌&&◌, List, [], ◌∷◌, ◌++◌, map, Option, Some, sym, ap}
-use Rattle.std.specs.Option.{option_map}
+use Rattle.std.specs.Option.{option_map, is_some}
 use Rattle.std.specs.List.{slice_get, filter_map}
 use Rattle.vhdl_tree.specs.Tree as t
 use Rattle.vhdl_tree.specs.Tree.{Ident, Expr, ContextItem, File}
@@ -18,7 +18,7 @@ use Rattle.vhdl_names_rules.specs.Declarations.{in_order, variables}
 use Rattle.vhdl_names_rules.specs.Interfaces.{EntityView, declared_names, interface, entity, entity_named, component}
 use Rattle.vhdl_names_rules.specs.SameText.{same_generics, same_ports}
 use Rattle.vhdl_names_rules.specs.Instances.{Formal, generic_name, port_formal, associated, port_actuals, instantiated, instance}
-use Rattle.vhdl_names_rules.specs.Concurrent.{label_of, assigning, assigned, alone, selected, sensitivity, process, concurrent_labels, concurrents}
+use Rattle.vhdl_names_rules.specs.Concurrent.{label_of, assigning, assigned, alone, selected, sensitivity, awaited, resumed_by, behind_wait, process, concurrent_labels, concurrents}
 use Rattle.vhdl_names_rules.specs.Files.{entity_names, described_names, stand_after, entities_of, viewed, declaration, labelled, architecture, unit, units_of}
 use Rattle.vhdl_names_rules.proofs.laws.Rules.{Comes, comes, kept, some_is}
 
@@ -82,24 +82,35 @@ selected_parts sight label a x h =
     }
 
 pub record ProcessParts (sight : Sight) (label : Option Ident) (p : t.Process) (x : u.Process) : Type 0 where
-  pub on : Given (sensitivity sight p.sensitivity)
+  pub on : Given (sensitivity sight p.sensitivity (is_some p.wait))
   pub own : Given (in_order with_variables variables sight p.variables)
   pub own_distinct : are_distinct (declared_names own.value.declared) ≡ true
   pub labels_distinct : are_distinct (statement_labels (t.statements_of p.statements)) ≡ true
+  pub edge : Given (awaited (with_variables sight own.value.declared) p.sensitivity p.wait)
   pub body : Given (statements (with_variables sight own.value.declared) (t.statements_of p.statements))
   pub ended : label_ends label p.end_label ≡ true
-  pub is : record { at = p.at; label = label_of label; variables = own.value.analysed; sensitivity = on.value; body = body.value } ≡ x
+  pub is : record { at = p.at; label = label_of label; variables = own.value.analysed; sensitivity = resumed_by edge.value on.value; body = behind_wait p.wait edge.value body.value } ≡ x
 
 pub process_parts : (sight : Sight) (label : Option Ident) (p : t.Process) (x : u.Process) → process sight label p ≡ Some x → ProcessParts sight label p x
 unfolding process
 process_parts sight label p x h =
-    let on = comes (sensitivity sight p.sensitivity) _ x h in
+    let on = comes (sensitivity sight p.sensitivity (is_some p.wait)) _ x h in
     let own = comes (in_order with_variables variables sight p.variables) _ x on.rest in
     let a = kept (are_distinct (declared_names own.value.declared)) _ x own.rest in
     let b = kept (are_distinct (statement_labels (t.statements_of p.statements))) _ x a.1 in
-    let body = comes (statements (with_variables sight own.value.declared) (t.statements_of p.statements)) _ x b.1 in
+    let edge = comes (awaited (with_variables sight own.value.declared) p.sensitivity p.wait) _ x b.1 in
+    let body = comes (statements (with_variables sight own.value.declared) (t.statements_of p.statements)) _ x edge.rest in
     let c = kept (label_ends label p.end_label) _ x body.rest in
-    record { on = given _ _ _ on; own = given _ _ _ own; own_distinct = a.0; labels_distinct = b.0; body = given _ _ _ body; ended = c.0; is = some_is _ x c.1 }
+    record {
+      on = given _ _ _ on;
+      own = given _ _ _ own;
+      own_distinct = a.0;
+      labels_distinct = b.0;
+      edge = given _ _ _ edge;
+      body = given _ _ _ body;
+      ended = c.0;
+      is = some_is _ x c.1;
+    }
 
 -- ---- components and instances
 

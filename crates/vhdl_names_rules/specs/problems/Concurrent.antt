@@ -1,14 +1,16 @@
 -- Which rules concurrent statements break (IEEE 1076-2008, clause 11), with the declarations in sight.
-use Rattle.std.specs.Prelude.{ℕ, List, [], map, Option}
+use Rattle.std.specs.Prelude.{ℕ, Bool, List, [], map, Option, Some, None, is_some}
 use Rattle.vhdl_tree.specs.Tree as t
 use Rattle.vhdl_tree.specs.Tree.{Ident}
 use Rattle.vhdl_names_rules.specs.declared.kind.ObjectType.{ObjectType}
-use Rattle.vhdl_names_rules.specs.declared.fault.NameProblem.TheVariants.{NoSensitivity}
+use Rattle.vhdl_names_rules.specs.declared.fault.NameProblem.TheVariants.{NoSensitivity, LeftOut}
 use Rattle.vhdl_names_rules.specs.Visibility.{Sight, with_variables}
+use Rattle.vhdl_names_rules.specs.Edges.{waited_edge}
+use Rattle.vhdl_names_rules.specs.Expressions as expressions
 use Rattle.vhdl_names_rules.specs.Declarations as declarations
 use Rattle.vhdl_names_rules.specs.Interfaces.{EntityView}
 use Rattle.vhdl_names_rules.specs.Concurrent.{sight_within}
-use Rattle.vhdl_names_rules.specs.problems.Broken.{Broken, nothing, refused, ◌▸◌, earlier, where_given, any_of, of_any}
+use Rattle.vhdl_names_rules.specs.problems.Broken.{Broken, nothing, refused, ◌▸◌, unless, lacking, earlier, where_given, any_of, of_any}
 use Rattle.vhdl_names_rules.specs.problems.Twice.{twice}
 use Rattle.vhdl_names_rules.specs.problems.Labels.{labels_of, statement_labels}
 use Rattle.vhdl_names_rules.specs.problems.Expressions.{static_range, condition, static_condition}
@@ -44,10 +46,19 @@ selected sight a = by_selector sight a.selector (λ type. waveforms sight type a
 -- ---- processes (11.3)
 
 -- the process starts at this byte
-abbrev pub sensitivity : Sight → ℕ → t.Sensitivity → Broken
-sensitivity sight at t.absent = refused NoSensitivity at
-sensitivity sight at t.every = nothing
-sensitivity sight at (t.listed ns) = any_of (signal sight) ns
+abbrev pub sensitivity : Sight → ℕ → t.Sensitivity → (waits : Bool) → Broken
+sensitivity sight at t.absent waits = unless NoSensitivity at waits
+sensitivity sight at t.every waits = nothing
+sensitivity sight at (t.listed ns) waits = any_of (signal sight) ns
+
+-- A wait for no edge resumes nothing: the process has no sensitivity list, which is told at the wait, though a
+-- condition that is wrong is told behind it. Behind a list a wait is left out.
+abbrev pub awaited : Sight → t.Sensitivity → Option t.Wait → Broken
+awaited sight list None = nothing
+awaited sight t.absent (Some w) =
+    condition sight w.condition
+    ▸ where_given (expressions.condition sight w.condition) (λ c. lacking NoSensitivity w.at (waited_edge c))
+awaited sight list (Some w) = refused LeftOut w.at
 
 -- its labels stand among its statements
 abbrev pub body : Sight → t.Statements → Broken
@@ -55,10 +66,11 @@ body sight xs = earlier (twice [] (statement_labels xs)) (statements sight xs)
 
 abbrev pub process : Sight → Option Ident → t.Process → Broken
 process sight label p =
-    sensitivity sight p.at p.sensitivity
+    sensitivity sight p.at p.sensitivity (is_some p.wait)
     ▸ in_order with_variables declarations.variables variables sight p.variables
     ▸ where_given (declarations.in_order with_variables declarations.variables sight p.variables)
-    (λ vs. body (with_variables sight vs.declared) (t.statements_of p.statements))
+    (λ vs. awaited (with_variables sight vs.declared) p.sensitivity p.wait
+    ▸ body (with_variables sight vs.declared) (t.statements_of p.statements))
     ▸ end_label label p.end_label
 
 -- ---- all statements, with the entities of the file

@@ -1,5 +1,5 @@
 -- Truths of the code, with a chain of operators grouped from the left.
-use Rattle.std.specs.Prelude.{Bool, true, false, List, [], ◌∷◌}
+use Rattle.std.specs.Prelude.{Bool, true, false, List, [], ◌∷◌, Result, Ok, Err}
 use Rattle.vhdl_names_rules.specs.declared.test.StaticTest.{StaticTest}
 use Rattle.vhdl_names_rules.specs.declared.test.StaticTest.TheVariants as s
 use Rattle.vhdl_names_rules.specs.declared.test.StaticTest.TheBlock.{Row_of-StaticTestLink, end_of-StaticTestLink, more_of-StaticTestLink}
@@ -64,6 +64,11 @@ start_view s = u.Test.both s.link.operator (test_view s.first) (test_view s.link
 abbrev pub test_chained : u.Test → List TestLink → u.Test
 test_chained left [] = left
 test_chained left (l ∷ ls) = test_chained (u.Test.both l.operator left (test_view l.operand)) ls
+
+-- two tests, or one
+abbrev pub parts_view : Result (Test × Test) Test → Result (u.Test × u.Test) u.Test
+parts_view (Ok p) = Ok (test_view p.0, test_view p.1)
+parts_view (Err t) = Err (test_view t)
 
 abbrev pub is_fixed : u.Test → Bool
 is_fixed (u.Test.fixed x) = true

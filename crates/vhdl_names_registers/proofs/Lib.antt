@@ -1,0 +1,13 @@
+pub mod Tying
+pub mod Counting
+pub mod Gating
+pub mod Taking
+pub mod Firsts
+pub mod Levels
+pub mod Sound
+pub mod Named
+pub mod Standing
+pub mod Parting
+pub mod Indices
+pub mod Branches
+pub mod Replacing

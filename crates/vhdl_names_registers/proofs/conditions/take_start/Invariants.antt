@@ -1,0 +1,7 @@
+use Rattle.std.proofs.Common.{◌≡◌, map, take, None}
+use Rattle.vhdl_names_rules.specs.Edges.{taken, start_of}
+use Rattle.vhdl_names_rules.specs.views.Tests.{test_view}
+use Rattle.vhdl_names_registers.proofs.conditions.take_start.Given as goal
+
+abbrev pub invariant-loop-index : goal.invariant-loop-index
+invariant-loop-index l = (l.all ≡ l.fn.all) × (taken start_of (map test_view (take l.index l.all.items)) ≡ None)
