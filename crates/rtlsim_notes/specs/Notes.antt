@@ -16,6 +16,7 @@ use Rattle.rtlsim_notes.specs.Sayings.{connection_text, inside_text, lack_text, 
 use Rattle.rtlsim_notes.specs.Scopes.{child_of, instance_of, names_in, scope_of, scope_of_net}
 use Rattle.rtlsim_notes.specs.declared.noted.Note.{Note}
 use Rattle.vhdl_lexer.specs.declared.token.Token.{Token}
+use Rattle.vhdl_lexer.specs.declared.token.TokenKind.TheVariants as k
 use Rattle.vhdl_places.specs.Lists.{unread_name}
 use Rattle.vhdl_places.specs.Maps.{connection, driving_port}
 use Rattle.vhdl_places.specs.Statements.{body, statement}
@@ -24,6 +25,7 @@ use Rattle.vhdl_places.specs.declared.lists.Lack.{Lack}
 use Rattle.vhdl_places.specs.declared.lists.Lack.TheVariants.{EdgeBranch}
 use Rattle.vhdl_places.specs.declared.lists.Unread.{Unread}
 use Rattle.vhdl_places.specs.declared.uses.Use.TheVariants as uses
+use Rattle.vhdl_slips.specs.Parts.{begins, from}
 use Rattle.vhdl_slips.specs.Words as words
 use Rattle.vhdl_slips.specs.Words.{Read, text_of, with_tokens}
 
@@ -49,10 +51,15 @@ tokens_of source net process = tokens_from source (at_process net (Some process)
 -- ---- the finding's own: where an edge or an event makes a process neither clocked nor combinational (reasons 15 and
 -- 16), at that one
 
--- of reason 16 the first inside the statement
+-- the first inside the statement, and in a process that waits the first behind its wait
+abbrev pub inner_edge : (text : List ℕ) → List Token → Option Token
+inner_edge text tokens =
+    if begins k.Wait tokens then first_use uses.AnyEdge text [] (from k.Semicolon tokens)
+    else first_use uses.InnerEdge text [] tokens
+
 abbrev pub edge_in : (text : List ℕ) → (kind : ℕ) → List Token → Option Token
 edge_in text kind tokens =
-    if kind == 16 then first_use uses.InnerEdge text [] tokens
+    if kind == 16 then inner_edge text tokens
     else (if kind == 15 then first_use uses.AnyEdge text [] tokens else None)
 
 -- of the process that starts at this byte

@@ -19,9 +19,9 @@ use rtl_net::{Net, NoMemory};
 use rtlsim_findings::{Finding, Obstacle, note_at, note_text};
 use rtlsim_listing::report_of;
 use std::alloc::Global;
-use vhdl_lexer::Token;
+use vhdl_lexer::{Token, TokenKind};
 use vhdl_places::{Use, first_use, statement};
-use vhdl_slips::Lexed;
+use vhdl_slips::{Lexed, begins, from};
 
 /// So many notes of a finding are looked at, and so many processes of a loop.
 const MOST: usize = 20;
@@ -131,12 +131,27 @@ fn edge_in(kind: u8, words: Lexed<'_>) -> Option<Token>
     ensures { result ≡ spec.edge_in words.entry.text.now kind words.entry.tokens.now }
 {
     if kind == 16 {
-        first_use(Use::InnerEdge, &[], words)
+        inner_edge(words)
     } else if kind == 15 {
         first_use(Use::AnyEdge, &[], words)
     } else {
         None
     }
+}
+
+/// The first edge or event inside the statement with which these words begin, and in a process that
+/// waits the first behind its wait.
+fn inner_edge(words: Lexed<'_>) -> Option<Token>
+    ensures { result ≡ spec.inner_edge words.entry.text.now words.entry.tokens.now }
+{
+    if !begins(TokenKind::Wait, words.tokens) {
+        return first_use(Use::InnerEdge, &[], words);
+    }
+    let behind = Lexed {
+        text: words.text,
+        tokens: from(TokenKind::Semicolon, words.tokens),
+    };
+    first_use(Use::AnyEdge, &[], behind)
 }
 
 /// Appends the notes beside the finding's own.

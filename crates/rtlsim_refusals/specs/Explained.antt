@@ -34,7 +34,7 @@ use Rattle.vhdl_source_files.specs.Files.{FileView, Spot, after, before, spot_in
 use Rattle.vhdl_lexer.specs.declared.token.Token.{Token}
 use Rattle.vhdl_places.specs.Firsts.{first_declared}
 use Rattle.vhdl_places.specs.Drivers.{first_driver, second_driver}
-use Rattle.vhdl_expected.specs.Told.{Expected, expected_of, nothing, perhaps, surely}
+use Rattle.vhdl_parser_rules.specs.Expected.{Expected, expected_of, nothing, perhaps, surely}
 
 -- a byte of a source that has tokens: where it stands in its own file, the tokens before it and from it on, and what
 -- was expected at the first of these, where the parser refuses it

@@ -1,12 +1,12 @@
 //! Explanations of a source's faults.
 
 ghost use Rattle.std.specs.Prelude.{◌≡◌, map};
+ghost use Rattle.vhdl_parser_rules.specs.Expected.{expected_of};
 ghost use Rattle.byte_streams.specs.Written.{Goes};
 ghost use Rattle.rtlsim_refusals.specs.Explained as spec;
 ghost use Rattle.vhdl_slips.specs.Words.{read_of};
 ghost use Rattle.vhdl_source_files.specs.Files.{file_view, spot_view};
 ghost use Rattle.vhdl_hints.specs.Hinted.{hint_view};
-ghost use Rattle.vhdl_expected.specs.Told.{expected_of};
 
 use crate::beside::{Notes, push_notes};
 use crate::place::{begins_line, push_position, push_shown};
@@ -14,8 +14,8 @@ use crate::refused::{push_refused, said_of, said_refused};
 use crate::unset::{names_entity, no_generic_said, push_generics_of};
 use byte_streams::{Sink, push_number, push_text};
 use fault_rules::{ElabRule, NameRule, Place, Report, Rule, Subject, SyntaxRule};
-use vhdl_expected::Expected;
 use vhdl_hints::{Hint, help, hint_at, push_hint};
+use vhdl_parser_rules::Expected;
 use vhdl_slips::{
     Lexed, Listing, Said, first_text, is_same_word, left_out_form, push_missing, push_names,
     push_subject, unexpected_form,

@@ -1,11 +1,11 @@
 //! What is told of a fault of a source, as data.
 
 ghost use Rattle.std.specs.Prelude.{◌≡◌, ℕ, false, List, [], IfOk, map, option_map};
+ghost use Rattle.vhdl_parser_rules.specs.Expected.{expected_of};
 ghost use Rattle.byte_streams.specs.Written.{Goes};
 ghost use Rattle.rtlsim_refusals.specs.Explained as spec;
 ghost use Rattle.vhdl_slips.specs.Words.{read_of};
 ghost use Rattle.vhdl_source_files.specs.Files.{file_view, spot_view};
-ghost use Rattle.vhdl_expected.specs.Told.{expected_of};
 
 use crate::beside::{Notes, notes_at};
 use crate::explaining::{
@@ -15,7 +15,7 @@ use crate::explaining::{
 use byte_streams::{Out, Sink, push_text};
 use fault_rules::{Place, Report, Rule};
 use std::alloc::{AllocError, Global};
-use vhdl_expected::Expected;
+use vhdl_parser_rules::Expected;
 use vhdl_slips::Lexed;
 use vhdl_source_files::{FilePlace, SourceFile, place_in};
 

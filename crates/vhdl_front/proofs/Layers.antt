@@ -2,21 +2,26 @@
 use Rattle.std.proofs.Common.{◌≡◌, ◌≢◌, ◌<◌, ◌≤◌, subst, ℕ, length, List, ◌∷◌, None, Some, Result, Ok, Err, All, arith}
 use Rattle.std.specs.Prelude.{IsTrue, IsErrAnd, IfOk, IfErr, IfSome, Contains}
 use Rattle.std.proofs.lemmas.List.Elements.{All-cons, All-contains, All-weaker}
+use Rattle.vhdl_lexer.specs.declared.language.Language.{Language}
+use Rattle.vhdl_lexer.specs.declared.language.Language.TheVariants.{Profile, Wide}
 use Rattle.vhdl_tree.specs.Tree.{File}
+use Rattle.vhdl_tree.proofs.Narrow.{files_are_wide}
 use Rattle.vhdl_names_rules.specs.problems.Broken.{Tells}
 use Rattle.vhdl_names_rules.specs.problems.Files as breaks
 use Rattle.vhdl_names_rules.specs.Files.{units_of}
+use Rattle.vhdl_names_rules.specs.Registers.{units_in, units_written}
+use Rattle.vhdl_names_rules.proofs.kept.Keeping.{mapped}
 use Rattle.vhdl_names_rules.specs.declared.fault.NameFault.{NameFault}
 use Rattle.vhdl_names_rules.specs.declared.fault.NameFault.TheVariants as names
 use Rattle.vhdl_names_rules.specs.sound.Units.{are_sound}
 use Rattle.vhdl_names_rules.specs.units.Units as u
 use Rattle.vhdl_names_rules.specs.units.Bytes.{units_bytes}
-use Rattle.vhdl_names_laws.proofs.Units.{units_are_sound}
-use Rattle.vhdl_names_laws.proofs.Named.{small_ports_distinct}
 use Rattle.vhdl_names_laws.proofs.placed.Laws.{faults_lie_in_the_text}
 use Rattle.vhdl_names_laws.proofs.standing.Laws.{units_lie_in_the_text}
 use Rattle.vhdl_names.specs.Spelled.{IsSpelled}
 use Rattle.vhdl_names.proofs.Spelled.{words}
+use Rattle.vhdl_names.proofs.Written.{units_in_are_sound, ports_in_are_distinct}
+use Rattle.vhdl_names_registers.proofs.Standing.{written_stand}
 use Rattle.vhdl_expand_rules.specs.Elab.{fault_told}
 use Rattle.vhdl_expand_rules.specs.Tops.{Top}
 use Rattle.vhdl_expand_rules.specs.declared.fault.ElabFault.{ElabFault}
@@ -39,12 +44,12 @@ use Rattle.vhdl_front_rules.specs.declared.fault.SourceFault.TheVariants.{Lex, S
 
 -- ---- the file of a source
 
-pub is_spelled : (source : List ℕ) (file : File) → IsFileOf source file → IsSpelled file
-is_spelled source file read = record { source = source; tokens = read.tokens; cut = read.cut; spelled = read.spelled }
+pub is_spelled : (language : Language) (source : List ℕ) (file : File) → IsFileOf language source file → IsSpelled file
+is_spelled language source file read = record { source = source; tokens = read.tokens; cut = read.cut; spelled = read.spelled }
 
 -- ---- its netlist
 
-pub opened : (asked : Asked) (file : File) (units : u.Units) (net : NetlistView) → IsFileOf asked.source file → units_of file ≡ Some units → IsTrue (are_sound units) → ShowsTop units asked.top net
+pub opened : (asked : Asked) (file : File) (units : u.Units) (net : NetlistView) → IsFileOf asked.language asked.source file → units_in asked.language file ≡ Some units → IsTrue (are_sound units) → ShowsTop units asked.top net
     → IsNetOf asked net
 opened asked file units net read typed sound shown = record {
   design = shown.design;
@@ -57,16 +62,16 @@ pub own_ports : (asked : Asked) (net : NetlistView) → IsNetOf asked net → Ha
 own_ports asked net h =
     let units = h.has.units in
     let analysed = h.has.analysed in
-    each-has-own-ports units asked.top h.design net (units_are_sound analysed.file units analysed.read.well_formed analysed.well_typed)
-    (small_ports_distinct analysed.file units (words analysed.file (is_spelled asked.source analysed.file analysed.read)) analysed.well_typed) h.has.is h.shows
+    each-has-own-ports units asked.top h.design net (units_in_are_sound asked.language analysed.file units analysed.read.well_formed analysed.well_typed)
+    (ports_in_are_distinct asked.language analysed.file units (words analysed.file (is_spelled asked.language asked.source analysed.file analysed.read)) analysed.well_typed) h.has.is h.shows
 
 -- ---- why it has none
 
-pub no_units : (file : File) (fault : NameFault) → (fault ≢ names.NoMemory → units_of file ≡ None) → Tells (breaks.file file) fault → HasNameFault file (of_name fault)
-no_units file (names.At problem at) none broken = (none (λ e. absurd cc), broken)
-no_units file names.NoMemory none broken = tt
+pub no_units : (language : Language) (file : File) (fault : NameFault) → (fault ≢ names.NoMemory → units_in language file ≡ None) → Tells (breaks.file file) fault → HasNameFault language file (of_name fault)
+no_units language file (names.At problem at) none broken = (none (λ e. absurd cc), broken)
+no_units language file names.NoMemory none broken = tt
 
-pub untyped_refuses : (asked : Asked) (file : File) (fault : SourceFault) → IsFileOf asked.source file → HasNameFault file fault → Refuses asked fault
+pub untyped_refuses : (asked : Asked) (file : File) (fault : SourceFault) → IsFileOf asked.language asked.source file → HasNameFault asked.language file fault → Refuses asked fault
 untyped_refuses asked file (Name (names.At problem at)) read h = record { file = file; read = read; ill_typed = h.0; broken = h.1 }
 untyped_refuses asked file (Name names.NoMemory) read h = h
 untyped_refuses asked file NoMemory read h = tt
@@ -75,20 +80,29 @@ untyped_refuses asked file (Syntax fault) read h = absurd h
 untyped_refuses asked file (Elab fault) read h = absurd h
 
 -- a fault of names stands in the source
-pub untyped_lies : (source : List ℕ) (file : File) (fault : SourceFault) → IsFileOf source file → HasNameFault file fault → LiesIn (length source) fault
-untyped_lies source file (Name (names.At problem at)) read h =
+pub untyped_lies : (language : Language) (source : List ℕ) (file : File) (fault : SourceFault) → IsFileOf language source file → HasNameFault language file fault → LiesIn (length source) fault
+untyped_lies language source file (Name (names.At problem at)) read h =
     let inside : at < length source
-    = subst (λ b. IfSome b (λ at_fault. at_fault.1 < length source)) h.1 (faults_lie_in_the_text source read.tokens file read.cut read.spelled read.well_formed) in
+    = subst (λ b. IfSome b (λ at_fault. at_fault.1 < length source)) h.1 (faults_lie_in_the_text source read.tokens file read.cut read.spelled (files_are_wide language file read.well_formed)) in
     omega (arith, inside)
-untyped_lies source file (Name names.NoMemory) read h = absurd h
-untyped_lies source file NoMemory read h = tt
-untyped_lies source file (Lex fault) read h = absurd h
-untyped_lies source file (Syntax fault) read h = absurd h
-untyped_lies source file (Elab fault) read h = absurd h
+untyped_lies language source file (Name names.NoMemory) read h = absurd h
+untyped_lies language source file NoMemory read h = tt
+untyped_lies language source file (Lex fault) read h = absurd h
+untyped_lies language source file (Syntax fault) read h = absurd h
+untyped_lies language source file (Elab fault) read h = absurd h
 
 pub no_net : (units : u.Units) (top : Top) (fault : ElabFault) → (fault ≢ elab.NoMemory → MayRefuse units top (fault_told fault)) → HasElabFault units top (of_elab fault)
 no_net units top (elab.At problem at) h = h (λ e. absurd cc)
 no_net units top elab.NoMemory h = tt
+
+-- where registers are written anew, no byte is another one
+in_text : (language : Language) (source : List ℕ) (file : File) (units : u.Units) → IsFileOf language source file → units_in language file ≡ Some units
+    → All (λ at. at < length source) (units_bytes units)
+in_text Profile source file units read typed = units_lie_in_the_text source read.tokens file units read.cut read.spelled typed
+in_text Wide source file units read typed =
+    let m = mapped units_written (units_of file) units typed in
+    subst (λ (x : u.Units). All (λ at. at < length source) (units_bytes x)) m.is
+    (written_stand (λ at. at < length source) m.value (units_lie_in_the_text source read.tokens file m.value read.cut read.spelled m.from))
 
 -- a byte of the units is one of the source, and 0 is one or its end
 in_source : (size : ℕ) (bytes : List ℕ) (at : ℕ) → All (λ b. b < size) bytes → Contains (0 ∷ bytes) at → at ≤ size
@@ -98,13 +112,12 @@ in_source size bytes at inside c =
 
 pub refusal_lies : EachRefusalLiesInItsSource
 refusal_lies asked problem at r =
-    let read = r.analysed.read in
-    in_source (length asked.source) (units_bytes r.units) at (units_lie_in_the_text asked.source read.tokens r.analysed.file r.units read.cut read.spelled r.analysed.well_typed)
+    in_source (length asked.source) (units_bytes r.units) at (in_text asked.language asked.source r.analysed.file r.units r.analysed.read r.analysed.well_typed)
     (refusals-stand r.units asked.top (problem, at) r.refused)
 
 -- ---- the whole
 
-module _ (asked : Asked) (file : File) (units : u.Units) (read : IsFileOf asked.source file) (typed : units_of file ≡ Some units) where
+module _ (asked : Asked) (file : File) (units : u.Units) (read : IsFileOf asked.language asked.source file) (typed : units_in asked.language file ≡ Some units) where
   pub gives_opened : IsTrue (are_sound units) → (answer : Result NetlistView SourceFault) → GivesNet units asked.top answer → IfOk answer (λ net. IsNetOf asked net)
   gives_opened sound (Ok net) h = opened asked file units net read typed sound h
   gives_opened sound (Err fault) h = tt

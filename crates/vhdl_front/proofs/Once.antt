@@ -1,14 +1,15 @@
 -- A source has one tree, and so one of each that follows from it.
 use Rattle.std.proofs.Common.{◌≡◌, ℕ, Bool, true, false, List, Some, Ok, Err, inl, inr, refl, true≢false, sym, ap, ◌∙◌, subst, arith}
 use Rattle.std.specs.Prelude.{IsErr}
+use Rattle.vhdl_lexer.specs.declared.language.Language.{Language}
 use Rattle.vhdl_lexer.specs.declared.token.Token.{Token}
-use Rattle.vhdl_parser.specs.Fault.{IsRefusal, IsTooDeep}
-use Rattle.vhdl_parser.specs.declared.fault.SyntaxFault.{SyntaxFault}
-use Rattle.vhdl_parser.specs.declared.fault.SyntaxFault.TheVariants as syntax
+use Rattle.vhdl_parser_rules.specs.Fault.{IsRefusal, IsTooDeep}
+use Rattle.vhdl_parser_rules.specs.declared.fault.SyntaxFault.{SyntaxFault}
+use Rattle.vhdl_parser_rules.specs.declared.fault.SyntaxFault.TheVariants as syntax
 use Rattle.vhdl_tree.specs.Levels.{IsShallow, IsDeep, most_open}
 use Rattle.vhdl_tree.specs.Lexeme.{Lexeme, lexemes}
 use Rattle.vhdl_tree.specs.Tree.{File}
-use Rattle.vhdl_names_rules.specs.Files.{units_of}
+use Rattle.vhdl_names_rules.specs.Registers.{units_in}
 use Rattle.vhdl_names_rules.specs.declared.fault.NameFault.TheVariants as names
 use Rattle.vhdl_names_rules.specs.declared.fault.NameProblem.{NameProblem}
 use Rattle.vhdl_names_rules.specs.units.Units.{Units}
@@ -30,19 +31,19 @@ use Rattle.vhdl_front_rules.specs.Refusals.{HasNoUnits, HasNoDesign}
 use Rattle.vhdl_front.specs.Laws.{EachSourceHasOneDesign, EachSourceHasOneNet, EachRefusedHasNone}
 use Rattle.vhdl_front_rules.specs.declared.fault.SourceFault.TheVariants.{Lex, Syntax, Name, Elab, NoMemory}
 
-one_file : (source : List ℕ) (a b : File) → IsFileOf source a → IsFileOf source b → a ≡ b
-one_file source a b p q =
+one_file : (language : Language) (source : List ℕ) (a b : File) → IsFileOf language source a → IsFileOf language source b → a ≡ b
+one_file language source a b p q =
     sym (p.only_file b q.well_formed (subst (λ (ts : List Token). SpellsTokens source ts b) (p.only_tokens q.tokens q.cut) q.spelled))
 
 in_some : {A : Type 0} (a b : A) → Some a ≡ Some b → a ≡ b
 in_some a b e = cc
 
-one_units : (source : List ℕ) (a b : Units) → HasUnits source a → HasUnits source b → a ≡ b
-one_units source a b p q = in_some a b (sym p.well_typed ∙ ap units_of (one_file source p.file q.file p.read q.read) ∙ q.well_typed)
+one_units : (language : Language) (source : List ℕ) (a b : Units) → HasUnits language source a → HasUnits language source b → a ≡ b
+one_units language source a b p q = in_some a b (sym p.well_typed ∙ ap (units_in language) (one_file language source p.file q.file p.read q.read) ∙ q.well_typed)
 
 pub one_design : EachSourceHasOneDesign
 one_design asked one other p q =
-    let e : elaborated_net p.units asked.top ≡ elaborated_net q.units asked.top = ap (λ (x : Units). elaborated_net x asked.top) (one_units asked.source p.units q.units p.analysed q.analysed) in
+    let e : elaborated_net p.units asked.top ≡ elaborated_net q.units asked.top = ap (λ (x : Units). elaborated_net x asked.top) (one_units asked.language asked.source p.units q.units p.analysed q.analysed) in
     let both = sym p.is ∙ e ∙ q.is in cc
 
 pub one_net : EachSourceHasOneNet
@@ -53,19 +54,19 @@ one_net asked one other p q = p.shows ∙ ap shown (one_design asked p.design q.
 not_both : (n : ℕ) (ts : List Lexeme) → IsDeep n ts → IsShallow n ts → ⊥
 not_both n ts (j, deep) shallow = let low = shallow j in omega (arith, deep, low)
 
-along : (source : List ℕ) (ts : List Token) (file : File) (h : IsFileOf source file) → h.tokens ≡ ts → SpellsTokens source ts file
-along source ts file h e = subst (λ (xs : List Token). SpellsTokens source xs file) e h.spelled
+along : (language : Language) (source : List ℕ) (ts : List Token) (file : File) (h : IsFileOf language source file) → h.tokens ≡ ts → SpellsTokens source ts file
+along language source ts file h e = subst (λ (xs : List Token). SpellsTokens source xs file) e h.spelled
 
-unspelled : (fault : SyntaxFault) (source : List ℕ) (file : File) → IsRefusal fault → HasSyntaxFault fault source → IsFileOf source file → ⊥
-unspelled fault source file is r h = r.refused is file h.well_formed (along source r.tokens file h (r.only_tokens h.tokens h.cut))
+unspelled : (language : Language) (fault : SyntaxFault) (source : List ℕ) (file : File) → IsRefusal fault → HasSyntaxFault language fault source → IsFileOf language source file → ⊥
+unspelled language fault source file is r h = r.refused is file h.well_formed (along language source r.tokens file h (r.only_tokens h.tokens h.cut))
 
-too_deep : (fault : SyntaxFault) (source : List ℕ) (file : File) → IsTooDeep fault → HasSyntaxFault fault source → IsFileOf source file → ⊥
-too_deep fault source file is r h =
+too_deep : (language : Language) (fault : SyntaxFault) (source : List ℕ) (file : File) → IsTooDeep fault → HasSyntaxFault language fault source → IsFileOf language source file → ⊥
+too_deep language fault source file is r h =
     not_both most_open (lexemes source r.tokens) (r.deep is) (subst (λ (ts : List Token). IsShallow most_open (lexemes source ts)) (r.only_tokens h.tokens h.cut) h.shallow)
 
-untyped : (source : List ℕ) (units : Units) (problem : NameProblem) (at : ℕ) → HasNoUnits source problem at → HasUnits source units → ⊥
-untyped source units problem at r h =
-    let both = sym r.ill_typed ∙ ap units_of (one_file source r.file h.file r.read h.read) ∙ h.well_typed in absurd (cc)
+untyped : (language : Language) (source : List ℕ) (units : Units) (problem : NameProblem) (at : ℕ) → HasNoUnits language source problem at → HasUnits language source units → ⊥
+untyped language source units problem at r h =
+    let both = sym r.ill_typed ∙ ap (units_in language) (one_file language source r.file h.file r.read h.read) ∙ h.well_typed in absurd (cc)
 
 undesigned : (given : Expanded Elaborated) (design : Elaborated) → IsErr given → given ≡ Ok design → ⊥
 undesigned (Ok x) design h e = true≢false (sym h)
@@ -92,15 +93,15 @@ is_refused units top told (inr (many, cut)) = not_connected (expanded_design uni
 no_design : (asked : Asked) (problem : ElabProblem) (at : ℕ) (design : Elaborated) → HasNoDesign asked problem at → HasDesign asked design → ⊥
 no_design asked problem at design r h =
     undesigned (elaborated_net r.units asked.top) design (is_refused r.units asked.top (problem, at) r.refused)
-    (ap (λ (x : Units). elaborated_net x asked.top) (one_units asked.source r.units h.units r.analysed h.analysed) ∙ h.is)
+    (ap (λ (x : Units). elaborated_net x asked.top) (one_units asked.language asked.source r.units h.units r.analysed h.analysed) ∙ h.is)
 
 pub refused : EachRefusedHasNone
 refused asked (Lex x) design behind r h = behind
-refused asked (Syntax (syntax.Unexpected at)) design behind r h = unspelled (syntax.Unexpected at) asked.source h.analysed.file tt r h.analysed.read
-refused asked (Syntax (syntax.EndOfFile at)) design behind r h = unspelled (syntax.EndOfFile at) asked.source h.analysed.file tt r h.analysed.read
-refused asked (Syntax (syntax.TooDeep at)) design behind r h = too_deep (syntax.TooDeep at) asked.source h.analysed.file tt r h.analysed.read
+refused asked (Syntax (syntax.Unexpected at)) design behind r h = unspelled asked.language (syntax.Unexpected at) asked.source h.analysed.file tt r h.analysed.read
+refused asked (Syntax (syntax.EndOfFile at)) design behind r h = unspelled asked.language (syntax.EndOfFile at) asked.source h.analysed.file tt r h.analysed.read
+refused asked (Syntax (syntax.TooDeep at)) design behind r h = too_deep asked.language (syntax.TooDeep at) asked.source h.analysed.file tt r h.analysed.read
 refused asked (Syntax syntax.NoMemory) design behind r h = r
-refused asked (Name (names.At problem at)) design behind r h = untyped asked.source h.units problem at r h.analysed
+refused asked (Name (names.At problem at)) design behind r h = untyped asked.language asked.source h.units problem at r h.analysed
 refused asked (Name names.NoMemory) design behind r h = r
 refused asked (Elab (elab.At problem at)) design behind r h = no_design asked problem at design r h
 refused asked (Elab elab.NoMemory) design behind r h = r

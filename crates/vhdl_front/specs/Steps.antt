@@ -6,7 +6,8 @@ use Rattle.vhdl_elab_rules.specs.Refused.{MayRefuse}
 use Rattle.vhdl_expand_rules.specs.Tops.{Top}
 use Rattle.vhdl_expand_rules.specs.declared.fault.ElabFault.TheVariants as elab
 use Rattle.vhdl_names_rules.specs.problems.Files as breaks
-use Rattle.vhdl_names_rules.specs.Files as rules
+use Rattle.vhdl_lexer.specs.declared.language.Language.{Language}
+use Rattle.vhdl_names_rules.specs.Registers.{units_in}
 use Rattle.vhdl_names_rules.specs.declared.fault.NameFault.TheVariants as names
 use Rattle.vhdl_names_rules.specs.sound.Named.{are_named}
 use Rattle.vhdl_names_rules.specs.sound.Units.{are_sound}
@@ -20,15 +21,16 @@ use Rattle.vhdl_front_rules.specs.declared.fault.SourceFault.{SourceFault}
 use Rattle.vhdl_front_rules.specs.declared.fault.SourceFault.TheVariants.{Name, Elab, NoMemory}
 
 -- only a fault of names, only where the file has no units, and that of the first rule that it breaks
-abbrev pub HasNameFault : File → SourceFault → Type 0
-HasNameFault file (Name names.NoMemory) = ⊥
-HasNameFault file (Name (names.At problem at)) = (rules.units_of file ≡ None) × (breaks.file file ≡ Some (problem, at))
-HasNameFault file NoMemory = Unit {0}
-HasNameFault file _ = ⊥
+abbrev pub HasNameFault : Language → File → SourceFault → Type 0
+HasNameFault language file (Name names.NoMemory) = ⊥
+HasNameFault language file (Name (names.At problem at)) =
+    (units_in language file ≡ None) × (breaks.file file ≡ Some (problem, at))
+HasNameFault language file NoMemory = Unit {0}
+HasNameFault language file _ = ⊥
 
-abbrev pub GivesUnits : File → Result Units SourceFault → Type 0
-GivesUnits file (Ok units) = rules.units_of file ≡ Some (units_view units)
-GivesUnits file (Err fault) = HasNameFault file fault
+abbrev pub GivesUnits : Language → File → Result Units SourceFault → Type 0
+GivesUnits language file (Ok units) = units_in language file ≡ Some (units_view units)
+GivesUnits language file (Err fault) = HasNameFault language file fault
 
 -- elaboration can take them, and a stimulus can speak of the ports of each entity
 pub record AreReady (units : u.Units) : Type 0 where

@@ -12,7 +12,7 @@ ghost use Rattle.vhdl_front_rules.specs.Sources.{IsFileOf};
 ghost use Rattle.vhdl_names.specs.Spelled.{IsSpelled};
 ghost use Rattle.vhdl_front.specs.Steps.{GivesUnits, AreReady, GivesNet};
 ghost use Rattle.vhdl_tree.specs.View.{file_view};
-ghost use Rattle.vhdl_tree.specs.grammar.Units.{IsFile};
+ghost use Rattle.vhdl_tree.specs.grammar.Units.{IsFileIn};
 ghost use Rattle.vhdl_names_units.specs.views.Units.{units_view};
 
 use rtl_net::Net;
@@ -20,10 +20,10 @@ use std::alloc::Global;
 use vhdl_elab::elaborate;
 use vhdl_expand_rules::Top;
 use vhdl_front_rules::{Asked, Front, SourceFault};
-use vhdl_lexer::lex;
-use vhdl_names::analyse;
+use vhdl_lexer::{Language, lex};
+use vhdl_names::analyse_in;
 use vhdl_names_units::Units;
-use vhdl_parser::parse;
+use vhdl_parser::parse_in;
 use vhdl_tree::File;
 
 /// The netlist of a source under a top, which is an entity in it. The file is read, its names and
@@ -42,8 +42,8 @@ pub fn open(alloc: Global, asked: Asked<'_>) -> Result<Net, SourceFault>
     ensures refused { IfErr result (Refuses (asked_view asked.entry)) }
     ensures told { IfErr result (LiesIn (length (asked_view asked.entry).source)) }
 {
-    let file = read(alloc, asked.source)?;
-    let units = units_of(alloc, &file)?;
+    let file = read(alloc, asked.language, asked.source)?;
+    let units = units_of(alloc, asked.language, &file)?;
     net_of(alloc, &units, asked.top)
 }
 
@@ -56,24 +56,26 @@ impl Front for Vhdl {
     }
 }
 
-/// The tree of a source.
-fn read(alloc: Global, source: &[u8]) -> Result<File, SourceFault>
-    ensures file { IfOk result (λ file. IsFileOf source.now (file_view file)) }
+/// The tree of a source in a language.
+fn read(alloc: Global, language: Language, source: &[u8]) -> Result<File, SourceFault>
+    ensures file { IfOk result (λ file. IsFileOf language source.now (file_view file)) }
     ensures refused { IfErr result
-        (λ fault. (top : tops.Top) → Refuses (record { source = source.now; top = top }) fault) }
+        (λ fault. (top : tops.Top)
+        → Refuses (record { language = language; source = source.now; top = top }) fault) }
     ensures told { IfErr result (LiesIn (length source.now)) }
 {
     let tokens = lex(alloc, source)?;
-    Ok(parse(alloc, source, &tokens)?)
+    Ok(parse_in(alloc, language, source, &tokens)?)
 }
 
-/// The units of a file.
-fn units_of(alloc: Global, file: &File) -> Result<Units, SourceFault>
-    ensures given { GivesUnits (file_view file.now) result }
+/// The units of a file that is read in a language.
+fn units_of(alloc: Global, language: Language, file: &File) -> Result<Units, SourceFault>
+    ensures given { GivesUnits language (file_view file.now) result }
     ensures ready { IfOk result
-        (λ units. IsFile (file_view file.now) → IsSpelled (file_view file.now) → AreReady (units_view units)) }
+        (λ units. IsFileIn language (file_view file.now) → IsSpelled (file_view file.now)
+        → AreReady (units_view units)) }
 {
-    match analyse(alloc, file) {
+    match analyse_in(alloc, language, file) {
         Ok(units) => Ok(units),
         Err(fault) => Err(SourceFault::from(fault)),
     }

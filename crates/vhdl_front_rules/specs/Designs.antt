@@ -2,7 +2,8 @@
 use Rattle.std.specs.Prelude.{◌≡◌, ℕ, List, Some, Ok}
 use Rattle.rtl_net.specs.Nets.{NetlistView}
 use Rattle.vhdl_elab_rules.specs.Elaboration.{Elaborated, elaborated_net}
-use Rattle.vhdl_names_rules.specs.Files.{units_of}
+use Rattle.vhdl_lexer.specs.declared.language.Language.{Language}
+use Rattle.vhdl_names_rules.specs.Registers.{units_in}
 use Rattle.vhdl_names_rules.specs.units.Units.{Units}
 use Rattle.vhdl_elab_rules.specs.Named.{IsNamedAlike}
 use Rattle.vhdl_elab_rules.specs.Shown.{Shows}
@@ -11,15 +12,15 @@ use Rattle.vhdl_front_rules.specs.Asking.{Asked}
 use Rattle.vhdl_front_rules.specs.Sources.{IsFileOf}
 
 -- the source's one tree is a well-typed file with these units
-pub record HasUnits (source : List ℕ) (units : Units) : Type 0 where
+pub record HasUnits (language : Language) (source : List ℕ) (units : Units) : Type 0 where
   pub file : File
-  pub read : IsFileOf source file
-  pub well_typed : units_of file ≡ Some units
+  pub read : IsFileOf language source file
+  pub well_typed : units_in language file ≡ Some units
 
 -- of which the top is elaborated to this design
 pub record HasDesign (asked : Asked) (design : Elaborated) : Type 0 where
   pub units : Units
-  pub analysed : HasUnits asked.source units
+  pub analysed : HasUnits asked.language asked.source units
   pub is : elaborated_net units asked.top ≡ Ok design
 
 -- The netlist shows the source's design: its nets, sources, starts and bodies, the bytes at which its processes start,

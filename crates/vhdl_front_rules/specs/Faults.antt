@@ -7,9 +7,9 @@ use Rattle.vhdl_lexer.specs.declared.fault.LexFault.{LexFault}
 use Rattle.vhdl_lexer.specs.declared.fault.LexFault.TheVariants as lex
 use Rattle.vhdl_names_rules.specs.declared.fault.NameFault.{NameFault}
 use Rattle.vhdl_names_rules.specs.declared.fault.NameFault.TheVariants as names
-use Rattle.vhdl_parser.specs.Fault as parser
-use Rattle.vhdl_parser.specs.declared.fault.SyntaxFault.{SyntaxFault}
-use Rattle.vhdl_parser.specs.declared.fault.SyntaxFault.TheVariants as syntax
+use Rattle.vhdl_parser_rules.specs.Fault as parser
+use Rattle.vhdl_parser_rules.specs.declared.fault.SyntaxFault.{SyntaxFault}
+use Rattle.vhdl_parser_rules.specs.declared.fault.SyntaxFault.TheVariants as syntax
 use Rattle.vhdl_front_rules.specs.declared.fault.SourceFault.{SourceFault}
 use Rattle.vhdl_front_rules.specs.declared.fault.SourceFault.TheVariants.{Lex, Syntax, Name, Elab, NoMemory}
 

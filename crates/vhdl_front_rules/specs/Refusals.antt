@@ -5,12 +5,13 @@ use Rattle.vhdl_expand_rules.specs.declared.fault.ElabFault.TheVariants as elab
 use Rattle.vhdl_expand_rules.specs.declared.fault.ElabProblem.{ElabProblem}
 use Rattle.vhdl_lexer.specs.Fault.{HasFault}
 use Rattle.vhdl_lexer.specs.declared.fault.LexFault.TheVariants as lex
+use Rattle.vhdl_lexer.specs.declared.language.Language.{Language}
 use Rattle.vhdl_names_rules.specs.problems.Files as breaks
-use Rattle.vhdl_names_rules.specs.Files.{units_of}
+use Rattle.vhdl_names_rules.specs.Registers.{units_in}
 use Rattle.vhdl_names_rules.specs.declared.fault.NameFault.TheVariants as names
 use Rattle.vhdl_names_rules.specs.declared.fault.NameProblem.{NameProblem}
 use Rattle.vhdl_names_rules.specs.units.Units.{Units}
-use Rattle.vhdl_parser.specs.declared.fault.SyntaxFault.TheVariants as syntax
+use Rattle.vhdl_parser_rules.specs.declared.fault.SyntaxFault.TheVariants as syntax
 use Rattle.vhdl_tree.specs.Tree.{File}
 use Rattle.vhdl_front_rules.specs.Asking.{Asked}
 use Rattle.vhdl_front_rules.specs.Designs.{HasUnits}
@@ -20,17 +21,17 @@ use Rattle.vhdl_front_rules.specs.declared.fault.SourceFault.TheVariants.{Lex, S
 
 -- the source's one tree is a file that isn't well typed: the first rule that it breaks, as it is read, bears this
 -- problem, and is told at this byte
-pub record HasNoUnits (source : List ℕ) (problem : NameProblem) (at : ℕ) : Type 0 where
+pub record HasNoUnits (language : Language) (source : List ℕ) (problem : NameProblem) (at : ℕ) : Type 0 where
   pub file : File
-  pub read : IsFileOf source file
-  pub ill_typed : units_of file ≡ None
+  pub read : IsFileOf language source file
+  pub ill_typed : units_in language file ≡ None
   pub broken : breaks.file file ≡ Some (problem, at)
 
 -- The source's units have no design with the top, and this problem may be told at this byte: that of the first broken
 -- rule, or TooMany where the growth of the design may be cut off before.
 pub record HasNoDesign (asked : Asked) (problem : ElabProblem) (at : ℕ) : Type 0 where
   pub units : Units
-  pub analysed : HasUnits asked.source units
+  pub analysed : HasUnits asked.language asked.source units
   pub refused : MayRefuse units asked.top (problem, at)
 
 -- A layer's want of memory is told as NoMemory alone. No definition says whether TooDeep or Unexpected is told of a
@@ -39,9 +40,9 @@ abbrev pub Refuses : Asked → SourceFault → Type 0
 Refuses asked (Lex lex.NoMemory) = ⊥
 Refuses asked (Lex fault) = HasFault fault asked.source
 Refuses asked (Syntax syntax.NoMemory) = ⊥
-Refuses asked (Syntax fault) = HasSyntaxFault fault asked.source
+Refuses asked (Syntax fault) = HasSyntaxFault asked.language fault asked.source
 Refuses asked (Name names.NoMemory) = ⊥
-Refuses asked (Name (names.At problem at)) = HasNoUnits asked.source problem at
+Refuses asked (Name (names.At problem at)) = HasNoUnits asked.language asked.source problem at
 Refuses asked (Elab elab.NoMemory) = ⊥
 Refuses asked (Elab (elab.At problem at)) = HasNoDesign asked problem at
 Refuses asked NoMemory = Unit {0}

@@ -7,7 +7,7 @@ use thiserror::Error;
 use vhdl_expand_rules::ElabFault;
 use vhdl_lexer::LexFault;
 use vhdl_names_rules::NameFault;
-use vhdl_parser::SyntaxFault;
+use vhdl_parser_rules::SyntaxFault;
 
 /// Why a source has no netlist with this top, by the first layer that refuses it. A layer's want of
 /// memory is `NoMemory`.

@@ -47,8 +47,15 @@ labelled x = record { label = Some (word (codes "l")); statement = x }
 
 -- process sensitivity variables begin statements end process;
 abbrev pub process_of : t.Sensitivity → List t.Variables → List t.Sequential → t.Process
-process_of on vs xs =
-    record { at = 20; sensitivity = on; is_word = false; variables = vs; statements = xs; end_label = None }
+process_of on vs xs = record {
+  at = 20;
+  sensitivity = on;
+  is_word = false;
+  variables = vs;
+  wait = None;
+  statements = xs;
+  end_label = None;
+}
 
 -- variable a : std_logic, which hides the port
 abbrev pub variable_a : t.Variables

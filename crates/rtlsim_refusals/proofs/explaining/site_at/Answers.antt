@@ -1,4 +1,4 @@
-use Rattle.vhdl_expected.specs.Told.{expected_of}
+use Rattle.vhdl_parser_rules.specs.Expected.{expected_of}
 use Rattle.rtlsim_refusals.proofs.explaining.site_at.Goals as goal
 
 pub returns : goal.returns

@@ -2,7 +2,7 @@ use Rattle.std.proofs.Common.{ap, sym, ◌∙◌, map, Some}
 use Rattle.rtlsim_refusals.specs.Explained as spec
 use Rattle.vhdl_slips.specs.Words.{read_of}
 use Rattle.vhdl_source_files.specs.Files.{file_view}
-use Rattle.vhdl_expected.specs.Told.{expected_of}
+use Rattle.vhdl_parser_rules.specs.Expected.{expected_of}
 use Rattle.rtlsim_refusals.proofs.told.told_source.Goals as goal
 
 pub returns-in_ok-seen_told-in-Byte : goal.returns-in_ok-seen_told-in-Byte

@@ -14,17 +14,17 @@ returns-in_err-units-clause-refused c =
 pub returns-in_err-units-clause-told : goal.returns-in_err-units-clause-told
 returns-in_err-units-clause-told c =
     lies_along c.args.asked.source.now _ _ c.from_residual-in_err-units.ensures.1
-    (untyped_lies c.args.asked.source.now _ c.in_err-units.field-0.0 c.in_ok-file.ensures.file c.in_err-units.ensures.given)
+    (untyped_lies c.args.asked.language c.args.asked.source.now _ c.in_err-units.field-0.0 c.in_ok-file.ensures.file c.in_err-units.ensures.given)
 
 pub net_of-requires : goal.net_of-requires
 net_of-requires c =
     let read = c.in_ok-file.ensures.file in
-    c.in_ok-units.ensures.ready read.well_formed (is_spelled c.args.asked.source.now _ read)
+    c.in_ok-units.ensures.ready read.well_formed (is_spelled c.args.asked.language c.args.asked.source.now _ read)
 
 pub returns-clause-net : goal.returns-clause-net
 returns-clause-net c =
     let read = c.in_ok-file.ensures.file in
-    let ready = c.in_ok-units.ensures.ready read.well_formed (is_spelled c.args.asked.source.now _ read) in
+    let ready = c.in_ok-units.ensures.ready read.well_formed (is_spelled c.args.asked.language c.args.asked.source.now _ read) in
     gives_opened (asked_view c.args.asked) _ _ read c.in_ok-units.ensures.given ready.sound _ c.net_of.ensures.given
 
 pub returns-clause-refused : goal.returns-clause-refused

@@ -7,5 +7,5 @@ use Rattle.vhdl_front.proofs.opening.units_of.Goals as goal
 
 pub returns-in-Err-clause-given : goal.returns-in-Err-clause-given
 returns-in-Err-clause-given c =
-    subst (λ (f : SourceFault). HasNameFault (file_view c.args.file.now) f) (sym c.from.ensures)
-    (no_units (file_view c.args.file.now) c.in-Err.fault c.in-Err.ensures.given c.in-Err.ensures.told)
+    subst (λ (f : SourceFault). HasNameFault c.args.language (file_view c.args.file.now) f) (sym c.from.ensures)
+    (no_units c.args.language (file_view c.args.file.now) c.in-Err.fault c.in-Err.ensures.given c.in-Err.ensures.told)
