@@ -18,6 +18,8 @@ use Rattle.rtlsim_command_faults.specs.declared.status.Status.{Status}
 use Rattle.rtlsim_command_faults.specs.declared.telling.Telling.{Telling}
 use Rattle.vhdl_lexer.specs.Cut.{Cuts}
 use Rattle.vhdl_lexer.specs.Fault.{greatest_length}
+use Rattle.vhdl_lexer.specs.declared.language.Language.{Language}
+use Rattle.vhdl_lexer.specs.declared.language.Language.TheVariants.{Profile, Wide}
 use Rattle.vhdl_lexer.specs.declared.token.Token.{Token}
 use Rattle.vhdl_expand_rules.specs.Tops.{Setting}
 use Rattle.vhdl_expand_rules.specs.views.Tops.{setting_view}
@@ -35,14 +37,23 @@ use Rattle.rtlsim_command_line.specs.declared.call.Request.TheVariants.{Eval, Ne
 abbrev pub setting_of : words.Setting → Setting
 setting_of s = record { name = s.name; value = s.value }
 
+abbrev pub language_of : (is_wide : Bool) → Language
+language_of true = Wide
+language_of false = Profile
+
 -- the top of a call, with what it sets, in a source
 abbrev pub asked_of : CallView → (source : List ℕ) → Asked
 asked_of call source =
-    record { source = source; top = record { name = call.top; generics = map setting_of call.generics } }
+    record {
+      language = language_of call.is_wide;
+      source = source;
+      top = record { name = call.top; generics = map setting_of call.generics };
+    }
 
 -- that of a job
 abbrev pub asked_in : Job → Asked
 asked_in job = record {
+  language = job.telling.now.language;
   source = job.source.now;
   top = record { name = job.top.now; generics = map setting_view job.generics.now };
 }
@@ -66,6 +77,7 @@ pub record AreTokens (asked : Bool) (source : List ℕ) (tokens : List Token) : 
 pub record IsToldOf (call : CallView) (texts : TextsView) (telling : Telling) : Type 0 where
   pub files : map file_view telling.files.now ≡ texts.files
   pub source : telling.source.text.now ≡ joined texts.files
+  pub language : telling.language ≡ language_of call.is_wide
   pub tokens : AreTokens (asks_places call) telling.source.text.now telling.source.tokens.now
   pub stimulus : telling.stimulus.now ≡ unwrap_or call.stimulus set_form
   pub text : option_map (λ text. text.now) telling.stimulus_text ≡ option_map (λ name. texts.stimulus) call.stimulus

@@ -40,6 +40,7 @@ impl<'a> Job<'a> {
             generics: self.generics,
         };
         Asked {
+            language: self.telling.language,
             source: self.source,
             top,
         }

@@ -2,6 +2,7 @@
 
 ghost use Rattle.std.specs.Prelude.{◌≡◌, ◌⊎◌, false, map, option_map, unwrap_or, [], IfOk};
 ghost use Rattle.rtlsim.specs.Requests as requests;
+ghost use Rattle.rtlsim.specs.Served as served;
 ghost use Rattle.rtlsim.specs.Served.{GoesBy, ServesBy, ServesRun, ServesTexts, AreTokens, asked_in, asks_places, choice_in};
 ghost use Rattle.rtlsim.specs.Sinks.{AreIntact, ShowsIf, outputs, sinks};
 ghost use Rattle.rtlsim_commands.specs.Served.{Serves, both};
@@ -28,7 +29,7 @@ use rtlsim_commands::{
     RunLevels, RunMachine, Simulate, Status, Telling, Traced, describe, serve,
 };
 use std::alloc::{AllocError, Global};
-use vhdl_lexer::{LexFault, Token, lex};
+use vhdl_lexer::{Language, LexFault, Token, lex};
 use vhdl_slips::Lexed;
 
 /// Does what is asked for with what was read, or tells that memory was refused before.
@@ -60,6 +61,7 @@ pub(crate) fn perform_texts<'b, F: Front, O: Sink, E: Sink, G: Sink>(
             text: source,
             tokens: &tokens,
         },
+        language: language_of(call),
         stimulus: stimulus_name(call),
         stimulus_text: call.stimulus.map(|_name| stimulus),
         expected: expected_name(call),
@@ -80,6 +82,17 @@ pub(crate) fn perform_texts<'b, F: Front, O: Sink, E: Sink, G: Sink>(
         expected: texts.expected(),
     };
     perform_shown::<F, _, _, _>(alloc, &job, call.shows_progress, out, err, progress)
+}
+
+/// In which language a call reads its source.
+fn language_of(call: &Call<'_>) -> Language
+    ensures { result ≡ served.language_of (call_view call.now).is_wide }
+{
+    if call.is_wide {
+        Language::Wide
+    } else {
+        Language::Profile
+    }
 }
 
 /// Whether an explanation or an object is asked for, which tell places, or what is expected is

@@ -18,7 +18,7 @@ use Rattle.vhdl_lexer.specs.declared.token.Token.{Token}
 use Rattle.vhdl_names_further.specs.Known.{is_known}
 use Rattle.vhdl_names_further.specs.Taken.{past}
 use Rattle.vhdl_names_rules.specs.declared.fault.NameFault.{NameFault}
-use Rattle.vhdl_parser.specs.declared.fault.SyntaxFault.{SyntaxFault}
+use Rattle.vhdl_parser_rules.specs.declared.fault.SyntaxFault.{SyntaxFault}
 use Rattle.vhdl_front_rules.specs.Asking.{Asked}
 
 -- ---- counts

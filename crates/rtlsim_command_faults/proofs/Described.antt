@@ -9,7 +9,7 @@ use Rattle.vhdl_source_files.specs.Files.{FileView}
 use Rattle.vhdl_expand_rules.specs.declared.fault.ElabFault.{ElabFault}
 use Rattle.vhdl_lexer.specs.declared.fault.LexFault.{LexFault}
 use Rattle.vhdl_names_rules.specs.declared.fault.NameFault.{NameFault}
-use Rattle.vhdl_parser.specs.declared.fault.SyntaxFault.{SyntaxFault}
+use Rattle.vhdl_parser_rules.specs.declared.fault.SyntaxFault.{SyntaxFault}
 use Rattle.vhdl_front_rules.specs.declared.fault.SourceFault.{SourceFault}
 use Rattle.vhdl_front_rules.specs.declared.fault.SourceFault.TheVariants as source
 use Rattle.vhdl_front_rules.specs.Asking.{Asked}
@@ -21,10 +21,10 @@ described files asked source.NoMemory object old new is goes = let none : Some i
 described files asked _ object old new is goes = (object, is, goes)
 
 -- of a fault that is no source's nothing is told
-pub first_none : (files : List FileView) (text : List ℕ) (fault : Fault) → ((x : LexFault) → fault ≡ f.Lex x → ⊥) → ((x : SyntaxFault) → fault ≡ f.Syntax x → ⊥)
-    → ((x : NameFault) → fault ≡ f.Name x → ⊥) → ((x : ElabFault) → fault ≡ f.Elab x → ⊥) → TellsFirst files text fault None
-first_none files text (f.Lex x) lex syntax name elab = absurd (lex x refl)
-first_none files text (f.Syntax x) lex syntax name elab = absurd (syntax x refl)
-first_none files text (f.Name x) lex syntax name elab = absurd (name x refl)
-first_none files text (f.Elab x) lex syntax name elab = absurd (elab x refl)
-first_none files text _ lex syntax name elab = refl
+pub first_none : (files : List FileView) (asked : Asked) (fault : Fault) → ((x : LexFault) → fault ≡ f.Lex x → ⊥) → ((x : SyntaxFault) → fault ≡ f.Syntax x → ⊥)
+    → ((x : NameFault) → fault ≡ f.Name x → ⊥) → ((x : ElabFault) → fault ≡ f.Elab x → ⊥) → TellsFirst files asked fault None
+first_none files asked (f.Lex x) lex syntax name elab = absurd (lex x refl)
+first_none files asked (f.Syntax x) lex syntax name elab = absurd (syntax x refl)
+first_none files asked (f.Name x) lex syntax name elab = absurd (name x refl)
+first_none files asked (f.Elab x) lex syntax name elab = absurd (elab x refl)
+first_none files asked _ lex syntax name elab = refl

@@ -23,7 +23,7 @@ use Rattle.vhdl_source_files.specs.Files.{FileView}
 use Rattle.vhdl_expand_rules.specs.declared.fault.ElabFault.{ElabFault}
 use Rattle.vhdl_lexer.specs.declared.fault.LexFault.{LexFault}
 use Rattle.vhdl_names_rules.specs.declared.fault.NameFault.{NameFault}
-use Rattle.vhdl_parser.specs.declared.fault.SyntaxFault.{SyntaxFault}
+use Rattle.vhdl_parser_rules.specs.declared.fault.SyntaxFault.{SyntaxFault}
 use Rattle.byte_streams.specs.Written.{SinkState, TakesBeginning, Goes}
 
 -- a text that is the same
@@ -45,9 +45,9 @@ explains_plain telling fault false old new plain all goes = absurd (true≢false
 
 pub explains_read : (telling : Telling) (fault : Fault) (report : Option Report) (whole : Bool) (old new : SinkState) → is_read fault ≡ true
     → report ≡ source_report fault → ((read : Source) (net : NetlistView) → source_said (files_of telling) read report ≡ explanation telling read net fault)
-    → ExplainsRead (files_of telling) report whole old new → Explains telling fault whole old new
+    → ExplainsRead telling.language (files_of telling) report whole old new → Explains telling fault whole old new
 explains_read telling fault report true old new reads is same h =
-    (h.0, (λ _. subst (λ (r : Option Report). IsRead (files_of telling) r h.0) is h.1), λ net. goes_along old new _ _ (same h.0 net) h.2)
+    (h.0, (λ _. subst (λ (r : Option Report). IsRead telling.language (files_of telling) r h.0) is h.1), λ net. goes_along old new _ _ (same h.0 net) h.2)
 explains_read telling fault report false old new reads is same h = (reads, h)
 
 -- of a fault that is none of these nothing is said

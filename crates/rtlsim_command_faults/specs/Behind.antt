@@ -12,11 +12,11 @@ use Rattle.rtlsim_command_faults.specs.declared.search.End.TheVariants as end
 use Rattle.rtlsim_command_faults.specs.declared.telling.Telling.{Telling}
 use Rattle.vhdl_source_files.specs.Files.{FileView}
 use Rattle.vhdl_front_rules.specs.Asking.{Asked}
-use Rattle.vhdl_parser.specs.Fault.{fault_byte}
+use Rattle.vhdl_parser_rules.specs.Fault.{fault_byte}
 
 -- behind a first fault; of other layers there is one alone
 abbrev pub Behind : List FileView → Asked → (first : Fault) → Found → Type 0
-Behind files asked (f.Syntax first) found = GrammarBehind files asked.source (fault_byte first) found
+Behind files asked (f.Syntax first) found = GrammarBehind files asked (fault_byte first) found
 Behind files asked (f.Name first) found = NamesBehind files asked first found
 Behind files asked first found = found ≡ ended end.Whole
 

@@ -6,8 +6,10 @@ use Rattle.fault_rules.specs.declared.report.Place.TheVariants.{Byte}
 use Rattle.fault_rules.specs.declared.report.Report.{Report}
 use Rattle.fault_rules.specs.declared.report.Rule.{Rule}
 use Rattle.fault_rules.specs.declared.report.Rule.TheVariants as rule
+use Rattle.vhdl_lexer.specs.declared.language.Language.{Language}
 use Rattle.vhdl_slips.specs.Words.{Read}
-use Rattle.vhdl_expected.specs.Told.{Expected, IsExpected, nothing}
+use Rattle.vhdl_expected.specs.Told.{IsExpected}
+use Rattle.vhdl_parser_rules.specs.Expected.{Expected, nothing}
 
 abbrev pub byte_of : Place → Option ℕ
 byte_of (Byte at) = Some at
@@ -22,10 +24,10 @@ abbrev pub refused_byte : Option Report → Option ℕ
 refused_byte None = None
 refused_byte (Some report) = refused_at report.rule report.place
 
-abbrev pub IsExpectedAt : Read → (byte : Option ℕ) → Expected → Type 0
-IsExpectedAt read None found = found ≡ nothing
-IsExpectedAt read (Some at) found = IsExpected read.text read.tokens at found
+abbrev pub IsExpectedAt : Language → Read → (byte : Option ℕ) → Expected → Type 0
+IsExpectedAt language read None found = found ≡ nothing
+IsExpectedAt language read (Some at) found = IsExpected language read.text read.tokens at found
 
 -- nothing, where the report isn't of such a token
-abbrev pub IsExpectedBy : Read → Option Report → Expected → Type 0
-IsExpectedBy read report found = IsExpectedAt read (refused_byte report) found
+abbrev pub IsExpectedBy : Language → Read → Option Report → Expected → Type 0
+IsExpectedBy language read report found = IsExpectedAt language read (refused_byte report) found

@@ -27,8 +27,9 @@ use Rattle.vhdl_literals.specs.Declarations.{names_in}
 use Rattle.vhdl_slips.specs.Words.{Read, read_of}
 use Rattle.rtlsim_findings_text.specs.Explained.{rejection_explained}
 use Rattle.vhdl_source_files.specs.Files.{FileView, file_view, joined, source_name}
-use Rattle.vhdl_expected.specs.Told.{Expected, nothing}
+use Rattle.vhdl_parser_rules.specs.Expected.{Expected, nothing}
 use Rattle.vhdl_lexer.specs.Cut.{Cuts}
+use Rattle.vhdl_lexer.specs.declared.language.Language.{Language}
 
 abbrev pub files_of : Telling → List FileView
 files_of telling = map file_view telling.files.now
@@ -40,11 +41,11 @@ pub record Source : Type 0 where
   pub read : Read
   pub expected : Expected
 
--- the source of these files, which has this report
-abbrev pub IsRead : List FileView → Option Report → Source → Type 0
-IsRead files report source =
+-- the source of these files, which is read in this language and has this report
+abbrev pub IsRead : Language → List FileView → Option Report → Source → Type 0
+IsRead language files report source =
     (source.read.text ≡ joined files) × Cuts None 0 source.read.text source.read.tokens
-    × IsExpectedBy source.read report source.expected
+    × IsExpectedBy language source.read report source.expected
 
 -- a source that isn't read
 abbrev pub unread : Source

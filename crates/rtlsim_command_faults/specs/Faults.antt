@@ -18,7 +18,7 @@ use Rattle.rtlsim_refusals.specs.Stimuli.{is_of_two}
 use Rattle.vhdl_expand_rules.specs.declared.fault.ElabFault.TheVariants as elab
 use Rattle.vhdl_lexer.specs.declared.fault.LexFault.TheVariants as lex
 use Rattle.vhdl_names_rules.specs.declared.fault.NameFault.TheVariants as names
-use Rattle.vhdl_parser.specs.declared.fault.SyntaxFault.TheVariants as syntax
+use Rattle.vhdl_parser_rules.specs.declared.fault.SyntaxFault.TheVariants as syntax
 use Rattle.vhdl_front_rules.specs.declared.fault.SourceFault.{SourceFault}
 use Rattle.vhdl_front_rules.specs.declared.fault.SourceFault.TheVariants as source
 

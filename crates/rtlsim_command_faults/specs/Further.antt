@@ -10,7 +10,7 @@ use Rattle.rtlsim_command_faults.specs.declared.search.End.TheVariants as end
 use Rattle.rtlsim_refusals.specs.Explained.{Told, told_of_source}
 use Rattle.vhdl_slips.specs.Words.{Read, with_tokens}
 use Rattle.vhdl_source_files.specs.Files.{FileView}
-use Rattle.vhdl_expected.specs.Told.{Expected, nothing}
+use Rattle.vhdl_parser_rules.specs.Expected.{Expected, nothing}
 use Rattle.vhdl_front_rules.specs.Asking.{Asked, of_text}
 use Rattle.vhdl_lexer.specs.Cut.{Cuts}
 use Rattle.vhdl_lexer.specs.declared.token.Token.{Token}

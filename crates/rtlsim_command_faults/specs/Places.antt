@@ -3,7 +3,7 @@ use Rattle.std.specs.Prelude.{ℕ, ◌≤◌, IfSome, Option, None}
 use Rattle.rtlsim_command_faults.specs.declared.faults.Fault.{Fault}
 use Rattle.rtlsim_command_faults.specs.declared.faults.Fault.TheVariants.{Lex, Syntax, Name, Elab}
 use Rattle.vhdl_lexer.specs.Fault as lexer
-use Rattle.vhdl_parser.specs.Fault as parser
+use Rattle.vhdl_parser_rules.specs.Fault as parser
 use Rattle.vhdl_front_rules.specs.Faults.{name_byte, elab_byte}
 
 -- the byte at which a fault of a source is told

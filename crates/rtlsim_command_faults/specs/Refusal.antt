@@ -14,32 +14,33 @@ use Rattle.rtlsim_command_faults.specs.declared.faults.Fault.TheVariants.{Lex, S
 use Rattle.rtlsim_command_faults.specs.declared.search.End.TheVariants as end
 use Rattle.vhdl_source_files.specs.Files.{FileView}
 use Rattle.rtlsim_findings_text.specs.Refusals.{refused_text}
-use Rattle.vhdl_expected.specs.Told.{Expected}
+use Rattle.vhdl_parser_rules.specs.Expected.{Expected}
 use Rattle.vhdl_lexer.specs.Cut.{Cuts}
+use Rattle.vhdl_lexer.specs.declared.language.Language.{Language}
 use Rattle.vhdl_lexer.specs.declared.token.Token.{Token}
 use Rattle.vhdl_front_rules.specs.declared.fault.SourceFault.{SourceFault}
 use Rattle.vhdl_front_rules.specs.declared.fault.SourceFault.TheVariants as refused
 use Rattle.vhdl_front_rules.specs.Asking.{Asked}
 
--- this is told of a report on a source that has tokens
-abbrev pub TellsRead : List FileView → (source : List ℕ) → Option Report → Option Told → Type 0
-TellsRead files source report told =
+-- this is told of a report on a source that has tokens and is read in this language
+abbrev pub TellsRead : Language → List FileView → (source : List ℕ) → Option Report → Option Told → Type 0
+TellsRead language files source report told =
     (tokens : List Token) × (expected : Expected) × Cuts None 0 source tokens
-    × IsExpectedBy (with_tokens source tokens) report expected
+    × IsExpectedBy language (with_tokens source tokens) report expected
     × (told ≡ told_of files (with_tokens source tokens) expected report)
 
 -- this is told of the first fault; nothing of another one than a source's
-abbrev pub TellsFirst : List FileView → (source : List ℕ) → Fault → Option Told → Type 0
-TellsFirst files source (Lex fault) told = told ≡ told_by (told_of_refusal files) (lex_report fault)
-TellsFirst files source (Syntax fault) told = TellsRead files source (syntax_report fault) told
-TellsFirst files source (Name fault) told = TellsRead files source (name_report fault) told
-TellsFirst files source (Elab fault) told = TellsRead files source (elab_report fault) told
-TellsFirst files source fault told = told ≡ None
+abbrev pub TellsFirst : List FileView → Asked → Fault → Option Told → Type 0
+TellsFirst files asked (Lex fault) told = told ≡ told_by (told_of_refusal files) (lex_report fault)
+TellsFirst files asked (Syntax fault) told = TellsRead asked.language files asked.source (syntax_report fault) told
+TellsFirst files asked (Name fault) told = TellsRead asked.language files asked.source (name_report fault) told
+TellsFirst files asked (Elab fault) told = TellsRead asked.language files asked.source (elab_report fault) told
+TellsFirst files asked fault told = told ≡ None
 
 -- this is told of the first fault and of those behind it, for which memory sufficed
 pub record AreTold (files : List FileView) (asked : Asked) (fault : Fault) (told : List Told) : Type 0 where
   pub first : Told
-  pub is : TellsFirst files asked.source fault (Some first)
+  pub is : TellsFirst files asked fault (Some first)
   pub found : Found
   pub behind : Behind files asked fault found
   pub whole : found.end ≢ end.NoMemory

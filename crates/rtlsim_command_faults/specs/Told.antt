@@ -1,6 +1,7 @@
 -- What is told of a fault and of a run that is done, on the standard error.
 use Rattle.std.specs.Prelude.{◌≡◌, ◌⊎◌, ℕ, Bool, true, false, List, Option, ◌++◌, codes, decimal}
 use Rattle.fault_rules.specs.declared.report.Report.{Report}
+use Rattle.vhdl_lexer.specs.declared.language.Language.{Language}
 use Rattle.vhdl_source_files.specs.Files.{FileView}
 use Rattle.rtlsim_command_faults.specs.Faults.{status_of, takes_memory}
 use Rattle.rtlsim_command_faults.specs.Explanations.{IsRead, Source, explanation, files_of, is_read, source_report, source_said, told, unread}
@@ -17,16 +18,16 @@ use Rattle.byte_streams.specs.Written.{SinkState, TakesBeginning, Goes}
 -- ---- explanations of faults that name no net
 
 -- the source is read, and its fault explained; or memory for that is refused, and nothing is written
-abbrev pub ExplainsRead : List FileView → Option Report → (whole : Bool) → (old new : SinkState) → Type 0
-ExplainsRead files report true old new =
-    (read : Source) × IsRead files report read × Goes old new (source_said files read report)
-ExplainsRead files report false old new = new ≡ old
+abbrev pub ExplainsRead : Language → List FileView → Option Report → (whole : Bool) → (old new : SinkState) → Type 0
+ExplainsRead language files report true old new =
+    (read : Source) × IsRead language files report read × Goes old new (source_said files read report)
+ExplainsRead language files report false old new = new ≡ old
 
 -- the fault is explained, whichever netlist is looked at; or memory to read the source is refused, and nothing
 -- is written
 abbrev pub Explains : Telling → Fault → (whole : Bool) → (old new : SinkState) → Type 0
 Explains telling fault true old new =
-    (read : Source) × (is_read fault ≡ true → IsRead (files_of telling) (source_report fault) read)
+    (read : Source) × (is_read fault ≡ true → IsRead telling.language (files_of telling) (source_report fault) read)
     × ((net : NetlistView) → Goes old new (explanation telling read net fault))
 Explains telling fault false old new = (is_read fault ≡ true) × (new ≡ old)
 
@@ -35,7 +36,8 @@ Explains telling fault false old new = (is_read fault ≡ true) × (new ≡ old)
 -- The fault is told whole; where its explanation is asked for, the source is read for that.
 pub record TellsWhole (telling : Telling) (net : NetlistView) (fault : Fault) (old new : SinkState) : Type 0 where
   pub read : Source
-  pub is : telling.explains ≡ true → is_read fault ≡ true → IsRead (files_of telling) (source_report fault) read
+  pub is : telling.explains ≡ true → is_read fault ≡ true
+      → IsRead telling.language (files_of telling) (source_report fault) read
   pub goes : Goes old new (told telling read net fault)
 
 -- Where memory for its names, or to explain it, is refused, a beginning of what is told goes out, and then the refusal.

@@ -18,7 +18,7 @@ use rtlsim_findings_text::refused_text;
 use rtlsim_refusals::{Lexed, Told, told_refusal};
 use std::alloc::{AllocError, Global};
 use vhdl_front_rules::{Asked, Front, SourceFault};
-use vhdl_lexer::lex;
+use vhdl_lexer::{Language, lex};
 use vhdl_source_files::SourceFile;
 
 /// Writes the object of a source that is refused: what is told of its first fault, and of those
@@ -68,7 +68,7 @@ fn told_of_all<'f, F: Front>(
     ensures { IfOk result (λ told. spec.AreTold (map file_view files.now) (asked_view asked.entry) first.now
         (map told_view told.items)) }
 {
-    let Some(one) = told_of_first(alloc, files, asked.source, first)? else {
+    let Some(one) = told_of_first(alloc, files, asked, first)? else {
         return Err(AllocError);
     };
     let mut told = Vec::new(alloc);
@@ -83,17 +83,18 @@ fn told_of_all<'f, F: Front>(
 fn told_of_first<'f>(
     alloc: Global,
     files: &[SourceFile<'f>],
-    source: &[u8],
+    asked: Asked<'_>,
     fault: &Fault,
 ) -> Result<Option<Told<'f>>, AllocError>
-    ensures { IfOk result (λ told. spec.TellsFirst (map file_view files.now) source.now fault.now
+    ensures { IfOk result (λ told. spec.TellsFirst (map file_view files.now) (asked_view asked.entry) fault.now
         (option_map told_view told)) }
 {
+    let (language, source) = (asked.language, asked.source);
     match fault {
         Fault::Lex(fault) => told_of_lexer(alloc, files, lex_report(*fault)),
-        Fault::Syntax(fault) => told_read(alloc, files, source, syntax_report(*fault)),
-        Fault::Name(fault) => told_read(alloc, files, source, name_report(*fault)),
-        Fault::Elab(fault) => told_read(alloc, files, source, elab_report(*fault)),
+        Fault::Syntax(fault) => told_read(alloc, language, files, source, syntax_report(*fault)),
+        Fault::Name(fault) => told_read(alloc, language, files, source, name_report(*fault)),
+        Fault::Elab(fault) => told_read(alloc, language, files, source, elab_report(*fault)),
         _ => Ok(None),
     }
 }
@@ -113,20 +114,21 @@ fn told_of_lexer<'f>(
     }
 }
 
-/// What is told of a report on a source, which is cut into tokens once more.
+/// What is told of a report on a source in a language, which is cut into tokens once more.
 pub(crate) fn told_read<'f>(
     alloc: Global,
+    language: Language,
     files: &[SourceFile<'f>],
     source: &[u8],
     report: Option<Report>,
 ) -> Result<Option<Told<'f>>, AllocError>
-    ensures { IfOk result (λ told. spec.TellsRead (map file_view files.now) source.now report
+    ensures { IfOk result (λ told. spec.TellsRead language (map file_view files.now) source.now report
         (option_map told_view told)) }
 {
     let Ok(tokens) = lex(alloc, source) else {
         return Err(AllocError);
     };
-    let expected = expected_by(alloc, source, &tokens, report)?;
+    let expected = expected_by(alloc, language, source, &tokens, report)?;
     let source = Lexed {
         text: source,
         tokens: &tokens,

@@ -1,28 +1,32 @@
 //! What was expected at a token of a source that the parser refuses.
 
 ghost use Rattle.std.specs.Prelude.{◌≡◌, IfOk};
+ghost use Rattle.vhdl_parser_rules.specs.Expected.{expected_of};
 ghost use Rattle.rtlsim_command_faults.specs.Expecting as spec;
 ghost use Rattle.vhdl_slips.specs.Words.{with_tokens};
-ghost use Rattle.vhdl_expected.specs.Told.{expected_of};
 ghost use Rattle.vhdl_lexer.specs.Cut.{AreWithin};
 
 use fault_rules::{Place, Report, Rule, SyntaxRule};
 use std::alloc::{AllocError, Global};
-use vhdl_expected::{Expected, expected_at};
-use vhdl_lexer::Token;
+use vhdl_expected::expected_at;
+use vhdl_lexer::{Language, Token};
+use vhdl_parser_rules::Expected;
 
-/// What was expected at the token that a report on a source has refused; nothing of another report.
+/// What was expected at the token that a report on a source in a language has refused; nothing of
+/// another report.
 pub(crate) fn expected_by(
     alloc: Global,
+    language: Language,
     source: &[u8],
     tokens: &[Token],
     report: Option<Report>,
 ) -> Result<Expected, AllocError>
     requires { AreWithin source.now tokens.now }
-    ensures { IfOk result (λ found. spec.IsExpectedBy (with_tokens source.now tokens.now) report (expected_of found)) }
+    ensures { IfOk result (λ found. spec.IsExpectedBy language (with_tokens source.now tokens.now) report
+        (expected_of found)) }
 {
     match refused_byte(report) {
-        Some(at) => expected_at(alloc, source, tokens, at),
+        Some(at) => expected_at(alloc, language, source, tokens, at),
         None => Ok(Expected::Nothing),
     }
 }

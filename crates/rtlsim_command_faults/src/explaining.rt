@@ -3,6 +3,7 @@
 ghost use Rattle.std.specs.Prelude.{◌≡◌, [], if◌then◌else◌, false, true, OnErr, map, option_map};
 ghost use Rattle.byte_streams.specs.Written.{Goes};
 ghost use Rattle.rtlsim_command_faults.specs.Explanations as spec;
+ghost use Rattle.rtlsim_command_faults.specs.Explanations.{files_of};
 ghost use Rattle.rtlsim_command_faults.specs.Faults.{is_of_names, takes_memory};
 ghost use Rattle.rtlsim_command_faults.specs.Told.{Explains, ExplainsRead};
 ghost use Rattle.vhdl_source_files.specs.Files.{file_view};
@@ -107,9 +108,9 @@ pub(crate) fn explain_nameless<S: Sink>(
     let files = telling.files;
     match fault {
         Fault::Lex(told) => explain_tokens(files, lex_report(*told), sink),
-        Fault::Syntax(told) => explain_read(alloc, files, syntax_report(*told), sink),
-        Fault::Name(told) => explain_read(alloc, files, name_report(*told), sink),
-        Fault::Elab(told) => explain_read(alloc, files, elab_report(*told), sink),
+        Fault::Syntax(told) => explain_read(alloc, telling, syntax_report(*told), sink),
+        Fault::Name(told) => explain_read(alloc, telling, name_report(*told), sink),
+        Fault::Elab(told) => explain_read(alloc, telling, elab_report(*told), sink),
         Fault::NoSettling { time } => {
             explain_unsettled(source_name(files), *time, sink);
             true
@@ -136,16 +137,18 @@ fn explain_tokens<S: Sink>(files: &[SourceFile<'_>], report: Option<Report>, sin
 /// Reads the source once more, and explains which of its rules is broken.
 fn explain_read<S: Sink>(
     alloc: Global,
-    files: &[SourceFile<'_>],
+    telling: &Telling<'_>,
     report: Option<Report>,
     sink: &mut S,
 ) -> bool
-    ensures { ExplainsRead (map file_view files.now) report result (S.state sink.old) (S.state sink.new) }
+    ensures { ExplainsRead telling.now.language (files_of telling.now) report result (S.state sink.old)
+        (S.state sink.new) }
 {
+    let files = telling.files;
     let Ok(source) = joined(alloc, files) else {
         return false;
     };
-    let Ok(told) = told_read(alloc, files, &source, report) else {
+    let Ok(told) = told_read(alloc, telling.language, files, &source, report) else {
         return false;
     };
     push_told(&told, sink);

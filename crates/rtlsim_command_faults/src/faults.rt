@@ -2,6 +2,7 @@
 
 ghost use Rattle.std.specs.Prelude.{◌≡◌};
 ghost use Rattle.rtlsim_command_faults.specs.Faults.{of_source, of_stim, of_expect, of_run, of_machine, status_of};
+ghost use Rattle.rtlsim_command_faults.specs.Places.{byte_of};
 ghost use Rattle.rtlsim_command_faults.specs.declared.faults.Fault.TheVariants.{Memory};
 
 use crate::status::Status;
@@ -17,7 +18,7 @@ use vhdl_expand_rules::ElabFault;
 use vhdl_front_rules::SourceFault;
 use vhdl_lexer::LexFault;
 use vhdl_names_rules::NameFault;
-use vhdl_parser::SyntaxFault;
+use vhdl_parser_rules::SyntaxFault;
 
 /// Why a call of this library is refused, by the first layer that refuses. Each layer's want of
 /// memory is `Memory`.
@@ -80,6 +81,20 @@ impl Fault {
             Fault::Differs(_) => Status::Differs,
             Fault::NoSettling { .. } => Status::Unsettled,
             Fault::Output => Status::Failed,
+        }
+    }
+
+    /// The byte of the source at which one of its faults is told; other faults have none.
+    pub fn byte(&self) -> Option<usize>
+        ensures { result ≡ byte_of self.now }
+    {
+        match self {
+            Fault::Lex(fault) => fault.byte(),
+            Fault::Syntax(fault) => fault.byte(),
+            Fault::Name(NameFault::At { at, .. }) | Fault::Elab(ElabFault::At { at, .. }) => {
+                Some(*at)
+            }
+            _ => None,
         }
     }
 }

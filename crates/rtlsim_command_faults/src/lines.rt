@@ -32,8 +32,9 @@ use vhdl_source_files::{FilePlace, SourceFile, place_in};
 
 /// Writes the lines that tell a fault, with the names of the netlist that has it, and its
 /// explanation where that is asked for, and answers the status. It takes the memory of a few names
-/// at a time, or of the source and its tokens for the explanation of its own fault; where that is
-/// refused it tells so in their place.
+/// at a time, with the lines of the expected values where a name in them is no signal's, or of the
+/// source and its tokens for the explanation of its own fault; where that is refused it tells so in
+/// their place.
 pub fn tell_fault<E: Sink>(
     alloc: Global,
     telling: &Telling<'_>,

@@ -45,10 +45,7 @@ pub(crate) fn next_fault<F: Front>(
 fn read<F: Front>(alloc: Global, asked: Asked<'_>, left: Vec<u8>) -> Next
     ensures { Finds (asked_view asked.entry) (Some left.items) result }
 {
-    let asked = Asked {
-        source: &left,
-        top: asked.top,
-    };
+    let asked = asked.of_text(&left);
     match F::open(alloc, asked) {
         Err(SourceFault::Name(fault)) => Next::Found { left, fault },
         Err(SourceFault::NoMemory) => Next::NoMemory,

@@ -9,7 +9,7 @@ use rtl_stim::StimFault;
 use vhdl_expand_rules::{ElabFault, ElabProblem};
 use vhdl_lexer::LexFault;
 use vhdl_names_rules::NameFault;
-use vhdl_parser::SyntaxFault;
+use vhdl_parser_rules::SyntaxFault;
 
 /// A report of the word at a byte.
 fn of_word(rule: Rule, at: usize) -> Option<Report>

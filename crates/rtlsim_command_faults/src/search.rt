@@ -1,13 +1,13 @@
 //! The faults of a source behind its first, found.
 
 ghost use Rattle.std.specs.Prelude.{◌≡◌, ◌++◌, ◌==◌, if◌then◌else◌, IfOk, is_ok, map, option_map, option_to_list};
+ghost use Rattle.vhdl_parser_rules.specs.Expected.{expected_of};
 ghost use Rattle.rtlsim_refusals.specs.Explained.{told_view};
 ghost use Rattle.vhdl_slips.specs.Words.{read_of};
 ghost use Rattle.rtlsim_command_faults.specs.Behind.{Behind};
 ghost use Rattle.rtlsim_command_faults.specs.Further as spec;
 ghost use Rattle.rtlsim_command_faults.specs.Next.{Adds, sought_of};
 ghost use Rattle.vhdl_source_files.specs.Files.{file_view};
-ghost use Rattle.vhdl_expected.specs.Told.{expected_of};
 ghost use Rattle.vhdl_lexer.specs.Cut.{Cuts};
 ghost use Rattle.vhdl_front_rules.specs.Asking.{asked_view};
 
@@ -18,11 +18,11 @@ use crate::syntax::find_grammar;
 use fault_rules::Report;
 use rtlsim_refusals::{Lexed, Told, told_source};
 use std::alloc::{AllocError, Global};
-use vhdl_expected::Expected;
 use vhdl_front_rules::{Asked, Front};
 use vhdl_lexer::{Token, lex};
 use vhdl_names_further::is_known;
 use vhdl_names_rules::NameFault;
+use vhdl_parser_rules::Expected;
 use vhdl_source_files::SourceFile;
 
 /// The most faults that are told of a source, its first among them.
@@ -63,7 +63,7 @@ pub(crate) fn find_further<'f, F: Front>(
         (map told_view told.old.items) (map told_view told.new.items) result }
 {
     match first {
-        Fault::Syntax(first) => find_grammar(alloc, files, asked.source, first.byte(), told),
+        Fault::Syntax(first) => find_grammar(alloc, files, asked, first.byte(), told),
         Fault::Name(first) => find_names::<F>(alloc, files, asked, *first, told),
         _ => End::Whole,
     }

@@ -6,6 +6,7 @@ ghost use Rattle.rtlsim_command_faults.specs.Grammar as spec;
 ghost use Rattle.rtlsim_command_faults.specs.Next.{Adds};
 ghost use Rattle.vhdl_source_files.specs.Files.{file_view};
 ghost use Rattle.vhdl_lexer.specs.Cut.{AreWithin};
+ghost use Rattle.vhdl_front_rules.specs.Asking.{asked_view};
 ghost use Rattle.vhdl_parser_further.specs.Left.{left};
 ghost use Rattle.vhdl_parser_further.specs.Refusals.{Finds};
 
@@ -14,9 +15,10 @@ use crate::reports::syntax_report;
 use crate::search::{End, MOST_TOLD, is_none, push_report};
 use rtlsim_refusals::{Lexed, Told};
 use std::alloc::{AllocError, Global};
+use vhdl_front_rules::Asked;
 use vhdl_lexer::{Token, lex};
-use vhdl_parser::SyntaxFault;
 use vhdl_parser_further::{Next, next_fault};
+use vhdl_parser_rules::SyntaxFault;
 use vhdl_source_files::SourceFile;
 
 /// Finds the faults of grammar of a source behind its first, which is told at this byte, and
@@ -24,43 +26,43 @@ use vhdl_source_files::SourceFile;
 pub(crate) fn find_grammar<'f>(
     alloc: Global,
     files: &[SourceFile<'f>],
-    source: &[u8],
+    asked: Asked<'_>,
     first: Option<usize>,
     told: &mut Vec<Told<'f>>,
 ) -> End
-    ensures { Adds (spec.GrammarBehind (map file_view files.now) source.now first)
+    ensures { Adds (spec.GrammarBehind (map file_view files.now) (asked_view asked.entry) first)
         (map told_view told.old.items) (map told_view told.new.items) result }
 {
     let Some(at) = first else {
         return End::Whole;
     };
-    let Ok(tokens) = lex(alloc, source) else {
+    let Ok(tokens) = lex(alloc, asked.source) else {
         return End::NoMemory;
     };
-    find_from(alloc, files, source, tokens, at, MOST_TOLD - 1, told)
+    find_from(alloc, files, asked, tokens, at, MOST_TOLD - 1, told)
 }
 
 /// Finds the faults behind one of these tokens that is told at this byte, so many of them at most.
 fn find_from<'f>(
     alloc: Global,
     files: &[SourceFile<'f>],
-    source: &[u8],
+    asked: Asked<'_>,
     tokens: Vec<Token>,
     at: usize,
     more: u32,
     told: &mut Vec<Told<'f>>,
 ) -> End
-    requires { AreWithin source.now tokens.items }
-    ensures { Adds (spec.GrammarFrom (map file_view files.now) source.now more tokens.items at)
+    requires { AreWithin asked.source.now tokens.items }
+    ensures { Adds (spec.GrammarFrom (map file_view files.now) (asked_view asked.entry) more tokens.items at)
         (map told_view told.old.items) (map told_view told.new.items) result }
 {
-    match next_behind(alloc, source, tokens, at) {
+    match next_behind(alloc, asked, tokens, at) {
         Next::Found { left, fault, at } => {
             if is_none(more) {
                 return End::More;
             }
-            match push_grammar(alloc, files, source, &left, fault, told) {
-                Ok(()) => find_from(alloc, files, source, left, at, more - 1, told),
+            match push_grammar(alloc, files, asked, &left, fault, told) {
+                Ok(()) => find_from(alloc, files, asked, left, at, more - 1, told),
                 Err(_refused) => End::NoMemory,
             }
         }
@@ -73,28 +75,28 @@ fn find_from<'f>(
 fn push_grammar<'f>(
     alloc: Global,
     files: &[SourceFile<'f>],
-    source: &[u8],
+    asked: Asked<'_>,
     tokens: &[Token],
     fault: SyntaxFault,
     told: &mut Vec<Told<'f>>,
 ) -> Result<(), AllocError>
-    requires { AreWithin source.now tokens.now }
-    ensures { spec.Appends (map file_view files.now) source.now tokens.now fault (is_ok result)
+    requires { AreWithin asked.source.now tokens.now }
+    ensures { spec.Appends (map file_view files.now) (asked_view asked.entry) tokens.now fault (is_ok result)
         (map told_view told.old.items) (map told_view told.new.items) }
 {
     let report = syntax_report(fault);
-    let expected = expected_by(alloc, source, tokens, report)?;
+    let expected = expected_by(alloc, asked.language, asked.source, tokens, report)?;
     let lexed = Lexed {
-        text: source,
+        text: asked.source,
         tokens,
     };
     push_report(alloc, files, lexed, expected, report, told)
 }
 
 /// The next fault behind one of these tokens, which are let go.
-fn next_behind(alloc: Global, source: &[u8], tokens: Vec<Token>, at: usize) -> Next
-    requires { AreWithin source.now tokens.items }
-    ensures { Finds source.now (left tokens.items at) at result }
+fn next_behind(alloc: Global, asked: Asked<'_>, tokens: Vec<Token>, at: usize) -> Next
+    requires { AreWithin asked.source.now tokens.items }
+    ensures { Finds asked.entry.language asked.entry.source.now (left tokens.items at) at result }
 {
-    next_fault(alloc, source, &tokens, at)
+    next_fault(alloc, asked.language, asked.source, &tokens, at)
 }

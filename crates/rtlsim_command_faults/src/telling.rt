@@ -2,6 +2,7 @@
 
 use rtl_net::Net;
 use std::alloc::Global;
+use vhdl_lexer::Language;
 use vhdl_slips::Lexed;
 use vhdl_source_files::SourceFile;
 
@@ -13,6 +14,8 @@ pub struct Telling<'a> {
     /// The source with its tokens, by which places are told; without tokens where nothing asks for
     /// these places.
     pub source: Lexed<'a>,
+    /// In which language the source is read.
+    pub language: Language,
     /// The name of the stimulus, or of what stands in its place.
     pub stimulus: &'a [u8],
     /// Its text, if it has one.

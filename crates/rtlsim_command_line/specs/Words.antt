@@ -18,6 +18,7 @@ use Rattle.rtlsim_command_line.specs.declared.parts.Form.{Form}
 use Rattle.rtlsim_command_line.specs.declared.parts.Form.TheVariants.{Operand, Operands, Flag, Files, Names, Setting as SettingOption}
 use Rattle.rtlsim_command_line.specs.declared.parts.Part.{Part}
 use Rattle.rtlsim_command_line.specs.declared.parts.TheConstants.{PARTS}
+use Rattle.rtlsim_command_line.specs.declared.reading.TheConstants.{BAD_GENERIC, LIST_READ_TWICE, READ_TWICE}
 
 abbrev pub Word : Type 0
 Word = List ℕ
@@ -103,18 +104,23 @@ repeats Names = true
 repeats SettingOption = true
 repeats _ = false
 
--- `-g` is short for the option of a generic: its value stands behind it
+-- `-g` is short for the option of a generic, whose value may stand behind it in its word
 abbrev pub short : Word
 short = codes "-g"
 
 abbrev pub short_value : Word → Option Word
-short_value word = if begins_with short word then Some (drop (length short) word) else None
+short_value word =
+    if begins_with short word && not (bytes_eq word short) then Some (drop (length short) word) else None
+
+-- The value of an option may be any word behind it, but no word with dashes names a signal.
+abbrev pub may_be : (name value : Word) → Bool
+may_be name value = not (bytes_eq name (codes "trace") && begins_with dashes value)
 
 -- how reading goes on, after what is given
 abbrev pub Onward : Type 0
 Onward = Givens → Option Givens
 
--- an option's value stands behind `=` in its word, or else it is the next word
+-- an option's value stands in its word, or else it is the next word
 abbrev pub takes : (valued : Option Bool) → (name : Word) → (own : Option Word)
     → Givens → Onward → (next : Option Givens) → Option Givens
 takes None name own given onward next = None
@@ -122,11 +128,6 @@ takes (Some false) name None given onward next = onward (with_use given name [])
 takes (Some false) name (Some value) given onward next = None
 takes (Some true) name (Some value) given onward next = onward (with_use given name value)
 takes (Some true) name None given onward next = next
-
--- of a word that begins with `-` alone
-abbrev pub takes_short : (value : Option Word) → Givens → Onward → Option Givens
-takes_short None given onward = None
-takes_short (Some value) given onward = onward (with_use given (codes "generic") value)
 
 -- What is given once the words are read too, after what was given before. Behind `--` every word is an operand.
 module _ (parts : List Row) where
@@ -139,19 +140,23 @@ module _ (parts : List Row) where
         takes (is_valued parts (name_of (behind_dashes word)))
         (name_of (behind_dashes word)) (own_value (behind_dashes word)) given
         (λ g. reads g words) (takes_next given (name_of (behind_dashes word)) words)
-        else (if is_option word then takes_short (short_value word) given (λ g. reads g words)
-        else reads (with_operands given (word ∷ [])) words))
+        else (if begins_with short word then
+        takes (Some true) (codes "generic") (short_value word) given
+        (λ g. reads g words) (takes_next given (codes "generic") words)
+        else (if is_option word then None
+        else reads (with_operands given (word ∷ [])) words)))
 
-    -- the first word is the value of the option of this name
+    -- the first word is the value of the option of this name, if it may be
     pub takes_next : Givens → (name : Word) → List Word → Option Givens
     takes_next given name [] = None
-    takes_next given name (value ∷ words) = reads (with_use given name value) words
+    takes_next given name (value ∷ words) =
+        if may_be name value then reads (with_use given name value) words else None
 
-  -- the same of a word that is an option of this text behind its dashes
-  abbrev pub takes_option : Givens → (text : Word) → List Word → Option Givens
-  takes_option given text words =
-      takes (is_valued parts (name_of text)) (name_of text) (own_value text) given
-      (λ g. reads g words) (takes_next given (name_of text) words)
+  -- the same where the first word was an option of this name, and this its own value
+  abbrev pub takes_option : (valued : Option Bool) → (name : Word) → (own : Option Word)
+      → Givens → List Word → Option Givens
+  takes_option valued name own given words =
+      takes valued name own given (λ g. reads g words) (takes_next given name words)
 
 -- ---- options that are given
 
@@ -255,6 +260,7 @@ pub record CallView : Type 0 where
   pub stimulus : Option Word
   pub with : List Word
   pub explains : Bool
+  pub is_wide : Bool
   pub expected : Option Word
   pub shows_progress : Bool
   pub generics : List Setting
@@ -275,6 +281,7 @@ call_view call =
       stimulus = option_map text_of call.stimulus;
       with = map text_of call.with.items;
       explains = call.explains;
+      is_wide = call.is_wide;
       expected = option_map text_of call.expected;
       shows_progress = call.shows_progress;
       generics = map setting_view call.generics.items;
@@ -306,6 +313,7 @@ call_of given n request apart =
       stimulus = apart.1;
       with = values given.uses (codes "with");
       explains = has given.uses (codes "explain");
+      is_wide = has given.uses (codes "wide");
       expected = value given.uses (codes "expect");
       shows_progress = has given.uses (codes "progress");
       generics = settings;
@@ -338,6 +346,19 @@ Says words call = said_by PARTS words ≡ Some (call_view call)
 -- the words say no call
 unfoldable pub SayNothing : List Word → Type 0
 SayNothing words = said_by PARTS words ≡ None
+
+-- whether the generics that words set are set rightly; words without a command set none
+abbrev pub are_set : List Row → List Word → Bool
+are_set parts [] = true
+are_set parts (command ∷ words) =
+    is_some (option_and_then (λ given. settings_from [] (values given.uses (codes "generic")))
+    (reads parts nothing words))
+
+-- what is told of words that clap has nothing against
+abbrev pub unsaid_text : (are_set is_listed : Bool) → Word
+unsaid_text false is_listed = BAD_GENERIC.now
+unsaid_text true true = LIST_READ_TWICE.now
+unsaid_text true false = READ_TWICE.now
 
 -- the words are refused as such, and not for want of memory
 abbrev pub IsOfWords : Refused → Type 0

@@ -49,6 +49,8 @@ pub struct Call<'a> {
     pub with: Vec<&'a str>,
     /// Whether faults are explained.
     pub explains: bool,
+    /// Whether the wider language is read.
+    pub is_wide: bool,
     /// The name of the file of what is expected of a run; `None` where nothing is, and beside any
     /// other request.
     pub expected: Option<&'a str>,

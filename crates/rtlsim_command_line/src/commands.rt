@@ -12,33 +12,33 @@ static COMMANDS: [Told; 4] = [
     (
         "eval",
         "Prints the outputs under these inputs",
-        "rtlsim eval [--with <FILE>]... [--explain] <FILE> <TOP> [NAME=VALUE]...
-       rtlsim eval --files <LIST> [OPTIONS] <TOP> [NAME=VALUE]...
+        "rtlsim eval [--with <FILE>]... [--explain] <FILE> <TOP> [NAME=VALUE]... [--wide]
+       rtlsim eval --files <LIST> [OPTIONS] <TOP> [NAME=VALUE]... [--wide]
        and with each of them [--generic <NAME=VALUE>]...",
         "Example: rtlsim eval and2.vhd and2 a=L b=H",
     ),
     (
         "net",
         "Prints the nets and what drives each",
-        "rtlsim net [--with <FILE>]... [--explain] <FILE> <TOP>
-       rtlsim net --files <LIST> [OPTIONS] <TOP>
+        "rtlsim net [--with <FILE>]... [--explain] <FILE> <TOP> [--wide]
+       rtlsim net --files <LIST> [OPTIONS] <TOP> [--wide]
        and with each of them [--generic <NAME=VALUE>]...",
         "Example: rtlsim net counter.vhd counter",
     ),
     (
         "check",
         "Says whether the design is sure to settle",
-        "rtlsim check [--dot | --json] [--with <FILE>]... [--explain] <FILE> <TOP>
-       rtlsim check --files <LIST> [OPTIONS] <TOP>
+        "rtlsim check [--dot | --json] [--with <FILE>]... [--explain] <FILE> <TOP> [--wide]
+       rtlsim check --files <LIST> [OPTIONS] <TOP> [--wide]
        and with each of them [--generic <NAME=VALUE>]...",
         "Example: rtlsim check counter.vhd counter",
     ),
     (
         "run",
         "Prints the trace under a stimulus",
-        "rtlsim run [--event] [--order <ORDER>] [--expect <FILE>] [--progress] [--with <FILE>]... [--explain] <FILE> <TOP> <STIM>
-       rtlsim run --levels [--expect <FILE>] [--progress] [--with <FILE>]... [--explain] <FILE> <TOP> <STIM>
-       rtlsim run --files <LIST> [OPTIONS] <TOP> <STIM>
+        "rtlsim run [--event] [--order <ORDER>] [--expect <FILE>] [--progress] [--with <FILE>]... [--explain] <FILE> <TOP> <STIM> [--wide]
+       rtlsim run --levels [--expect <FILE>] [--progress] [--with <FILE>]... [--explain] <FILE> <TOP> <STIM> [--wide]
+       rtlsim run --files <LIST> [OPTIONS] <TOP> <STIM> [--wide]
        and with each of them [--no-trace | [--trace <NAME>]...] [--generic <NAME=VALUE>]...",
         "Example: rtlsim run counter.vhd counter counter.stim",
     ),

@@ -66,35 +66,38 @@ impl<'a> Parsed<'a> {
             return Ok(Some(others.len()));
         }
         if let Some(text) = word.strip_prefix("--") {
-            return self.take_option(parts, text, others);
+            let (name, value) = cut_option(text);
+            return self.take_option(parts, is_valued(parts, name), name, value, others);
+        }
+        if word.starts_with("-g") {
+            return self.take_option(parts, Some(true), "generic", short_value(word), others);
         }
         if is_option(word) {
-            let Some(value) = short_value(word) else {
-                return Ok(None);
-            };
-            self.add("generic", value)?;
-            return Ok(Some(0));
+            return Ok(None);
         }
         self.operands.push(word)?;
         Ok(Some(0))
     }
 
-    /// Takes in the option of a word's text behind its dashes, whose value may be the first of the
-    /// others.
+    /// Takes in an option, which takes a value or not: one that stands in its word, or else the
+    /// first of the others.
     fn take_option(
         &mut self,
         parts: &[Part<&str>],
-        text: &'a str,
+        is_valued: Option<bool>,
+        name: &'a str,
+        value: Option<&'a str>,
         others: &[&'a str],
     ) -> Result<Option<usize>, AllocError>
         ensures read { IfOk result (λ taken. MatchOption taken
-            (takes_option (map row_of parts.now) (parsed_view self.old) text.now (map text_of others.now) ≡ None)
-            (λ count. takes_option (map row_of parts.now) (parsed_view self.old) text.now (map text_of others.now)
+            (takes_option (map row_of parts.now) is_valued name.now (option_map text_of value.entry)
+            (parsed_view self.old) (map text_of others.now) ≡ None)
+            (λ count. takes_option (map row_of parts.now) is_valued name.now (option_map text_of value.entry)
+            (parsed_view self.old) (map text_of others.now)
             ≡ reads (map row_of parts.now) (parsed_view self.new) (map text_of (drop count others.now)))) }
         ensures within { IfOk result (λ taken. IfSome taken (λ count. count ≤ length others.now)) }
     {
-        let (name, value) = cut_option(text);
-        match (is_valued(parts, name), value, others) {
+        match (is_valued, value, others) {
             (Some(false), None, _) => {
                 self.add(name, "")?;
                 Ok(Some(0))
@@ -103,7 +106,7 @@ impl<'a> Parsed<'a> {
                 self.add(name, value)?;
                 Ok(Some(0))
             }
-            (Some(true), None, [value, ..]) => {
+            (Some(true), None, [value, ..]) if may_be(name, value) => {
                 self.add(name, value)?;
                 Ok(Some(1))
             }
@@ -191,11 +194,22 @@ fn is_option(word: &str) -> bool
     }
 }
 
-/// What stands behind `-g`, where a word begins with that.
+/// The value of `-g` in its word.
 fn short_value(word: &str) -> Option<&str>
     ensures { option_map text_of result ≡ words.short_value word.now }
 {
+    if word == "-g" {
+        return None;
+    }
     word.strip_prefix("-g")
+}
+
+/// Whether the word behind an option may be its value: any, but that none with dashes names a
+/// signal.
+fn may_be(name: &str, value: &str) -> bool
+    ensures { result ≡ words.may_be name.now value.now }
+{
+    name != "trace" || !value.starts_with("--")
 }
 
 /// The name of an option, and the value in its word.

@@ -55,13 +55,14 @@ macro_rules! part {
 }
 
 /// What each command takes, in the order of the help.
-pub const PARTS: [Part<&str>; 17] = [
+pub const PARTS: [Part<&str>; 18] = [
     part! { "" Operand "FILE": "The source, or @ for the standard input" },
     part! { "" Operand "TOP": "The entity at the top" },
     part! { "" Files "with": "A file whose text stands before the source's; any number" },
     part! { "" List "files" without "with": "A list of the source's files, in place of FILE: a name a line" },
     part! { "" Setting "generic": "An integer for a generic of the top, also as -gNAME=VALUE; any number" },
     part! { "" Flag "explain": "Explains each fault: its place, the line, and what to do" },
+    part! { "" Flag "wide": "Reads more of VHDL; see docs/WIDE.md" },
     part! { "eval" Operands "NAME=VALUE": "An input's value, of the characters U X 0 1 Z W L H -" },
     part! { "check" Flag "dot": "Draws the levels of one that is, as a graph of Graphviz" },
     part! { "check" Flag "json" without "dot": "Prints the verdict as an object of JSON, for tools" },

@@ -2,7 +2,8 @@
 
 ghost use Rattle.std.specs.Prelude.{◌≡◌, ◌≤◌, IfOk, IfErr, IsErr, codes, length, map, option_map};
 ghost use Rattle.rtlsim_command_line.specs.Words as words;
-ghost use Rattle.rtlsim_command_line.specs.Words.{Says, SayNothing, IsOfWords, call_view, parsed_view, row_of, said_by, text_of, use_view};
+ghost use Rattle.rtlsim_command_line.specs.Words.{Says, SayNothing, IsOfWords, are_set, call_view, parsed_view, row_of, said_by, text_of, unsaid_text, use_view};
+ghost use Rattle.rtlsim_command_line.specs.declared.parts.TheConstants.{PARTS};
 ghost use Rattle.rtlsim_command_line.specs.declared.reading.Refused.TheVariants.{NoMemory};
 ghost use Rattle.clap.specs.Values.{kind_of};
 ghost use Rattle.clap.specs.declared.error.kind.ErrorKind.TheVariants.{OutOfMemory};
@@ -34,7 +35,7 @@ impl From<AllocError> for Refused {
 }
 
 /// What is told of a generic that clap has nothing against.
-static BAD_GENERIC: &str =
+const BAD_GENERIC: &str =
     "error: a generic is set as --generic NAME=VALUE or -gNAME=VALUE, once, VALUE an integer of at most 2147483647 or, with a minus, \
     of no less than -2147483647
 
@@ -42,14 +43,14 @@ For more information, try '--help'.
 ";
 
 /// What is told of other words that clap has nothing against.
-static READ_TWICE: &str =
+const READ_TWICE: &str =
     "error: the standard input, @, is named twice: where a file of --with or --expect is @, no other FILE or STIM may be
 
 For more information, try '--help'.
 ";
 
 /// The same where a list is given.
-static LIST_READ_TWICE: &str =
+const LIST_READ_TWICE: &str =
     "error: the standard input, @, is named twice: where the list of --files or the file of --expect is @, no STIM may be
 
 For more information, try '--help'.
@@ -131,6 +132,7 @@ fn call_with<'a>(
         stimulus,
         with,
         explains: given.has("explain"),
+        is_wide: given.has("wide"),
         expected,
         shows_progress: given.has("progress"),
         generics,
@@ -268,7 +270,9 @@ fn with_tip(alloc: Global, text: String) -> Result<String, AllocError> {
 }
 
 /// What is told of words that clap has nothing against.
-fn unsaid(alloc: Global, words: &[&str], is_listed: bool) -> Result<&'static str, AllocError> {
+fn unsaid(alloc: Global, words: &[&str], is_listed: bool) -> Result<&'static str, AllocError>
+    ensures { IfOk result (λ text. text.now ≡ unsaid_text (are_set PARTS (map text_of words.now)) is_listed) }
+{
     if !sets_generics(alloc, words)? {
         return Ok(BAD_GENERIC);
     }
@@ -280,7 +284,9 @@ fn unsaid(alloc: Global, words: &[&str], is_listed: bool) -> Result<&'static str
 }
 
 /// Whether each generic that words set is set rightly.
-fn sets_generics(alloc: Global, words: &[&str]) -> Result<bool, AllocError> {
+fn sets_generics(alloc: Global, words: &[&str]) -> Result<bool, AllocError>
+    ensures { IfOk result (λ set. set ≡ are_set PARTS (map text_of words.now)) }
+{
     let [_command, others @ ..] = words else {
         return Ok(true);
     };

@@ -7,3 +7,4 @@ pub mod Refused
 pub mod Unsettled
 pub mod Firsts
 pub mod Told
+pub mod Widened

@@ -11,7 +11,7 @@ use Rattle.rtlsim_command_faults.proofs.Refused.{nameless, source_told}
 use Rattle.rtlsim_commands.specs.Refused.{RefusesSource}
 use Rattle.rtlsim_commands.specs.Served.{Outputs, ServesOr, Unrefused, ended}
 use Rattle.rtlsim_commands.specs.Answered.{TellsText}
-use Rattle.rtlsim_commands.specs.Told.{Done, TellsNets, TellsOthers, TellsBehind, asks_others}
+use Rattle.rtlsim_commands.specs.Told.{Done, TellsNets, TellsRefused, TellsBehind}
 use Rattle.rtlsim_commands.specs.Remarked.{TellsRemarks}
 use Rattle.rtlsim_commands.specs.Unsettled.{TellsChanging}
 use Rattle.vhdl_front_rules.specs.Asking.{Asked}
@@ -30,11 +30,11 @@ behind_nets events telling asked (NoSettling time) said old new h = h
 behind_nets events telling asked _ said old new h = inl h
 
 -- behind that of one that is refused
-behind_others : (events : Option (List ℕ)) (telling : Telling) (asked : Asked) (fault : SourceFault) (said : Status) (old new : SinkState)
-    → TellsOthers (asks_others telling.explains (of_source fault) said) telling asked (of_source fault) old new
+behind_refused : (events : Option (List ℕ)) (telling : Telling) (asked : Asked) (fault : SourceFault) (said : Status) (old new : SinkState)
+    → TellsRefused telling asked (of_source fault) said old new
     → TellsBehind events telling asked (of_source fault) said old new
-behind_others events telling asked (front.Lex x) said old new h = inr h
-behind_others events telling asked _ said old new h = inr h
+behind_refused events telling asked (front.Lex x) said old new h = inr h
+behind_refused events telling asked _ said old new h = inr h
 
 no_net : NetlistView
 no_net = record { types = []; starts = []; idle = []; inputs = []; processes = []; scopes = []; signals = [] }
@@ -71,7 +71,7 @@ module _ {A : Type 0} (Refused : SourceFault → SinkState → SinkState → Typ
       (λ named. absurd (true≢false (sym named ∙ nameless fault))),
       tells.between,
       tells.first no_net,
-      behind_others done.events telling asked fault said tells.between o.err_after tells.others,
+      behind_refused done.events telling asked fault said tells.between o.err_after tells.behind,
     );
     ends = ends;
   }

@@ -12,6 +12,7 @@ pub mod Expected
 pub mod Opened
 -- what is told of it
 pub mod Unsettled
+pub mod Wider
 pub mod Remarked
 pub mod Told
 pub mod Served

@@ -1,6 +1,8 @@
 -- What is told of a command's answer on the standard error, and the status that the program ends with.
 use Rattle.std.specs.Prelude.{◌≡◌, ◌⊎◌, ◌&&◌, not, ℕ, Bool, true, false, List, [], Option, Some, None, Result, Ok, Err}
+use Rattle.rtlsim_command_faults.specs.Explanations.{files_of}
 use Rattle.rtlsim_command_faults.specs.Faults.{is_of_names}
+use Rattle.rtlsim_command_faults.specs.Places.{byte_of}
 use Rattle.rtlsim_command_faults.specs.Told.{TellsFault, summary_line, levels_line}
 use Rattle.rtlsim_command_faults.specs.declared.faults.Fault.{Fault}
 use Rattle.rtlsim_command_faults.specs.declared.faults.Fault.TheVariants.{NoSettling}
@@ -8,6 +10,7 @@ use Rattle.rtlsim_command_faults.specs.declared.status.Status.{Status}
 use Rattle.rtlsim_command_faults.specs.declared.status.Status.TheVariants as status
 use Rattle.rtlsim_command_faults.specs.declared.telling.Telling.{Telling}
 use Rattle.rtlsim_command_faults.specs.Behind.{TellsFurther, has_others}
+use Rattle.rtlsim_commands.specs.Wider.{TellsWider, asks_wider, is_memory}
 use Rattle.rtlsim_commands.specs.Answered.{TellsText, verdict_status}
 use Rattle.rtlsim_commands.specs.Remarked.{TellsRemarks}
 use Rattle.rtlsim_commands.specs.Unsettled.{TellsChanging}
@@ -29,11 +32,6 @@ pub record Done (A : Type 0) : Type 0 where
   -- the text of the stimulus, of a simulation by events
   pub events : Option (List ℕ)
 
--- memory was refused
-abbrev pub is_memory : Status → Bool
-is_memory status.Memory = true
-is_memory _ = false
-
 -- Behind a first fault the others are told where explanations are asked for, and where it was told whole, as its
 -- status says.
 abbrev pub asks_others : (explains : Bool) → (first : Fault) → (said : Status) → Bool
@@ -44,6 +42,14 @@ abbrev pub TellsOthers : (others : Bool) → Telling → Asked
     → (first : Fault) → (old new : SinkState) → Type 0
 TellsOthers true telling asked first old new = TellsFurther telling asked first old new
 TellsOthers false telling asked first old new = new ≡ old
+
+-- of a source that is refused: how far the wider language reads it, and then the others
+pub record TellsRefused (telling : Telling) (asked : Asked)
+    (fault : Fault) (said : Status) (old new : SinkState) : Type 0 where
+  pub widened : SinkState
+  pub wider : TellsWider (asks_wider telling.explains telling.language said) (files_of telling) asked (byte_of fault)
+      old widened
+  pub others : TellsOthers (asks_others telling.explains fault said) telling asked fault widened new
 
 -- Behind the fault of a source that has a netlist the nets are told that still change, where it is a moment of a
 -- simulation by events that doesn't settle, and else nothing.
@@ -59,7 +65,7 @@ TellsBehind events telling asked (NoSettling time) said old new =
     TellsNets events telling asked (NoSettling time) old new
 TellsBehind events telling asked fault said old new =
     TellsNets events telling asked fault old new
-    ⊎ TellsOthers (asks_others telling.explains fault said) telling asked fault old new
+    ⊎ TellsRefused telling asked fault said old new
 
 abbrev pub Tells : {A : Type 0} → Done A → Telling → Asked
     → Result A Fault → (old new : SinkState) → (outcome : Status) → Type 0

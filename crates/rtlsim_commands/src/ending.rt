@@ -2,13 +2,18 @@
 
 ghost use Rattle.std.specs.Prelude.{◌≡◌};
 ghost use Rattle.byte_streams.specs.Written.{IsIntact};
+ghost use Rattle.rtlsim_command_faults.specs.Explanations.{files_of};
 ghost use Rattle.rtlsim_command_faults.specs.Faults.{of_source};
+ghost use Rattle.rtlsim_command_faults.specs.Places.{byte_of};
+ghost use Rattle.rtlsim_commands.specs.Wider as wider;
+ghost use Rattle.rtlsim_commands.specs.Wider.{TellsWider};
 ghost use Rattle.rtlsim_commands.specs.Refused.{RefusesSource};
 ghost use Rattle.rtlsim_commands.specs.Served.{ended};
 ghost use Rattle.rtlsim_commands.specs.Told as told;
 ghost use Rattle.rtlsim_commands.specs.Unsettled.{NamesIf, TellsRun};
 ghost use Rattle.vhdl_front_rules.specs.Asking.{asked_view};
 
+use crate::wider::push_wider;
 use byte_streams::Sink;
 use rtl_net::Net;
 use rtlsim_command_faults::{
@@ -16,9 +21,10 @@ use rtlsim_command_faults::{
 };
 use std::alloc::Global;
 use vhdl_front_rules::{Asked, Front, SourceFault};
+use vhdl_lexer::Language;
 
-/// Tells why a source is refused, and its other faults too where that is told whole and
-/// explanations are asked for, and answers the status.
+/// Tells why a source is refused, and where that is told whole and explanations are asked for, how
+/// far the wider language reads it and its other faults too, and answers the status.
 pub(crate) fn refuse_source<F: Front, O: Sink, E: Sink>(
     alloc: Global,
     asked: Asked<'_>,
@@ -32,8 +38,38 @@ pub(crate) fn refuse_source<F: Front, O: Sink, E: Sink>(
         × (result ≡ ended said (O.state out.now) (E.state err.new)) }
 {
     let said = tell_source_fault(alloc, telling, fault, err);
-    tell_others::<F, E>(alloc, asked, telling, &Fault::from(fault), said, err);
+    let fault = Fault::from(fault);
+    tell_wider::<F, E>(alloc, asked, telling, &fault, said, err);
+    tell_others::<F, E>(alloc, asked, telling, &fault, said, err);
     ended_by_writes(said, out, err)
+}
+
+/// Tells how far the wider language reads a source that is refused, where that is asked for.
+fn tell_wider<F: Front, E: Sink>(
+    alloc: Global,
+    asked: Asked<'_>,
+    telling: &Telling<'_>,
+    first: &Fault,
+    said: Status,
+    err: &mut E,
+)
+    ensures { TellsWider (wider.asks_wider telling.now.explains telling.now.language said) (files_of telling.now)
+        (asked_view asked.entry) (byte_of first.now) (E.state err.old) (E.state err.new) }
+{
+    if asks_wider(telling.explains, telling.language, said) {
+        push_wider::<F, E>(alloc, telling.files, asked, first, err);
+    }
+}
+
+/// Whether that is asked for behind a first fault that was told with this status: where the
+/// narrower language was read.
+fn asks_wider(explains: bool, language: Language, said: Status) -> bool
+    ensures { result ≡ wider.asks_wider explains language said }
+{
+    match language {
+        Language::Profile => explains && !matches!(said, Status::Memory),
+        Language::Wide => false,
+    }
 }
 
 /// Tells the other faults of a source that is refused behind its first, where they are asked for.

@@ -10,7 +10,8 @@
 //! what is shown of a run, `specs/Watched.antt` what is seen of it, and `specs/Expected.antt` what
 //! is compared with what is expected of it. `specs/Opened.antt` says what a command answers that
 //! opens a source, `specs/Served.antt` and `specs/Told.antt` what it leaves on both outputs, and
-//! `specs/Unsettled.antt` what is told of nets that still change.
+//! `specs/Unsettled.antt` what is told of nets that still change;
+//! `specs/Wider.antt` says how far the wider language reads a source that is refused.
 #![tactic(auto)]
 
 mod both;
@@ -25,6 +26,7 @@ mod remarking;
 mod running;
 mod serving;
 mod tracing;
+mod wider;
 
 pub use byte_streams::{Sink, Unwatched, Watch};
 pub use command::{Answer, Command, Run, Site};

@@ -1,4 +1,5 @@
 use Rattle.std.proofs.Common.{map}
+use Rattle.vhdl_front_rules.specs.Asking.{asked_view}
 use Rattle.vhdl_source_files.specs.Files.{file_view}
 use Rattle.rtlsim_command_faults.proofs.Described.{first_none}
 use Rattle.rtlsim_command_faults.proofs.describing.told_of_first.Goals as goal
@@ -18,4 +19,4 @@ returns-in-Elab c = rw c.in-Elab.is (rw c.elab_report.ensures at c.told_read-in-
 pub returns-in_default : goal.returns-in_default
 returns-in_default c =
     let other = c.in_default in
-    first_none (map file_view c.args.files.now) c.args.source.now c.args.fault.now other.not-Lex other.not-Syntax other.not-Name other.not-Elab
+    first_none (map file_view c.args.files.now) (asked_view c.args.asked) c.args.fault.now other.not-Lex other.not-Syntax other.not-Name other.not-Elab

@@ -1,5 +1,5 @@
 use Rattle.std.proofs.lemmas.Result.{IfOk-weaker}
-use Rattle.vhdl_expected.specs.Told.{expected_of}
+use Rattle.vhdl_parser_rules.specs.Expected.{expected_of}
 use Rattle.rtlsim_command_faults.proofs.describing.told_read.Goals as goal
 
 pub returns : goal.returns
