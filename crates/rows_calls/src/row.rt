@@ -236,6 +236,14 @@ impl<'a> Row<'a> {
         text.as_str().split('\n').next().unwrap_or("")
     }
 
+    /// Puts `--wide` behind the command, and says whether that is another call over files.
+    pub fn widen(&mut self) -> bool {
+        self.words.len() > 1
+            && self.calls.find("files").is_some()
+            && !self.has_option("--wide")
+            && self.words.insert(1, "--wide").is_ok()
+    }
+
     /// Whether an option of this name stands among the words.
     fn has_option(&self, name: &str) -> bool {
         self.words.iter().any(|word| word.starts_with(name))

@@ -3,7 +3,7 @@
 use crate::calls::by_tool;
 use crate::frame::Frame;
 use crate::program::Program;
-use crate::table::{Teller, tell_table};
+use crate::table::{Teller, tell_otherwise, tell_table};
 use crate::text::Text;
 use std::alloc::Global;
 use std::io;
@@ -21,7 +21,7 @@ pub enum Told {
 }
 
 /// Prints tables of small sources, as rows_calls reads them: a row is a call of `net`, of which it
-/// tells a few words.
+/// tells a few words. With `--wide` the rows are printed that are answered otherwise then.
 ///
 /// # Errors
 ///
@@ -30,13 +30,19 @@ pub fn tell_sources<R: Files + Print + AllocGlobal, P: Program>(
     rt: &R,
     program: &P,
     tables: &[(&str, Told)],
+    is_wide: bool,
 ) -> io::Result<()> {
     for (table, told) in tables {
         let teller = Calls {
             program,
             told: *told,
+            is_wide,
         };
-        tell_table(rt, table, &teller)?;
+        if is_wide {
+            tell_otherwise(rt, table, &teller)?;
+        } else {
+            tell_table(rt, table, &teller)?;
+        }
     }
     Ok(())
 }
@@ -46,6 +52,7 @@ pub fn tell_sources<R: Files + Print + AllocGlobal, P: Program>(
 struct Calls<'a, P: Program> {
     program: &'a P,
     told: Told,
+    is_wide: bool,
 }
 
 impl<P: Program> Teller for Calls<'_, P> {
@@ -53,8 +60,10 @@ impl<P: Program> Teller for Calls<'_, P> {
     /// stands at the text's mark if it has one.
     fn told(&self, alloc: Global, frame: Frame<'_>, written: &str, found: &mut Text) {
         let (source, place) = frame.source_of(alloc, written);
-        let words = ["net", "@", self.told.top()];
-        let answer = by_tool(alloc, self.program, &words, source.as_bytes());
+        let words = ["net", "--wide", "@", self.told.top()];
+        let plain = ["net", "@", self.told.top()];
+        let words: &[&str] = if self.is_wide { &words } else { &plain };
+        let answer = by_tool(alloc, self.program, words, source.as_bytes());
         found.heed(&source);
         if answer.status == 0 {
             push_lines(found, answer.out.as_str(), self.told.most_lines());

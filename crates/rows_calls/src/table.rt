@@ -26,33 +26,62 @@ pub fn tell_table<T: Teller>(
 ) -> io::Result<()> {
     println!(rt; "{file}")?;
     let rows = fs::read_to_string(rt, file)?;
-    tell_rows(rt, rows.as_str(), teller)
+    tell_rows(rt, rows.as_str(), teller, true)
 }
 
-/// Prints the rows of a table, and the frames of those behind them.
-fn tell_rows<T: Teller>(rt: &(impl Print + AllocGlobal), rows: &str, teller: &T) -> io::Result<()> {
+/// Prints the rows of a table of which another thing is found than is expected.
+///
+/// # Errors
+///
+/// Those of reading the file, of printing, and of memory.
+pub fn tell_otherwise<T: Teller>(
+    rt: &(impl Files + Print + AllocGlobal),
+    file: &str,
+    teller: &T,
+) -> io::Result<()> {
+    let rows = fs::read_to_string(rt, file)?;
+    tell_rows(rt, rows.as_str(), teller, false)
+}
+
+/// Prints the rows of a table, and the frames of those behind them; or those alone of which another
+/// thing is found than is expected.
+fn tell_rows<T: Teller>(
+    rt: &(impl Print + AllocGlobal),
+    rows: &str,
+    teller: &T,
+    tells_all: bool,
+) -> io::Result<()> {
     let mut frame = Frame::WHOLE;
     for row in rows.lines() {
         if let Some(form) = row.strip_prefix("in ") {
             frame = Frame::of(form);
         }
         if !row.starts_with('#') {
-            told_row(rt.alloc(), frame, row, teller).print(rt)?;
+            told_row(rt.alloc(), frame, row, teller, tells_all).print(rt)?;
         }
     }
     Ok(())
 }
 
 /// A row with what is found of it.
-fn told_row<T: Teller>(alloc: Global, frame: Frame<'_>, row: &str, teller: &T) -> Text {
+fn told_row<T: Teller>(
+    alloc: Global,
+    frame: Frame<'_>,
+    row: &str,
+    teller: &T,
+    tells_all: bool,
+) -> Text {
     let mut told = Text::new(alloc);
     match row.split_once(" → ") {
         Some((written, expected)) => {
             let mut found = Text::new(alloc);
             teller.told(alloc, frame, written, &mut found);
-            push_found(&mut told, written, &found, expected);
+            if tells_all || found.as_str() != expected {
+                push_found(&mut told, written, &found, expected);
+            }
         }
-        None => told.push_line(row),
+        None if tells_all => told.push_line(row),
+        None => {}
     }
     told
 }

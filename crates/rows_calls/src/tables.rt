@@ -1,6 +1,7 @@
 //! What is printed of tables of calls.
 
-use crate::calls::{WAYS, wrong_answer};
+use crate::answer::Answer;
+use crate::calls::{WAYS, Way, wrong_answer};
 use crate::names::named;
 use crate::program::Program;
 use crate::row::Row;
@@ -9,7 +10,8 @@ use std::rt::Files;
 use std::{fs, io};
 
 /// Prints tables of calls, each row with its answer and its calls, and what a call gives that
-/// answers otherwise. It is told of a row or a call, too, that it isn't known.
+/// answers otherwise. It is told of a row or a call, too, that it isn't known. With `--wide` the
+/// rows are printed that are answered otherwise then, with that answer.
 ///
 /// # Errors
 ///
@@ -18,11 +20,14 @@ pub fn tell_calls<R: Files + Print + AllocGlobal, P: Program>(
     rt: &R,
     program: &P,
     tables: &[&str],
+    is_wide: bool,
 ) -> io::Result<()> {
     for table in tables {
-        println!(rt; "{table}")?;
+        if !is_wide {
+            println!(rt; "{table}")?;
+        }
         let text = fs::read_to_string(rt, table)?;
-        tell_rows(rt, program, text.as_str())?;
+        tell_rows(rt, program, text.as_str(), is_wide)?;
     }
     Ok(())
 }
@@ -32,10 +37,16 @@ fn tell_rows<R: Files + Print + AllocGlobal, P: Program>(
     rt: &R,
     program: &P,
     text: &str,
+    is_wide: bool,
 ) -> io::Result<()> {
     if let Some((_, rows)) = text.split_once("\n$") {
         for part in rows.split("\n$") {
-            told_row(rt, program, part).print(rt)?;
+            let told = if is_wide {
+                told_widely(rt, program, part)
+            } else {
+                told_row(rt, program, part)
+            };
+            told.print(rt)?;
         }
     }
     Ok(())
@@ -51,6 +62,20 @@ fn told_row<R: Files + AllocGlobal, P: Program>(rt: &R, program: &P, part: &str)
     push_row(&mut told, &row);
     for call in row.calls.split(' ') {
         push_call(&mut told, rt, program, &row, call);
+    }
+    told
+}
+
+/// A row's words and what a call gives with `--wide`, where that is another answer.
+fn told_widely<R: Files + AllocGlobal, P: Program>(rt: &R, program: &P, part: &str) -> Text {
+    let mut told = Text::new(rt.alloc());
+    let mut row = Row::read(rt, part);
+    if row.widen()
+        && let Some(answer) = wrong_answer(rt, program, &row, &Way::Files)
+    {
+        told.push(row.line);
+        told.push(", with --wide: ");
+        push_answer(&mut told, &answer);
     }
     told
 }
@@ -84,9 +109,14 @@ fn push_call<R: Files + AllocGlobal, P: Program>(
         told.push("NOT by ");
         told.push(call);
         told.push(": ");
-        told.push_number(usize::from(answer.status));
-        told.push("\n");
-        told.push(answer.out.as_str());
-        told.push_line(answer.err.as_str());
+        push_answer(told, &answer);
     }
+}
+
+/// Adds a status, and what went to both outputs.
+fn push_answer(told: &mut Text, answer: &Answer) {
+    told.push_number(usize::from(answer.status));
+    told.push("\n");
+    told.push(answer.out.as_str());
+    told.push_line(answer.err.as_str());
 }

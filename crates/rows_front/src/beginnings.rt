@@ -6,7 +6,7 @@ use std::alloc::Global;
 use std::rt::Files;
 use std::{fs, io};
 use vhdl_lexer::lex;
-use vhdl_parser::SyntaxFault;
+use vhdl_parser_rules::SyntaxFault;
 
 /// Prints which beginnings of a file are files themselves, and whether all others that end behind a
 /// token are EndOfFile there.

@@ -8,9 +8,10 @@ use fault_rules::{Place, Report, Rule, Subject};
 use rows_calls::Text;
 use rtlsim_refusals::{Lexed, explain_refusal, push_paragraph, told_source};
 use std::alloc::Global;
-use vhdl_expected::{Expected, expected_at};
-use vhdl_lexer::{LexFault, Token, lex};
-use vhdl_parser::{SyntaxFault, parse};
+use vhdl_expected::expected_at;
+use vhdl_lexer::{Language, LexFault, Token, lex};
+use vhdl_parser::parse;
+use vhdl_parser_rules::{Expected, SyntaxFault};
 use vhdl_source_files::SourceFile;
 
 /// Adds the explanation of why the lexer or the parser refuses a source, with `\n` and `\t` for
@@ -58,7 +59,7 @@ fn push_refused(
     let mut out = Text::new(alloc);
     let at = fault.byte().unwrap_or(0);
     let expected = match fault {
-        SyntaxFault::Unexpected { at } => expected_at(alloc, source, tokens, at),
+        SyntaxFault::Unexpected { at } => expected_at(alloc, Language::Profile, source, tokens, at),
         _ => Ok(Expected::Nothing),
     };
     if let Some(rule) = rule_of("syntax", fault.number()) {

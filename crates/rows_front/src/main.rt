@@ -27,7 +27,7 @@ use std::io;
 use std::rt::Files;
 use table::Table;
 use vhdl_lexer::LexFault;
-use vhdl_parser::SyntaxFault;
+use vhdl_parser_rules::SyntaxFault;
 
 /// The tables of the front end, with what their rows are.
 static TABLES: [(&str, Table); 14] = [

@@ -5,8 +5,8 @@ use crate::source::{push_source, push_written, source_of};
 use fault_rules::{ElabRule, LexRule, NameRule, Rule, Subject, SyntaxRule};
 use rows_calls::Text;
 use std::alloc::Global;
-use vhdl_expected::Expected;
 use vhdl_lexer::lex;
+use vhdl_parser_rules::Expected;
 
 /// The rules of a layer, in the order of their numbers.
 macro_rules! rules {

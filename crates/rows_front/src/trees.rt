@@ -8,7 +8,8 @@ use rows_calls::{Frame, Text};
 use rows_tree_texts::push_file;
 use std::alloc::Global;
 use vhdl_lexer::{LexFault, Token, lex};
-use vhdl_parser::{SyntaxFault, parse};
+use vhdl_parser::parse;
+use vhdl_parser_rules::SyntaxFault;
 
 /// What becomes of a source.
 #[derive(Drop)]

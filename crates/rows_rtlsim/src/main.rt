@@ -15,6 +15,9 @@
 //! does step by step, with the processes in several orders, once for bodies as trees and once for
 //! bodies as codes; and what agendas give.
 //!
+//! Last, each call is made once more with `--wide`, and the rows are printed that are answered
+//! otherwise then.
+//!
 //! All that needs no program stands in rows_calls, and what needs no source in rows_on_net, where
 //! it is proved sooner: here are the calls alone.
 #![tactic(auto)]
@@ -34,7 +37,7 @@ use std::io;
 use tries::Tries;
 
 /// The tables of calls, in the folder in which the program runs.
-const TABLES: [&str; 26] = [
+const TABLES: [&str; 27] = [
     "values.txt",
     "refused.txt",
     "inputs.txt",
@@ -42,6 +45,7 @@ const TABLES: [&str; 26] = [
     "several.txt",
     "generics.txt",
     "trace.txt",
+    "wide.txt",
     "explain.txt",
     "remarks.txt",
     "net.txt",
@@ -85,13 +89,20 @@ const SOURCES: [(&str, Told); 18] = [
     ("nets/limits.rows", Told::Counts),
 ];
 
+/// Calls are made as they stand, and once more with `--wide`.
+const PLAIN: bool = false;
+
+const WIDE: bool = true;
+
 fn main(rt: HostRuntime) -> io::Result<()> {
-    tell_calls(&rt, &Rtlsim, &TABLES)?;
-    tell_sources(&rt, &Rtlsim, &SOURCES)?;
+    tell_calls(&rt, &Rtlsim, &TABLES, PLAIN)?;
+    tell_sources(&rt, &Rtlsim, &SOURCES, PLAIN)?;
     tell_table(&rt, "rtl/processes.rows", &Processes)?;
     tell_table(&rt, "rtl/reports.rows", &Tries)?;
     let mut told = Text::new(rt.alloc());
     tell_orders(rt.alloc(), &Opened, &mut told);
     tell_agendas(rt.alloc(), &mut told);
-    told.print(&rt)
+    told.print(&rt)?;
+    tell_calls(&rt, &Rtlsim, &TABLES, WIDE)?;
+    tell_sources(&rt, &Rtlsim, &SOURCES, WIDE)
 }
