@@ -4,7 +4,9 @@
     design_cases.py make N SEED FILE          N designs with stimulus, GHDL's settled values and faulty twins, one JSON a line
     design_cases.py run FILE PROGRAM [ARG..]  PROGRAM run [ARG..] on each, and what differs from GHDL; designs that the checker
                                               is to refuse are run with --event alone
-    design_cases.py check FILE PROGRAM        yes on each design without a fault, else no with its fault; no on each faulty twin
+    design_cases.py check FILE PROGRAM [ARG..]  yes on each design without a fault, else no with its fault; no on each faulty twin
+    design_cases.py make_wide N SEED FILE     as make, without faults, and with registers as --wide reads them: conditions beside an edge,
+                                              also behind a reset, several ifs of one edge, waits; then `run FILE PROGRAM --wide` and so on
     design_cases.py make_plain N SEED FILE    as make, with no weak letter in stimuli and literals, so that a 0 or 1 of GHDL's trace is one
     design_cases.py expect FILE PROGRAM       PROGRAM run --expect (also --levels, --event) of such designs with GHDL's values in a file: all
                                               hold; and with one letter turned over, that line is told
@@ -178,7 +180,7 @@ def make(n, seed, path):
             while len(batch) < min(BATCH, n - done):
                 d = Design(r, f"d{done + len(batch)}")
                 tried += 1
-                unit = d.make(wild=r.random() < 0.33)
+                unit = d.make(wild=not designs.WIDE and r.random() < 0.33)
                 lines, changes, toggles, stop = stimulus(r, d)
                 units = d.units + [unit]
                 text, full = "".join(t for t, _ in units), "".join(beside(u) for u in units) + testbench(d, changes, toggles)
@@ -194,7 +196,7 @@ def make(n, seed, path):
                         "stop": stop,
                         "fault": sorted(d.faults),
                         "full": full,
-                        "faulty": [] if d.faults else twins(r, text),
+                        "faulty": [] if d.faults or designs.WIDE else twins(r, text),
                     }
                 )
             values = simulated([(c["top"], c.pop("full"), c["stop"]) for c in batch])
@@ -242,11 +244,11 @@ def run(path, program, words):
     return 1 if bad else 0
 
 
-def check(path, program):
+def check(path, program, words):
     bad, told = 0, collections.Counter()
     for c in map(json.loads, open(path)):
         for kind, text in [(" ".join(c["fault"]) or "yes", c["source"])] + c["faulty"]:
-            status, out, error = call(program, ["check", "s.vhd", c["top"]], {"s.vhd": text})
+            status, out, error = call(program, ["check"] + words + ["s.vhd", c["top"]], {"s.vhd": text})
             good = out.startswith("yes\n") and status == 0 if kind == "yes" else status == 4 and all(f" {k} " in out for k in kind.split())
             told[kind, good] += 1
             if not good:
@@ -318,11 +320,12 @@ def expect(path, program):
 if __name__ == "__main__":
     if sys.argv[1] == "make_plain":
         NINE, designs.LETTERS, designs.IDLE = "01", "01", "Z-"
-    if sys.argv[1] in ("make", "make_plain"):
+    designs.WIDE = sys.argv[1] == "make_wide"
+    if sys.argv[1] in ("make", "make_plain", "make_wide"):
         make(int(sys.argv[2]), int(sys.argv[3]), sys.argv[4])
     elif sys.argv[1] == "run":
         sys.exit(run(sys.argv[2], sys.argv[3], sys.argv[4:]))
     elif sys.argv[1] == "expect":
         sys.exit(expect(sys.argv[2], sys.argv[3]))
     else:
-        sys.exit(check(sys.argv[2], sys.argv[3]))
+        sys.exit(check(sys.argv[2], sys.argv[3], sys.argv[4:]))

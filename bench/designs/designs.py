@@ -7,6 +7,7 @@ LOGIC = ["and", "or", "xor", "nand", "nor", "xnor"]
 ORDER = ["=", "/=", "<", "<=", ">", ">="]
 LETTERS = "01010101LHXZ"  # of the literals
 IDLE = "ZZZZ-LHW"  # what a driver that rests gives
+WIDE = False  # whether registers are written as `--wide` reads them
 
 
 class Signal:
@@ -371,6 +372,53 @@ class Design:
         )
         self.known.append(z)
 
+    # registers as `--wide` reads them
+
+    def gates(self, least=0):
+        return [f"({self.truth(1)})" for _ in range(self.r.randint(least, 2))]
+
+    def joined(self, parts):
+        """what `and` joins, in any order and with parentheses"""
+        self.r.shuffle(parts)
+        while len(parts) > 1:
+            k = self.r.randrange(len(parts) - 1)
+            pair = " and ".join(parts[k : k + 2])
+            parts[k : k + 2] = [f"({pair})" if self.chance(0.4) else pair]
+        return parts[0]
+
+    def written(self, clock, rising, mine):
+        """a register with conditions beside the edge, also behind a reset, in several ifs of one edge, or with a wait"""
+        called = [f"{'rising' if rising else 'falling'}_edge({clock})"]
+        edge = called if self.chance(0.5) else [f"{clock}'event", f"{clock} = '{rising:d}'"]
+        form = self.r.choice(["if", "if", "reset", "several", "several", "wait", "when"])
+        if form == "when":
+            return "\n  ".join(self.chosen(s, edge) for s in mine)
+        gates = self.gates(1 if form == "if" else 0)
+        decls, text, vs = self.variables()
+        text += " ".join(self.statement(s, "<=", 3, False) for s in mine)
+        null = lambda: "null; " if self.chance(0.25) else ""
+        if form == "wait":
+            body = "wait until {}; {} ".format(self.joined(edge if self.chance(0.7) else [f"{clock} = '{rising:d}'"]), text)
+        elif form == "reset":
+            set_ = " ".join(f"{s.name} <= {self.literal(s)};" for s in mine)
+            body = f"{null()}if rst = '1' then {set_} elsif {self.joined(edge + gates)} then {text} end if; {null()}"
+        elif form == "if":
+            body = f"{null()}if {self.joined(edge + gates)} then {text} end if; {null()}"
+        else:
+            body = f"{null()}if {self.joined(edge + ([] if vs else gates))} then {text} end if; {null()}"
+            for _ in range(self.r.randint(1, 2)):
+                text = " ".join(self.statement(s, "<=", 2, False) for s in self.r.sample(mine, self.r.randint(1, len(mine))))
+                body += f"if {self.joined(edge + self.gates())} then {text} end if; {null()}"
+        self.known = [s for s in self.known if s not in vs]
+        woken = clock + ", rst" if form == "reset" else clock
+        woken = "" if form == "wait" else " (all)" if self.chance(0.2) else f" ({woken})"
+        return f"{self.label()}process{woken} {decls}begin {body}end process;"
+
+    def chosen(self, s, edge):
+        """a register as a concurrent assignment"""
+        reset = f"{self.literal(s)} when rst = '1' else " if self.chance(0.5) else ""
+        return f"{self.label()}{s.name} <= {reset}{self.value(s)} when {self.joined(edge + self.gates())};"
+
     # clocked processes, and what breaks a rule
 
     def clocked(self, mine):
@@ -378,6 +426,8 @@ class Design:
         clock = r.choice(["clk", "clk", "ck2"])
         rising = self.chance(0.7)
         self.edges.add((clock, rising))
+        if WIDE and self.chance(0.9):
+            return self.written(clock, rising, mine)
         edge = r.choice(
             [
                 "{}_edge({})".format("rising" if rising else "falling", clock),
@@ -474,7 +524,7 @@ class Design:
             for k, q in enumerate((r.choice("svvu") for _ in range(r.randint(0, 4))), 1)
         ]
         self.known = self.in_ports + ([Signal("rst", "s", 1)] if self.chance(0.5) else [])
-        registers = [self.any(False, self.chance(0.8)) for _ in range(r.randint(0, 5))]
+        registers = [self.any(False, self.chance(0.8)) for _ in range(r.randint(WIDE and self.depth == 0, 5))]
         for kind in "suv" if self.chance(0.3) else "":
             k = Signal(self.fresh("k"), kind, 1 if kind == "s" else r.randint(1, 9), self.chance(0.3))
             self.decls.append("constant {} : {} := {};".format(k.name, k.type(), self.literal(k)))
