@@ -5,26 +5,26 @@
 _rtlsim_commands='eval net check run'
 _rtlsim_words_of() {
     case $1 in
-    eval) echo --with --files --generic --explain --help ;;
+    eval) echo --with --files --generic --explain --wide --help ;;
     eval--with) echo FILE ;;
     eval--files) echo LIST ;;
     eval--generic) echo NAME=VALUE ;;
     eval1) echo FILE ;;
     eval2) echo TOP ;;
     eval3) echo NAME=VALUE ;;
-    net) echo --with --files --generic --explain --help ;;
+    net) echo --with --files --generic --explain --wide --help ;;
     net--with) echo FILE ;;
     net--files) echo LIST ;;
     net--generic) echo NAME=VALUE ;;
     net1) echo FILE ;;
     net2) echo TOP ;;
-    check) echo --with --files --generic --explain --dot --json --help ;;
+    check) echo --with --files --generic --explain --wide --dot --json --help ;;
     check--with) echo FILE ;;
     check--files) echo LIST ;;
     check--generic) echo NAME=VALUE ;;
     check1) echo FILE ;;
     check2) echo TOP ;;
-    run) echo --with --files --generic --explain --event --order --levels --trace --no-trace --expect --progress --help ;;
+    run) echo --with --files --generic --explain --wide --event --order --levels --trace --no-trace --expect --progress --help ;;
     run--with) echo FILE ;;
     run--files) echo LIST ;;
     run--generic) echo NAME=VALUE ;;
