@@ -5,6 +5,7 @@ pub mod Counter
 pub mod Toggling
 pub mod Rows
 pub mod BodyMistakes
+pub mod Looking
 pub mod SimulationMistakes
 pub mod Variables
 pub mod Nets

@@ -5,6 +5,7 @@ ghost use Rattle.rtl_definition_examples.specs.Bodies.{KindsOfBodies, KindsOfRes
 ghost use Rattle.rtl_definition_examples.specs.Bodies.{VariablesOfBodies, StoresOfBodies, ReadsOfBodies};
 ghost use Rattle.rtl_definition_examples.specs.Counter.{CounterCounts};
 ghost use Rattle.rtl_definition_examples.specs.BodyMistakes.{LatchWouldPass, DefaultWouldStay, TestWouldBeRising};
+ghost use Rattle.rtl_definition_examples.specs.Looking.{LooksOfBodies, LooksAtNoLess};
 ghost use Rattle.rtl_definition_examples.specs.Variables.{VariablesOfNets, VariableWouldBeKept, StoredWouldPass};
 
 /// What is clocked, with a reset and without, what is combinational, and what is neither.
@@ -44,6 +45,12 @@ pub fn body_mistakes()
     ensures latch { LatchWouldPass }
     ensures default { DefaultWouldStay }
     ensures rising { TestWouldBeRising }
+{}
+
+/// What drivers look at in small bodies, and that their entries follow from no less.
+pub fn looks_of_bodies()
+    ensures looks { LooksOfBodies }
+    ensures no_less { LooksAtNoLess }
 {}
 
 /// What processes with variables settle in, and which variables they store.

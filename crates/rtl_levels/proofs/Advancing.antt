@@ -9,7 +9,7 @@ use Rattle.rtl_levels.specs.Kept.{IsPlanned, IsStateOf}
 use Rattle.rtl_levels.specs.States.{Advances, HaveReaders, StandTogether}
 use Rattle.rtl_levels.proofs.Marking.{marks_same, marks_then, marks_wider}
 use Rattle.rtl_levels.proofs.Sweeping.{readers_below}
-use Rattle.rtl_levels.proofs.Touching.{touches_none, touches_then}
+use Rattle.rtl_net_groups.proofs.Touching.{touches_none, touches_then}
 
 module _ (readers : Grouping) where
   pub advances_none : (nets : ℕ → Type 0) (a : State) → Advances readers nets a a

@@ -4,7 +4,7 @@ use Rattle.std.proofs.lemmas.Bool.{cases_Bool, cases_eq}
 use Rattle.std.proofs.lemmas.List.{get_or-set_same, get_or-set_other, length-set}
 use Rattle.rtl_model.specs.simulation.Netlist.{Netlist, process, target, HasPlace}
 use Rattle.rtl_model.specs.simulation.Machine.{entry_or}
-use Rattle.rtl_model.proofs.simulation.Leveled.{Leveled}
+use Rattle.rtl_model.proofs.simulation.Numbered.{Numbered}
 use Rattle.rtl_net_groups.specs.NextMarks.{AreUnmarked}
 use Rattle.rtl_levels.specs.Steps.{AllTakeOver, HaveRun, IsDrivenByMarked, SomeHaveRun}
 use Rattle.rtl_levels.proofs.Settling.{one_process}
@@ -114,7 +114,7 @@ module _ (net : Netlist) (before v : List ℕ) where
   all_have_run these marked still was entries R all = record { fewer = R.fewer; ran = λ p h. R.ran p (all p (R.fewer p h)) h; asleep = R.asleep }
 
 -- what is taken over of those that have run is what is taken over of all
-pub with_asleep : (net : Netlist) → Leveled net → (before v w : List ℕ) (marked still : List Bool) (entries : ℕ → List (Option ℕ)) → HaveRun net before v marked still entries
+pub with_asleep : (net : Netlist) → Numbered net → (before v w : List ℕ) (marked still : List Bool) (entries : ℕ → List (Option ℕ)) → HaveRun net before v marked still entries
     → AllTakeOver net still entries v w → AllTakeOver net marked (λ p. (process net p).effect before v) v w
 with_asleep net L before v w marked still entries R T = record {
   each_net = T.each_net;

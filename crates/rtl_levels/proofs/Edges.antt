@@ -8,8 +8,8 @@ use Rattle.rtl_model.specs.simulation.Cycle.{with_inputs}
 use Rattle.rtl_model.specs.simulation.Accepted.{IsClock}
 use Rattle.rtl_model.specs.simulation.Races.{IsRace}
 use Rattle.rtl_model.specs.simulation.Machine.{entry_or, register_entry, register_next, Solves}
-use Rattle.rtl_model.proofs.simulation.Faultless.{faultless}
-use Rattle.rtl_model.proofs.simulation.Leveled.{Leveled, leveled}
+use Rattle.rtl_model.proofs.simulation.Levels.{numbered}
+use Rattle.rtl_model.proofs.simulation.Numbered.{Numbered}
 use Rattle.rtl_model.proofs.simulation.Held.{entry_none, entry_of_reset, reset_now}
 use Rattle.rtl_model.proofs.simulation.Starting.{inputs_at, others_at}
 use Rattle.rtl_levels.specs.Running.{KeepsResets}
@@ -25,7 +25,7 @@ kept_entry : (o : Option ℕ) (old : ℕ) → ((x : ℕ) → o ≡ Some x → ol
 kept_entry None old h = refl
 kept_entry (Some x) old h = sym (h x refl)
 
-module _ (net : Netlist) (L : Leveled net) where
+module _ (net : Netlist) (L : Numbered net) where
   -- from a valuation with new inputs
   module _ (v : List ℕ) (each_net : length v ≡ length net.start) (inputs : ℕ → ℕ) (no_race : IsRace net (λ n. get_or v n 0) inputs → ⊥) (p clock : ℕ) (edge : Edge) (is : IsClockedBy net p clock edge) where
     abbrev now : List ℕ
@@ -111,7 +111,7 @@ module _ (net : Netlist) (L : Leveled net) where
 
 pub each_edge_is_taken : EachEdgeIsTaken
 each_edge_is_taken net E A was registers v s kept inputs no_race p clock edge is =
-    let L = leveled net E (faultless net A) in
+    let L = numbered net E A in
     record {
       taken = taken net L v s.each_net inputs no_race p clock edge is;
       left = left net L v s.each_net inputs no_race p clock edge is kept;
@@ -119,7 +119,7 @@ each_edge_is_taken net E A was registers v s kept inputs no_race p clock edge is
 
 pub each_reset_is_kept : EachResetIsKept
 each_reset_is_kept net E A inputs w =
-    let L = leveled net E (faultless net A) in
+    let L = numbered net E A in
     record {
       first = λ f p place clock value edge is h t has. kept_by net L inputs f.registers w f.solves p place clock value edge is h t has false None _ (f.next p place clock edge is h);
       step = λ v f p place clock value edge is h t has. kept_by net L inputs f.registers w f.solves p place clock value edge is h t has _ _ _ (f.next p place clock edge is h);

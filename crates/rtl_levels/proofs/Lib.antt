@@ -20,4 +20,3 @@ pub mod Wired
 pub mod Planned
 pub mod Machines
 pub mod Ordering
-pub mod Touching

@@ -13,9 +13,8 @@ use Rattle.rtl_model.specs.simulation.Machine.{IsFirst, IsStep}
 use Rattle.rtl_model.specs.simulation.Races.{IsRace}
 use Rattle.rtl_model.specs.simulation.Range.{IsValuation}
 use Rattle.rtl_model.proofs.basics.Lists.{get_or-map_within}
-use Rattle.rtl_model.proofs.simulation.Faultless.{Faultless, faultless}
-use Rattle.rtl_model.proofs.simulation.Leveled.{leveled}
-use Rattle.rtl_model.proofs.simulation.Held.{kinds_below}
+use Rattle.rtl_model.proofs.simulation.Faultless.{Faultless, faultless, kinds_below}
+use Rattle.rtl_model.proofs.simulation.Levels.{numbered}
 use Rattle.rtl_model.proofs.simulation.Starting.{inputs_at, others_at, target_no_input}
 use Rattle.rtl_net_groups.specs.Touching.{Chunks}
 use Rattle.rtl_kernel.specs.kernel.Simulation.{changes_of}
@@ -75,7 +74,7 @@ module _ (flat : FlatNetlist) (R : IsInRange flat) (schedule : Schedule) (before
         (reads_agree net schedule K.planned (λ n. ⊤) v now.values.items state.dirty.items now.dirty.items F.marks k l none)
         (λ place h. ap (λ (u : List ℕ). get_or u (target net p place) 0) now_is
         ∙ others_at net given v (target net p place) K.at_rest.solves.each_net
-        (target_no_input net (leveled net K.planned.elaborated (faultless net K.planned.accepted)) p place h))
+        (target_no_input net (numbered net K.planned.elaborated K.planned.accepted) p place h))
 
     module _ (woken' : List Bool) (W : Marks (wakers_of schedule.clocked) (IsGiven (changes_of cs)) v now.values.items woken woken') where
       pub sensitive_now : AreSensitive (wakers_of schedule.clocked) cs woken'

@@ -5,9 +5,10 @@ use Rattle.std.proofs.lemmas.List.{get_or_default, length-map}
 use Rattle.rtl_model.proofs.basics.Lists.{get_or-map_within}
 use Rattle.rtl_model.specs.nets.FlatNetlist.{process_at}
 use Rattle.rtl_model.specs.simulation.Netlist.{Process, no_process, process}
-use Rattle.rtl_model.proofs.simulation.Faultless.{faultless}
-use Rattle.rtl_model.proofs.simulation.Leveled.{Leveled, leveled}
-use Rattle.rtl_eval.specs.Runs.{IsOf, Outcome}
+use Rattle.rtl_model.proofs.simulation.Levels.{numbered}
+use Rattle.rtl_model.proofs.simulation.Numbered.{Numbered}
+use Rattle.rtl_eval.specs.Runs.{IsOf}
+use Rattle.rtl_drives.specs.Outcomes.{Outcome}
 use Rattle.rtl_net.specs.Core.{core}
 use Rattle.rtl_net.specs.Nets.{NetlistView, flat}
 use Rattle.rtl_net_groups.specs.Cuts.{AreCuts}
@@ -28,8 +29,8 @@ module _ (net : NetlistView) (schedule : Schedule) (P : IsPlanned (core net) sch
   abbrev of_net : List ℕ
   of_net = schedule.readers.of_net
 
-  L : Leveled (core net)
-  L = leveled (core net) P.elaborated (faultless (core net) P.accepted)
+  L : Numbered (core net)
+  L = numbered (core net) P.elaborated P.accepted
 
   in_core : p < length (core net).processes
   in_core = rw (processes_many net) there

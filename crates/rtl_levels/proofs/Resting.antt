@@ -3,8 +3,8 @@ use Rattle.std.proofs.Common.{◌≡◌, ℕ, ◌<◌, Bool, true, false, List, 
 use Rattle.std.proofs.lemmas.Bool.{cases_Bool}
 use Rattle.rtl_model.specs.simulation.Netlist.{Netlist, process, target, HasPlace, IsCombinational}
 use Rattle.rtl_model.specs.simulation.Machine.{entry_or}
-use Rattle.rtl_model.proofs.simulation.Faultless.{faultless}
-use Rattle.rtl_model.proofs.simulation.Leveled.{Leveled, leveled}
+use Rattle.rtl_model.proofs.simulation.Levels.{numbered}
+use Rattle.rtl_model.proofs.simulation.Numbered.{Numbered}
 use Rattle.rtl_kernel.specs.wakes.Woken.{wakers_of}
 use Rattle.rtl_levels.specs.declared.schedule.Schedule.{Schedule}
 use Rattle.rtl_levels.specs.Kept.{IsPlanned}
@@ -16,8 +16,8 @@ use Rattle.rtl_levels.proofs.Sweeping.{at_rank, reads_agree}
 
 module _ (net : Netlist) (schedule : Schedule) (P : IsPlanned net schedule) (marked : List Bool) (clocked_alone : (p : ℕ) → get_or marked p false ≡ true → IsCombinational net p → ⊥)
     (entries : ℕ → List (Option ℕ)) (v w : List ℕ) (T : AllTakeOver net marked entries v w) where
-  abbrev L : Leveled net
-  L = leveled net P.elaborated (faultless net P.accepted)
+  abbrev L : Numbered net
+  L = numbered net P.elaborated P.accepted
 
   -- a combinational process's nets are no marked one's
   not_marked : (p place : ℕ) → IsCombinational net p → HasPlace net p place → IsDrivenByMarked net marked (target net p place) → ⊥

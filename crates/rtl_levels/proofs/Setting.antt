@@ -11,7 +11,7 @@ use Rattle.rtl_net_groups.proofs.Replaced.{same_values}
 use Rattle.rtl_levels.specs.declared.state.State.{State}
 use Rattle.rtl_levels.specs.States.{GetValues, StandTogether}
 use Rattle.rtl_levels.proofs.Marking.{marks_run, marks_same}
-use Rattle.rtl_levels.proofs.Touching.{touches_run, touches_same}
+use Rattle.rtl_net_groups.proofs.Touching.{touches_run, touches_same}
 
 module _ (readers : Grouping) (first : ℕ) (given : List ℕ) (a : State) where
   pub get_new : (b : State) → StandTogether readers first (length given) a → IsWritten first given a.values.items b.values.items → 0 < length given → (listed : List ℕ)

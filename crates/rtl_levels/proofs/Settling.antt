@@ -4,11 +4,11 @@ use Rattle.std.proofs.lemmas.Bool.{cases_eq}
 use Rattle.rtl_model.specs.basics.Valuations.{AgreeOn}
 use Rattle.rtl_model.proofs.basics.Lists.{Contains-one}
 use Rattle.rtl_model.specs.simulation.Netlist.{Driver, HasPlace, IsCombinational, Netlist, process, Source, sources_of, target}
-use Rattle.rtl_model.specs.simulation.Accepted.{Feeds}
+use Rattle.rtl_model.specs.simulation.Accepted.{Feeds, HasNoLoop}
 use Rattle.rtl_model.specs.simulation.Machine.{entry_or}
-use Rattle.rtl_model.proofs.simulation.Faultless.{faultless}
-use Rattle.rtl_model.proofs.simulation.Leveled.{Leveled, leveled}
-use Rattle.rtl_model.proofs.simulation.Levels.{assigned, sole}
+use Rattle.rtl_model.proofs.simulation.Faultless.{no_loop}
+use Rattle.rtl_model.proofs.simulation.Levels.{numbered}
+use Rattle.rtl_model.proofs.simulation.Numbered.{Numbered, assigned, sole}
 use Rattle.rtl_levels.specs.Running.{IsSettled, IsWritten}
 use Rattle.rtl_levels.specs.Laws.{EachRunSettles, EachStaysSettled}
 
@@ -18,11 +18,11 @@ some_entry None old h = cc
 
 pub each_stays_settled : EachStaysSettled
 each_stays_settled net E p v w c settled agree same place h =
-    ap (λ (row : List (Option ℕ)). get_or row place None) (E.bodies.effect_reads p w w v v c (λ n r. sym (agree n r)))
+    E.bodies.entry_looks p place w w v v c h (λ n looks. sym (agree n (E.bodies.looks_are_read p place n looks)))
     ∙ settled place h
     ∙ ap (λ (x : ℕ). Some x) (sym (same place h))
 
-module _ (net : Netlist) (L : Leveled net) where
+module _ (net : Netlist) (L : Numbered net) where
   -- a net has one driver's process
   pub one_process : (p q at place : ℕ) → HasPlace net p at → HasPlace net q place → target net p at ≡ target net q place → q ≡ p
   one_process p q at place has h t =
@@ -37,20 +37,20 @@ module _ (net : Netlist) (L : Leveled net) where
       let e = Contains-one (Driver p place) (Driver p at) (subst (λ (xs : List Source). Contains xs (Driver p at)) (sole net L p place h) c) in
       cc
 
-  module _ (p : ℕ) (c : IsCombinational net p) (v w : List ℕ) (W : IsWritten net p v w) where
+  module _ (none : HasNoLoop net) (p : ℕ) (c : IsCombinational net p) (v w : List ℕ) (W : IsWritten net p v w) where
     -- else it feeds itself
     reads_no_target : (n : ℕ) → Contains (process net p).reads n → (place : ℕ) → HasPlace net p place → target net p place ≡ n → ⊥
     reads_no_target n reads place h t =
         let wakes = subst (λ (m : ℕ). Contains (process net p).wakes m) (sym t) (L.faultless.reads_wake p n c reads) in
         let feeds : Feeds net p p = record { feeder = c; fed = c; place = place; drives = h; wakes = wakes } in
-        L.faultless.no_loop (p ∷ []) feeds
+        none (p ∷ []) feeds
 
-    same_effect : (process net p).effect w w ≡ (process net p).effect v v
-    same_effect = L.elaborated.bodies.effect_reads p w w v v c (λ n r. W.on_others n (reads_no_target n r))
+    same_entry : (place : ℕ) → HasPlace net p place → get_or ((process net p).effect w w) place None ≡ get_or ((process net p).effect v v) place None
+    same_entry place h = L.elaborated.bodies.entry_looks p place w w v v c h (λ n looks. W.on_others n (reads_no_target n (L.elaborated.bodies.looks_are_read p place n looks)))
 
     pub settles_itself : IsSettled net w p
     settles_itself place h =
-        ap (λ (row : List (Option ℕ)). get_or row place None) same_effect
+        same_entry place h
         ∙ some_entry (get_or ((process net p).effect v v) place None) (get_or v (target net p place) 0) (assigned net L p place v v c h)
         ∙ ap (λ (x : ℕ). Some x) (sym (W.on_targets place h))
 
@@ -63,5 +63,5 @@ module _ (net : Netlist) (L : Leveled net) where
 
 pub each_run_settles : EachRunSettles
 each_run_settles net E A p v w c W =
-    let L = leveled net E (faultless net A) in
-    record { itself = settles_itself net L p c v w W; others = stays_settled net L p c v w W }
+    let L = numbered net E A in
+    record { itself = settles_itself net L (no_loop net A) p c v w W; others = stays_settled net L (no_loop net A) p c v w W }

@@ -4,10 +4,10 @@ use Rattle.std.specs.List.{range_with_len}
 use Rattle.std.proofs.lemmas.Bool.{cases_lt}
 use Rattle.std.proofs.lemmas.List.Elements.{Contains-get_or}
 use Rattle.std.proofs.lemmas.List.FromFn.{get_or-range_with_len, length-range_with_len}
-use Rattle.rtl_eval.specs.declared.spans.Span.{Span}
-use Rattle.rtl_eval.specs.Spans.{places_of}
-use Rattle.rtl_eval.specs.Tracked.{AreAssigned, LieWithin}
-use Rattle.rtl_eval.proofs.Places.{place_assigned}
+use Rattle.rtl_drives.specs.declared.spans.Span.{Span}
+use Rattle.rtl_drives.specs.Spans.{places_of}
+use Rattle.rtl_drives.specs.Tracked.{AreAssigned, LieWithin}
+use Rattle.rtl_drives.proofs.Places.{place_assigned}
 use Rattle.rtl_net_groups.specs.Groups.{Grouping}
 use Rattle.rtl_kernel.specs.drivers.Updates.{IsTaken}
 use Rattle.rtl_kernel.specs.wakes.Woken.{AreDifferent}

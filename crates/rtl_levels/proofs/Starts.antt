@@ -4,8 +4,7 @@ use Rattle.rtl_model.specs.basics.Valuations.{clocked_entry}
 use Rattle.rtl_model.specs.simulation.Netlist.{reset_entry, reset_of, target}
 use Rattle.rtl_model.specs.simulation.Cycle.{with_inputs}
 use Rattle.rtl_model.specs.simulation.Machine.{entry_or}
-use Rattle.rtl_model.proofs.simulation.Faultless.{faultless}
-use Rattle.rtl_model.proofs.simulation.Leveled.{leveled}
+use Rattle.rtl_model.proofs.simulation.Levels.{numbered}
 use Rattle.rtl_model.proofs.simulation.Held.{no_edge_same, reset_now}
 use Rattle.rtl_model.proofs.simulation.Starting.{inputs_at}
 use Rattle.rtl_levels.specs.Laws.{EachStartIsTaken}
@@ -16,7 +15,7 @@ no_branch false edge a b e = rw e refl
 
 pub each_start_is_taken : EachStartIsTaken
 each_start_is_taken net E A inputs p clock place edge before is same =
-    let L = leveled net E (faultless net A) in
+    let L = numbered net E A in
     let now = with_inputs net inputs net.start in
     ap (λ (o : Option ℕ). entry_or o (get_or net.start (target net p place) 0))
     (E.bodies.clocked_acts p clock place edge before now is

@@ -9,10 +9,10 @@ use Rattle.rtl_model.specs.simulation.Cycle.{with_inputs}
 use Rattle.rtl_model.specs.simulation.Levels.{is_clocked}
 use Rattle.rtl_model.specs.simulation.Machine.{IsDriven, IsFirst, IsStep, entry_or, register_first, register_next}
 use Rattle.rtl_model.specs.simulation.Races.{IsRace}
-use Rattle.rtl_model.proofs.simulation.Faultless.{faultless}
 use Rattle.rtl_model.proofs.simulation.Held.{input_not_driven}
-use Rattle.rtl_model.proofs.simulation.Leveled.{Leveled, leveled}
-use Rattle.rtl_model.proofs.simulation.Levels.{place_in_range}
+use Rattle.rtl_model.proofs.simulation.Levels.{numbered}
+use Rattle.rtl_model.proofs.simulation.Numbered.{Numbered}
+use Rattle.rtl_model.proofs.simulation.Faultless.{place_in_range}
 use Rattle.rtl_model.proofs.simulation.Solution.{length-table}
 use Rattle.rtl_model.proofs.simulation.Starting.{inputs_at, others_at, target_no_input}
 use Rattle.rtl_kernel.specs.wakes.Woken.{wakers_of}
@@ -26,8 +26,8 @@ use Rattle.rtl_levels.proofs.Settling.{one_process}
 use Rattle.rtl_levels.proofs.Starts.{each_start_is_taken}
 
 module _ (net : Netlist) (schedule : Schedule) (P : IsPlanned net schedule) where
-  abbrev L : Leveled net
-  L = leveled net P.elaborated (faultless net P.accepted)
+  abbrev L : Numbered net
+  L = numbered net P.elaborated P.accepted
 
   abbrev clocked : List (List ℕ)
   clocked = wakers_of schedule.clocked

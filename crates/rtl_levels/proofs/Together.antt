@@ -7,7 +7,7 @@ use Rattle.rtl_model.proofs.basics.Lists.{contains_in, in_contains}
 use Rattle.rtl_model.specs.simulation.Netlist.{Netlist, process, target, HasPlace}
 use Rattle.rtl_model.specs.simulation.Machine.{entry_or}
 use Rattle.rtl_model.specs.simulation.Range.{IsValuation, limit}
-use Rattle.rtl_model.proofs.simulation.Leveled.{Leveled}
+use Rattle.rtl_model.proofs.simulation.Numbered.{Numbered}
 use Rattle.rtl_model.proofs.simulation.Range.{entry_or_below}
 use Rattle.rtl_levels.specs.Marks.{HasNoMark}
 use Rattle.rtl_levels.specs.Running.{TakesOver}
@@ -53,7 +53,7 @@ module _ (net : Netlist) (entries : ℕ → List (Option ℕ)) where
       by (inr none) = none
 
   -- and then others
-  pub others_take_over : Leveled net → (a b c : List Bool) (u v w : List ℕ) → SomeTakeOver net a b entries u v → SomeTakeOver net b c entries v w → SomeTakeOver net a c entries u w
+  pub others_take_over : Numbered net → (a b c : List Bool) (u v w : List ℕ) → SomeTakeOver net a b entries u v → SomeTakeOver net b c entries v w → SomeTakeOver net a c entries u w
   others_take_over L a b c u v w T S = record {
     as_many = S.as_many ∙ T.as_many;
     fewer = λ p h. T.fewer p (S.fewer p h);

@@ -13,7 +13,8 @@ use Rattle.rtl_model.specs.simulation.Netlist.{process, IsCombinational}
 use Rattle.rtl_model.proofs.basics.Lists.{get_or-map_within}
 use Rattle.rtl_model.proofs.nets.Processes.{process-core_net}
 use Rattle.rtl_model.specs.simulation.Range.{IsValuation}
-use Rattle.rtl_eval.specs.Runs.{Outcome, IsOf}
+use Rattle.rtl_drives.specs.Outcomes.{Outcome}
+use Rattle.rtl_eval.specs.Runs.{IsOf}
 use Rattle.rtl_kernel.specs.drivers.Transactions.{HasRunOf, all_targets, nets_of, no_outcome}
 use Rattle.rtl_kernel.proofs.Steps.{keeps_types}
 use Rattle.rtl_kernel.proofs.Wiring.{nets_there, targets_are}

@@ -10,7 +10,8 @@ use Rattle.rtl_model.specs.simulation.Elaborated.{IsElaborated}
 use Rattle.rtl_model.specs.simulation.Machine.{Solves}
 use Rattle.rtl_model.specs.simulation.Range.{IsValuation, limit}
 use Rattle.rtl_awaited_edges.specs.Awaiting.{AreEdges, AreLeaders}
-use Rattle.rtl_eval.specs.Runs.{Outcome, IsOf}
+use Rattle.rtl_drives.specs.Outcomes.{Outcome}
+use Rattle.rtl_eval.specs.Runs.{IsOf}
 use Rattle.rtl_kernel.specs.kernel.Kept.{RunBodies, HaveRoom}
 use Rattle.rtl_kernel.specs.kernel.Simulation.{changes_of}
 use Rattle.rtl_kernel.specs.drivers.Transactions.{no_outcome}

@@ -15,7 +15,8 @@ use crate::running::run;
 use crate::schedule::Schedule;
 use crate::state::State;
 use rtl_awaited_edges::{Look, look_at};
-use rtl_eval::{Drives, Exec};
+use rtl_drives::Drives;
+use rtl_eval::Exec;
 use rtl_net::Net;
 use vhdl_values::Nine;
 

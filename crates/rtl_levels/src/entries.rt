@@ -14,7 +14,7 @@ ghost use Rattle.rtl_levels.specs.States.{HaveReaders, StandTogether, StateTakes
 
 use crate::schedule::Schedule;
 use crate::state::State;
-use rtl_eval::{Drives, Span};
+use rtl_drives::{Drives, Span};
 use rtl_net::{Driver, Net};
 use rtl_net_groups::Groups;
 

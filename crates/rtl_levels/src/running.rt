@@ -11,7 +11,8 @@ ghost use Rattle.rtl_levels.specs.States.{StateTakesOver};
 use crate::entries::take_over;
 use crate::schedule::Schedule;
 use crate::state::State;
-use rtl_eval::{Drives, Exec};
+use rtl_drives::Drives;
+use rtl_eval::Exec;
 use rtl_net::Net;
 
 /// Runs the body of a process; what it assigns is what its run leaves.

@@ -10,7 +10,8 @@ ghost use Rattle.rtl_levels.specs.Steps.{IsSwept};
 use crate::running::settle;
 use crate::schedule::Schedule;
 use crate::state::State;
-use rtl_eval::{Drives, Exec};
+use rtl_drives::Drives;
+use rtl_eval::Exec;
 use rtl_net::Net;
 use rtl_net_groups::next_marked;
 

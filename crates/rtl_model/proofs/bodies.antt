@@ -1,9 +1,11 @@
 -- Proofs of the laws of bodies.
 pub mod Assigned
-pub mod Looking
 pub mod Leaves
 pub mod Branching
 pub mod Sequences
+pub mod Agreeing
+pub mod Looking
+pub mod LooksRead
 pub mod EdgeTests
 pub mod Clocking
 pub mod Widths

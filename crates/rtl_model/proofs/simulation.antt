@@ -6,7 +6,7 @@ pub mod Orders
 pub mod Decisions
 pub mod Faultless
 pub mod Loops
-pub mod Leveled
+pub mod Numbered
 pub mod Levels
 pub mod Solution
 pub mod Report

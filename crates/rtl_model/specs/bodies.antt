@@ -12,4 +12,5 @@ pub mod Leaves
 pub mod Kinds
 pub mod Types
 pub mod Fits
+pub mod Looks
 pub mod Laws

@@ -1,7 +1,7 @@
 //! The laws of bodies, over `specs/bodies`.
 
-ghost use Rattle.rtl_model.specs.bodies.Laws.{EachRunAssigns, LooksAtReads, NothingIsKept, CaseTakesABranch, EachLaterReplaces};
-ghost use Rattle.rtl_model.specs.bodies.Laws.{SequencesAddUp, EachKindIsAsSaid, FollowsItsEdge, LeavesTell, ResetsReadNothing};
+ghost use Rattle.rtl_model.specs.bodies.Laws.{EachRunAssigns, LooksAtReads, NothingIsKept, EachLooks, LooksAreRead};
+ghost use Rattle.rtl_model.specs.bodies.Laws.{CaseTakesABranch, EachLaterReplaces, SequencesAddUp, EachKindIsAsSaid, FollowsItsEdge, LeavesTell, ResetsReadNothing};
 ghost use Rattle.rtl_model.specs.bodies.Laws.{HasItsWidth, EachPartIsSafe, EachReadIsThere, EntriesKeepTypes};
 
 /// What a body assigns on every syntactic path has an entry on every run.
@@ -19,6 +19,17 @@ pub fn looks_at_what_is_read()
 /// A body that stores no variable does the same whatever values its variables had before the run.
 pub fn nothing_is_kept()
     ensures { NothingIsKept }
+{}
+
+/// What a driver's entry is depends on what the driver looks at alone: on no other net, and on no
+/// other variable, that the body reads.
+pub fn entries_follow_looks()
+    ensures { EachLooks }
+{}
+
+/// What a driver looks at the body reads.
+pub fn looks_are_read()
+    ensures { LooksAreRead }
 {}
 
 /// A case always takes a branch.

@@ -13,7 +13,7 @@ use Rattle.vhdl_values.specs.declared.kinds.Counted.TheVariants.{Resize, ShiftLe
 use Rattle.vhdl_values.specs.Shifts.{shifted_left, shifted_right, resized, counted_of, counted_length, IsCount}
 use Rattle.vhdl_values.proofs.Digits.{length-digits_of}
 
-pub length-zip_with : (f : Nine → Nine → Nine) (as' bs : List Nine) → length as' ≡ length bs → length (zip_with f as' bs) ≡ length as'
+pub length-zip_with : {A : Type 0} (f : A → A → A) (as' bs : List A) → length as' ≡ length bs → length (zip_with f as' bs) ≡ length as'
 length-zip_with f [] bs e = refl
 length-zip_with f (a ∷ as') [] e = cc
 length-zip_with f (a ∷ as') (b ∷ bs) e = ap suc (length-zip_with f as' bs (omega arith))
@@ -34,19 +34,19 @@ length-difference_of a b = length-number_or_x (all_good a && all_good b) _ _
 pub length-product_of : (a b : List Nine) → length (product_of a b) ≡ length a + length b
 length-product_of a b = length-number_or_x (all_good a && all_good b) _ _
 
-pub length-shifted_left : (count : ℕ) (vs : List Nine) → length (shifted_left count vs) ≡ length vs
-length-shifted_left count vs = rw (length-drop, length-append, length-replicate) (omega arith)
+pub length-shifted_left : {A : Type 0} (filler : A) (count : ℕ) (vs : List A) → length (shifted_left filler count vs) ≡ length vs
+length-shifted_left filler count vs = rw (length-drop, length-append, length-replicate) (omega arith)
 
-pub length-shifted_right : (count : ℕ) (vs : List Nine) → length (shifted_right count vs) ≡ length vs
-length-shifted_right count vs = rw (length-take, length-append, length-replicate) (omega arith)
+pub length-shifted_right : {A : Type 0} (filler : A) (count : ℕ) (vs : List A) → length (shifted_right filler count vs) ≡ length vs
+length-shifted_right filler count vs = rw (length-take, length-append, length-replicate) (omega arith)
 
-pub length-resized : (len : ℕ) (vs : List Nine) → length (resized len vs) ≡ len
-length-resized len vs = rw (length-append, length-replicate, length-drop) (omega arith)
+pub length-resized : {A : Type 0} (filler : A) (len : ℕ) (vs : List A) → length (resized filler len vs) ≡ len
+length-resized filler len vs = rw (length-append, length-replicate, length-drop) (omega arith)
 
-pub length-counted_of : (op : Counted) (count : ℕ) (vs : List Nine) → length (counted_of op count vs) ≡ counted_length op count (length vs)
-length-counted_of Resize count vs = length-resized count vs
-length-counted_of ShiftLeft count vs = length-shifted_left count vs
-length-counted_of ShiftRight count vs = length-shifted_right count vs
+pub length-counted_of : {A : Type 0} (filler : A) (op : Counted) (count : ℕ) (vs : List A) → length (counted_of filler op count vs) ≡ counted_length op count (length vs)
+length-counted_of filler Resize count vs = length-resized filler count vs
+length-counted_of filler ShiftLeft count vs = length-shifted_left filler count vs
+length-counted_of filler ShiftRight count vs = length-shifted_right filler count vs
 
 -- what is 1 to 64 elements long stays so
 pub counted_within : (op : Counted) (count len : ℕ) → IsCount op count → (1 ≤ len) × (len ≤ 64) → (1 ≤ counted_length op count len) × (counted_length op count len ≤ 64)

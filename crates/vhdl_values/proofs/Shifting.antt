@@ -7,13 +7,13 @@ use Rattle.vhdl_values.specs.declared.scalar.Nine.TheVariants.{Zero}
 use Rattle.vhdl_values.specs.Shifts.{shifted_left, shifted_right}
 
 -- a shift by no more than the length
-pub shifted_right-part : (count : ℕ) (vs : List Nine) → count ≤ length vs → shifted_right count vs ≡ replicate count Zero ++ take (length vs - count) vs
+pub shifted_right-part : (count : ℕ) (vs : List Nine) → count ≤ length vs → shifted_right Zero count vs ≡ replicate count Zero ++ take (length vs - count) vs
 shifted_right-part count vs le =
     let split : length vs ≡ length (replicate count Zero) + (length vs - count) = rw length-replicate (omega arith) in
     ap (λ n. take n (replicate count Zero ++ vs)) split ∙ take-append-add (replicate count Zero) vs (length vs - count)
 
 -- a shift by the length or more
-pub shifted_left-all : (count : ℕ) (vs : List Nine) → length vs ≤ count → shifted_left count vs ≡ replicate (length vs) Zero
+pub shifted_left-all : (count : ℕ) (vs : List Nine) → length vs ≤ count → shifted_left Zero count vs ≡ replicate (length vs) Zero
 shifted_left-all count vs le =
     let split : count ≡ length vs + (count - length vs) = omega arith in
     let left : count - (count - length vs) ≡ length vs = omega arith in
@@ -22,7 +22,7 @@ shifted_left-all count vs le =
     ∙ drop-replicate (count - length vs) count Zero
     ∙ ap (λ n. replicate n Zero) left
 
-pub shifted_right-all : (count : ℕ) (vs : List Nine) → length vs ≤ count → shifted_right count vs ≡ replicate (length vs) Zero
+pub shifted_right-all : (count : ℕ) (vs : List Nine) → length vs ≤ count → shifted_right Zero count vs ≡ replicate (length vs) Zero
 shifted_right-all count vs le =
     let long : length vs ≤ length (replicate count Zero) = rw length-replicate le in
     take-append-le (length vs) (replicate count Zero) vs long ∙ take-replicate (length vs) count Zero le

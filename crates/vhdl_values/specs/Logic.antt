@@ -61,7 +61,7 @@ logic_of Xor a b = xor_of a b
 logic_of Xnor a b = not_of (xor_of a b)
 
 -- an operator of two vectors of one length: element by element, from the left
-abbrev pub zip_with : (Nine → Nine → Nine) → List Nine → List Nine → List Nine
+abbrev pub zip_with : {A : Type 0} → (A → A → A) → List A → List A → List A
 zip_with f (a ∷ as') (b ∷ bs) = f a b ∷ zip_with f as' bs
 zip_with f _ _ = []
 

@@ -1,29 +1,27 @@
 -- Shifts and changes of length (numeric_std: SHIFT_LEFT S.1, SHIFT_RIGHT S.2, RESIZE R.2). The elements that stay
--- pass unchanged, whatever they are.
+-- pass unchanged, whatever they are. What comes in is the filler: of values it is 0.
 use Rattle.std.specs.Prelude.{ℕ, ◌-◌, ◌≤◌, ⊤, List, ◌++◌, length, take, drop, replicate}
 use Rattle.vhdl_values.specs.declared.kinds.Counted.{Counted}
 use Rattle.vhdl_values.specs.declared.kinds.Counted.TheVariants.{Resize, ShiftLeft, ShiftRight}
-use Rattle.vhdl_values.specs.declared.scalar.Nine.{Nine}
-use Rattle.vhdl_values.specs.declared.scalar.Nine.TheVariants.{Zero}
 
--- so many 0s come in on the right, and as many elements fall off on the left
-abbrev pub shifted_left : ℕ → List Nine → List Nine
-shifted_left count vs = drop count (vs ++ replicate count Zero)
+-- so many fillers come in on the right, and as many elements fall off on the left
+abbrev pub shifted_left : {A : Type 0} → (filler : A) → ℕ → List A → List A
+shifted_left filler count vs = drop count (vs ++ replicate count filler)
 
--- so many 0s come in on the left, and as many elements fall off on the right
-abbrev pub shifted_right : ℕ → List Nine → List Nine
-shifted_right count vs = take (length vs) (replicate count Zero ++ vs)
+-- so many fillers come in on the left, and as many elements fall off on the right
+abbrev pub shifted_right : {A : Type 0} → (filler : A) → ℕ → List A → List A
+shifted_right filler count vs = take (length vs) (replicate count filler ++ vs)
 
--- 0s on the left, or the rightmost elements alone
-abbrev pub resized : ℕ → List Nine → List Nine
-resized len vs = replicate (len - length vs) Zero ++ drop (length vs - len) vs
+-- fillers on the left, or the rightmost elements alone
+abbrev pub resized : {A : Type 0} → (filler : A) → ℕ → List A → List A
+resized filler len vs = replicate (len - length vs) filler ++ drop (length vs - len) vs
 
 -- ---- all three, as operators with a count beside the vector
 
-abbrev pub counted_of : Counted → (count : ℕ) → List Nine → List Nine
-counted_of Resize count vs = resized count vs
-counted_of ShiftLeft count vs = shifted_left count vs
-counted_of ShiftRight count vs = shifted_right count vs
+abbrev pub counted_of : {A : Type 0} → (filler : A) → Counted → (count : ℕ) → List A → List A
+counted_of filler Resize count vs = resized filler count vs
+counted_of filler ShiftLeft count vs = shifted_left filler count vs
+counted_of filler ShiftRight count vs = shifted_right filler count vs
 
 -- how long it is, of a vector of this length
 abbrev pub counted_length : Counted → (count len : ℕ) → ℕ

@@ -10,6 +10,7 @@ ghost use Rattle.vhdl_values.specs.Relations.{compares, compares_number};
 ghost use Rattle.vhdl_values.specs.Shifts.{shifted_left, shifted_right, resized, counted_of, counted_length, IsCount};
 ghost use Rattle.vhdl_values.specs.Marked.{IsMarkedBy};
 ghost use Rattle.vhdl_values.specs.declared.scalar.Nine.{Nine as Value};
+ghost use Rattle.vhdl_values.specs.declared.scalar.Nine.TheVariants.{Zero};
 
 mod codes;
 
@@ -285,7 +286,7 @@ impl Vec9 {
     pub fn resize(&self, len: usize) -> Vec9
         requires some { 1 ≤ len }
         requires room { len ≤ 64 }
-        ensures list { result ≡ resized len self.now }
+        ensures list { result ≡ resized Zero len self.now }
         ensures len { length result ≡ len }
     {
         if len <= self.len() {
@@ -298,7 +299,7 @@ impl Vec9 {
     /// The values moved that many places to the left, with 0s to their right (numeric_std,
     /// `SHIFT_LEFT`, S.1): all 0 from the length on.
     pub fn shl(&self, count: usize) -> Vec9
-        ensures list { result ≡ shifted_left count self.now }
+        ensures list { result ≡ shifted_left Zero count self.now }
         ensures len { length result ≡ length self.now }
     {
         let len = self.len();
@@ -315,7 +316,7 @@ impl Vec9 {
     /// The values moved that many places to the right, with 0s to their left (numeric_std,
     /// `SHIFT_RIGHT`, S.2): all 0 from the length on.
     pub fn shr(&self, count: usize) -> Vec9
-        ensures list { result ≡ shifted_right count self.now }
+        ensures list { result ≡ shifted_right Zero count self.now }
         ensures len { length result ≡ length self.now }
     {
         let len = self.len();
@@ -331,7 +332,7 @@ impl Vec9 {
     /// An operator with a count: `resize`, `shl` or `shr`.
     pub fn counted(&self, operator: Counted, count: usize) -> Vec9
         requires { IsCount operator count }
-        ensures list { result ≡ counted_of operator count self.now }
+        ensures list { result ≡ counted_of Zero operator count self.now }
         ensures len { length result ≡ counted_length operator count (length self.now) }
     {
         match operator {

@@ -1,5 +1,5 @@
 -- Edge tests and reset tests are as they are said, and are met where their net has the edge, or the value.
-use Rattle.std.proofs.Common.{◌≡◌, ℕ, zero, suc, ◌<◌, Bool, true, false, not, ◌&&◌, ◌==◌, List, [], ◌∷◌, slice_index}
+use Rattle.std.proofs.Common.{◌≡◌, ℕ, suc, ◌<◌, Bool, true, false, not, ◌&&◌, ◌==◌, List, [], ◌∷◌, slice_index}
 use Rattle.std.proofs.Common.{Option, Some, refl, sym, ap, ◌∙◌, arith}
 use Rattle.std.proofs.lemmas.Bool.{eqb-true, eq-eqb, ne_eqb}
 use Rattle.vhdl_values.specs.declared.scalar.Nine.{Nine}

@@ -4,10 +4,10 @@ use Rattle.std.specs.Prelude.{flat_map}
 use Rattle.std.specs.List.{list_any}
 use Rattle.std.proofs.lemmas.Grind.{flat_map-append}
 use Rattle.std.proofs.lemmas.List.Folds.{list_any-append}
-use Rattle.rtl_model.specs.bodies.Body.{Expr, signal, variable, constant, inverse, filled, binary, counted}
-use Rattle.rtl_model.specs.bodies.Body.{Value, elements, position, position_of, position_in}
-use Rattle.rtl_model.specs.bodies.Body.{Test, condition, decided, equal, unequal, level, compared, compared_to}
-use Rattle.rtl_model.specs.bodies.Body.{rising, falling, event, negated, combined}
+use Rattle.rtl_model.specs.bodies.Body.{Expr, signal, variable, inverse, filled, binary, counted}
+use Rattle.rtl_model.specs.bodies.Body.{Value, elements, position_in}
+use Rattle.rtl_model.specs.bodies.Body.{Test, condition, equal, unequal, compared, compared_to}
+use Rattle.rtl_model.specs.bodies.Body.{negated, combined}
 use Rattle.rtl_model.specs.bodies.Body.{Stmt, null_of, assign, set, if_of, case_of, Stmts, done, step}
 use Rattle.rtl_model.specs.bodies.Body.{Branches, no_else, otherwise, branch, Alternatives, others, alternative}
 use Rattle.rtl_model.specs.bodies.Reads.{expr_reads, value_reads, test_reads, stmt_reads, reads, branches_reads, alternatives_reads}

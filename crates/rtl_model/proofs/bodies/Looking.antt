@@ -1,290 +1,313 @@
--- What a run does depends on what it sees of what the body reads, and on nothing else.
-use Rattle.std.proofs.Common.{◌≡◌, ℕ, ◌<◌, ◌≤◌, Bool, true, false, not, cond, ◌==◌, ◌||◌, ◌&&◌, List, [], ◌∷◌, ◌++◌}
-use Rattle.std.proofs.Common.{length, get_or, drop, map, replicate, slice_index, slice_index_or, slice_set, refl, sym, ap, ◌∙◌, subst, Contains, arith, ◌⊎◌, inl, inr}
+-- Runs that see the same where a driver looks have the same entry for it.
+use Rattle.std.proofs.Common.{◌≡◌, ℕ, ◌<◌, ◌≤◌, Bool, true, false, cond, ◌==◌, List, [], ◌∷◌, ◌++◌, Option, Some, None}
+use Rattle.std.proofs.Common.{length, drop, slice_index, slice_index_or, slice_set, refl, sym, ap, ◌∙◌, arith, ◌⊎◌, inl, inr}
 use Rattle.std.specs.List.{list_any}
-use Rattle.std.proofs.lemmas.Bool.{or_cases, and_parts, eq-eqb, eqb-true, cases_lt, cases_eq}
+use Rattle.std.proofs.lemmas.Bool.{eq-eqb, eqb-true, cases_lt}
 use Rattle.std.proofs.lemmas.List.{get_or-set_same, get_or-set_other, get_or_past, length-set}
-use Rattle.std.proofs.lemmas.List.Elements.{Contains-append_left, Contains-append_right}
-use Rattle.vhdl_values.specs.declared.scalar.Nine.{Nine}
-use Rattle.vhdl_values.specs.declared.scalar.Nine.TheVariants.{X}
-use Rattle.vhdl_values.specs.declared.kinds.Edge.{Edge}
-use Rattle.vhdl_values.specs.declared.kinds.Edge.TheVariants.{Rising, Falling}
-use Rattle.vhdl_values.specs.Scalar.{code_of, value_of_code, is_same, is_true}
-use Rattle.vhdl_values.specs.Edges.{has_edge}
-use Rattle.vhdl_values.specs.Logic.{not_of_all}
-use Rattle.vhdl_values.specs.Relations.{compares, compares_number}
-use Rattle.vhdl_values.specs.Shifts.{counted_of}
-use Rattle.rtl_model.specs.basics.Valuations.{AgreeOn, or_else}
-use Rattle.rtl_model.specs.bodies.Body.{Expr, signal, variable, constant, inverse, filled, binary, counted}
-use Rattle.rtl_model.specs.bodies.Body.{Value, elements, position, position_of, position_in}
-use Rattle.rtl_model.specs.bodies.Body.{Test, condition, decided, equal, unequal, level, compared, compared_to}
-use Rattle.rtl_model.specs.bodies.Body.{rising, falling, event, negated, combined}
+use Rattle.rtl_model.specs.basics.Valuations.{or_else}
 use Rattle.rtl_model.specs.bodies.Body.{Stmt, null_of, assign, set, if_of, case_of, Stmts, done, step}
-use Rattle.rtl_model.specs.bodies.Body.{Branches, no_else, otherwise, branch, Alternatives, others, alternative}
-use Rattle.rtl_model.specs.bodies.Values.{Seen, element_at, operation_result, elements_of, value_of}
-use Rattle.rtl_model.specs.bodies.Tests.{same, truth, is_met}
+use Rattle.rtl_model.specs.bodies.Body.{decided, Branches, no_else, otherwise, branch, Alternatives, others, alternative}
+use Rattle.rtl_model.specs.bodies.Values.{Seen, value_of}
+use Rattle.rtl_model.specs.bodies.Tests.{same, is_met}
 use Rattle.rtl_model.specs.bodies.Variables.{values_put, stmt_variables, variables_after, branches_variables, alternatives_variables, after_stmt}
-use Rattle.rtl_model.specs.bodies.Effect.{Entries, no_entries, entries, entries_if, stmt_effect, effect, branches_effect, alternatives_effect}
-use Rattle.rtl_model.specs.bodies.Reads.{expr_reads, value_reads, test_reads, stmt_reads, reads, branches_reads, alternatives_reads}
-use Rattle.rtl_model.specs.bodies.Reads.{test_events, stmt_events, events, branches_events, alternatives_events}
-use Rattle.rtl_model.specs.bodies.Assigns.{is_element, stmt_must_assign, must_assign, branches_must_assign, alternatives_must_assign}
-use Rattle.rtl_model.specs.bodies.Stored.{expr_looks_at, value_looks_at, test_looks_at, stmt_stores, stores_element, branches_store, alternatives_store}
-use Rattle.rtl_model.specs.bodies.Laws.{LooksAtReads, NothingIsKept}
+use Rattle.rtl_model.specs.bodies.Effect.{Entries, no_entries, later_over, one_entry, entries, entries_if, stmt_effect, effect, branches_effect, alternatives_effect}
+use Rattle.rtl_model.specs.bodies.Assigns.{Target, driver, element}
+use Rattle.rtl_model.specs.bodies.Looks.{Sight, element_kept, Looks, first_looks, whole, value_looks, test_looks}
+use Rattle.rtl_model.specs.bodies.Looks.{replaced, put, stmt_looks, body_looks, branches_look, alternatives_look}
+use Rattle.rtl_model.specs.bodies.Laws.{EachLooks}
+use Rattle.rtl_model.proofs.basics.Lists.{Contains-first}
+use Rattle.rtl_model.proofs.bodies.Sequences.{or_else-none, or_else-assoc}
+use Rattle.rtl_model.proofs.bodies.Agreeing.{Agree, agree_left, agree_right, Alike, alike_whole, alike_first, alike_drop, value_alike, test_alike}
 
--- ---- what two runs see
+-- ---- what a run has done so far
 
-abbrev AgreeAt : List ℕ → List ℕ → ℕ → Type 0
-AgreeAt v w e = slice_index v e ≡ slice_index w e
+record Done : Type 0 where
+  entered : Entries
+  variables : List ℕ
 
--- alike now on these nets, before on those, and of the elements that pass
-record Alike (rs es : List ℕ) (looks : ℕ → Bool) (a b : Seen) : Type 0 where
-  now : AgreeOn rs a.now b.now
-  before : AgreeOn es a.before b.before
-  variables : (e : ℕ) → looks e ≡ true → AgreeAt a.variables b.variables e
+-- what a target has then
+abbrev held : Done → Target → Option ℕ
+held d (driver place) = d.entered place
+held d (element e) = Some (slice_index d.variables e)
 
-pub or_left : (a b : Bool) → a ≡ true → a || b ≡ true
-or_left true b h = refl
-or_left false b h = absurd cc
+abbrev sees : Seen → Done → Seen
+sees x d = record x { variables = d.variables }
 
-pub or_right : (a b : Bool) → b ≡ true → a || b ≡ true
-or_right true b h = refl
-or_right false b h = h
+abbrev stmt_done : Seen → Stmt → Done → Done
+stmt_done x s d = record { entered = later_over (stmt_effect (sees x d) s) d.entered; variables = stmt_variables (sees x d) s }
 
--- a part that is alike
-lefts : {a b : Seen} (rs qs es fs : List ℕ) (f g : ℕ → Bool) → Alike (rs ++ qs) (es ++ fs) (λ e. f e || g e) a b → Alike rs es f a b
-lefts rs qs es fs f g h = record {
-  now = λ n c. h.now n (Contains-append_left rs qs n c);
-  before = λ n c. h.before n (Contains-append_left es fs n c);
-  variables = λ e t. h.variables e (or_left (f e) (g e) t);
-}
+abbrev body_done : Seen → Stmts → Done → Done
+body_done x s d = record { entered = later_over (effect (sees x d) s) d.entered; variables = variables_after (sees x d) s }
 
-rights : {a b : Seen} (rs qs es fs : List ℕ) (f g : ℕ → Bool) → Alike (rs ++ qs) (es ++ fs) (λ e. f e || g e) a b → Alike qs fs g a b
-rights rs qs es fs f g h = record {
-  now = λ n c. h.now n (Contains-append_right rs qs n c);
-  before = λ n c. h.before n (Contains-append_right es fs n c);
-  variables = λ e t. h.variables e (or_right (f e) (g e) t);
-}
+abbrev branches_done : Seen → Branches → Done → Done
+branches_done x bs d = record { entered = later_over (branches_effect (sees x d) bs) d.entered; variables = branches_variables (sees x d) bs }
 
--- ---- values
+abbrev alternatives_done : Seen → (value : List ℕ) → Alternatives → Done → Done
+alternatives_done x value alts d = record { entered = later_over (alternatives_effect (sees x d) value alts) d.entered; variables = alternatives_variables (sees x d) value alts }
 
-first_of_all : (n : ℕ) (xs : List ℕ) → Contains (n ∷ xs) n
-first_of_all n xs = (0, omega arith, refl)
+-- by the one or the other
+abbrev either_done : Bool → (f g : Entries) → (v w : List ℕ) → Done → Done
+either_done m f g v w d = record { entered = later_over (entries_if m f g) d.entered; variables = cond m v w }
 
-nets_agree : (xs v w : List ℕ) → AgreeOn xs v w → map (element_at v) xs ≡ map (element_at w) xs
-nets_agree [] v w h = refl
-nets_agree (x ∷ xs) v w h = λ i. value_of_code (h x (first_of_all x xs) i) ∷ nets_agree xs v w (λ n c. h n (Contains-append_right (x ∷ []) xs n c)) i
+abbrev places_done : (places values : List ℕ) → Done → Done
+places_done ps values d = record d { entered = later_over (entries ps values) d.entered }
 
-elements_agree : (xs v w : List ℕ) → ((e : ℕ) → list_any (λ d. d == e) xs ≡ true → AgreeAt v w e) → map (element_at v) xs ≡ map (element_at w) xs
-elements_agree [] v w h = refl
-elements_agree (x ∷ xs) v w h =
-    let at : AgreeAt v w x = h x (or_left (x == x) (list_any (λ d. d == x) xs) (eq-eqb x x refl)) in
-    λ i. value_of_code (at i) ∷ elements_agree xs v w (λ e t. h e (or_right (x == e) (list_any (λ d. d == e) xs) t)) i
+abbrev elements_done : (es values : List ℕ) → Done → Done
+elements_done es values d = record { entered = later_over no_entries d.entered; variables = values_put es values d.variables }
 
-pub on_both : {A B C : Type 0} (f : A → B → C) {a a' : A} {b b' : B} → a ≡ a' → b ≡ b' → f a b ≡ f a' b'
-on_both f p q i = f (p i) (q i)
+held_none : (d : Done) (v : List ℕ) (t : Target) → held (record { entered = later_over no_entries d.entered; variables = v }) t ≡ held (record d { variables = v }) t
+held_none d v (driver place) = refl
+held_none d v (element e) = refl
+
+held_next : (x : Seen) (s : Stmt) (rest : Stmts) (d : Done) (t : Target) → held (body_done x (step s rest) d) t ≡ held (body_done x rest (stmt_done x s d)) t
+held_next x s rest d (driver place) = or_else-assoc (effect (after_stmt (sees x d) s) rest place) (stmt_effect (sees x d) s place) (d.entered place)
+held_next x s rest d (element e) = refl
+
+-- one place or element, and then the others
+abbrev place_done : (p x : ℕ) → Done → Done
+place_done p x d = record d { entered = later_over (one_entry p x) d.entered }
+
+abbrev element_done : (e x : ℕ) → Done → Done
+element_done e x d = record d { variables = slice_set d.variables e x }
+
+held_places : (p : ℕ) (ps values : List ℕ) (d : Done) (t : Target) → held (places_done (p ∷ ps) values d) t ≡ held (places_done ps (drop 1 values) (place_done p (slice_index values 0) d)) t
+held_places p ps values d (driver place) = or_else-assoc (entries ps (drop 1 values) place) (one_entry p (slice_index values 0) place) (d.entered place)
+held_places p ps values d (element e) = refl
+
+other_element : (d e : ℕ) → d == e ≡ false → e ≡ d → ⊥
+other_element d e n s = let t = eq-eqb d e (sym s) in cc
+
+set_same : (v w : List ℕ) (d x : ℕ) → length v ≡ length w → slice_index (slice_set v d x) d ≡ slice_index (slice_set w d x) d
+set_same v w d x l = go (cases_lt d (length v))
+  where
+    go : (d < length v) ⊎ (length v ≤ d) → slice_index (slice_set v d x) d ≡ slice_index (slice_set w d x) d
+    go (inl k) = get_or-set_same v d x 0 k ∙ sym (get_or-set_same w d x 0 (omega arith))
+    go (inr k) = get_or_past (slice_set v d x) d 0 (omega (arith, length-set v d x)) ∙ sym (get_or_past (slice_set w d x) d 0 (omega (arith, length-set w d x)))
 
 module _ (a b : Seen) where
-  abbrev OfValue : List ℕ → (ℕ → Bool) → Type 0
-  OfValue rs looks = Alike rs [] looks a b
+  -- ---- what a part of a body may touch
 
-  expr_looks : (e : Expr) → OfValue (expr_reads e) (λ k. expr_looks_at k e) → elements_of a e ≡ elements_of b e
-  expr_looks (signal nets) h = nets_agree nets a.now b.now h.now
-  expr_looks (variable es) h = elements_agree es a.variables b.variables h.variables
-  expr_looks (constant values) h = refl
-  expr_looks (inverse e) h = ap not_of_all (expr_looks e h)
-  expr_looks (filled len e) h = ap (λ (x : List Nine). replicate len (slice_index_or x 0 X)) (expr_looks e h)
-  expr_looks (binary op d e) h =
-      on_both (operation_result op)
-      (expr_looks d (lefts (expr_reads d) (expr_reads e) [] [] (λ k. expr_looks_at k d) (λ k. expr_looks_at k e) h))
-      (expr_looks e (rights (expr_reads d) (expr_reads e) [] [] (λ k. expr_looks_at k d) (λ k. expr_looks_at k e) h))
-  expr_looks (counted op count e) h = ap (counted_of op count) (expr_looks e h)
+  -- A target looks at the conditions round the part, or it is as it was before it.
+  abbrev Touched : List Sight → (before after : List Sight) → (old new : Option ℕ) → Type 0
+  Touched round before after old new = (Agree a b after → Agree a b round) ⊎ ((Agree a b after → Agree a b before) × (new ≡ old))
 
-  value_looks : (v : Value) → OfValue (value_reads v) (λ k. value_looks_at k v) → value_of a v ≡ value_of b v
-  value_looks (elements e) h = ap (map code_of) (expr_looks e h)
-  value_looks (position n) h = refl
-  value_looks (position_of net) h = ap (λ (x : ℕ). x ∷ []) (h.now net (first_of_all net []))
-  value_looks (position_in element) h = ap (λ (x : ℕ). x ∷ []) (h.variables element (eq-eqb element element refl))
+  record Touches (round : List Sight) (looks looks' : Looks) (d d' : Done) : Type 0 where
+    as_many : length d'.variables ≡ length d.variables
+    at : (t : Target) → Touched round (looks t) (looks' t) (held d t) (held d' t)
 
-  -- ---- tests
+  touches_none : (round : List Sight) (looks : Looks) (d : Done) → Touches round looks looks d (record d { entered = later_over no_entries d.entered })
+  touches_none round looks d = record { as_many = refl; at = λ t. inr (λ g. g, held_none d d.variables t) }
 
-  -- two values, or two expressions
-  values_look : {C : Type 0} (f : List ℕ → List ℕ → C) (v w : Value) → OfValue (value_reads v ++ value_reads w) (λ k. value_looks_at k v || value_looks_at k w)
-      → f (value_of a v) (value_of a w) ≡ f (value_of b v) (value_of b w)
-  values_look f v w h =
-      on_both f
-      (value_looks v (lefts (value_reads v) (value_reads w) [] [] (λ k. value_looks_at k v) (λ k. value_looks_at k w) h))
-      (value_looks w (rights (value_reads v) (value_reads w) [] [] (λ k. value_looks_at k v) (λ k. value_looks_at k w) h))
+  touched_then : {round r0 r1 r2 : List Sight} {o0 o1 o2 : Option ℕ} → Touched round r0 r1 o0 o1 → Touched round r1 r2 o1 o2 → Touched round r0 r2 o0 o2
+  touched_then h (inl c) = inl c
+  touched_then (inl c) (inr k) = inl (λ g. c (k.0 g))
+  touched_then (inr h) (inr k) = inr (λ g. h.0 (k.0 g), k.1 ∙ h.1)
 
-  edge_looks : (edge : Edge) (net : ℕ) → AgreeOn (net ∷ []) a.now b.now → AgreeOn (net ∷ []) a.before b.before
-      → has_edge edge (element_at a.before net) (element_at a.now net) ≡ has_edge edge (element_at b.before net) (element_at b.now net)
-  edge_looks edge net h g = on_both (λ x y. has_edge edge (value_of_code x) (value_of_code y)) (g net (first_of_all net [])) (h net (first_of_all net []))
+  -- the same, where what is new is told in another way, by more conditions, or where the target looks at more
+  touched_as : {round r0 r1 : List Sight} {o0 o1 o2 : Option ℕ} → o2 ≡ o1 → Touched round r0 r1 o0 o1 → Touched round r0 r1 o0 o2
+  touched_as e (inl c) = inl c
+  touched_as e (inr k) = inr (k.0, e ∙ k.1)
 
-  test_looks : (t : Test) → Alike (test_reads t) (test_events t) (λ k. test_looks_at k t) a b → is_met a t ≡ is_met b t
-  test_looks (condition e) h = ap (λ (x : List Nine). is_true (slice_index_or x 0 X)) (expr_looks e h)
-  test_looks (decided c) h = refl
-  test_looks (equal v w) h = values_look same v w h
-  test_looks (unequal v w) h = values_look (λ p q. not (same p q)) v w h
-  test_looks (level plain net v) h = ap (λ x. is_same (value_of_code x) v) (h.now net (first_of_all net []))
-  test_looks (compared op d e) h =
-      on_both (compares op)
-      (expr_looks d (lefts (expr_reads d) (expr_reads e) [] [] (λ k. expr_looks_at k d) (λ k. expr_looks_at k e) h))
-      (expr_looks e (rights (expr_reads d) (expr_reads e) [] [] (λ k. expr_looks_at k d) (λ k. expr_looks_at k e) h))
-  test_looks (compared_to op e m) h = ap (λ x. compares_number op x m) (expr_looks e h)
-  test_looks (rising net) h = edge_looks Rising net h.now h.before
-  test_looks (falling net) h = edge_looks Falling net h.now h.before
-  test_looks (event net) h = on_both (λ x y. not (x == y)) (h.before net (first_of_all net [])) (h.now net (first_of_all net []))
-  test_looks (negated t) h = ap not (test_looks t h)
-  test_looks (combined op s t) h =
-      on_both (truth op)
-      (test_looks s (lefts (test_reads s) (test_reads t) (test_events s) (test_events t) (λ k. test_looks_at k s) (λ k. test_looks_at k t) h))
-      (test_looks t (rights (test_reads s) (test_reads t) (test_events s) (test_events t) (λ k. test_looks_at k s) (λ k. test_looks_at k t) h))
+  touched_more : {round r0 r1 r2 : List Sight} {o0 o1 : Option ℕ} → (Agree a b r2 → Agree a b r1) → Touched round r0 r1 o0 o1 → Touched round r0 r2 o0 o1
+  touched_more m (inl c) = inl (λ g. c (m g))
+  touched_more m (inr k) = inr (λ g. k.0 (m g), k.1)
 
--- ---- what runs do
-
--- From variables v and w two runs have the same entries, as many variables afterwards, v' and w', and these are the same
--- where they were before, or are assigned.
-record DoAlike (f g : Entries) (v w v' w' : List ℕ) (assigned : ℕ → Bool) : Type 0 where
-  effect_is : (place : ℕ) → f place ≡ g place
-  as_many : length v' ≡ length w'
-  after : (e : ℕ) → AgreeAt v w e ⊎ (assigned e ≡ true) → AgreeAt v' w' e
-
-none_alike : {f : Entries} {v w : List ℕ} → length v ≡ length w → DoAlike f f v w v w (λ e. false)
-none_alike {f} {v} {w} l = record { effect_is = λ place. refl; as_many = l; after = go }
-  where
-    go : (e : ℕ) → AgreeAt v w e ⊎ (false ≡ true) → AgreeAt v w e
-    go e (inl h) = h
-    go e (inr h) = absurd cc
-
--- where two sides must assign, one of them does
-one_must : (m n : Bool) (P Q : Type 0) → (P ⊎ (m ≡ true) → Q) → P ⊎ (m && n ≡ true) → Q
-one_must m n P Q f (inl h) = f (inl h)
-one_must m n P Q f (inr h) = f (inr (and_parts m n h).0)
-
-other_must : (m n : Bool) (P Q : Type 0) → (P ⊎ (n ≡ true) → Q) → P ⊎ (m && n ≡ true) → Q
-other_must m n P Q f (inl h) = f (inl h)
-other_must m n P Q f (inr h) = f (inr (and_parts m n h).1)
-
-either_alike : (t u : Bool) {f g p q : Entries} {v w v1 w1 v2 w2 : List ℕ} {m n : ℕ → Bool} → t ≡ u → DoAlike f g v w v1 w1 m → DoAlike p q v w v2 w2 n
-    → DoAlike (entries_if t f p) (entries_if u g q) v w (cond t v1 v2) (cond u w1 w2) (λ e. m e && n e)
-either_alike true true {m = m} {n = n} e h k = record { effect_is = h.effect_is; as_many = h.as_many; after = λ x. one_must (m x) (n x) _ _ (h.after x) }
-either_alike true false e h k = absurd cc
-either_alike false true e h k = absurd cc
-either_alike false false {m = m} {n = n} e h k = record { effect_is = k.effect_is; as_many = k.as_many; after = λ x. other_must (m x) (n x) _ _ (k.after x) }
-
--- ---- assignments to variables
-
-set_alike : (v w : List ℕ) (d x e : ℕ) → length v ≡ length w → (d ≡ e) ⊎ AgreeAt v w e → AgreeAt (slice_set v d x) (slice_set w d x) e
-set_alike v w d x e l h = go (cases_eq e d) h
-  where
-    at : (e ≡ d) → ((d < length v) ⊎ (length v ≤ d)) → AgreeAt (slice_set v d x) (slice_set w d x) e
-    at s (inl k) = ap (λ (k : ℕ). get_or (slice_set v d x) k 0) s ∙ get_or-set_same v d x 0 k ∙ sym (ap (λ (k : ℕ). get_or (slice_set w d x) k 0) s ∙ get_or-set_same w d x 0 (omega arith))
-    at s (inr k) = get_or_past (slice_set v d x) e 0 (omega (arith, length-set v d x)) ∙ sym (get_or_past (slice_set w d x) e 0 (omega (arith, length-set w d x)))
-
-    go : (e ≡ d) ⊎ (e ≡ d → ⊥) → (d ≡ e) ⊎ AgreeAt v w e → AgreeAt (slice_set v d x) (slice_set w d x) e
-    go (inl s) k = at s (cases_lt d (length v))
-    go (inr s) (inl k) = absurd (s (sym k))
-    go (inr s) (inr k) = get_or-set_other v d e x 0 s ∙ k ∙ sym (get_or-set_other w d e x 0 s)
-
-abbrev are_in : List ℕ → ℕ → Bool
-are_in es e = list_any (λ d. d == e) es
-
--- what was the same, or is assigned now or later
-first_set : (v w : List ℕ) (d x : ℕ) (later : ℕ → Bool) (e : ℕ) → length v ≡ length w → AgreeAt v w e ⊎ ((d == e) || later e ≡ true)
-    → AgreeAt (slice_set v d x) (slice_set w d x) e ⊎ (later e ≡ true)
-first_set v w d x later e l (inl h) = inl (set_alike v w d x e l (inr h))
-first_set v w d x later e l (inr h) =
-    elim (or_cases (d == e) (later e) h) [
-      | inl t ↦ inl (set_alike v w d x e l (inl (eqb-true d e t)))
-      | inr t ↦ inr t
-    ]
-
-put_alike : (es values v w : List ℕ) → length v ≡ length w → DoAlike no_entries no_entries v w (values_put es values v) (values_put es values w) (are_in es)
-put_alike [] values v w l = none_alike l
-put_alike (d ∷ ds) values v w l =
-    let x = slice_index values 0 in
-    let more = put_alike ds (drop 1 values) (slice_set v d x) (slice_set w d x) (length-set v d x ∙ l ∙ sym (length-set w d x)) in
-    record { effect_is = λ place. refl; as_many = more.as_many; after = λ e h. more.after e (first_set v w d x (are_in ds) e l h) }
-
--- what a later statement stores was the same before, or is assigned
-stored_next : (m t : Bool) (P Q : Type 0) → t ≡ true → (not m && t ≡ true → P) → (P ⊎ (m ≡ true) → Q) → Q
-stored_next true t P Q h f g = g (inr refl)
-stored_next false t P Q h f g = g (inl (f h))
-
--- what was the same, or is assigned by a statement or after it
-next : (m n : Bool) (P Q : Type 0) → P ⊎ (m || n ≡ true) → (P ⊎ (m ≡ true) → Q) → Q ⊎ (n ≡ true)
-next m n P Q (inl h) f = inl (f (inl h))
-next true n P Q (inr h) f = inl (f (inr refl))
-next false n P Q (inr h) f = inr h
-
-none_contained : (n : ℕ) → Contains [] n → ⊥
-none_contained n (k, l, at) = omega arith
-
--- ---- statements
-
-mutual
-  stmt_looks : (s : Stmt) (a b : Seen) → length a.variables ≡ length b.variables → Alike (stmt_reads s) (stmt_events s) (λ e. stmt_stores e s) a b
-      → DoAlike (stmt_effect a s) (stmt_effect b s) a.variables b.variables (stmt_variables a s) (stmt_variables b s) (λ e. stmt_must_assign (is_element e) s)
-  stmt_looks null_of a b l h = none_alike l
-  stmt_looks (assign places v) a b l h =
-      record { effect_is = λ place. ap (λ x. entries places x place) (value_looks a b v h); as_many = l; after = λ e g. of_places e places g }
+  touches_fewer : (round tests : List Sight) {looks looks' : Looks} {d d' : Done} → Touches (round ++ tests) looks looks' d d' → Touches round looks looks' d d'
+  touches_fewer round tests {looks} {looks'} {d} {d'} h = record { as_many = h.as_many; at = λ t. go (h.at t) }
     where
-      of_places : (e : ℕ) (ps : List ℕ) → AgreeAt a.variables b.variables e ⊎ (list_any (λ place. false) ps ≡ true) → AgreeAt a.variables b.variables e
-      of_places e ps (inl g) = g
-      of_places e [] (inr g) = absurd cc
-      of_places e (p ∷ ps) (inr g) = of_places e ps (inr g)
-  stmt_looks (set es v) a b l h =
-      let k = put_alike es (value_of a v) a.variables b.variables l in
-      let e = value_looks a b v h in
-      subst (λ (x : List ℕ). DoAlike no_entries no_entries a.variables b.variables (values_put es (value_of a v) a.variables) (values_put es x b.variables) (λ e. list_any (λ d. d == e) es)) e k
-  stmt_looks (if_of bs) a b l h = branches_look bs a b l h
-  stmt_looks (case_of v alts) a b l h =
-      let e = value_looks a b v (record {
-        now = λ n c. h.now n (Contains-append_left (value_reads v) (alternatives_reads alts) n c);
-        before = λ n c. absurd (none_contained n c);
-        variables = λ k t. h.variables k (or_left (value_looks_at k v) (alternatives_store k alts) t);
-      }) in
-      let k = alternatives_look alts (value_of a v) a b l (record {
-        now = λ n c. h.now n (Contains-append_right (value_reads v) (alternatives_reads alts) n c);
-        before = h.before;
-        variables = λ k t. h.variables k (or_right (value_looks_at k v) (alternatives_store k alts) t);
-      }) in
-      subst (λ (x : List ℕ). DoAlike (alternatives_effect a (value_of a v) alts) (alternatives_effect b x alts) a.variables b.variables (alternatives_variables a (value_of a v) alts) (alternatives_variables b x alts) (λ e. alternatives_must_assign (is_element e) alts)) e k
+      go : {r0 r1 : List Sight} {o0 o1 : Option ℕ} → Touched (round ++ tests) r0 r1 o0 o1 → Touched round r0 r1 o0 o1
+      go (inl c) = inl (λ g. agree_left a b round tests (c g))
+      go (inr k) = inr k
 
-  looks : (s : Stmts) (a b : Seen) → length a.variables ≡ length b.variables → Alike (reads s) (events s) (λ e. stores_element e s) a b
-      → DoAlike (effect a s) (effect b s) a.variables b.variables (variables_after a s) (variables_after b s) (λ e. must_assign (is_element e) s)
-  looks done a b l h = none_alike l
-  looks (step s rest) a b l h =
-      let first = stmt_looks s a b l (lefts (stmt_reads s) (reads rest) (stmt_events s) (events rest) (λ e. stmt_stores e s) (λ e. not (stmt_must_assign (is_element e) s) && stores_element e rest) h) in
-      let later = rights (stmt_reads s) (reads rest) (stmt_events s) (events rest) (λ e. stmt_stores e s) (λ e. not (stmt_must_assign (is_element e) s) && stores_element e rest) h in
-      let more = looks rest (after_stmt a s) (after_stmt b s) first.as_many (record { now = later.now; before = later.before; variables = λ e t. stored_next (stmt_must_assign (is_element e) s) (stores_element e rest) _ _ t (later.variables e) (first.after e) }) in
-      record {
-        effect_is = λ place. on_both or_else (more.effect_is place) (first.effect_is place);
-        as_many = more.as_many;
-        after = λ e g. more.after e (next (stmt_must_assign (is_element e) s) (must_assign (is_element e) rest) _ _ g (first.after e));
-      }
+  touches_place : (round sights : List Sight) (looks : Looks) (p x : ℕ) (d : Done) → Touches round looks (replaced (driver p) (round ++ sights) looks) d (place_done p x d)
+  touches_place round sights looks p x d = record { as_many = refl; at = at }
+    where
+      go : (q : ℕ) (same : Bool) → Touched round (looks (driver q)) (cond same (round ++ sights) (looks (driver q))) (d.entered q) (or_else (cond same (Some x) None) (d.entered q))
+      go q true = inl (agree_left a b round sights)
+      go q false = inr (λ g. g, refl)
 
-  branches_look : (bs : Branches) (a b : Seen) → length a.variables ≡ length b.variables → Alike (branches_reads bs) (branches_events bs) (λ e. branches_store e bs) a b
-      → DoAlike (branches_effect a bs) (branches_effect b bs) a.variables b.variables (branches_variables a bs) (branches_variables b bs) (λ e. branches_must_assign (is_element e) bs)
-  branches_look no_else a b l h = none_alike l
-  branches_look (otherwise s) a b l h = looks s a b l h
-  branches_look (branch t s bs) a b l h =
-      let of_test = lefts (test_reads t) (reads s ++ branches_reads bs) (test_events t) (events s ++ branches_events bs) (λ e. test_looks_at e t) (λ e. stores_element e s || branches_store e bs) h in
-      let inner = rights (test_reads t) (reads s ++ branches_reads bs) (test_events t) (events s ++ branches_events bs) (λ e. test_looks_at e t) (λ e. stores_element e s || branches_store e bs) h in
-      either_alike (is_met a t) (is_met b t) (test_looks a b t of_test)
-      (looks s a b l (lefts (reads s) (branches_reads bs) (events s) (branches_events bs) (λ e. stores_element e s) (λ e. branches_store e bs) inner))
-      (branches_look bs a b l (rights (reads s) (branches_reads bs) (events s) (branches_events bs) (λ e. stores_element e s) (λ e. branches_store e bs) inner))
+      at : (t : Target) → Touched round (looks t) (replaced (driver p) (round ++ sights) looks t) (held d t) (held (place_done p x d) t)
+      at (driver q) = go q (p == q)
+      at (element e) = inr (λ g. g, refl)
 
-  alternatives_look : (alts : Alternatives) (v : List ℕ) (a b : Seen) → length a.variables ≡ length b.variables → Alike (alternatives_reads alts) (alternatives_events alts) (λ e. alternatives_store e alts) a b
-      → DoAlike (alternatives_effect a v alts) (alternatives_effect b v alts) a.variables b.variables (alternatives_variables a v alts) (alternatives_variables b v alts) (λ e. alternatives_must_assign (is_element e) alts)
-  alternatives_look (others s) v a b l h = looks s a b l h
-  alternatives_look (alternative choices s alts) v a b l h =
-      either_alike (list_any (same v) choices) (list_any (same v) choices) refl
-      (looks s a b l (lefts (reads s) (alternatives_reads alts) (events s) (alternatives_events alts) (λ e. stores_element e s) (λ e. alternatives_store e alts) h))
-      (alternatives_look alts v a b l (rights (reads s) (alternatives_reads alts) (events s) (alternatives_events alts) (λ e. stores_element e s) (λ e. alternatives_store e alts) h))
+  touches_element : (round sights : List Sight) (looks : Looks) (c x : ℕ) (d : Done) → Touches round looks (replaced (element c) (round ++ sights) looks) d (element_done c x d)
+  touches_element round sights looks c x d = record { as_many = length-set d.variables c x; at = at }
+    where
+      go : (e : ℕ) (same : Bool) → c == e ≡ same → Touched round (looks (element e)) (cond same (round ++ sights) (looks (element e))) (Some (slice_index d.variables e)) (Some (slice_index (slice_set d.variables c x) e))
+      go e true is = inl (agree_left a b round sights)
+      go e false is = inr (λ g. g, ap (λ (n : ℕ). Some n) (get_or-set_other d.variables c e x 0 (other_element c e is)))
 
-pub looks_at_reads : LooksAtReads
-looks_at_reads body seen other h = (looks body seen other h.as_many (record { now = h.now; before = h.before; variables = h.variables })).effect_is
+      at : (t : Target) → Touched round (looks t) (replaced (element c) (round ++ sights) looks t) (held d t) (held (element_done c x d) t)
+      at (driver q) = inr (λ g. g, refl)
+      at (element e) = go e (c == e) refl
 
-pub nothing_is_kept : NothingIsKept
-nothing_is_kept body none seen values l =
-    looks_at_reads body (record seen { variables = values }) seen (record { now = λ n c. refl; before = λ n c. refl; as_many = l; variables = λ e t. let f = none e in absurd cc })
+  touches_places : (round : List Sight) (ps : List ℕ) (ls : List (List Sight)) (values : List ℕ) (looks : Looks) (d : Done) → Touches round looks (put driver round ps ls looks) d (places_done ps values d)
+  touches_places round [] ls values looks d = touches_none round looks d
+  touches_places round (p ∷ ps) ls values looks d =
+      let first = touches_place round (slice_index_or ls 0 []) looks p (slice_index values 0) d in
+      let rest = touches_places round ps (drop 1 ls) (drop 1 values) (replaced (driver p) (round ++ slice_index_or ls 0 []) looks) (place_done p (slice_index values 0) d) in
+      record { as_many = refl; at = λ t. touched_as (held_places p ps values d t) (touched_then (first.at t) (rest.at t)) }
+
+  touches_elements : (round : List Sight) (es : List ℕ) (ls : List (List Sight)) (values : List ℕ) (looks : Looks) (d : Done) → Touches round looks (put element round es ls looks) d (elements_done es values d)
+  touches_elements round [] ls values looks d = touches_none round looks d
+  touches_elements round (e ∷ es) ls values looks d =
+      let first = touches_element round (slice_index_or ls 0 []) looks e (slice_index values 0) d in
+      let rest = touches_elements round es (drop 1 ls) (drop 1 values) (replaced (element e) (round ++ slice_index_or ls 0 []) looks) (element_done e (slice_index values 0) d) in
+      record { as_many = rest.as_many ∙ first.as_many; at = λ t. touched_then (first.at t) (rest.at t) }
+
+  -- one of two branches
+  touches_either : (m : Bool) {round : List Sight} {looks l1 l2 : Looks} (f g : Entries) (v w : List ℕ) (d : Done)
+      → Touches round looks l1 d (record { entered = later_over f d.entered; variables = v }) → Touches round looks l2 d (record { entered = later_over g d.entered; variables = w })
+      → Touches round looks (λ t. l1 t ++ l2 t) d (either_done m f g v w d)
+  touches_either true {l1 = l1} {l2 = l2} f g v w d h k = record { as_many = h.as_many; at = λ t. touched_more (agree_left a b (l1 t) (l2 t)) (h.at t) }
+  touches_either false {l1 = l1} {l2 = l2} f g v w d h k = record { as_many = k.as_many; at = λ t. touched_more (agree_right a b (l1 t) (l2 t)) (k.at t) }
+
+  module _ (x : Seen) where
+    mutual
+      stmt_touches : (s : Stmt) (round : List Sight) (looks : Looks) (d : Done) → Touches round looks (stmt_looks round looks s) d (stmt_done x s d)
+      stmt_touches null_of round looks d = touches_none round looks d
+      stmt_touches (assign places v) round looks d = touches_places round places (value_looks looks v) (value_of (sees x d) v) looks d
+      stmt_touches (set es v) round looks d = touches_elements round es (value_looks looks v) (value_of (sees x d) v) looks d
+      stmt_touches (if_of bs) round looks d = branches_touch bs round looks d
+      stmt_touches (case_of v alts) round looks d =
+          touches_fewer round (whole (value_looks looks v)) (alternatives_touch alts (value_of (sees x d) v) (round ++ whole (value_looks looks v)) looks d)
+
+      body_touches : (s : Stmts) (round : List Sight) (looks : Looks) (d : Done) → Touches round looks (body_looks round looks s) d (body_done x s d)
+      body_touches done round looks d = touches_none round looks d
+      body_touches (step s rest) round looks d =
+          let first = stmt_touches s round looks d in
+          let later = body_touches rest round (stmt_looks round looks s) (stmt_done x s d) in
+          record { as_many = later.as_many ∙ first.as_many; at = λ t. touched_as (held_next x s rest d t) (touched_then (first.at t) (later.at t)) }
+
+      branches_touch : (bs : Branches) (round : List Sight) (looks : Looks) (d : Done) → Touches round looks (branches_look round looks bs) d (branches_done x bs d)
+      branches_touch no_else round looks d = touches_none round looks d
+      branches_touch (otherwise s) round looks d = body_touches s round looks d
+      branches_touch (branch (decided true) s bs) round looks d = body_touches s round looks d
+      branches_touch (branch (decided false) s bs) round looks d = branches_touch bs round looks d
+      branches_touch (branch t s bs) round looks d =
+          touches_fewer round (test_looks looks t) (touches_either (is_met (sees x d) t) (effect (sees x d) s) (branches_effect (sees x d) bs) (variables_after (sees x d) s) (branches_variables (sees x d) bs) d (body_touches s (round ++ test_looks looks t) looks d) (branches_touch bs (round ++ test_looks looks t) looks d))
+
+      alternatives_touch : (alts : Alternatives) (value : List ℕ) (round : List Sight) (looks : Looks) (d : Done) → Touches round looks (alternatives_look round looks alts) d (alternatives_done x value alts d)
+      alternatives_touch (others s) value round looks d = body_touches s round looks d
+      alternatives_touch (alternative choices s alts) value round looks d = touches_either (list_any (same value) choices) (effect (sees x d) s) (alternatives_effect (sees x d) value alts) (variables_after (sees x d) s) (alternatives_variables (sees x d) value alts) d (body_touches s round looks d) (alternatives_touch alts value round looks d)
+
+  -- ---- what is known of both runs
+
+  record Known (looks : Looks) (d d' : Done) : Type 0 where
+    as_many : length d.variables ≡ length d'.variables
+    at : (t : Target) → Agree a b (looks t) → held d t ≡ held d' t
+
+  of_elements : {looks : Looks} {d d' : Done} → Known looks d d' → (e : ℕ) → Agree a b (looks (element e)) → slice_index d.variables e ≡ slice_index d'.variables e
+  of_elements K e g = let h = K.at (element e) g in cc
+
+  known_place : (round sights : List Sight) {looks : Looks} {d d' : Done} (p x y : ℕ) → (Agree a b sights → x ≡ y) → Known looks d d' → Known (replaced (driver p) (round ++ sights) looks) (place_done p x d) (place_done p y d')
+  known_place round sights {looks} {d} {d'} p x y e K = record { as_many = K.as_many; at = at }
+    where
+      go : (q : ℕ) (same : Bool) → Agree a b (cond same (round ++ sights) (looks (driver q))) → or_else (cond same (Some x) None) (d.entered q) ≡ or_else (cond same (Some y) None) (d'.entered q)
+      go q true g = ap (λ (n : ℕ). Some n) (e (agree_right a b round sights g))
+      go q false g = K.at (driver q) g
+
+      at : (t : Target) → Agree a b (replaced (driver p) (round ++ sights) looks t) → held (place_done p x d) t ≡ held (place_done p y d') t
+      at (driver q) g = go q (p == q) g
+      at (element c) g = K.at (element c) g
+
+  known_element : (round sights : List Sight) {looks : Looks} {d d' : Done} (c x y : ℕ) → (Agree a b sights → x ≡ y) → Known looks d d' → Known (replaced (element c) (round ++ sights) looks) (element_done c x d) (element_done c y d')
+  known_element round sights {looks} {d} {d'} c x y e K = record { as_many = length-set d.variables c x ∙ K.as_many ∙ sym (length-set d'.variables c y); at = at }
+    where
+      go : (k : ℕ) (same : Bool) → c == k ≡ same → Agree a b (cond same (round ++ sights) (looks (element k))) → slice_index (slice_set d.variables c x) k ≡ slice_index (slice_set d'.variables c y) k
+      go k true is g =
+          let here : c ≡ k = eqb-true c k is in
+          ap (λ (n : ℕ). slice_index (slice_set d.variables c x) n) (sym here) ∙ set_same d.variables d'.variables c x K.as_many
+          ∙ ap (λ (n : ℕ). slice_index (slice_set d'.variables c n) c) (e (agree_right a b round sights g)) ∙ ap (λ (n : ℕ). slice_index (slice_set d'.variables c y) n) here
+      go k false is g = get_or-set_other d.variables c k x 0 (other_element c k is) ∙ of_elements K k g ∙ sym (get_or-set_other d'.variables c k y 0 (other_element c k is))
+
+      at : (t : Target) → Agree a b (replaced (element c) (round ++ sights) looks t) → held (element_done c x d) t ≡ held (element_done c y d') t
+      at (driver q) g = K.at (driver q) g
+      at (element k) g = ap (λ (n : ℕ). Some n) (go k (c == k) refl g)
+
+  known_places : (round : List Sight) (ps : List ℕ) {ls : List (List Sight)} {xs ys : List ℕ} {looks : Looks} {d d' : Done} → Alike a b ls xs ys → Known looks d d' → Known (put driver round ps ls looks) (places_done ps xs d) (places_done ps ys d')
+  known_places round [] {d = d} {d' = d'} h K = record { as_many = K.as_many; at = λ t g. held_none d d.variables t ∙ K.at t g ∙ sym (held_none d' d'.variables t) }
+  known_places round (p ∷ ps) {ls} {xs} {ys} {looks} {d} {d'} h K =
+      let more = known_places round ps (alike_drop a b 1 h) (known_place round (slice_index_or ls 0 []) p (slice_index xs 0) (slice_index ys 0) (alike_first a b 0 h) K) in
+      record { as_many = more.as_many; at = λ t g. held_places p ps xs d t ∙ more.at t g ∙ sym (held_places p ps ys d' t) }
+
+  known_elements : (round : List Sight) (es : List ℕ) {ls : List (List Sight)} {xs ys : List ℕ} {looks : Looks} {d d' : Done} → Alike a b ls xs ys → Known looks d d' → Known (put element round es ls looks) (elements_done es xs d) (elements_done es ys d')
+  known_elements round [] {d = d} {d' = d'} h K = record { as_many = K.as_many; at = λ t g. held_none d d.variables t ∙ K.at t g ∙ sym (held_none d' d'.variables t) }
+  known_elements round (e ∷ es) {ls} {xs} {ys} h K =
+      let more = known_elements round es (alike_drop a b 1 h) (known_element round (slice_index_or ls 0 []) e (slice_index xs 0) (slice_index ys 0) (alike_first a b 0 h) K) in
+      record { as_many = more.as_many; at = more.at }
+
+  -- where the conditions round two branches differ, neither run has touched the target
+  apart : {round r r1 r2 : List Sight} {o o1 o' o2 : Option ℕ} → (Agree a b round → ⊥) → Touched round r r1 o o1 → Touched round r r2 o' o2 → (Agree a b r → o ≡ o') → Agree a b r1 → Agree a b r2 → o1 ≡ o2
+  apart never (inl c) k K g g' = absurd (never (c g))
+  apart never (inr h) (inl c) K g g' = absurd (never (c g'))
+  apart never (inr h) (inr k) K g g' = h.1 ∙ K (h.0 g) ∙ sym k.1
+
+  known_either : (m n : Bool) (round : List Sight) {looks l1 l2 : Looks} (f g f' g' : Entries) (v w v' w' : List ℕ) (d d' : Done) → (Agree a b round → m ≡ n) → Known looks d d'
+      → Touches round looks l1 d (record { entered = later_over f d.entered; variables = v }) → Touches round looks l1 d' (record { entered = later_over f' d'.entered; variables = v' })
+      → Touches round looks l2 d (record { entered = later_over g d.entered; variables = w }) → Touches round looks l2 d' (record { entered = later_over g' d'.entered; variables = w' })
+      → Known l1 (record { entered = later_over f d.entered; variables = v }) (record { entered = later_over f' d'.entered; variables = v' })
+      → Known l2 (record { entered = later_over g d.entered; variables = w }) (record { entered = later_over g' d'.entered; variables = w' })
+      → Known (λ t. l1 t ++ l2 t) (either_done m f g v w d) (either_done n f' g' v' w' d')
+  known_either true true round {l1 = l1} {l2 = l2} f g f' g' v w v' w' d d' e K h h' k k' A B = record { as_many = A.as_many; at = λ t s. A.at t (agree_left a b (l1 t) (l2 t) s) }
+  known_either false false round {l1 = l1} {l2 = l2} f g f' g' v w v' w' d d' e K h h' k k' A B = record { as_many = B.as_many; at = λ t s. B.at t (agree_right a b (l1 t) (l2 t) s) }
+  known_either true false round {l1 = l1} {l2 = l2} f g f' g' v w v' w' d d' e K h h' k k' A B = record {
+    as_many = h.as_many ∙ K.as_many ∙ sym k'.as_many;
+    at = λ t s. apart (λ r. let x = e r in cc) (h.at t) (k'.at t) (K.at t) (agree_left a b (l1 t) (l2 t) s) (agree_right a b (l1 t) (l2 t) s);
+  }
+  known_either false true round {l1 = l1} {l2 = l2} f g f' g' v w v' w' d d' e K h h' k k' A B = record {
+    as_many = k.as_many ∙ K.as_many ∙ sym h'.as_many;
+    at = λ t s. apart (λ r. let x = e r in cc) (k.at t) (h'.at t) (K.at t) (agree_right a b (l1 t) (l2 t) s) (agree_left a b (l1 t) (l2 t) s);
+  }
+
+  mutual
+    stmt_known : (s : Stmt) (round : List Sight) (looks : Looks) (d d' : Done) → Known looks d d' → Known (stmt_looks round looks s) (stmt_done a s d) (stmt_done b s d')
+    stmt_known null_of round looks d d' K = record { as_many = K.as_many; at = λ t g. held_none d d.variables t ∙ K.at t g ∙ sym (held_none d' d'.variables t) }
+    stmt_known (assign places v) round looks d d' K = known_places round places (value_alike a b looks d.variables d'.variables (of_elements K) v) K
+    stmt_known (set es v) round looks d d' K = known_elements round es (value_alike a b looks d.variables d'.variables (of_elements K) v) K
+    stmt_known (if_of bs) round looks d d' K = branches_known bs round looks d d' K
+    stmt_known (case_of v alts) round looks d d' K =
+        alternatives_known alts (value_of (sees a d) v) (value_of (sees b d') v) (round ++ whole (value_looks looks v)) looks d d'
+        (λ g. alike_whole a b (value_alike a b looks d.variables d'.variables (of_elements K) v) (agree_right a b round (whole (value_looks looks v)) g)) K
+
+    body_known : (s : Stmts) (round : List Sight) (looks : Looks) (d d' : Done) → Known looks d d' → Known (body_looks round looks s) (body_done a s d) (body_done b s d')
+    body_known done round looks d d' K = record { as_many = K.as_many; at = λ t g. held_none d d.variables t ∙ K.at t g ∙ sym (held_none d' d'.variables t) }
+    body_known (step s rest) round looks d d' K =
+        let more = body_known rest round (stmt_looks round looks s) (stmt_done a s d) (stmt_done b s d') (stmt_known s round looks d d' K) in
+        record { as_many = more.as_many; at = λ t g. held_next a s rest d t ∙ more.at t g ∙ sym (held_next b s rest d' t) }
+
+    branches_known : (bs : Branches) (round : List Sight) (looks : Looks) (d d' : Done) → Known looks d d' → Known (branches_look round looks bs) (branches_done a bs d) (branches_done b bs d')
+    branches_known no_else round looks d d' K = record { as_many = K.as_many; at = λ t g. held_none d d.variables t ∙ K.at t g ∙ sym (held_none d' d'.variables t) }
+    branches_known (otherwise s) round looks d d' K = body_known s round looks d d' K
+    branches_known (branch (decided true) s bs) round looks d d' K = body_known s round looks d d' K
+    branches_known (branch (decided false) s bs) round looks d d' K = branches_known bs round looks d d' K
+    branches_known (branch t s bs) round looks d d' K =
+        let r = round ++ test_looks looks t in
+        known_either (is_met (sees a d) t) (is_met (sees b d') t) r
+        (effect (sees a d) s) (branches_effect (sees a d) bs) (effect (sees b d') s) (branches_effect (sees b d') bs)
+        (variables_after (sees a d) s) (branches_variables (sees a d) bs) (variables_after (sees b d') s) (branches_variables (sees b d') bs)
+        d d' (λ g. test_alike a b looks d.variables d'.variables (of_elements K) t (agree_right a b round (test_looks looks t) g)) K
+        (body_touches a s r looks d) (body_touches b s r looks d') (branches_touch a bs r looks d) (branches_touch b bs r looks d')
+        (body_known s r looks d d' K) (branches_known bs r looks d d' K)
+
+    alternatives_known : (alts : Alternatives) (value value' : List ℕ) (round : List Sight) (looks : Looks) (d d' : Done) → (Agree a b round → value ≡ value') → Known looks d d'
+        → Known (alternatives_look round looks alts) (alternatives_done a value alts d) (alternatives_done b value' alts d')
+    alternatives_known (others s) value value' round looks d d' e K = body_known s round looks d d' K
+    alternatives_known (alternative choices s alts) value value' round looks d d' e K =
+        known_either (list_any (same value) choices) (list_any (same value') choices) round
+        (effect (sees a d) s) (alternatives_effect (sees a d) value alts) (effect (sees b d') s) (alternatives_effect (sees b d') value' alts)
+        (variables_after (sees a d) s) (alternatives_variables (sees a d) value alts) (variables_after (sees b d') s) (alternatives_variables (sees b d') value' alts)
+        d d' (λ g. ap (λ (v : List ℕ). list_any (same v) choices) (e g)) K
+        (body_touches a s round looks d) (body_touches b s round looks d') (alternatives_touch a alts value round looks d) (alternatives_touch b alts value' round looks d')
+        (body_known s round looks d d' K) (alternatives_known alts value value' round looks d d' e K)
+
+pub each_looks : EachLooks
+each_looks body place a b l h =
+    sym (or_else-none (effect a body place)) ∙ known.at (driver place) (record { at = h }) ∙ or_else-none (effect b body place)
+  where
+    start : (t : Target) → Agree a b (first_looks t) → held (record { entered = no_entries; variables = a.variables }) t ≡ held (record { entered = no_entries; variables = b.variables }) t
+    start (driver p) g = refl
+    start (element e) g = ap (λ (n : ℕ). Some n) (g.at (element_kept e) (Contains-first (element_kept e) []))
+
+    known : Known a b (body_looks [] first_looks body) (body_done a body (record { entered = no_entries; variables = a.variables })) (body_done b body (record { entered = no_entries; variables = b.variables }))
+    known = body_known a b body [] first_looks _ _ (record { as_many = l; at = start })

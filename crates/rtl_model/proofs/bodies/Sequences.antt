@@ -9,13 +9,14 @@ use Rattle.rtl_model.specs.bodies.Reads.{stmt_reads, reads, stmt_events, events}
 use Rattle.rtl_model.specs.bodies.Assigns.{Target, is_element, stmt_must_assign, must_assign}
 use Rattle.rtl_model.specs.bodies.Stored.{stmt_stores, stores_element}
 use Rattle.rtl_model.specs.bodies.Fits.{Scope, Fits}
+use Rattle.rtl_model.specs.bodies.Looks.{Sight, Looks, stmt_looks, body_looks}
 use Rattle.rtl_model.specs.bodies.Laws.{EachLaterReplaces, SequencesAddUp}
 
-or_else-none : (o : Option ℕ) → or_else o None ≡ o
+pub or_else-none : (o : Option ℕ) → or_else o None ≡ o
 or_else-none None = refl
 or_else-none (Some v) = refl
 
-or_else-assoc : (a b c : Option ℕ) → or_else (or_else a b) c ≡ or_else a (or_else b c)
+pub or_else-assoc : (a b c : Option ℕ) → or_else (or_else a b) c ≡ or_else a (or_else b c)
 or_else-assoc None b c = refl
 or_else-assoc (Some v) b c = refl
 
@@ -66,6 +67,10 @@ stores-followed_by e (step s rest) t =
     ap (λ (b : Bool). stmt_stores e s || (not (stmt_must_assign (is_element e) s) && b)) (stores-followed_by e rest t)
     ∙ stores_assoc (stmt_stores e s) (stmt_must_assign (is_element e) s) (stores_element e rest) (must_assign (is_element e) rest) (stores_element e t)
 
+looks-followed_by : (s t : Stmts) (round : List Sight) (so_far : Looks) → body_looks round so_far (followed_by s t) ≡ body_looks round (body_looks round so_far s) t
+looks-followed_by done t round so_far = refl
+looks-followed_by (step s rest) t round so_far = looks-followed_by rest t round (stmt_looks round so_far s)
+
 parts_fit : (scope : Scope) (s t : Stmts) → Fits scope (followed_by s t) → Fits scope s × Fits scope t
 parts_fit scope done t h = (tt, h)
 parts_fit scope (step s rest) t h = let g = parts_fit scope rest t h.1 in ((h.0, g.0), g.1)
@@ -80,5 +85,6 @@ sequences_add_up s t = record {
   events_of_both = events-followed_by s t;
   assigns_either = λ these. must_assign-followed_by these s t;
   stores_either = λ e. stores-followed_by e s t;
+  looks_follow = looks-followed_by s t;
   fits = λ scope. (parts_fit scope s t, whole_fits scope s t);
 }

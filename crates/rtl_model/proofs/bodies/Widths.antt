@@ -3,7 +3,7 @@ use Rattle.std.proofs.Common.{◌≡◌, ℕ, Bool, true, false, List, length, s
 use Rattle.std.proofs.lemmas.List.{length-map, length-replicate}
 use Rattle.std.proofs.lemmas.Option.{slice_get_within}
 use Rattle.vhdl_values.specs.declared.scalar.Nine.{Nine}
-use Rattle.vhdl_values.specs.declared.scalar.Nine.TheVariants.{X}
+use Rattle.vhdl_values.specs.declared.scalar.Nine.TheVariants.{X, Zero}
 use Rattle.vhdl_values.specs.Scalar.{code_of}
 use Rattle.vhdl_values.specs.Logic.{not_of}
 use Rattle.vhdl_values.specs.Shifts.{counted_length}
@@ -42,7 +42,7 @@ module _ (scope : Scope) (seen : Seen) where
       let q = length-elements_of e h.2 in
       length-operated op (elements_of seen d) (elements_of seen e) (rw (p, q) h.3)
       ∙ λ i. operated_width op (p i) (q i)
-  length-elements_of (counted op count e) h = length-counted_of op count (elements_of seen e) ∙ ap (counted_length op count) (length-elements_of e h.1)
+  length-elements_of (counted op count e) h = length-counted_of Zero op count (elements_of seen e) ∙ ap (counted_length op count) (length-elements_of e h.1)
 
   pub length-value_of : (t : ElementType) (v : Value) → FitsAs scope t v → length (value_of seen v) ≡ value_width v
   length-value_of nine_valued (elements e) h = length-map (elements_of seen e) code_of ∙ length-elements_of e h

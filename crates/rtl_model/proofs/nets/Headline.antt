@@ -1,18 +1,21 @@
 -- Flat netlists that are accepted simulate the synchronous machine; and a process that stores no variable forgets
 -- them all.
-use Rattle.std.proofs.Common.{◌≡◌, ℕ, suc, ◌-◌, ◌<◌, ◌≤◌, true, false, List, [], ◌∷◌, length, map, slice_index, Option, Some, refl, sym, ap, ◌∙◌, arith, length-append, ◌⊎◌, inl, inr}
+use Rattle.std.proofs.Common.{◌≡◌, ℕ, suc, ◌-◌, ◌<◌, ◌≤◌, true, false, List, [], ◌∷◌, length, map, slice_index, Some, refl, sym, ap, ◌∙◌, arith, length-append, ◌⊎◌, inl, inr}
 use Rattle.std.specs.List.{range_with_len}
 use Rattle.std.proofs.lemmas.List.{get_or_past}
 use Rattle.std.proofs.lemmas.Bool.{cases_lt, lt-ltb}
 use Rattle.rtl_model.specs.bodies.Effect.{effect}
+use Rattle.rtl_model.specs.bodies.Looks.{Sight, net_now, net_before, element_kept, seen_at}
+use Rattle.rtl_model.specs.bodies.Laws.{IsRead}
+use Rattle.rtl_model.specs.bodies.Values.{Seen}
 use Rattle.rtl_model.specs.bodies.Stored.{stores_element}
 use Rattle.rtl_model.specs.nets.FlatNetlist.{FlatVariable, element_starts}
 use Rattle.rtl_model.specs.nets.CoreNetlist.{core_netlist, element_number, raised_by, stores_one, seen_from}
 use Rattle.rtl_model.specs.nets.Laws.{EachForgets, EachStateIsInRange, SettlesAsMachine, EachSimulatesTheMachine, EachHasOneSolution}
 use Rattle.rtl_model.specs.simulation.Cycle.{State}
 use Rattle.rtl_model.specs.simulation.Moments.{Begun}
-use Rattle.rtl_model.specs.simulation.Levels.{AreLevels}
-use Rattle.rtl_model.proofs.bodies.Looking.{looks_at_reads}
+use Rattle.rtl_model.specs.simulation.Levels.{IsBound}
+use Rattle.rtl_model.proofs.bodies.LooksRead.{looks_at_reads}
 use Rattle.rtl_model.proofs.nets.InRange.{keeps_range}
 use Rattle.rtl_model.proofs.nets.Connected.{connected_is_elaborated}
 use Rattle.rtl_model.proofs.nets.SourcesInRange.{sources_keep_range}
@@ -55,9 +58,16 @@ each_forgets inputs p none before now values l =
             absurd cc
         go (inr m) = get_or_past values e 0 (omega arith) ∙ sym (get_or_past (element_starts p.variables) e 0 m)
 
-    same : (k : ℕ) → effect (record { before = before; now = now; variables = values }) p.body k ≡ effect (seen_from p before now) p.body k
-    same k = looks_at_reads p.body (record { before = before; now = now; variables = values }) (seen_from p before now)
-        (record { now = λ n h. refl; before = λ n h. refl; as_many = l; variables = stored }) k
+    seen : Seen
+    seen = record { before = before; now = now; variables = values }
+
+    at : (sight : Sight) → IsRead p.body sight → seen_at seen sight ≡ seen_at (seen_from p before now) sight
+    at (net_now n) r = refl
+    at (net_before n) r = refl
+    at (element_kept e) r = stored e r
+
+    same : (k : ℕ) → effect seen p.body k ≡ effect (seen_from p before now) p.body k
+    same k = looks_at_reads p.body seen (seen_from p before now) l at k
 
 -- ---- the headline
 
@@ -68,10 +78,10 @@ each_state_is_in_range net in_range connected =
 pub each_simulates_the_machine : EachSimulatesTheMachine
 each_simulates_the_machine net sound stimulus = record { settles = settles; begins = begins; one_run = one_machine_run (core_netlist net) (connected_is_elaborated net sound.in_range sound.connected) sound.accepted stimulus }
   where
-    settles : (levels : List (Option ℕ)) (greatest : ℕ) → AreLevels (core_netlist net) levels greatest
-        → (m : ℕ) (s : State) → Begun (core_netlist net) stimulus m s → SettlesAsMachine net greatest stimulus m s
-    settles levels greatest V m s begun =
-        let (k, settles, bounded, at_start) = settles_in_bound (core_netlist net) levels greatest (connected_is_elaborated net sound.in_range sound.connected) sound.accepted V stimulus m s begun in
+    settles : (greatest most : ℕ) → IsBound (core_netlist net) greatest most
+        → (m : ℕ) (s : State) → Begun (core_netlist net) stimulus m s → SettlesAsMachine net greatest most stimulus m s
+    settles greatest most V m s begun =
+        let (k, settles, bounded, at_start) = settles_in_bound (core_netlist net) greatest most (connected_is_elaborated net sound.in_range sound.connected) sound.accepted V stimulus m s begun in
         record {
           deltas = k;
           settles = settles;

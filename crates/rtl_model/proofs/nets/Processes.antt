@@ -12,8 +12,9 @@ use Rattle.rtl_model.specs.bodies.Values.{Seen}
 use Rattle.rtl_model.specs.bodies.Tests.{edge_at}
 use Rattle.rtl_model.specs.bodies.Effect.{effect, effect_of}
 use Rattle.rtl_model.specs.bodies.Reads.{reads, events}
+use Rattle.rtl_model.specs.bodies.Looks.{Sight, net_now, net_before, element_kept, seen_at, looks_of, looked_nets}
 use Rattle.rtl_model.specs.bodies.Kinds.{ResetPart, Clocking, clocking, IsClockedAlone, IsClockedWithReset}
-use Rattle.rtl_model.specs.bodies.Laws.{reset_holds, entry_of_reset}
+use Rattle.rtl_model.specs.bodies.Laws.{IsRead, reset_holds, entry_of_reset}
 use Rattle.rtl_model.specs.nets.FlatNetlist as flat
 use Rattle.rtl_model.specs.nets.FlatNetlist.{FlatNetlist, FlatProcess, FlatDriver, targets}
 use Rattle.rtl_model.specs.nets.CoreNetlist.{seen_from, part_effect, core_reset, core_kind, acting_branch, core_process, core_edges, core_netlist, drives_net}
@@ -23,7 +24,8 @@ use Rattle.rtl_model.specs.simulation.Elaborated.{HasBodies}
 use Rattle.rtl_model.proofs.basics.Lists.{Contains-none, is_in, contains_in}
 use Rattle.rtl_model.proofs.simulation.Rows.{get_or-map}
 use Rattle.rtl_model.proofs.bodies.Assigned.{each_run_assigns}
-use Rattle.rtl_model.proofs.bodies.Looking.{looks_at_reads}
+use Rattle.rtl_model.proofs.bodies.Looking.{each_looks}
+use Rattle.rtl_model.proofs.bodies.LooksRead.{looks_are_read, looks_at_reads, looked_net, net_looked}
 use Rattle.rtl_model.proofs.bodies.Clocking.{clocked_is, each_kind_is_as_said, follows_its_edge, resets_read_nothing}
 
 -- ---- a process of the netlist
@@ -48,12 +50,20 @@ module _ (inputs : List ℕ) (p : FlatProcess) where
   abbrev clocked : Option Clocking
   clocked = clocking inputs p.body
 
-  -- two runs from the initial values that see the same nets, or the same events
+  -- two runs from the initial values that see the same nets, and the same events
+  alike_entries : (part : Stmts) (before now before' now' : List ℕ) → AgreeOn (reads part) now now' → AgreeOn (events part) before before'
+      → (place : ℕ) → effect (seen_from p before now) part place ≡ effect (seen_from p before' now') part place
+  alike_entries part before now before' now' a b = looks_at_reads part (seen_from p before now) (seen_from p before' now') refl at
+    where
+      at : (sight : Sight) → IsRead part sight → seen_at (seen_from p before now) sight ≡ seen_at (seen_from p before' now') sight
+      at (net_now n) r = a n r
+      at (net_before n) r = b n r
+      at (element_kept e) r = refl
+
   alike_parts : (part : Stmts) (before now before' now' : List ℕ) → AgreeOn (reads part) now now' → AgreeOn (events part) before before'
       → part_effect p part before now ≡ part_effect p part before' now'
   alike_parts part before now before' now' a b =
-      same_rows part (length p.drivers) (seen_from p before now) (seen_from p before' now')
-      (looks_at_reads part (seen_from p before now) (seen_from p before' now') (record { now = a; before = b; as_many = refl; variables = λ e t. refl }))
+      same_rows part (length p.drivers) (seen_from p before now) (seen_from p before' now') (alike_entries part before now before' now' a b)
 
   without_events : (part : Stmts) → events part ≡ [] → (before before' : List ℕ) → AgreeOn (events part) before before'
   without_events part e before before' n h = absurd (Contains-none n (subst (λ (ns : List ℕ). Contains ns n) e h))
@@ -73,21 +83,35 @@ module _ (inputs : List ℕ) (p : FlatProcess) where
   combinational_is None [] h = refl
   combinational_is _ _ h = absurd cc
 
-  effect_reads : (before now before' now' : List ℕ) → (core_process inputs p).kind ≡ c.Combinational → AgreeOn (core_process inputs p).reads now now'
-      → (core_process inputs p).effect before now ≡ (core_process inputs p).effect before' now'
-  effect_reads before now before' now' h a =
-      alike_parts p.body before now before' now' a (without_events p.body (combinational_is clocked (events p.body) h) before before')
+  entry_looks : (place : ℕ) (before now before' now' : List ℕ) → (core_process inputs p).kind ≡ c.Combinational → place < length (targets p) → AgreeOn (looked_nets p.body place) now now'
+      → get_or ((core_process inputs p).effect before now) place None ≡ get_or ((core_process inputs p).effect before' now') place None
+  entry_looks place before now before' now' h l a =
+      let l' : place < length p.drivers = omega (arith, length-map p.drivers (λ (d : FlatDriver). d.net)) in
+      at_row p.body (length p.drivers) place (seen_from p before now) l'
+      ∙ each_looks p.body place (seen_from p before now) (seen_from p before' now') refl (λ sight k. at sight k (looks_are_read p.body place sight k))
+      ∙ sym (at_row p.body (length p.drivers) place (seen_from p before' now') l')
+    where
+      at : (sight : Sight) → Contains (looks_of p.body place) sight → IsRead p.body sight → seen_at (seen_from p before now) sight ≡ seen_at (seen_from p before' now') sight
+      at (net_now n) k r = a n (net_looked (looks_of p.body place) n k)
+      at (net_before n) k r = without_events p.body (combinational_is clocked (events p.body) h) before before' n r
+      at (element_kept e) k r = refl
+
+  nets_are_read : (place n : ℕ) → Contains (looked_nets p.body place) n → Contains (reads p.body) n
+  nets_are_read place n k = looks_are_read p.body place (net_now n) (looked_net (looks_of p.body place) n k)
+
+  branch_event : (k : Clocking) → clocking inputs p.body ≡ Some k → events k.branch ≡ []
+  branch_event k e = go (clocked_is inputs p.body k e)
+    where
+      go : IsClockedAlone p.body k ⊎ IsClockedWithReset inputs p.body k → events k.branch ≡ []
+      go (inl x) = x.no_event
+      go (inr x) = x.no_event
 
   branch_reads : (v w : List ℕ) → AgreeOn (core_process inputs p).acting_reads v w → (core_process inputs p).acting_effect v ≡ (core_process inputs p).acting_effect w
   branch_reads v w a = go clocked refl a
     where
-      branch_event : (k : Clocking) → IsClockedAlone p.body k ⊎ IsClockedWithReset inputs p.body k → events k.branch ≡ []
-      branch_event k (inl x) = x.no_event
-      branch_event k (inr x) = x.no_event
-
       go : (o : Option Clocking) → clocked ≡ o → AgreeOn (reads (acting_branch o)) v w → part_effect p (acting_branch o) v v ≡ part_effect p (acting_branch o) w w
       go None e a = refl
-      go (Some k) e a = alike_parts k.branch v v w w a (without_events k.branch (branch_event k (clocked_is inputs p.body k e)) v w)
+      go (Some k) e a = alike_parts k.branch v v w w a (without_events k.branch (branch_event k e) v w)
 
   -- ---- clocked processes
 
@@ -153,16 +177,7 @@ module _ (inputs : List ℕ) (p : FlatProcess) where
       ∙ (λ i. clocked_entry (c.resets (x.reset_is i) (slice_index now)) (core_edges (x.edge_is i) (slice_index before (x.clock_is i)) (slice_index now (x.clock_is i))) (c.reset_entry (x.reset_is i) place) (get_or (part_effect p (acting_branch (sym x.is i)) now now) place None))
     where
       acts : (k : Clocking) → clocking inputs p.body ≡ Some k → effect (seen_from p now now) k.branch place ≡ effect (seen_from p before now) k.branch place
-      acts k e = looks_at_reads k.branch (seen_from p now now) (seen_from p before now) (record {
-        now = λ n h. refl;
-        before = without_events k.branch (no_event (clocked_is inputs p.body k e)) now before;
-        as_many = refl;
-        variables = λ e t. refl;
-      }) place
-        where
-          no_event : IsClockedAlone p.body k ⊎ IsClockedWithReset inputs p.body k → events k.branch ≡ []
-          no_event (inl y) = y.no_event
-          no_event (inr y) = y.no_event
+      acts k e = alike_entries k.branch now now before now (λ n h. refl) (without_events k.branch (branch_event k e) now before) place
 
       go : (x : IsAtEdge clock edge reset) → (place < length p.drivers) ⊎ (length p.drivers ≤ place)
           → get_or (part_effect p p.body before now) place None
@@ -233,7 +248,8 @@ each_kind_is_of_body inputs p = record {
 pub has_bodies : (net : FlatNetlist) → HasBodies (core_netlist net)
 has_bodies net = record {
   assigned = λ p place before now is l only h. of_assigned p place before now l only h;
-  effect_reads = λ p before now before' now' is a. of_effect p before now before' now' is.1 a;
+  entry_looks = λ p place before now before' now' is l a. of_entry p place before now before' now' is.1 l a;
+  looks_are_read = of_looks;
   branch_reads = λ p clock edge v w is a. of_branch p v w a;
   clocked_acts = λ p clock place edge before now is. of_clocked p clock place edge is.0 before now is.1;
   reset_is_input = of_reset;
@@ -244,9 +260,12 @@ has_bodies net = record {
         → IsTrue ((c.process (core_netlist net) p).assigns (c.target (core_netlist net) p place)) → IsSome (get_or ((c.process (core_netlist net) p).effect before now) place None)
     of_assigned p place before now = rw (process-core_net net p) (assigned net.inputs (flat.process_at net p) place before now)
 
-    of_effect : (p : ℕ) (before now before' now' : List ℕ) → (c.process (core_netlist net) p).kind ≡ c.Combinational → AgreeOn (c.process (core_netlist net) p).reads now now'
-        → (c.process (core_netlist net) p).effect before now ≡ (c.process (core_netlist net) p).effect before' now'
-    of_effect p before now before' now' = rw (process-core_net net p) (effect_reads net.inputs (flat.process_at net p) before now before' now')
+    of_entry : (p place : ℕ) (before now before' now' : List ℕ) → (c.process (core_netlist net) p).kind ≡ c.Combinational → c.HasPlace (core_netlist net) p place → AgreeOn ((c.process (core_netlist net) p).looks place) now now'
+        → get_or ((c.process (core_netlist net) p).effect before now) place None ≡ get_or ((c.process (core_netlist net) p).effect before' now') place None
+    of_entry p place before now before' now' = rw (process-core_net net p) (entry_looks net.inputs (flat.process_at net p) place before now before' now')
+
+    of_looks : (p place n : ℕ) → Contains ((c.process (core_netlist net) p).looks place) n → Contains (c.process (core_netlist net) p).reads n
+    of_looks p place n = rw (process-core_net net p) (nets_are_read net.inputs (flat.process_at net p) place n)
 
     of_branch : (p : ℕ) (v w : List ℕ) → AgreeOn (c.process (core_netlist net) p).acting_reads v w
         → (c.process (core_netlist net) p).acting_effect v ≡ (c.process (core_netlist net) p).acting_effect w

@@ -2,7 +2,7 @@
 use Rattle.std.proofs.Common.{◌≡◌, ℕ, false, refl}
 use Rattle.std.proofs.lemmas.Bool.{eq-eqb}
 use Rattle.vhdl_values.specs.Scalar.{code_of, value_of_code}
-use Rattle.rtl_model.specs.simulation.Netlist.{Edge, Rising, Falling, To1, To0}
+use Rattle.rtl_model.specs.simulation.Netlist.{Edge, Rising}
 use Rattle.rtl_model.specs.simulation.Elaborated.{HasValues}
 use Rattle.rtl_model.specs.nets.FlatNetlist.{FlatNetlist}
 use Rattle.rtl_model.specs.nets.CoreNetlist.{core_edges, core_netlist}

@@ -1,10 +1,11 @@
--- What an accepted netlist has, each fault turned round.
-use Rattle.std.proofs.Common.{◌≡◌, ℕ, ◌≤◌, true, false, List, [], ◌∷◌, length, refl, arith, ◌⊎◌, inl, inr, Contains, IsTrue, ◌==◌}
+-- What an accepted netlist has, each fault but loops turned round.
+use Rattle.std.proofs.Common.{◌≡◌, ℕ, ◌<◌, ◌≤◌, true, false, List, [], ◌∷◌, length, refl, arith, ◌⊎◌, inl, inr, subst, Contains, IsTrue, ◌==◌}
 use Rattle.std.specs.List.{list_any}
-use Rattle.std.proofs.lemmas.Bool.{cases_Bool}
+use Rattle.std.proofs.lemmas.Bool.{cases_Bool, cases_lt}
+use Rattle.std.proofs.lemmas.List.{get_or_past}
 use Rattle.std.proofs.lemmas.List.Elements.{Contains-get_or}
-use Rattle.rtl_model.specs.simulation.Netlist.{Edge, HasPlace, HasReset, IsClockedBy, IsCombinational, IsInput, Mixed, Netlist, process, Reset, Source, sources_of, target}
-use Rattle.rtl_model.specs.simulation.Accepted.{ClockAsData, ClockNotInput, EdgeNotSensitive, IsAccepted, IsLoop, Latch, Loop, MissingSensitivity, MixedProcess, TwoDrivers}
+use Rattle.rtl_model.specs.simulation.Netlist.{Clocked, Combinational, Edge, HasPlace, HasReset, IsClockedBy, IsCombinational, IsInput, Mixed, Netlist, no_process, Process, process, ProcessKind, Reset, Source, sources_of, target}
+use Rattle.rtl_model.specs.simulation.Accepted.{ClockAsData, ClockNotInput, EdgeNotSensitive, HasNoLoop, IsAccepted, Latch, Loop, MissingSensitivity, MixedProcess, TwoDrivers}
 use Rattle.rtl_model.proofs.simulation.Decisions.{is_contained}
 
 pub record Faultless (net : Netlist) : Type 0 where
@@ -17,7 +18,6 @@ pub record Faultless (net : Netlist) : Type 0 where
   pub no_clock_as_data : (p clock q other : ℕ) (edge edge' : Edge) → IsClockedBy net p clock edge → IsClockedBy net q other edge' → Contains (process net p).acting_reads other → ⊥
   pub reads_wake : (p n : ℕ) → IsCombinational net p → Contains (process net p).reads n → Contains (process net p).wakes n
   pub no_latch : (p place : ℕ) → IsCombinational net p → HasPlace net p place → IsTrue ((process net p).assigns (target net p place))
-  pub no_loop : (ps : List ℕ) → IsLoop net ps → ⊥
 
 module _ (net : Netlist) (A : IsAccepted net) where
   one : (n : ℕ) → length (sources_of net n) ≤ 1
@@ -59,5 +59,27 @@ module _ (net : Netlist) (A : IsAccepted net) where
     no_clock_as_data = λ p clock q other edge edge' is is' reads. A (ClockAsData p other) ((q, (edge', is')), inl (clock, (edge, is), reads));
     reads_wake = λ p n c reads. wakes p n (λ none. A (MissingSensitivity p n) (c, reads, none));
     no_latch = latch;
-    no_loop = λ ps loop. A (Loop ps) loop;
   }
+
+pub no_loop : (net : Netlist) → IsAccepted net → HasNoLoop net
+no_loop net A ps loop = A (Loop ps) loop
+
+-- ---- kinds
+
+pub place_in_range : (net : Netlist) (p place : ℕ) → HasPlace net p place → p < length net.processes
+place_in_range net p place h = go (cases_lt p (length net.processes))
+  where
+    go : (p < length net.processes) ⊎ (length net.processes ≤ p) → p < length net.processes
+    go (inl l) = l
+    go (inr l) = let h' : place < 0 = subst (λ (q : Process). place < length q.drives) (get_or_past net.processes p no_process l) h in absurd (omega arith)
+
+pub kinds_below : (net : Netlist) (A : Faultless net) (p : ℕ) → p < length net.processes → IsCombinational net p ⊎ ((clock : ℕ) × (edge : Edge) × IsClockedBy net p clock edge)
+kinds_below net A p l = go (process net p).kind refl
+  where
+    go : (k : ProcessKind) → (process net p).kind ≡ k → IsCombinational net p ⊎ ((clock : ℕ) × (edge : Edge) × IsClockedBy net p clock edge)
+    go Combinational e = inl (l, e)
+    go (Clocked clock edge reset) e = inr (clock, edge, (reset, e))
+    go Mixed e = absurd (A.not_mixed p e)
+
+pub kinds : (net : Netlist) (A : Faultless net) (p place : ℕ) → HasPlace net p place → IsCombinational net p ⊎ ((clock : ℕ) × (edge : Edge) × IsClockedBy net p clock edge)
+kinds net A p place h = kinds_below net A p (place_in_range net p place h)

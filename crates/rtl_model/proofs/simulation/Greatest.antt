@@ -5,7 +5,6 @@ use Rattle.rtl_model.specs.simulation.Netlist.{Netlist}
 use Rattle.rtl_model.specs.simulation.Moments.{Takes, IsMost}
 use Rattle.rtl_model.specs.simulation.Elaborated.{IsElaborated}
 use Rattle.rtl_model.specs.simulation.Accepted.{IsAccepted}
-use Rattle.rtl_model.specs.simulation.Levels.{bound}
 use Rattle.rtl_model.specs.simulation.Laws.{OneGreatestCount}
 use Rattle.rtl_model.proofs.simulation.Orders.{every_order_is_one, one_number}
 use Rattle.rtl_model.proofs.simulation.Settling.{each_moment_comes, settles_in_bound}
@@ -48,13 +47,13 @@ one_most : (net : Netlist) (stimulus : ℕ → ℕ → ℕ) (last a b : ℕ) →
 one_most net stimulus last a b x y = let (m, l, take) = x.met in y.at_most m a l take
 
 pub one_greatest_count : OneGreatestCount
-one_greatest_count net levels greatest E A V stimulus last =
+one_greatest_count net greatest bounded E A V stimulus last =
     let (most, M) = greatest_to net E A stimulus last in
     (most, M, within most M, λ other O. let l = one_most net stimulus last other most O M in let k = one_most net stimulus last most other M O in omega arith)
   where
-    within : (most : ℕ) → IsMost net stimulus last most → most ≤ bound net greatest
+    within : (most : ℕ) → IsMost net stimulus last most → most ≤ bounded
     within most M =
         let (m, l, (t, (s, begun, to))) = M.met in
-        let (k, set, le, first) = settles_in_bound net levels greatest E A V stimulus m s begun in
+        let (k, set, le, first) = settles_in_bound net greatest bounded E A V stimulus m s begun in
         let same = one_number net s most k to.0 set in
         omega arith

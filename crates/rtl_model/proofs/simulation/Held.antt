@@ -1,21 +1,17 @@
--- What holds at the end of every cycle, and that a delta cycle keeps it and leaves fewer levels with transactions.
-use Rattle.std.proofs.Common.{◌==◌, ◌&&◌, ◌≡◌, ℕ, zero, suc, ◌+◌, ◌<◌, ◌≤◌, Bool, true, false, List, [], ◌∷◌, length, get_or, map, Option, Some, None, refl, sym, ap, ◌∙◌, arith, ◌⊎◌, inl, inr, subst, IsSome, Contains}
+-- What holds at the end of every cycle, and that a delta cycle keeps it and leaves fewer numbers with transactions.
+use Rattle.std.proofs.Common.{◌==◌, ◌≡◌, ℕ, zero, suc, ◌+◌, ◌<◌, ◌≤◌, Bool, true, false, List, [], ◌∷◌, length, get_or, map, Option, Some, None, refl, sym, ap, ◌∙◌, arith, ◌⊎◌, inl, inr, subst, IsSome, Contains}
 use Rattle.std.specs.List.{list_any}
-use Rattle.std.specs.Option.{is_some}
 use Rattle.std.proofs.lemmas.List.{length-map, get_or_past}
-use Rattle.std.proofs.lemmas.List.Elements.{Contains-get_or}
 use Rattle.std.proofs.lemmas.List.FromFn.{length-map-range_with_len}
-use Rattle.std.proofs.lemmas.Bool.{and_from, cases_lt, cases_Bool, cond-true, cond-false}
-use Rattle.rtl_model.proofs.basics.Lists.{Contains-none, any_at, any_true, Contains-first, none_contained, only_source}
+use Rattle.std.proofs.lemmas.Bool.{cases_lt, cases_Bool, cond-true, cond-false}
+use Rattle.rtl_model.proofs.basics.Lists.{Contains-none, any_at, Contains-first, none_contained, only_source}
 use Rattle.rtl_model.specs.basics.Valuations.{AgreeOn, clocked_entry, has_event}
-use Rattle.rtl_model.proofs.simulation.Faultless.{Faultless}
-use Rattle.rtl_model.proofs.simulation.Leveled.{Leveled}
-use Rattle.rtl_model.specs.simulation.Netlist.{Clocked, Combinational, Driver, Edge, HasPlace, Idle, IsClockedBy, IsCombinational, IsInput, ProcessKind, kind_reset, Mixed, Netlist, no_process, process, Process, Reset, reset_entry, reset_of, resets, Source, sources_of, target}
+use Rattle.rtl_model.proofs.simulation.Faultless.{kinds, kinds_below}
+use Rattle.rtl_model.proofs.simulation.Numbered.{CanAssign, Numbered, assigned, sole, driven_or_not}
+use Rattle.rtl_model.specs.simulation.Netlist.{Driver, Edge, HasPlace, Idle, IsClockedBy, IsCombinational, IsInput, Netlist, process, Process, Reset, reset_entry, reset_of, resets, Source, sources_of, target}
 use Rattle.rtl_model.specs.simulation.Cycle.{is_quiet, net_value, resumed_processes, source_value, State, after_update}
-use Rattle.rtl_model.specs.simulation.Levels.{has_late_reset, is_driver}
 use Rattle.rtl_model.specs.simulation.Machine.{entry_or, IsDriven}
 use Rattle.rtl_model.proofs.simulation.Order.{finished, waits, row_after, get_or-rows}
-use Rattle.rtl_model.proofs.simulation.Levels.{assigned, kinds, sole, driven_or_not, level_or, level_of, level_of_clocked, level_above_none, level_rises}
 use Rattle.rtl_model.proofs.simulation.Solution.{get_or-table, length-table}
 use Rattle.rtl_model.proofs.simulation.Rows.{transaction, value, out, driven_all_at, length-driven, driven_at, over_none, none_pending_at, quiet_from, resumed_at, event_differs, no_event_same}
 use Rattle.rtl_model.proofs.simulation.Deltas.{after_delta, after}
@@ -38,11 +34,10 @@ pub record IsFresh (net : Netlist) (u : State) : Type 0 where
   pub rows : length u.pending ≡ length net.processes
   pub none : (p place : ℕ) → transaction u p place ≡ None
 
--- after d delta cycles and later by b: processes with transactions are above level d, or clocked and without an event
-pub record IsAbove (net : Netlist) (levels : List (Option ℕ)) (greatest d b : ℕ) (s : State) : Type 0 where
-  pub combinational : (p place : ℕ) → IsCombinational net p → IsSome (transaction s p place) → d + 1 ≤ level_or levels p + b
-  pub clocked_event : (p place clock : ℕ) (edge : Edge) → IsClockedBy net p clock edge → HasPlace net p place → (d + 1 ≤ b) ⊎ (out s p place ≡ value s p place)
-  pub clocked_woken : (p place clock : ℕ) (edge : Edge) → IsClockedBy net p clock edge → IsSome (transaction s p place) → (d + 1 ≤ b) ⊎ ((has_late_reset net ≡ true) × (d ≤ greatest + b))
+-- after d delta cycles and later by b: processes with transactions have numbers above d, and so do nets that will change
+pub record IsAbove (net : Netlist) (L : Numbered net) (d b : ℕ) (s : State) : Type 0 where
+  pub runs : (p place : ℕ) → p < length net.processes → IsSome (transaction s p place) → d + 1 ≤ L.of_process p + b
+  pub changes : (p place : ℕ) → HasPlace net p place → (d + 1 ≤ L.of_net (target net p place) + b) ⊎ (out s p place ≡ value s p place)
 
 -- the cases of a clocked process's entry
 pub entry_none : (reset edge : Bool) (a b : Option ℕ) → reset ≡ false → edge ≡ false → clocked_entry reset edge a b ≡ None
@@ -61,14 +56,6 @@ some_is None t v h e = cc
 none_or_some : (o : Option ℕ) → (o ≡ None) ⊎ IsSome o
 none_or_some None = inl refl
 none_or_some (Some v) = inr refl
-
-pub kinds_below : (net : Netlist) (A : Faultless net) (p : ℕ) → p < length net.processes → IsCombinational net p ⊎ ((clock : ℕ) × (edge : Edge) × IsClockedBy net p clock edge)
-kinds_below net A p l = go (process net p).kind refl
-  where
-    go : (k : ProcessKind) → (process net p).kind ≡ k → IsCombinational net p ⊎ ((clock : ℕ) × (edge : Edge) × IsClockedBy net p clock edge)
-    go Combinational e = inl (l, e)
-    go (Clocked clock edge reset) e = inr (clock, edge, (reset, e))
-    go Mixed e = absurd (A.not_mixed p e)
 
 -- the transactions after the Runs of a cycle
 pub ran_awake : (net : Netlist) (u : State) (p place : ℕ) → IsFresh net u → p < length net.processes → waits u p ≡ true → transaction (finished net u) p place ≡ get_or ((process net p).effect u.before u.now) place None
@@ -103,7 +90,7 @@ who_ran net u p place f s = (go (cases_lt p (length u.pending)), at (cases_Bool 
     at (inl w) = w
     at (inr w) = let e = ran_asleep net u p place f w in cc
 
-module _ (net : Netlist) (L : Leveled net) where
+module _ (net : Netlist) (L : Numbered net) where
   pub input_not_driven : (n : ℕ) → IsInput net n → IsDriven net n → ⊥
   input_not_driven n is (p, place, h, t) = Contains-none (Driver p place) (subst (λ (xs : List Source). Contains xs (Driver p place)) (L.elaborated.wiring.inputs_have_no_source n is) (subst (λ (m : ℕ). Contains (sources_of net m) (Driver p place)) t (L.elaborated.wiring.drivers_are_sources p place h)))
 
@@ -138,8 +125,7 @@ module _ (net : Netlist) (L : Leveled net) where
 
   pub combinational_awake : (u : State) (p place : ℕ) → IsFresh net u → IsCombinational net p → HasPlace net p place → waits u p ≡ true → get_or ((process net p).effect u.now u.now) place None ≡ Some (out (finished net u) p place)
   combinational_awake u p place f c h w =
-      let same = L.elaborated.bodies.effect_reads p u.now u.now u.before u.now c (λ n r. refl) in
-      ap (λ (r : List (Option ℕ)). get_or r place None) same
+      L.elaborated.bodies.entry_looks p place u.now u.now u.before u.now c h (λ n k. refl)
       ∙ some_is (get_or ((process net p).effect u.before u.now) place None) (transaction (finished net u) p place) (value u p place) (assigned net L p place u.before u.now c h) (ran_awake net u p place f c.0 w)
 
   asleep_agrees : (before now : List ℕ) (p : ℕ) → IsCombinational net p → list_any (has_event before now) (process net p).wakes ≡ false → AgreeOn (process net p).reads before now
@@ -158,8 +144,7 @@ module _ (net : Netlist) (L : Leveled net) where
       go (inl w) = combinational_awake u p place f c h w
       go (inr w) =
           let agree = asleep_agrees u.before u.now p c (sym resumes ∙ w) in
-          let same = L.elaborated.bodies.effect_reads p u.now u.now u.before u.before c (λ n r. sym (agree n r)) in
-          ap (λ (r : List (Option ℕ)). get_or r place None) same ∙ was
+          L.elaborated.bodies.entry_looks p place u.now u.now u.before u.before c h (λ n k. sym (agree n (L.elaborated.bodies.looks_are_read p place n k))) ∙ was
           ∙ ap (λ (o : Option ℕ). Some (entry_or o (value u p place))) (sym (ran_asleep net u p place f w))
 
   module _ (inputs : ℕ → ℕ) (r : ℕ → ℕ → ℕ) (s : State) (H : Holds net inputs r s) where
@@ -241,114 +226,93 @@ module _ (net : Netlist) (L : Leveled net) where
       reset_kept = H.reset_kept;
     }
 
-    -- one delta cycle more, and those with transactions are a level higher
-    module _ (d b : ℕ) (above : IsAbove net L.levels L.greatest d b s) where
-      -- a net with an event then is driven by a process that is high enough
-      event_above : (n : ℕ) → (get_or s.now n 0 ≡ get_or (after_update net s).now n 0 → ⊥) → (q : ℕ) × (place : ℕ) × HasPlace net q place × (target net q place ≡ n) × (d + 1 ≤ level_or L.levels q + b)
+    -- a combinational driver that looks at no net with an event has what it had
+    unmoved : (p place : ℕ) → IsCombinational net p → HasPlace net p place → list_any (has_event s.now (after_update net s).now) ((process net p).looks place) ≡ false
+        → out (after_delta net s) p place ≡ value (after_delta net s) p place
+    unmoved p place c h e =
+        let agree : AgreeOn ((process net p).looks place) s.now (after_update net s).now = λ n k. no_event_same s.now (after_update net s).now n (none_contained (has_event s.now (after_update net s).now) ((process net p).looks place) n e k) in
+        let same = L.elaborated.bodies.entry_looks p place s.now s.now (after_update net s).now (after_update net s).now c h agree in
+        let was = H.on_combinational p place c h in
+        let is : get_or ((process net p).effect (after_update net s).now (after_update net s).now) place None ≡ Some (out (after_delta net s) p place) = delta_holds.on_combinational p place c h in
+        let e : out (after_delta net s) p place ≡ out s p place = cc in
+        e ∙ sym (updated_value p place h)
+
+    -- one delta cycle more, and the numbers are one higher
+    module _ (d b : ℕ) (above : IsAbove net L d b s) where
+      -- a net with an event then is driven, and has a number that is high enough
+      event_above : (n : ℕ) → (get_or s.now n 0 ≡ get_or (after_update net s).now n 0 → ⊥) → IsDriven net n × (d + 1 ≤ L.of_net n + b)
       event_above n differs = go (driven_or_not net L n)
         where
-          same : (q place : ℕ) → HasPlace net q place → target net q place ≡ n → out s q place ≡ value s q place → get_or s.now n 0 ≡ get_or (after_update net s).now n 0
-          same q place h t e = subst (λ (m : ℕ). get_or s.now m 0 ≡ get_or (after_update net s).now m 0) t
-              (H.on_driven q place h ∙ sym (updated_driven q place h ∙ updated_value q place h ∙ e))
+          high : (q place : ℕ) → HasPlace net q place → target net q place ≡ n → (d + 1 ≤ L.of_net (target net q place) + b) ⊎ (out s q place ≡ value s q place) → d + 1 ≤ L.of_net n + b
+          high q place h t (inl l) = subst (λ (m : ℕ). d + 1 ≤ L.of_net m + b) t l
+          high q place h t (inr e) = absurd (differs (subst (λ (m : ℕ). get_or s.now m 0 ≡ get_or (after_update net s).now m 0) t
+              (H.on_driven q place h ∙ sym (updated_driven q place h ∙ updated_value q place h ∙ e))))
 
-          combinational : (q place : ℕ) → HasPlace net q place → target net q place ≡ n → IsCombinational net q → (transaction s q place ≡ None) ⊎ IsSome (transaction s q place) → d + 1 ≤ level_or L.levels q + b
-          combinational q place h t c (inl e) = absurd (differs (same q place h t (ap (λ (o : Option ℕ). entry_or o (value s q place)) e)))
-          combinational q place h t c (inr some) = above.combinational q place c some
-
-          clocked : (q place : ℕ) → HasPlace net q place → target net q place ≡ n → (d + 1 ≤ b) ⊎ (out s q place ≡ value s q place) → d + 1 ≤ level_or L.levels q + b
-          clocked q place h t (inl l) = omega arith
-          clocked q place h t (inr e) = absurd (differs (same q place h t e))
-
-          of_kind : (q place : ℕ) → HasPlace net q place → target net q place ≡ n → IsCombinational net q ⊎ ((clock : ℕ) × (edge : Edge) × IsClockedBy net q clock edge) → d + 1 ≤ level_or L.levels q + b
-          of_kind q place h t (inl c) = combinational q place h t c (none_or_some (transaction s q place))
-          of_kind q place h t (inr (clock, edge, is)) = clocked q place h t (above.clocked_event q place clock edge is h)
-
-          go : IsDriven net n ⊎ (IsDriven net n → ⊥) → (q : ℕ) × (place : ℕ) × HasPlace net q place × (target net q place ≡ n) × (d + 1 ≤ level_or L.levels q + b)
+          go : IsDriven net n ⊎ (IsDriven net n → ⊥) → IsDriven net n × (d + 1 ≤ L.of_net n + b)
           go (inr free) = absurd (differs (sym (updated_rest n free)))
-          go (inl (q, place, h, t)) = (q, place, h, t, of_kind q place h t (kinds net L q place h))
+          go (inl (q, place, h, t)) = ((q, place, h, t), high q place h t (above.changes q place h))
 
-      woken_by : (p place : ℕ) → IsSome (transaction (after_delta net s) p place) → (n : ℕ) × Contains (process net p).wakes n × ((q : ℕ) × (place : ℕ) × HasPlace net q place × (target net q place ≡ n) × (d + 1 ≤ level_or L.levels q + b))
-      woken_by p place some =
-          let (l, w) = who_ran net (after_update net s) p place updated_fresh some in
-          let (n, wakes, event) = any_at (has_event s.now (after_update net s).now) (process net p).wakes (sym (resumed_at net s.now (after_update net s).now p) ∙ w) in
-          (n, wakes, event_above n (event_differs s.now (after_update net s).now n event))
+      event_in : (ns : List ℕ) → list_any (has_event s.now (after_update net s).now) ns ≡ true → (n : ℕ) × Contains ns n × (IsDriven net n × (d + 1 ≤ L.of_net n + b))
+      event_in ns e =
+          let (n, has, event) = any_at (has_event s.now (after_update net s).now) ns e in
+          (n, has, event_above n (event_differs s.now (after_update net s).now n event))
 
-      low : (q place : ℕ) → HasPlace net q place → level_or L.levels q ≤ L.greatest
-      low q place h = go (kinds net L q place h)
+      can_assign : (p place : ℕ) → IsSome (transaction (after_delta net s) p place) → p < length net.processes → CanAssign net p
+      can_assign p place some l = go (kinds_below net L.faultless p l)
         where
-          go : IsCombinational net q ⊎ ((clock : ℕ) × (edge : Edge) × IsClockedBy net q clock edge) → level_or L.levels q ≤ L.greatest
-          go (inl c) = (level_of net L q c).1
-          go (inr (clock, edge, is)) = let none = level_of_clocked net L q clock edge is in omega arith
+          has : (o : Option Reset) → reset_of net p ≡ o → resets o inputs ≡ true → CanAssign net p
+          has None e t = absurd cc
+          has (Some reset) e t = inr (reset, e)
 
-      rises_from : (p q place n : ℕ) → IsCombinational net p → Contains (process net p).wakes n → HasPlace net q place → target net q place ≡ n → level_or L.levels q < level_or L.levels p
-      rises_from p q place n c w h t = go (kinds net L q place h)
+          go : IsCombinational net p ⊎ ((clock : ℕ) × (edge : Edge) × IsClockedBy net p clock edge) → CanAssign net p
+          go (inl c) = inl c
+          go (inr (clock, edge, is)) = has (reset_of net p) refl (delta_resets p place clock edge is some)
+
+      runs_above : (p place : ℕ) → p < length net.processes → IsSome (transaction (after_delta net s) p place) → suc d + 1 ≤ L.of_process p + b
+      runs_above p place l some =
+          let (in_range, w) = who_ran net (after_update net s) p place updated_fresh some in
+          let (n, wakes, (driven, k)) = event_in (process net p).wakes (sym (resumed_at net s.now (after_update net s).now p) ∙ w) in
+          let rises = L.above p n (can_assign p place some l) driven wakes in
+          omega arith
+
+      changes_above : (p place : ℕ) → HasPlace net p place → (suc d + 1 ≤ L.of_net (target net p place) + b) ⊎ (out (after_delta net s) p place ≡ value (after_delta net s) p place)
+      changes_above p place h = go (kinds net L.faultless p place h)
         where
-          go : IsCombinational net q ⊎ ((clock : ℕ) × (edge : Edge) × IsClockedBy net q clock edge) → level_or L.levels q < level_or L.levels p
-          go (inl comb) = level_rises net L q p (record { feeder = comb; fed = c; place = place; drives = h; wakes = subst (λ (m : ℕ). Contains (process net p).wakes m) (sym t) w })
-          go (inr (clock, edge, is)) =
-              let none = level_of_clocked net L q clock edge is in
-              let one = level_above_none net L p c in
-              omega arith
+          moved : IsCombinational net p → (list_any (has_event s.now (after_update net s).now) ((process net p).looks place) ≡ true) ⊎ (list_any (has_event s.now (after_update net s).now) ((process net p).looks place) ≡ false)
+              → (suc d + 1 ≤ L.of_net (target net p place) + b) ⊎ (out (after_delta net s) p place ≡ value (after_delta net s) p place)
+          moved c (inl e) =
+              let (n, looks, (driven, k)) = event_in ((process net p).looks place) e in
+              let rises = L.rises p place n c h looks in
+              inl (omega arith)
+          moved c (inr e) = inr (unmoved p place c h e)
 
-      may_wake : (p place clock : ℕ) (edge : Edge) → IsClockedBy net p clock edge → IsSome (transaction (after_delta net s) p place) → (n q qp : ℕ) → Contains (process net p).wakes n → HasPlace net q qp → target net q qp ≡ n → has_late_reset net ≡ true
-      may_wake p place clock edge is some n q qp w h t =
-          any_true (λ (x : Process). is_some (kind_reset x.kind) && list_any (λ m. list_any is_driver (sources_of net m)) x.wakes) net.processes (process net p) at (and_from _ _ has drives)
-        where
-          in_range : p < length net.processes
-          in_range = (who_ran net (after_update net s) p place updated_fresh some).0
+          go : IsCombinational net p ⊎ ((clock : ℕ) × (edge : Edge) × IsClockedBy net p clock edge) → (suc d + 1 ≤ L.of_net (target net p place) + b) ⊎ (out (after_delta net s) p place ≡ value (after_delta net s) p place)
+          go (inl c) = moved c (cases_Bool (list_any (has_event s.now (after_update net s).now) ((process net p).looks place)))
+          go (inr (clock, edge, is)) = inr (ap (entry_or (transaction (after_delta net s) p place)) (updated_value p place h) ∙ delta_same p place clock edge is h ∙ sym (updated_value p place h))
 
-          at : Contains net.processes (process net p)
-          at = Contains-get_or net.processes p no_process in_range
-
-          has : is_some (reset_of net p) ≡ true
-          has = go (reset_of net p) (delta_resets p place clock edge is some)
-            where
-              go : (o : Option Reset) → resets o inputs ≡ true → is_some o ≡ true
-              go None e = cc
-              go (Some r) e = refl
-
-          drives : list_any (λ m. list_any is_driver (sources_of net m)) (process net p).wakes ≡ true
-          drives = any_true (λ m. list_any is_driver (sources_of net m)) (process net p).wakes n w
-              (any_true is_driver (sources_of net n) (Driver q qp) (subst (λ (m : ℕ). Contains (sources_of net m) (Driver q qp)) t (L.elaborated.wiring.drivers_are_sources q qp h)) refl)
-
-      pub delta_above : IsAbove net L.levels L.greatest (suc d) b (after_delta net s)
-      delta_above = record {
-        combinational = λ p place c some.
-            let (n, w, (q, qp, h, t, k)) = woken_by p place some in
-            let rises = rises_from p q qp n c w h t in
-            omega arith;
-        clocked_event = λ p place clock edge is h. inr (ap (entry_or (transaction (after_delta net s) p place)) (updated_value p place h) ∙ delta_same p place clock edge is h ∙ sym (updated_value p place h));
-        clocked_woken = λ p place clock edge is some.
-            let (n, w, (q, qp, h, t, k)) = woken_by p place some in
-            let l = low q qp h in
-            inr (may_wake p place clock edge is some n q qp w h t, omega arith);
-      }
+      pub delta_above : IsAbove net L (suc d) b (after_delta net s)
+      delta_above = record { runs = runs_above; changes = changes_above }
 
   module _ (inputs : ℕ → ℕ) (r : ℕ → ℕ → ℕ) where
     pub after_holds : (k : ℕ) (s : State) → Holds net inputs r s → Holds net inputs r (after net k s)
     after_holds zero s H = H
     after_holds (suc k) s H = after_holds k (after_delta net s) (delta_holds inputs r s H)
 
-    after_above : (k d b : ℕ) (s : State) → Holds net inputs r s → IsAbove net L.levels L.greatest d b s → IsAbove net L.levels L.greatest (d + k) b (after net k s)
-    after_above zero d b s H above = let e : d ≡ d + 0 = omega arith in subst (λ (i : ℕ). IsAbove net L.levels L.greatest i b s) e above
+    after_above : (k d b : ℕ) (s : State) → Holds net inputs r s → IsAbove net L d b s → IsAbove net L (d + k) b (after net k s)
+    after_above zero d b s H above = let e : d ≡ d + 0 = omega arith in subst (λ (i : ℕ). IsAbove net L i b s) e above
     after_above (suc k) d b s H above =
         let more = after_above k (suc d) b (after_delta net s) (delta_holds inputs r s H) (delta_above inputs r s H d b above) in
         let e : suc d + k ≡ d + suc k = omega arith in
-        subst (λ (i : ℕ). IsAbove net L.levels L.greatest i b (after net k (after_delta net s))) e more
+        subst (λ (i : ℕ). IsAbove net L i b (after net k (after_delta net s))) e more
 
-    pub quiet_after : (b x : ℕ) (s : State) → (has_late_reset net ≡ true → 1 ≤ x) → Holds net inputs r s → IsAbove net L.levels L.greatest 0 b s → is_quiet (after net (L.greatest + b + x) s) ≡ true
-    quiet_after b x s hx H above = quiet_from (after net (L.greatest + b + x) s) (λ p place l some. go p place some (kinds_below net L.faultless p (in_range p l)))
+    pub quiet_after : (b : ℕ) (s : State) → Holds net inputs r s → IsAbove net L 0 b s → is_quiet (after net (L.greatest + b) s) ≡ true
+    quiet_after b s H above = quiet_from (after net (L.greatest + b) s) (λ p place l some. late p place (in_range p l) some)
       where
-        last : IsAbove net L.levels L.greatest (0 + (L.greatest + b + x)) b (after net (L.greatest + b + x) s)
-        last = after_above (L.greatest + b + x) 0 b s H above
+        last : IsAbove net L (0 + (L.greatest + b)) b (after net (L.greatest + b) s)
+        last = after_above (L.greatest + b) 0 b s H above
 
-        in_range : (p : ℕ) → p < length (after net (L.greatest + b + x) s).pending → p < length net.processes
-        in_range p l = let k = (after_holds (L.greatest + b + x) s H).pend_length in omega arith
+        in_range : (p : ℕ) → p < length (after net (L.greatest + b) s).pending → p < length net.processes
+        in_range p l = let k = (after_holds (L.greatest + b) s H).pend_length in omega arith
 
-        late_one : (0 + (L.greatest + b + x) + 1 ≤ b) ⊎ ((has_late_reset net ≡ true) × (0 + (L.greatest + b + x) ≤ L.greatest + b)) → ⊥
-        late_one (inl l) = omega arith
-        late_one (inr (t, l)) = let k = hx t in omega arith
-
-        go : (p place : ℕ) → IsSome (transaction (after net (L.greatest + b + x) s) p place) → IsCombinational net p ⊎ ((clock : ℕ) × (edge : Edge) × IsClockedBy net p clock edge) → ⊥
-        go p place some (inl c) = let k = last.combinational p place c some in let l = (level_of net L p c).1 in omega arith
-        go p place some (inr (clock, edge, is)) = late_one (last.clocked_woken p place clock edge is some)
+        late : (p place : ℕ) → p < length net.processes → IsSome (transaction (after net (L.greatest + b) s) p place) → ⊥
+        late p place l some = let k = last.runs p place l some in let m = L.process_within p in omega arith

@@ -9,7 +9,7 @@ use Rattle.rtl_model.specs.simulation.Report.{clock_key, IsFrom, IsReport}
 use Rattle.rtl_model.specs.simulation.Laws.{OneReport}
 use Rattle.rtl_model.proofs.simulation.Faultless.{Faultless, faultless}
 use Rattle.rtl_model.proofs.simulation.Levels.{same_level}
-use Rattle.rtl_model.proofs.simulation.Held.{kinds_below}
+use Rattle.rtl_model.proofs.simulation.Faultless.{kinds_below}
 
 not_below_one : (net : Netlist) (p n : ℕ) → IsLevel net p n → 1 ≡ suc n → ⊥
 not_below_one net p zero lower e = lower.reached

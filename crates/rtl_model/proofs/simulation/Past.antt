@@ -12,6 +12,7 @@ use Rattle.rtl_model.specs.simulation.Range.{AreInputs}
 use Rattle.rtl_model.specs.simulation.Laws.{AgreeUpTo, EachDependsOnPast, EachEndsAtLast}
 use Rattle.rtl_model.proofs.simulation.Consistent.{takes_inputs_alone}
 use Rattle.rtl_model.proofs.simulation.Faultless.{Faultless, faultless}
+use Rattle.rtl_model.proofs.simulation.Levels.{numbered}
 use Rattle.rtl_model.proofs.simulation.Runs.{Machine, Machine-run, run_is}
 
 begins : (net : Netlist) (stimulus other : ℕ → ℕ → ℕ) (m : ℕ) → AgreeUpTo net stimulus other m → (s : State) → Begun net stimulus m s → Begun net other m s
@@ -94,8 +95,8 @@ depends_on_past net stimulus other m agree = record {
   begins = begins net stimulus other m agree;
   settles = λ k t (s, begun, to). (s, begins net stimulus other m agree s begun, to);
   machine = λ E A v w run run'.
-      Machine-run net E (faultless net A) other w run' m (v m)
-      (machine_other net E (faultless net A) stimulus other m agree (v m) (run_is net E (faultless net A) stimulus v run m));
+      Machine-run net (numbered net E A) other w run' m (v m)
+      (machine_other net E (faultless net A) stimulus other m agree (v m) (run_is net (numbered net E A) stimulus v run m));
   races = λ A none j l race. none j l (race_back net (faultless net A) stimulus other m j l agree race);
 }
 

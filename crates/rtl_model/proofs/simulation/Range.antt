@@ -8,9 +8,9 @@ use Rattle.rtl_model.specs.simulation.Netlist.{Clocked, Combinational, Driver, H
 use Rattle.rtl_model.specs.simulation.Machine.{entry_or, IsMachineRun, Solves}
 use Rattle.rtl_model.specs.simulation.Range.{AreInputs, AreRegisters, IsValuation, KeepsRange, limit}
 use Rattle.rtl_model.specs.simulation.Laws.{RunsInRange, SolutionsInRange}
-use Rattle.rtl_model.proofs.simulation.Faultless.{faultless}
-use Rattle.rtl_model.proofs.simulation.Levels.{assigned, place_in_range}
-use Rattle.rtl_model.proofs.simulation.Leveled.{Leveled, leveled}
+use Rattle.rtl_model.proofs.simulation.Faultless.{place_in_range}
+use Rattle.rtl_model.proofs.simulation.Levels.{numbered}
+use Rattle.rtl_model.proofs.simulation.Numbered.{Numbered, assigned}
 use Rattle.rtl_model.proofs.simulation.Solution.{length-table, by_kind, evaluated, evaluations, evaluate_at, solution_is, solution_solves, one_solves}
 
 -- every entry is below a limit
@@ -33,7 +33,7 @@ some_below : (most : ℕ) (o : Option ℕ) → EntryBelow most o → IsSome o �
 some_below most None e h = cc
 some_below most (Some x) e h = e x refl
 
-module _ (net : Netlist) (L : Leveled net) (K : KeepsRange net) where
+module _ (net : Netlist) (L : Numbered net) (K : KeepsRange net) where
   module _ (inputs registers : ℕ → ℕ) (I : AreInputs net inputs) (R : AreRegisters net registers) where
     value_in_range : (v : List ℕ) → IsValuation net v → (n : ℕ) → n < length net.start → (xs : List Source) → sources_of net n ≡ xs → evaluated net inputs registers v n xs < limit net n
     value_in_range v is n l [] e = go (cases_Bool (list_any (λ m. m == n) net.inputs))
@@ -86,8 +86,8 @@ module _ (net : Netlist) (L : Leveled net) (K : KeepsRange net) where
 
 pub solutions_in_range : SolutionsInRange
 solutions_in_range net E A' K inputs registers I R v s =
-    solves_in_range net (leveled net E (faultless net A')) K inputs registers I R v s
+    solves_in_range net (numbered net E A') K inputs registers I R v s
 
 pub runs_in_range : RunsInRange
 runs_in_range net E A' K stimulus I v run m =
-    run_in_range net (leveled net E (faultless net A')) K stimulus I v run m
+    run_in_range net (numbered net E A') K stimulus I v run m

@@ -1,13 +1,11 @@
 -- An accepted netlist has one machine run under each stimulus.
 use Rattle.std.proofs.Common.{◌≡◌, ℕ, zero, suc, Bool, false, List, [], ◌∷◌, get_or, None, sym, ap, ◌∙◌, subst}
 use Rattle.rtl_model.specs.basics.Valuations.{clocked_entry}
-use Rattle.rtl_model.proofs.simulation.Faultless.{Faultless, faultless}
-use Rattle.rtl_model.specs.simulation.Netlist.{Clocked, Combinational, Driver, Edge, HasPlace, Idle, IsClockedBy, ProcessKind, Mixed, Netlist, process, reset_entry, reset_of, resets, Source, sources_of, target}
-use Rattle.rtl_model.specs.simulation.Elaborated.{IsElaborated}
+use Rattle.rtl_model.specs.simulation.Netlist.{Clocked, Combinational, Driver, Edge, HasPlace, IsClockedBy, ProcessKind, Mixed, Netlist, process, reset_entry, reset_of, resets, Source, sources_of, target}
 use Rattle.rtl_model.specs.simulation.Machine.{entry_or, IsFirst, IsMachineRun, IsStep, Solves}
 use Rattle.rtl_model.specs.simulation.Laws.{OneMachineRun}
-use Rattle.rtl_model.proofs.simulation.Leveled.{leveled}
-use Rattle.rtl_model.proofs.simulation.Levels.{sole}
+use Rattle.rtl_model.proofs.simulation.Numbered.{Numbered, sole}
+use Rattle.rtl_model.proofs.simulation.Levels.{numbered}
 use Rattle.rtl_model.proofs.simulation.Solution.{one_solves, solution_exists}
 
 -- v is a valuation of the machine at the moment m
@@ -20,9 +18,9 @@ solves_like : (net : Netlist) (inputs r r' : ℕ → ℕ) (v : List ℕ) → Sol
     → ((p place clock : ℕ) (edge : Edge) → IsClockedBy net p clock edge → HasPlace net p place → r (target net p place) ≡ r' (target net p place)) → Solves net inputs r' v
 solves_like net inputs r r' v s same = record { each_net = s.each_net; on_inputs = s.on_inputs; on_registers = λ p place clock edge is h. s.on_registers p place clock edge is h ∙ same p place clock edge is h; on_others = s.on_others; on_combinational = s.on_combinational }
 
-module _ (net : Netlist) (E : IsElaborated net) (A : Faultless net) where
+module _ (net : Netlist) (L : Numbered net) where
   unique : (inputs r : ℕ → ℕ) (v w : List ℕ) → Solves net inputs r v → Solves net inputs r w → v ≡ w
-  unique inputs r v w s t = one_solves net (leveled net E A) inputs r v w s t
+  unique inputs r v w s t = one_solves net L inputs r v w s t
 
   step_once : (v w w' : List ℕ) (inputs : ℕ → ℕ) → IsStep net v inputs w → IsStep net v inputs w' → w ≡ w'
   step_once v w w' inputs a b =
@@ -63,13 +61,13 @@ module _ (net : Netlist) (E : IsElaborated net) (A : Faultless net) where
     first_from inputs n _ = 0
 
     at_sole : (f : List Source → ℕ) (p place : ℕ) → HasPlace net p place → f (sources_of net (target net p place)) ≡ f (Driver p place ∷ [])
-    at_sole f p place h = ap f (sole net (leveled net E A) p place h)
+    at_sole f p place h = ap f (sole net L p place h)
 
     steps : (v : List ℕ) (inputs : ℕ → ℕ) → (w : List ℕ) × IsStep net v inputs w
     unfolding next_from
     steps v inputs =
         let registers = λ (n : ℕ). next_from v inputs n (sources_of net n) in
-        let (w, s, one) = solution_exists net E A inputs registers in (
+        let (w, s, one) = solution_exists net L inputs registers in (
           w,
           record {
             registers = registers;
@@ -83,7 +81,7 @@ module _ (net : Netlist) (E : IsElaborated net) (A : Faultless net) where
     unfolding first_from
     firsts inputs =
         let registers = λ (n : ℕ). first_from inputs n (sources_of net n) in
-        let (w, s, one) = solution_exists net E A inputs registers in
+        let (w, s, one) = solution_exists net L inputs registers in
         (w, record { registers = registers; next = λ p place clock edge is h. at_sole (first_from inputs (target net p place)) p place h; solves = s })
 
     runs : ℕ → List ℕ
@@ -95,6 +93,6 @@ module _ (net : Netlist) (E : IsElaborated net) (A : Faultless net) where
     runs_run = record { first = (firsts (stimulus 0)).1; step = λ m. (steps (runs m) (stimulus (suc m))).1 }
 
 pub one_machine_run : OneMachineRun
-one_machine_run net E A' stimulus =
-    let A = faultless net A' in
-    (runs net E A stimulus, runs_run net E A stimulus, λ w run i m. Machine-run net E A stimulus (runs net E A stimulus) (runs_run net E A stimulus) m (w m) (run_is net E A stimulus w run m) i)
+one_machine_run net E A stimulus =
+    let L = numbered net E A in
+    (runs net L stimulus, runs_run net L stimulus, λ w run i m. Machine-run net L stimulus (runs net L stimulus) (runs_run net L stimulus) m (w m) (run_is net L stimulus w run m) i)

@@ -1,24 +1,24 @@
 -- Each moment settles within the bound, in the machine's valuation.
-use Rattle.std.proofs.Common.{◌≡◌, ℕ, zero, suc, ◌+◌, ◌<◌, ◌≤◌, true, false, cond, List, [], ◌∷◌, length, get_or, Option, Some, None, refl, sym, ap, ◌∙◌, arith, ◌⊎◌, inl, inr, subst, IsTrue, Contains, ◌&&◌}
+use Rattle.std.proofs.Common.{◌≡◌, ℕ, zero, suc, ◌+◌, ◌<◌, ◌≤◌, true, false, cond, List, [], ◌∷◌, length, get_or, Option, Some, None, refl, sym, ap, ◌∙◌, arith, ◌⊎◌, inl, inr, subst, IsSome, IsTrue, Contains, ◌&&◌}
 use Rattle.std.specs.List.{list_any}
 use Rattle.std.specs.Option.{is_some}
-use Rattle.std.proofs.lemmas.Bool.{cases_eq, cases_Bool, cond-true, and_parts}
+use Rattle.std.proofs.lemmas.Bool.{cases_eq, cases_Bool, cond-true, cond-false, and_parts}
 use Rattle.rtl_model.proofs.basics.Lists.{any_at, none_at}
-use Rattle.rtl_model.proofs.simulation.Faultless.{faultless}
+use Rattle.rtl_model.proofs.simulation.Faultless.{faultless, kinds, kinds_below}
 use Rattle.rtl_model.proofs.simulation.Orders.{one_number}
-use Rattle.rtl_model.specs.simulation.Netlist.{Edge, HasPlace, IsClockedBy, IsInput, kind_reset, Netlist, no_process, process, Process, Reset, sources_of, target}
+use Rattle.rtl_model.specs.simulation.Netlist.{Edge, HasPlace, IsClockedBy, IsCombinational, IsInput, kind_reset, Netlist, no_process, process, Process, Reset, sources_of, target}
 use Rattle.rtl_model.specs.simulation.Cycle.{after_inputs, is_quiet, start_state, State}
 use Rattle.rtl_model.specs.simulation.Moments.{Begun, HasNoneToRun, HasSettled, SettlesIn, SettlesTo}
 use Rattle.rtl_model.specs.simulation.Accepted.{IsClock}
-use Rattle.rtl_model.specs.simulation.Levels.{bound, has_clocked, has_late_reset, is_clocked, is_driver}
+use Rattle.rtl_model.specs.simulation.Levels.{has_clocked, has_late_reset, is_clocked, is_driver}
 use Rattle.rtl_model.specs.simulation.Races.{HasNoRace}
 use Rattle.rtl_model.specs.simulation.Machine.{entry_or, Solves}
 use Rattle.rtl_model.specs.simulation.Laws.{EachMomentComes, HasNoReset, IsTheMachine, SettlesInBound}
 use Rattle.rtl_model.proofs.simulation.Order.{finished, HasRun-finished, HasRun-done}
-use Rattle.rtl_model.proofs.simulation.Levels.{level_above_none}
-use Rattle.rtl_model.proofs.simulation.Rows.{value, out, quiet_at}
+use Rattle.rtl_model.proofs.simulation.Levels.{by_levels, extra, greatest_is, numbered}
+use Rattle.rtl_model.proofs.simulation.Rows.{transaction, value, out, quiet_at}
 use Rattle.rtl_model.proofs.simulation.Deltas.{HasDeltas-after, settles_within, runs_exist}
-use Rattle.rtl_model.proofs.simulation.Leveled.{Leveled, leveled}
+use Rattle.rtl_model.proofs.simulation.Numbered.{Numbered}
 use Rattle.rtl_model.proofs.simulation.Runs.{Machine, Machine-run}
 use Rattle.rtl_model.proofs.simulation.Held.{Holds, IsAbove, after_holds, quiet_after}
 use Rattle.rtl_model.proofs.simulation.Starting.{first, start_holds, start_register, start_asleep}
@@ -27,9 +27,6 @@ use Rattle.rtl_model.proofs.simulation.Stepping.{next_holds, next_register}
 -- how many cycles later than the levels say a moment after 0 may settle
 abbrev pub late : Netlist → ℕ
 late net = cond (has_clocked net) 1 0
-
-abbrev pub extra : Netlist → ℕ
-extra net = cond (has_late_reset net) 1 0
 
 no_clocked : (net : Netlist) → has_clocked net ≡ false → (p clock : ℕ) (edge : Edge) → IsClockedBy net p clock edge → ⊥
 no_clocked net e p clock edge is =
@@ -62,20 +59,29 @@ no_late_reset net none t =
     go p x e None r t = cc
     go p x e (Some reset) r t = none p reset (ap (λ (q : Process). kind_reset q.kind) e ∙ r)
 
-module _ (net : Netlist) (L : Leveled net) where
-  above_start : (s : State) → IsAbove net L.levels L.greatest 0 (late net) s
-  above_start s = record {
-    combinational = λ p place c some. let k = level_above_none net L p c in omega arith;
-    clocked_event = λ p place clock edge is h. inl (late_clocked net p clock edge is);
-    clocked_woken = λ p place clock edge is some. inl (late_clocked net p clock edge is);
-  }
+module _ (net : Netlist) (L : Numbered net) where
+  above_start : (s : State) → IsAbove net L 0 (late net) s
+  above_start s = record { runs = λ p place l some. runs p (kinds_below net L.faultless p l); changes = λ p place h. inl (changes p place h (kinds net L.faultless p place h)) }
+    where
+      runs : (p : ℕ) → IsCombinational net p ⊎ ((clock : ℕ) × (edge : Edge) × IsClockedBy net p clock edge) → 0 + 1 ≤ L.of_process p + late net
+      runs p (inl c) = let k = L.process_from_one p c in omega arith
+      runs p (inr (clock, edge, is)) = let k = late_clocked net p clock edge is in omega arith
 
-  above_first : (inputs : ℕ → ℕ) → HasNoReset net → IsAbove net L.levels L.greatest 0 0 (finished net (first net L inputs))
-  above_first inputs none = record {
-    combinational = λ p place c some. let k = level_above_none net L p c in omega arith;
-    clocked_event = λ p place clock edge is h. inr (ap (λ (o : Option ℕ). entry_or o (value (first net L inputs) p place)) (start_asleep net L inputs none p place clock edge is));
-    clocked_woken = λ p place clock edge is some. let e = start_asleep net L inputs none p place clock edge is in cc;
-  }
+      changes : (p place : ℕ) → HasPlace net p place → IsCombinational net p ⊎ ((clock : ℕ) × (edge : Edge) × IsClockedBy net p clock edge) → 0 + 1 ≤ L.of_net (target net p place) + late net
+      changes p place h (inl c) = let k = L.from_one p place c h in omega arith
+      changes p place h (inr (clock, edge, is)) = let k = late_clocked net p clock edge is in omega arith
+
+  above_first : (inputs : ℕ → ℕ) → HasNoReset net → IsAbove net L 0 0 (finished net (first net L inputs))
+  above_first inputs none = record { runs = λ p place l some. runs p place some (kinds_below net L.faultless p l); changes = λ p place h. changes p place h (kinds net L.faultless p place h) }
+    where
+      runs : (p place : ℕ) → IsSome (transaction (finished net (first net L inputs)) p place) → IsCombinational net p ⊎ ((clock : ℕ) × (edge : Edge) × IsClockedBy net p clock edge) → 0 + 1 ≤ L.of_process p + 0
+      runs p place some (inl c) = let k = L.process_from_one p c in omega arith
+      runs p place some (inr (clock, edge, is)) = let e = start_asleep net L inputs none p place clock edge is in absurd cc
+
+      changes : (p place : ℕ) → HasPlace net p place → IsCombinational net p ⊎ ((clock : ℕ) × (edge : Edge) × IsClockedBy net p clock edge)
+          → (0 + 1 ≤ L.of_net (target net p place) + 0) ⊎ (out (finished net (first net L inputs)) p place ≡ value (finished net (first net L inputs)) p place)
+      changes p place h (inl c) = let k = L.from_one p place c h in inl (omega arith)
+      changes p place h (inr (clock, edge, is)) = inr (ap (λ (o : Option ℕ). entry_or o (value (first net L inputs) p place)) (start_asleep net L inputs none p place clock edge is))
 
   -- what is quiet solves
   module _ (inputs : ℕ → ℕ) (r : ℕ → ℕ → ℕ) (t : State) (H : Holds net inputs r t) (Q : is_quiet t ≡ true) where
@@ -96,7 +102,7 @@ module _ (net : Netlist) (L : Leveled net) where
     record AtMoment (m : ℕ) (s : State) : Type 0 where
       r : ℕ → ℕ → ℕ
       holds : Holds net (stimulus m) r s
-      above : IsAbove net L.levels L.greatest 0 (late net) s
+      above : IsAbove net L 0 (late net) s
 
     -- what has settled
     settled_quiet : (s t : State) (k : ℕ) → SettlesTo net s k t → is_quiet t ≡ true
@@ -129,23 +135,20 @@ module _ (net : Netlist) (L : Leveled net) where
     begun_done zero s run = HasRun-done net _ s run
     begun_done (suc m) s (earlier, k, quiet, begun, to, run) = HasRun-done net _ s run
 
-    extra_one : has_late_reset net ≡ true → 1 ≤ extra net
-    extra_one t = let one : extra net ≡ 1 = cond-true _ _ _ t in omega arith
-
-    settles : (m : ℕ) (s : State) → Begun net stimulus m s → (k : ℕ) × SettlesIn net s k × (k ≤ bound net L.greatest)
+    settles : (m : ℕ) (s : State) → Begun net stimulus m s → (k : ℕ) × SettlesIn net s k × (k ≤ L.greatest + late net)
     settles m s begun =
         let a = at_moment m s begun in
-        settles_within net s (L.greatest + late net + extra net) (begun_done m s begun) (quiet_after net L (stimulus m) a.r (late net) (extra net) s extra_one a.holds a.above)
+        settles_within net s (L.greatest + late net) (begun_done m s begun) (quiet_after net L (stimulus m) a.r (late net) s a.holds a.above)
 
-    settles_first : HasNoReset net → (s : State) → Begun net stimulus 0 s → (k : ℕ) × SettlesIn net s k × (k ≤ L.greatest + 0 + 0)
+    settles_first : HasNoReset net → (s : State) → Begun net stimulus 0 s → (k : ℕ) × SettlesIn net s k × (k ≤ L.greatest + 0)
     unfolding at_moment
     settles_first none s run =
         let a = at_moment 0 s run in
         let e = HasRun-finished net (start_state net (stimulus 0)) s run in
-        let above = subst (λ (u : State). IsAbove net L.levels L.greatest 0 0 u) (sym e) (above_first (stimulus 0) none) in
-        settles_within net s (L.greatest + 0 + 0) (HasRun-done net _ s run) (quiet_after net L (stimulus 0) a.r 0 0 s (λ t. absurd (no_late_reset net none t)) a.holds above)
+        let above = subst (λ (u : State). IsAbove net L 0 0 u) (sym e) (above_first (stimulus 0) none) in
+        settles_within net s (L.greatest + 0) (HasRun-done net _ s run) (quiet_after net L (stimulus 0) a.r 0 s a.holds above)
 
-    settles_both : (m : ℕ) (s : State) → Begun net stimulus m s → (k : ℕ) × SettlesIn net s k × (k ≤ bound net L.greatest) × (m ≡ 0 → HasNoReset net → k ≤ L.greatest)
+    settles_both : (m : ℕ) (s : State) → Begun net stimulus m s → (k : ℕ) × SettlesIn net s k × (k ≤ L.greatest + late net) × (m ≡ 0 → HasNoReset net → k ≤ L.greatest)
     settles_both zero s run =
         let (k, set, l) = settles 0 s run in
         (k, set, l, λ e none. let (j, first, l') = settles_first none s run in let same = one_number net s k j set first in omega arith)
@@ -202,15 +205,25 @@ module _ (net : Netlist) (L : Leveled net) where
         let (t, deltas) = set.goes_on in
         (k, t, (s, begun, (set, deltas)))
 
+-- without a reset none is late
+none_extra : (net : Netlist) → HasNoReset net → extra net ≡ 0
+none_extra net none = go (cases_Bool (has_late_reset net))
+  where
+    go : (has_late_reset net ≡ true) ⊎ (has_late_reset net ≡ false) → extra net ≡ 0
+    go (inl t) = absurd (no_late_reset net none t)
+    go (inr f) = cond-false _ _ _ f
+
 pub settles_in_bound : SettlesInBound
-settles_in_bound net levels greatest E A V =
-    settles_both net (record { elaborated = E; faultless = faultless net A; levels = levels; greatest = greatest; are_levels = V })
+settles_in_bound net greatest most E A V stimulus m s begun =
+    let (k, set, l, first) = settles_both net (by_levels net E (faultless net A) V.levels greatest V.are_levels) stimulus m s begun in
+    let is = V.is in
+    let g = greatest_is net E (faultless net A) V.levels greatest V.are_levels in
+    (k, set, omega arith, λ e none. let at = first e none in let zero = none_extra net none in omega arith)
 
 pub is_the_machine : IsTheMachine
-is_the_machine net E A' stimulus m none k t (s, begun, to) v run =
-    let A = faultless net A' in
-    Machine-run net E A stimulus v run m t.now (machine net (leveled net E A) stimulus m none s t k begun to)
+is_the_machine net E A stimulus m none k t (s, begun, to) v run =
+    let L = numbered net E A in
+    Machine-run net L stimulus v run m t.now (machine net L stimulus m none s t k begun to)
 
 pub each_moment_comes : EachMomentComes
-each_moment_comes net E A' stimulus m =
-    has_settled net (leveled net E (faultless net A')) stimulus m
+each_moment_comes net E A stimulus m = has_settled net (numbered net E A) stimulus m

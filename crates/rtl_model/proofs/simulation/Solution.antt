@@ -6,14 +6,13 @@ use Rattle.std.proofs.lemmas.List.FromFn.{length-map-range_with_len, get_or-map-
 use Rattle.std.proofs.lemmas.Bool.{cases_lt, cases_Bool, cond-true, cond-false, false_from_ne_true}
 use Rattle.rtl_model.proofs.basics.Lists.{Contains-first}
 use Rattle.rtl_model.specs.basics.Valuations.{AgreeOn}
-use Rattle.rtl_model.proofs.simulation.Faultless.{Faultless, faultless}
+use Rattle.rtl_model.proofs.simulation.Faultless.{kinds}
 use Rattle.rtl_model.specs.simulation.Netlist.{Clocked, Combinational, Driver, Edge, HasPlace, Idle, IsClockedBy, IsCombinational, IsInput, ProcessKind, Mixed, Netlist, process, Source, sources_of, table, target}
 use Rattle.rtl_model.specs.simulation.Cycle.{after_inputs}
-use Rattle.rtl_model.specs.simulation.Elaborated.{IsElaborated}
 use Rattle.rtl_model.specs.simulation.Machine.{entry_or, IsDriven, Solves}
 use Rattle.rtl_model.specs.simulation.Laws.{OneSolution}
-use Rattle.rtl_model.proofs.simulation.Leveled.{Leveled, leveled}
-use Rattle.rtl_model.proofs.simulation.Levels.{assigned, kinds, sole, driven_or_not, level_or, level_of, level_of_clocked, level_above_none, level_rises}
+use Rattle.rtl_model.proofs.simulation.Numbered.{Numbered, assigned, sole, driven_or_not}
+use Rattle.rtl_model.proofs.simulation.Levels.{numbered}
 
 pub get_or-table : (n : ℕ) (f : ℕ → ℕ) (k : ℕ) → k < n → get_or (table n f) k 0 ≡ f k
 get_or-table n f k h = get_or-map-range_with_len f 0 n k k 0 h (omega arith)
@@ -25,9 +24,9 @@ some_entry : (o : Option ℕ) → IsSome o → o ≡ Some (entry_or o 0)
 some_entry (Some v) h = refl
 some_entry None h = cc
 
--- two valuations agree on what processes of at most this level drive, and on what none drives
-pub record AgreeTo (net : Netlist) (levels : List (Option ℕ)) (d : ℕ) (v w : List ℕ) : Type 0 where
-  pub on_driven : (p place : ℕ) → HasPlace net p place → level_or levels p ≤ d → get_or v (target net p place) 0 ≡ get_or w (target net p place) 0
+-- two valuations agree on driven nets of at most this number, and on what no process drives
+pub record AgreeTo (net : Netlist) (N : Numbered net) (d : ℕ) (v w : List ℕ) : Type 0 where
+  pub on_driven : (p place : ℕ) → HasPlace net p place → N.of_net (target net p place) ≤ d → get_or v (target net p place) 0 ≡ get_or w (target net p place) 0
   pub on_rest : (n : ℕ) → (IsDriven net n → ⊥) → get_or v n 0 ≡ get_or w n 0
 
 -- a value for net n, from the values of v: what its one source, its given value or its start says
@@ -49,36 +48,26 @@ abbrev pub evaluations : Netlist → (ℕ → ℕ) → (ℕ → ℕ) → ℕ →
 evaluations net inputs registers zero = net.start
 evaluations net inputs registers (suc d) = evaluate net inputs registers (evaluations net inputs registers d)
 
-module _ (net : Netlist) (L : Leveled net) where
-  pub reads_agree : (d p : ℕ) (v w : List ℕ) → AgreeTo net L.levels d v w → IsCombinational net p → level_or L.levels p ≤ suc d → AgreeOn (process net p).reads v w
-  reads_agree d p v w a c l n r = go (driven_or_not net L n)
+module _ (net : Netlist) (L : Numbered net) where
+  looks_agree : (d p place : ℕ) (v w : List ℕ) → AgreeTo net L d v w → IsCombinational net p → HasPlace net p place → L.of_net (target net p place) ≤ suc d → AgreeOn ((process net p).looks place) v w
+  looks_agree d p place v w a c h l n looks = go (driven_or_not net L n)
     where
-      below : (q place : ℕ) → HasPlace net q place → target net q place ≡ n → level_or L.levels q ≤ d → get_or v n 0 ≡ get_or w n 0
-      below q place h t k = subst (λ (m : ℕ). get_or v m 0 ≡ get_or w m 0) t (a.on_driven q place h k)
-
-      driver : (q place : ℕ) → HasPlace net q place → target net q place ≡ n → IsCombinational net q ⊎ ((clock : ℕ) × (edge : Edge) × IsClockedBy net q clock edge) → get_or v n 0 ≡ get_or w n 0
-      driver q place h t (inl comb) =
-          let wakes = subst (λ (m : ℕ). Contains (process net p).wakes m) (sym t) (L.faultless.reads_wake p n c r) in
-          let rises = level_rises net L q p (record { feeder = comb; fed = c; place = place; drives = h; wakes = wakes }) in
-          below q place h t (omega arith)
-      driver q place h t (inr (clock, edge, is)) = let none = level_of_clocked net L q clock edge is in below q place h t (omega arith)
-
       go : IsDriven net n ⊎ (IsDriven net n → ⊥) → get_or v n 0 ≡ get_or w n 0
-      go (inl (q, place, h, t)) = driver q place h t (kinds net L q place h)
+      go (inl (q, qp, k, t)) =
+          let rises = L.rises p place n c h looks in
+          let e : L.of_net (target net q qp) ≡ L.of_net n = ap L.of_net t in
+          subst (λ (m : ℕ). get_or v m 0 ≡ get_or w m 0) t (a.on_driven q qp k (omega arith))
       go (inr free) = a.on_rest n free
 
-  pub effects_agree : (d p : ℕ) (v w : List ℕ) → AgreeTo net L.levels d v w → IsCombinational net p → level_or L.levels p ≤ suc d → (process net p).effect v v ≡ (process net p).effect w w
-  effects_agree d p v w a c l = L.elaborated.bodies.effect_reads p v v w w c (reads_agree d p v w a c l)
+  entries_agree : (d p place : ℕ) (v w : List ℕ) → AgreeTo net L d v w → IsCombinational net p → HasPlace net p place → L.of_net (target net p place) ≤ suc d
+      → get_or ((process net p).effect v v) place None ≡ get_or ((process net p).effect w w) place None
+  entries_agree d p place v w a c h l = L.elaborated.bodies.entry_looks p place v v w w c h (looks_agree d p place v w a c h l)
 
-  pub same_values : (v w : List ℕ) → length v ≡ length w → AgreeTo net L.levels L.greatest v w → v ≡ w
+  same_values : (v w : List ℕ) → length v ≡ length w → AgreeTo net L L.greatest v w → v ≡ w
   same_values v w e a = ext_get_or 0 v w e (λ n l. go n (driven_or_not net L n))
     where
-      driver : (n q place : ℕ) → HasPlace net q place → target net q place ≡ n → IsCombinational net q ⊎ ((clock : ℕ) × (edge : Edge) × IsClockedBy net q clock edge) → get_or v n 0 ≡ get_or w n 0
-      driver n q place h t (inl comb) = subst (λ (m : ℕ). get_or v m 0 ≡ get_or w m 0) t (a.on_driven q place h (level_of net L q comb).1)
-      driver n q place h t (inr (clock, edge, is)) = let none = level_of_clocked net L q clock edge is in subst (λ (m : ℕ). get_or v m 0 ≡ get_or w m 0) t (a.on_driven q place h (omega arith))
-
       go : (n : ℕ) → IsDriven net n ⊎ (IsDriven net n → ⊥) → get_or v n 0 ≡ get_or w n 0
-      go n (inl (q, place, h, t)) = driver n q place h t (kinds net L q place h)
+      go n (inl (q, place, h, t)) = subst (λ (m : ℕ). get_or v m 0 ≡ get_or w m 0) t (a.on_driven q place h (L.net_within (target net q place)))
       go n (inr free) = a.on_rest n free
 
   module _ (inputs registers : ℕ → ℕ) where
@@ -93,20 +82,20 @@ module _ (net : Netlist) (L : Leveled net) where
             let b = t.each_net in
             get_or_past v n 0 (omega arith) ∙ sym (get_or_past w n 0 (omega arith))
 
-    -- two solutions agree, level by level
-    solutions_agree : (d : ℕ) (v w : List ℕ) → Solves net inputs registers v → Solves net inputs registers w → AgreeTo net L.levels d v w
-    solutions_agree zero v w s t = record { on_driven = λ p place h l. go p place h l (kinds net L p place h); on_rest = rest_agrees v w s t }
+    -- two solutions agree, number by number
+    solutions_agree : (d : ℕ) (v w : List ℕ) → Solves net inputs registers v → Solves net inputs registers w → AgreeTo net L d v w
+    solutions_agree zero v w s t = record { on_driven = λ p place h l. go p place h l (kinds net L.faultless p place h); on_rest = rest_agrees v w s t }
       where
-        go : (p place : ℕ) → HasPlace net p place → level_or L.levels p ≤ 0 → IsCombinational net p ⊎ ((clock : ℕ) × (edge : Edge) × IsClockedBy net p clock edge) → get_or v (target net p place) 0 ≡ get_or w (target net p place) 0
-        go p place h l (inl c) = let k = level_above_none net L p c in absurd (omega arith)
+        go : (p place : ℕ) → HasPlace net p place → L.of_net (target net p place) ≤ 0 → IsCombinational net p ⊎ ((clock : ℕ) × (edge : Edge) × IsClockedBy net p clock edge) → get_or v (target net p place) 0 ≡ get_or w (target net p place) 0
+        go p place h l (inl c) = let k = L.from_one p place c h in absurd (omega arith)
         go p place h l (inr (clock, edge, is)) = s.on_registers p place clock edge is h ∙ sym (t.on_registers p place clock edge is h)
-    solutions_agree (suc d) v w s t = let below = solutions_agree d v w s t in record { on_driven = λ p place h l. go below p place h l (kinds net L p place h); on_rest = rest_agrees v w s t }
+    solutions_agree (suc d) v w s t = let below = solutions_agree d v w s t in record { on_driven = λ p place h l. go below p place h l (kinds net L.faultless p place h); on_rest = rest_agrees v w s t }
       where
-        go : AgreeTo net L.levels d v w → (p place : ℕ) → HasPlace net p place → level_or L.levels p ≤ suc d → IsCombinational net p ⊎ ((clock : ℕ) × (edge : Edge) × IsClockedBy net p clock edge) → get_or v (target net p place) 0 ≡ get_or w (target net p place) 0
+        go : AgreeTo net L d v w → (p place : ℕ) → HasPlace net p place → L.of_net (target net p place) ≤ suc d → IsCombinational net p ⊎ ((clock : ℕ) × (edge : Edge) × IsClockedBy net p clock edge) → get_or v (target net p place) 0 ≡ get_or w (target net p place) 0
         go below p place h l (inl c) =
             let a = s.on_combinational p place c h in
             let b = t.on_combinational p place c h in
-            let e = effects_agree d p v w below c l in
+            let e = entries_agree d p place v w below c h l in
             cc
         go below p place h l (inr (clock, edge, is)) = s.on_registers p place clock edge is h ∙ sym (t.on_registers p place clock edge is h)
 
@@ -134,19 +123,19 @@ module _ (net : Netlist) (L : Leveled net) where
             absurd (free (p, place, f.0, f.1))
         go (inr l) xs e = get_or_past (evaluate net inputs registers v) n 0 (rw length-table l) ∙ sym (get_or_past (evaluate net inputs registers w) n 0 (rw length-table l))
 
-    -- an evaluation more changes nothing up to its level
-    evaluations_agree : (d : ℕ) → AgreeTo net L.levels d (evaluations net inputs registers (suc d)) (evaluations net inputs registers (suc (suc d)))
-    evaluations_agree zero = record { on_driven = λ p place h l. go p place h l (kinds net L p place h); on_rest = evaluate_rest _ _ }
+    -- an evaluation more changes nothing up to its number
+    evaluations_agree : (d : ℕ) → AgreeTo net L d (evaluations net inputs registers (suc d)) (evaluations net inputs registers (suc (suc d)))
+    evaluations_agree zero = record { on_driven = λ p place h l. go p place h l (kinds net L.faultless p place h); on_rest = evaluate_rest _ _ }
       where
-        go : (p place : ℕ) → HasPlace net p place → level_or L.levels p ≤ 0 → IsCombinational net p ⊎ ((clock : ℕ) × (edge : Edge) × IsClockedBy net p clock edge) → get_or (evaluations net inputs registers 1) (target net p place) 0 ≡ get_or (evaluations net inputs registers 2) (target net p place) 0
-        go p place h l (inl c) = let k = level_above_none net L p c in absurd (omega arith)
+        go : (p place : ℕ) → HasPlace net p place → L.of_net (target net p place) ≤ 0 → IsCombinational net p ⊎ ((clock : ℕ) × (edge : Edge) × IsClockedBy net p clock edge) → get_or (evaluations net inputs registers 1) (target net p place) 0 ≡ get_or (evaluations net inputs registers 2) (target net p place) 0
+        go p place h l (inl c) = let k = L.from_one p place c h in absurd (omega arith)
         go p place h l (inr (clock, edge, is)) = evaluate_register _ p place clock edge h is ∙ sym (evaluate_register _ p place clock edge h is)
-    evaluations_agree (suc d) = let below = evaluations_agree d in record { on_driven = λ p place h l. go below p place h l (kinds net L p place h); on_rest = evaluate_rest _ _ }
+    evaluations_agree (suc d) = let below = evaluations_agree d in record { on_driven = λ p place h l. go below p place h l (kinds net L.faultless p place h); on_rest = evaluate_rest _ _ }
       where
-        go : AgreeTo net L.levels d (evaluations net inputs registers (suc d)) (evaluations net inputs registers (suc (suc d))) → (p place : ℕ) → HasPlace net p place → level_or L.levels p ≤ suc d → IsCombinational net p ⊎ ((clock : ℕ) × (edge : Edge) × IsClockedBy net p clock edge) → get_or (evaluations net inputs registers (suc (suc d))) (target net p place) 0 ≡ get_or (evaluations net inputs registers (suc (suc (suc d)))) (target net p place) 0
+        go : AgreeTo net L d (evaluations net inputs registers (suc d)) (evaluations net inputs registers (suc (suc d))) → (p place : ℕ) → HasPlace net p place → L.of_net (target net p place) ≤ suc d → IsCombinational net p ⊎ ((clock : ℕ) × (edge : Edge) × IsClockedBy net p clock edge) → get_or (evaluations net inputs registers (suc (suc d))) (target net p place) 0 ≡ get_or (evaluations net inputs registers (suc (suc (suc d)))) (target net p place) 0
         go below p place h l (inl c) =
-            let e = effects_agree d p _ _ below c l in
-            evaluate_combinational _ p place h c ∙ ap (λ (f : List (Option ℕ)). entry_or (get_or f place None) 0) e ∙ sym (evaluate_combinational _ p place h c)
+            let e = entries_agree d p place _ _ below c h l in
+            evaluate_combinational _ p place h c ∙ ap (λ (o : Option ℕ). entry_or o 0) e ∙ sym (evaluate_combinational _ p place h c)
         go below p place h l (inr (clock, edge, is)) = evaluate_register _ p place clock edge h is ∙ sym (evaluate_register _ p place clock edge h is)
 
     fixed_solves : (v : List ℕ) → v ≡ evaluate net inputs registers v → Solves net inputs registers v
@@ -168,7 +157,7 @@ module _ (net : Netlist) (L : Leveled net) where
             let f = L.elaborated.wiring.sources_are_drivers n p place (subst (λ (xs : List Source). Contains xs (Driver p place)) (sym k) (Contains-first (Driver p place) more)) in
             absurd (free (p, place, f.0, f.1))
 
-    -- the evaluation after the greatest level
+    -- the evaluation after the greatest number
     pub solution : List ℕ
     solution = evaluations net inputs registers (suc L.greatest)
 
@@ -184,10 +173,9 @@ module _ (net : Netlist) (L : Leveled net) where
     one_solves v w s t = same_values v w (s.each_net ∙ sym t.each_net) (solutions_agree L.greatest v w s t)
 
 -- the solution for given inputs and registers
-pub solution_exists : (net : Netlist) → IsElaborated net → Faultless net → (inputs registers : ℕ → ℕ) → (v : List ℕ) × Solves net inputs registers v × ((w : List ℕ) → Solves net inputs registers w → w ≡ v)
-solution_exists net E A inputs registers =
-    let L = leveled net E A in
+pub solution_exists : (net : Netlist) → Numbered net → (inputs registers : ℕ → ℕ) → (v : List ℕ) × Solves net inputs registers v × ((w : List ℕ) → Solves net inputs registers w → w ≡ v)
+solution_exists net L inputs registers =
     (solution net L inputs registers, solution_solves net L inputs registers, λ w t. one_solves net L inputs registers _ _ t (solution_solves net L inputs registers))
 
 pub one_solution : OneSolution
-one_solution net E A = solution_exists net E (faultless net A)
+one_solution net E A = solution_exists net (numbered net E A)

@@ -6,14 +6,14 @@ use Rattle.std.proofs.lemmas.List.FromFn.{length-map-range_with_len}
 use Rattle.std.proofs.lemmas.Bool.{cases_lt, cases_Bool, false_from_ne_true, cond-true, cond-false}
 use Rattle.rtl_model.proofs.basics.Lists.{get_or-map_within}
 use Rattle.rtl_model.specs.basics.Valuations.{clocked_entry}
-use Rattle.rtl_model.proofs.simulation.Leveled.{Leveled}
+use Rattle.rtl_model.proofs.simulation.Numbered.{Numbered, sole}
 use Rattle.rtl_model.specs.simulation.Netlist.{Driver, Edge, HasPlace, IsClockedBy, IsInput, Netlist, no_process, process, Process, Reset, reset_entry, reset_of, resets, Source, target}
 use Rattle.rtl_model.specs.simulation.Cycle.{after_inputs, source_value, start_state, State, with_inputs}
 use Rattle.rtl_model.specs.simulation.Elaborated.{IsElaborated}
 use Rattle.rtl_model.specs.simulation.Machine.{entry_or}
 use Rattle.rtl_model.specs.simulation.Laws.{HasNoReset}
 use Rattle.rtl_model.proofs.simulation.Order.{finished, waits, row_after}
-use Rattle.rtl_model.proofs.simulation.Levels.{sole, place_in_range}
+use Rattle.rtl_model.proofs.simulation.Faultless.{place_in_range}
 use Rattle.rtl_model.proofs.simulation.Solution.{get_or-table, length-table}
 use Rattle.rtl_model.proofs.simulation.Rows.{transaction, value, out, get_or-map, no_entries}
 use Rattle.rtl_model.proofs.simulation.Held.{entry_none, entry_of_reset, reset_ran, reset_now, Holds, IsFresh, input_not_driven, clocked_ran, no_edge_same, combinational_awake}
@@ -33,7 +33,7 @@ others_at net inputs old n e after_inputs = go (cases_lt n (length net.start))
     go (inl l) = get_or-table (length net.start) (λ m. if list_any (λ k. k == m) net.inputs then inputs m else get_or old m 0) n l ∙ cond-false _ _ _ (false_from_ne_true _ after_inputs)
     go (inr l) = get_or_past (with_inputs net inputs old) n 0 (rw length-table l) ∙ sym (get_or_past old n 0 (omega arith))
 
-module _ (net : Netlist) (L : Leveled net) where
+module _ (net : Netlist) (L : Numbered net) where
   pub target_no_input : (p place : ℕ) → HasPlace net p place → IsInput net (target net p place) → ⊥
   target_no_input p place h is = input_not_driven net L (target net p place) is (p, place, h, refl)
 

@@ -5,19 +5,19 @@ use Rattle.std.proofs.lemmas.List.FromFn.{length-map-range_with_len}
 use Rattle.std.proofs.lemmas.Bool.{cases_Bool}
 use Rattle.rtl_model.proofs.basics.Lists.{any_true, none_contained}
 use Rattle.rtl_model.specs.basics.Valuations.{AgreeOn, clocked_entry, has_event}
-use Rattle.rtl_model.proofs.simulation.Leveled.{Leveled}
+use Rattle.rtl_model.proofs.simulation.Numbered.{Numbered}
 use Rattle.rtl_model.specs.simulation.Netlist.{Edge, HasPlace, IsClockedBy, IsInput, Netlist, process, Reset, reset_entry, reset_of, resets, target}
 use Rattle.rtl_model.specs.simulation.Cycle.{after_inputs, is_quiet, State}
 use Rattle.rtl_model.specs.simulation.Accepted.{IsClock}
 use Rattle.rtl_model.specs.simulation.Machine.{entry_or}
 use Rattle.rtl_model.proofs.simulation.Order.{finished, waits, row_after}
-use Rattle.rtl_model.proofs.simulation.Levels.{place_in_range}
+use Rattle.rtl_model.proofs.simulation.Faultless.{place_in_range}
 use Rattle.rtl_model.proofs.simulation.Solution.{length-table}
 use Rattle.rtl_model.proofs.simulation.Rows.{transaction, no_event_same, value, out, quiet_at, resumed_at, differs_event}
 use Rattle.rtl_model.proofs.simulation.Held.{clocked_awake, entry_none, entry_of_reset, entry_of_branch, ran_asleep, reset_ran, reset_now, Holds, IsFresh, clocked_ran, no_edge_same, combinational_ran}
 use Rattle.rtl_model.proofs.simulation.Starting.{entry_twice, inputs_at, others_at, target_no_input}
 
-module _ (net : Netlist) (L : Leveled net) where
+module _ (net : Netlist) (L : Numbered net) where
   -- new inputs, given to a quiet state
   module _ (was inputs : ℕ → ℕ) (r : ℕ → ℕ → ℕ) (t : State) (H : Holds net was r t) (Q : is_quiet t ≡ true) where
     abbrev pub next : State

@@ -10,14 +10,18 @@ pub data Target : Type 0 where
   driver : (place : ℕ) → Target
   element : ℕ → Target
 
--- one of these drivers, and one element
+-- the same target, one of these drivers, and one element
+abbrev pub is_target : Target → Target → Bool
+is_target (driver p) (driver q) = p == q
+is_target (element d) (element e) = d == e
+is_target _ _ = false
+
 abbrev pub of_drivers : (these : ℕ → Bool) → Target → Bool
 of_drivers these (driver place) = these place
 of_drivers these (element k) = false
 
 abbrev pub is_element : ℕ → Target → Bool
-is_element k (driver place) = false
-is_element k (element j) = j == k
+is_element k target = is_target target (element k)
 
 abbrev mutual
   pub stmt_must_assign : (these : Target → Bool) → Stmt → Bool

@@ -3,7 +3,7 @@ use Rattle.std.specs.Prelude.{◌≡◌, ℕ, ◌<◌, ◌⊎◌, ◌↔◌, Boo
 use Rattle.std.specs.Prelude.{List, [], ◌++◌, length, slice_index, slice_get, flat_map, Option, Some, None, IsTrue, IsSome}
 use Rattle.std.specs.List.{list_any}
 use Rattle.vhdl_values.specs.declared.kinds.Edge.{Edge}
-use Rattle.rtl_model.specs.basics.Valuations.{AgreeOn, or_else, clocked_entry}
+use Rattle.rtl_model.specs.basics.Valuations.{or_else, clocked_entry}
 use Rattle.rtl_model.specs.bodies.Body.{Expr, filled, Value, elements, Test, condition, equal, unequal}
 use Rattle.rtl_model.specs.bodies.Body.{assign, set, case_of, Stmts, Alternatives, others, alternative, followed_by}
 use Rattle.rtl_model.specs.bodies.Values.{Seen, elements_of, value_of}
@@ -17,6 +17,7 @@ use Rattle.rtl_model.specs.bodies.Leaves.{value_leaves, test_leaves, leaves, rea
 use Rattle.rtl_model.specs.bodies.Kinds.{edge_test, IsEdgeTest, reset_test, IsResetTest, ResetPart, Clocking, IsClockedAlone}
 use Rattle.rtl_model.specs.bodies.Kinds.{IsClockedWithReset, clocking}
 use Rattle.rtl_model.specs.bodies.Types.{ElementType, limit_of, HasType, KeepsTypes}
+use Rattle.rtl_model.specs.bodies.Looks.{Sight, net_now, net_before, element_kept, seen_at, Looks, body_looks, looks_of}
 use Rattle.rtl_model.specs.bodies.Fits.{Scope, width, IsWidth, FitsExpr, FitsAs, FitsTest, FitsStmt, Fits}
 
 -- ---- what a run does
@@ -27,19 +28,18 @@ EachRunAssigns =
     (body : Stmts) (these : ℕ → Bool) (seen : Seen) → IsTrue (must_assign (of_drivers these) body)
     → (place : ℕ) × IsTrue (these place) × IsSome (effect seen body place)
 
--- Two runs see the same: now of the nets that the body reads, before of those whose events it looks at, and of the
--- elements that it reads where it hasn't assigned them.
-pub record SeesAlike (body : Stmts) (seen other : Seen) : Type 0 where
-  pub now : AgreeOn (reads body) seen.now other.now
-  pub before : AgreeOn (events body) seen.before other.before
-  pub as_many : length seen.variables ≡ length other.variables
-  pub variables : (e : ℕ) → IsTrue (stores_element e body)
-      → slice_index seen.variables e ≡ slice_index other.variables e
+-- Of what a run sees a body reads nets now, nets before whose events it looks at, and the elements that it reads where
+-- it hasn't assigned them.
+abbrev pub IsRead : Stmts → Sight → Type 0
+IsRead body (net_now n) = Contains (reads body) n
+IsRead body (net_before n) = Contains (events body) n
+IsRead body (element_kept e) = IsTrue (stores_element e body)
 
 -- What a run does depends on this alone.
 abbrev pub LooksAtReads : Type 0
 LooksAtReads =
-    (body : Stmts) (seen other : Seen) → SeesAlike body seen other
+    (body : Stmts) (seen other : Seen) → length seen.variables ≡ length other.variables
+    → ((sight : Sight) → IsRead body sight → seen_at seen sight ≡ seen_at other sight)
     → (place : ℕ) → effect seen body place ≡ effect other body place
 
 -- So a body that stores no element does the same whatever values its variables had before the run.
@@ -48,6 +48,17 @@ NothingIsKept =
     (body : Stmts) → ((e : ℕ) → stores_element e body ≡ false)
     → (seen : Seen) (values : List ℕ) → length values ≡ length seen.variables → (place : ℕ)
     → effect (record seen { variables = values }) body place ≡ effect seen body place
+
+-- Runs that see the same where a driver looks have the same entry for it.
+abbrev pub EachLooks : Type 0
+EachLooks =
+    (body : Stmts) (place : ℕ) (seen other : Seen) → length seen.variables ≡ length other.variables
+    → ((sight : Sight) → Contains (looks_of body place) sight → seen_at seen sight ≡ seen_at other sight)
+    → effect seen body place ≡ effect other body place
+
+-- And the body reads all that a driver looks at.
+abbrev pub LooksAreRead : Type 0
+LooksAreRead = (body : Stmts) (place : ℕ) (sight : Sight) → Contains (looks_of body place) sight → IsRead body sight
 
 -- A case always takes a branch, whatever the value. This is the body of an alternative:
 abbrev pub IsAlternative : Stmts → Alternatives → Type 0
@@ -75,7 +86,8 @@ pub record LaterReplaces (earlier later : Stmts) (seen : Seen) : Type 0 where
 abbrev pub EachLaterReplaces : Type 0
 EachLaterReplaces = (earlier later : Stmts) (seen : Seen) → LaterReplaces earlier later seen
 
--- A sequence reads, assigns, tests and stores what its parts do, and fits where they do.
+-- A sequence reads, assigns, tests and stores what its parts do, and fits where they do. Its drivers look at what they
+-- do in its later part, where the targets have looked at what they do in its earlier part.
 pub record AddsUp (s t : Stmts) : Type 0 where
   pub reads_both : reads (followed_by s t) ≡ reads s ++ reads t
   pub events_of_both : events (followed_by s t) ≡ events s ++ events t
@@ -83,6 +95,8 @@ pub record AddsUp (s t : Stmts) : Type 0 where
       → must_assign these (followed_by s t) ≡ must_assign these s || must_assign these t
   pub stores_either : (e : ℕ) → stores_element e (followed_by s t)
       ≡ stores_element e s || (not (must_assign (is_element e) s) && stores_element e t)
+  pub looks_follow : (round : List Sight) (so_far : Looks)
+      → body_looks round so_far (followed_by s t) ≡ body_looks round (body_looks round so_far s) t
   pub fits : (scope : Scope) → Fits scope (followed_by s t) ↔ (Fits scope s × Fits scope t)
 
 abbrev pub SequencesAddUp : Type 0

@@ -9,6 +9,7 @@ use Rattle.rtl_model.specs.bodies.Body.{Stmts, done}
 use Rattle.rtl_model.specs.bodies.Values.{Seen}
 use Rattle.rtl_model.specs.bodies.Effect.{effect_of}
 use Rattle.rtl_model.specs.bodies.Reads.{reads, events}
+use Rattle.rtl_model.specs.bodies.Looks.{looked_nets}
 use Rattle.rtl_model.specs.bodies.Assigns.{of_drivers, must_assign}
 use Rattle.rtl_model.specs.bodies.Stored.{stores_element}
 use Rattle.rtl_model.specs.bodies.Kinds.{ResetPart, Clocking, clocking}
@@ -70,6 +71,7 @@ core_process inputs p =
       wakes = p.wakes;
       reads = reads p.body;
       acting_reads = reads (acting_branch clocked);
+      looks = looked_nets p.body;
       kind = core_kind p clocked (events p.body);
       effect = part_effect p p.body;
       acting_effect = λ now. part_effect p (acting_branch clocked) now now;

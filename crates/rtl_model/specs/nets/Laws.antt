@@ -14,7 +14,7 @@ use Rattle.rtl_model.specs.simulation.Cycle.{State}
 use Rattle.rtl_model.specs.simulation.Moments.{HasDeltas, Begun, SettlesIn, HasSettled}
 use Rattle.rtl_model.specs.simulation.Elaborated.{HasValues, HasBodies, IsElaborated}
 use Rattle.rtl_model.specs.simulation.Accepted.{IsAccepted}
-use Rattle.rtl_model.specs.simulation.Levels.{AreLevels, bound}
+use Rattle.rtl_model.specs.simulation.Levels.{IsBound}
 use Rattle.rtl_model.specs.simulation.Races.{HasNoRace}
 use Rattle.rtl_model.specs.simulation.Machine.{Solves, IsMachineRun}
 use Rattle.rtl_model.specs.simulation.Range.{KeepsRange, SourcesKeepRange, StateInRange, AreInputs}
@@ -87,18 +87,19 @@ pub record IsSound (net : FlatNetlist) : Type 0 where
 
 -- From the state after a moment's first cycle it settles, in so many delta cycles as the bound says at most, and at the
 -- start, where nothing is reset, in the greatest level at most; and without a race so far, in the machine's valuation.
-pub record SettlesAsMachine (net : FlatNetlist) (greatest : ℕ) (stimulus : ℕ → ℕ → ℕ) (m : ℕ) (s : State) : Type 0 where
+pub record SettlesAsMachine (net : FlatNetlist) (greatest most : ℕ)
+    (stimulus : ℕ → ℕ → ℕ) (m : ℕ) (s : State) : Type 0 where
   pub deltas : ℕ
   pub settles : SettlesIn (core_netlist net) s deltas
-  pub in_bound : deltas ≤ bound (core_netlist net) greatest
+  pub in_bound : deltas ≤ most
   pub at_start : m ≡ 0 → HasNoReset (core_netlist net) → deltas ≤ greatest
   pub is_machine : HasNoRace (core_netlist net) stimulus m → (t : State) → HasDeltas (core_netlist net) deltas s t
       → (v : ℕ → List ℕ) → IsMachineRun (core_netlist net) stimulus v → t.now ≡ v m
 
 -- At each moment, whatever the orders so far. There is such a state, and one run of the machine.
 pub record SimulatesTheMachine (net : FlatNetlist) (stimulus : ℕ → ℕ → ℕ) : Type 0 where
-  pub settles : (levels : List (Option ℕ)) (greatest : ℕ) → AreLevels (core_netlist net) levels greatest
-      → (m : ℕ) (s : State) → Begun (core_netlist net) stimulus m s → SettlesAsMachine net greatest stimulus m s
+  pub settles : (greatest most : ℕ) → IsBound (core_netlist net) greatest most
+      → (m : ℕ) (s : State) → Begun (core_netlist net) stimulus m s → SettlesAsMachine net greatest most stimulus m s
   pub begins : (m : ℕ) → (s : State) × Begun (core_netlist net) stimulus m s
   pub one_run : (v : ℕ → List ℕ) × IsMachineRun (core_netlist net) stimulus v
       × ((w : ℕ → List ℕ) → IsMachineRun (core_netlist net) stimulus w → w ≡ v)

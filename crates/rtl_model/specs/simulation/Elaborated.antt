@@ -37,11 +37,13 @@ pub record HasBodies (net : Netlist) : Type 0 where
       → HasPlace net p place → IsOnlyPlace net p place
       → IsTrue ((process net p).assigns (target net p place))
       → IsSome (slice_index_or ((process net p).effect before now) place None)
-  -- and looks at what it reads and at nothing else;
-  pub effect_reads : (p : ℕ) (before now before' now' : List ℕ)
-      → IsCombinational net p → AgreeOn (process net p).reads now now'
-      → (process net p).effect before now ≡ (process net p).effect before' now'
-  -- the branch under an edge likewise;
+  -- and the entry for a driver depends on what the driver looks at, which the body reads, and on nothing else;
+  pub entry_looks : (p place : ℕ) (before now before' now' : List ℕ) → IsCombinational net p
+      → HasPlace net p place → AgreeOn ((process net p).looks place) now now'
+      → slice_index_or ((process net p).effect before now) place None
+      ≡ slice_index_or ((process net p).effect before' now') place None
+  pub looks_are_read : (p place n : ℕ) → Contains ((process net p).looks place) n → Contains (process net p).reads n
+  -- the branch under an edge looks at what it reads and at nothing else;
   pub branch_reads : (p clock : ℕ) (edge : Edge) (v w : List ℕ)
       → IsClockedBy net p clock edge → AgreeOn (process net p).acting_reads v w
       → (process net p).acting_effect v ≡ (process net p).acting_effect w

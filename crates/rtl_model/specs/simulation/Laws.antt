@@ -7,7 +7,7 @@ use Rattle.rtl_model.specs.simulation.Moments.{HasNoneToRun, HasRun, HasDeltas, 
 use Rattle.rtl_model.specs.simulation.Elaborated.{IsElaborated, IsWired}
 use Rattle.rtl_model.specs.simulation.Accepted.{Fault, IsAccepted, HasNoLoop}
 use Rattle.rtl_model.specs.simulation.Faults.{AreFaultsOf, AreFaultsButLoops, AreStored, IsOneLoop, AreFaults}
-use Rattle.rtl_model.specs.simulation.Levels.{AreLevels, IsLevel, ShowLevels, Rises, bound}
+use Rattle.rtl_model.specs.simulation.Levels.{AreLevels, IsBound, IsLevel, ShowLevels, Rises}
 use Rattle.rtl_model.specs.simulation.Report.{AreClocks, IsReport, LeadsDown, ShowReport}
 use Rattle.rtl_model.specs.simulation.Races.{IsRace, HasNoRace, IsRaceOf, IsFirstRace}
 use Rattle.rtl_model.specs.simulation.Machine.{Solves, IsMachineRun}
@@ -255,19 +255,17 @@ HasNoReset net = (p : ℕ) (reset : Reset) → HasReset net p reset → ⊥
 -- nothing is reset.
 abbrev pub SettlesInBound : Type 0
 SettlesInBound =
-    (net : Netlist) (levels : List (Option ℕ)) (greatest : ℕ)
-    → IsElaborated net → IsAccepted net → AreLevels net levels greatest
+    (net : Netlist) (greatest most : ℕ) → IsElaborated net → IsAccepted net → IsBound net greatest most
     → (stimulus : ℕ → ℕ → ℕ) (m : ℕ) (s : State) → Begun net stimulus m s
-    → (k : ℕ) × SettlesIn net s k × (k ≤ bound net greatest) × (m ≡ 0 → HasNoReset net → k ≤ greatest)
+    → (k : ℕ) × SettlesIn net s k × (k ≤ most) × (m ≡ 0 → HasNoReset net → k ≤ greatest)
 
 -- So there is one greatest number of delta cycles of the moments up to a last one, and it is within the bound.
 abbrev pub OneGreatestCount : Type 0
 OneGreatestCount =
-    (net : Netlist) (levels : List (Option ℕ)) (greatest : ℕ)
-    → IsElaborated net → IsAccepted net → AreLevels net levels greatest
+    (net : Netlist) (greatest most : ℕ) → IsElaborated net → IsAccepted net → IsBound net greatest most
     → (stimulus : ℕ → ℕ → ℕ) (last : ℕ)
-    → (most : ℕ) × IsMost net stimulus last most × (most ≤ bound net greatest)
-    × ((other : ℕ) → IsMost net stimulus last other → other ≡ most)
+    → (count : ℕ) × IsMost net stimulus last count × (count ≤ most)
+    × ((other : ℕ) → IsMost net stimulus last other → other ≡ count)
 
 -- Where no moment up to m has a race, what has settled at m is the valuation of the machine's run.
 abbrev pub IsTheMachine : Type 0

@@ -52,6 +52,12 @@ has_late_reset net =
 abbrev pub bound : Netlist → (greatest : ℕ) → ℕ
 bound net greatest = greatest + (if has_clocked net then 1 else 0) + (if has_late_reset net then 1 else 0)
 
+-- greatest is the greatest level, and most the bound that it gives
+pub record IsBound (net : Netlist) (greatest most : ℕ) : Type 0 where
+  pub levels : List (Option ℕ)
+  pub are_levels : AreLevels net levels greatest
+  pub is : most ≡ bound net greatest
+
 -- ---- what shows levels
 
 -- Local facts: each level is 1 or more and rises along every sensitivity, and one above 1 is one more than its from's.

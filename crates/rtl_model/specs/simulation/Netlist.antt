@@ -32,6 +32,9 @@ pub record Process : Type 0 where
   -- and perhaps several times
   pub reads : List ℕ
   pub acting_reads : List ℕ
+  -- of those that it reads the nets that the driver at a place looks at: of a combinational process they alone decide
+  -- its entry
+  pub looks : (place : ℕ) → List ℕ
   pub kind : ProcessKind
   -- from the valuations before and now, at each driver's place the value that the body assigns, if it assigns one
   pub effect : (before now : List ℕ) → List (Option ℕ)
@@ -70,6 +73,7 @@ no_process = record {
   wakes = [];
   reads = [];
   acting_reads = [];
+  looks = λ place. [];
   kind = Combinational;
   effect = λ before now. [];
   acting_effect = λ now. [];

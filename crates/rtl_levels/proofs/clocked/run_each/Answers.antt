@@ -5,7 +5,7 @@ use Rattle.rtl_awaited_edges.specs.declared.awaited.Look.{Look}
 use Rattle.rtl_awaited_edges.specs.Awaiting.{IsAsleep}
 use Rattle.rtl_awaited_edges.proofs.Edges.{clock_there, nothing_left}
 use Rattle.rtl_awaited_edges.proofs.Leading.{as_leader}
-use Rattle.rtl_eval.specs.Runs.{Outcome}
+use Rattle.rtl_drives.specs.Outcomes.{Outcome}
 use Rattle.rtl_kernel.specs.drivers.Transactions.{no_outcome}
 use Rattle.rtl_net.specs.Core.{core}
 use Rattle.rtl_levels.specs.Kept.{entries_of}

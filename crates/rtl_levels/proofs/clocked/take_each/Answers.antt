@@ -3,9 +3,9 @@ use Rattle.std.specs.Prelude.{⊤}
 use Rattle.std.proofs.lemmas.List.{get_or_default, get_or-set_same}
 use Rattle.rtl_model.specs.nets.FlatNetlist.{process_at}
 use Rattle.rtl_model.specs.simulation.Netlist.{process}
-use Rattle.rtl_model.proofs.simulation.Faultless.{faultless}
-use Rattle.rtl_model.proofs.simulation.Leveled.{leveled}
-use Rattle.rtl_eval.specs.Runs.{IsOf, Outcome}
+use Rattle.rtl_model.proofs.simulation.Levels.{numbered}
+use Rattle.rtl_eval.specs.Runs.{IsOf}
+use Rattle.rtl_drives.specs.Outcomes.{Outcome}
 use Rattle.rtl_kernel.specs.drivers.Transactions.{no_outcome}
 use Rattle.rtl_net.specs.Core.{core}
 use Rattle.rtl_net.specs.Nets.{flat}
@@ -43,7 +43,7 @@ take_over-requires-clause-have_readers c = have_readers (core c.args.net.now) c.
 pub loop-process-preserved : goal.loop-process-preserved
 loop-process-preserved c =
     let net = core c.args.net.now in
-    let L = leveled net c.requires.planned.elaborated (faultless net c.requires.planned.accepted) in
+    let L = numbered net c.requires.planned.elaborated c.requires.planned.accepted in
     let schedule = c.args.schedule.now in
     let readers = schedule.readers in
     let runs = c.args.runs.now in

@@ -2,8 +2,7 @@ use Rattle.std.proofs.Common.{◌≡◌, ℕ, false, List, get_or, sym, subst, �
 use Rattle.std.specs.Prelude.{⊤}
 use Rattle.std.proofs.lemmas.List.Elements.{All-contains}
 use Rattle.vhdl_values.specs.declared.scalar.Nine.TheVariants.{U}
-use Rattle.rtl_model.proofs.simulation.Faultless.{faultless}
-use Rattle.rtl_model.proofs.simulation.Leveled.{leveled}
+use Rattle.rtl_model.proofs.simulation.Levels.{numbered}
 use Rattle.rtl_kernel.specs.wakes.Woken.{wakers_of}
 use Rattle.rtl_net.specs.Core.{core}
 use Rattle.rtl_levels.specs.Kept.{entries_of}
@@ -42,7 +41,7 @@ loop-changed-preserved c =
     let I = c.loop-changed.invariant in
     let E = c.take_each.ensures in
     record {
-      taken = others_take_over net (entries_of c.args.runs.now) (leveled net c.requires.planned.elaborated (faultless net c.requires.planned.accepted))
+      taken = others_take_over net (entries_of c.args.runs.now) (numbered net c.requires.planned.elaborated c.requires.planned.accepted)
           c.args.marked.now.items c.loop-changed.marked.items c.take_each.new.marked.items c.args.state.now.values.items c.loop-changed.state.values.items c.take_each.new.state.values.items I.taken E.taken;
       off = λ p come. off p (one_more_come_by index c.args.changes.now c.loop-changed.changed-index p come);
       state = E.state;

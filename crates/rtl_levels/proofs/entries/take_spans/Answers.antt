@@ -1,6 +1,6 @@
 use Rattle.std.proofs.Common.{arith}
 use Rattle.std.specs.Prelude.{Contains}
-use Rattle.rtl_eval.proofs.Places.{place_assigned}
+use Rattle.rtl_drives.proofs.Places.{place_assigned}
 use Rattle.rtl_kernel.specs.drivers.Transactions.{nets_of}
 use Rattle.rtl_levels.proofs.Advancing.{still_have_readers}
 use Rattle.rtl_levels.proofs.Spanned.{no_span, taking_all, taking_more, taking_none}

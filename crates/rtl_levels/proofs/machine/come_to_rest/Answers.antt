@@ -2,15 +2,14 @@ use Rattle.std.proofs.Common.{◌≡◌, ℕ, true, false, List, Option, None, g
 use Rattle.std.specs.Prelude.{⊤}
 use Rattle.rtl_model.specs.simulation.Netlist.{process}
 use Rattle.rtl_model.proofs.nets.InRange.{keeps_range}
-use Rattle.rtl_model.proofs.simulation.Faultless.{faultless}
-use Rattle.rtl_model.proofs.simulation.Leveled.{leveled}
+use Rattle.rtl_model.proofs.simulation.Levels.{numbered}
 use Rattle.rtl_net.specs.Nets.{flat}
 use Rattle.rtl_net.specs.Core.{core}
 use Rattle.rtl_levels.specs.Kept.{entries_of}
 use Rattle.rtl_levels.proofs.Awake.{with_asleep}
 use Rattle.rtl_levels.proofs.Resting.{at_rest, stays_clean}
 use Rattle.rtl_levels.proofs.Stepping.{woken_clocked}
-use Rattle.rtl_levels.proofs.Touching.{touches_then}
+use Rattle.rtl_net_groups.proofs.Touching.{touches_then}
 use Rattle.rtl_levels.proofs.Wired.{runs_many}
 use Rattle.rtl_levels.proofs.machine.come_to_rest.Goals as goal
 
@@ -83,7 +82,7 @@ returns-clause-rest g c =
     let w = c.take_marked.new.state.values.items in
     let P = c.requires.planned in
     let R = rw (c.deref.ensures.value, ← c.deref-2.ensures.value) at c.run_marked.ensures.ran in
-    let taken = with_asleep net (leveled net P.elaborated (faultless net P.accepted)) before v w c.args.woken.now.items c.run_marked.new.marked.items
+    let taken = with_asleep net (numbered net P.elaborated P.accepted) before v w c.args.woken.now.items c.run_marked.new.marked.items
     (entries_of c.deref-2.result.now) R c.take_marked.ensures.taken in
     at_rest net c.args.schedule.now P c.args.woken.now.items (woken_clocked _ _ P _ _ c.requires.sensitive) (λ p. (process net p).effect before v) v w taken before
     c.sweep.new.state.values.items (λ p m. refl) c.sweep.ensures.swept

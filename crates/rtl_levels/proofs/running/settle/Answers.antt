@@ -3,7 +3,8 @@ use Rattle.std.proofs.lemmas.List.{get_or_default}
 use Rattle.rtl_model.specs.nets.FlatNetlist.{process_at}
 use Rattle.rtl_model.specs.simulation.Netlist.{process}
 use Rattle.rtl_model.proofs.nets.InRange.{keeps_range}
-use Rattle.rtl_eval.specs.Runs.{IsOf, Outcome}
+use Rattle.rtl_eval.specs.Runs.{IsOf}
+use Rattle.rtl_drives.specs.Outcomes.{Outcome}
 use Rattle.rtl_kernel.specs.drivers.Transactions.{no_outcome}
 use Rattle.rtl_net.specs.Nets.{flat}
 use Rattle.rtl_net.specs.Core.{core}

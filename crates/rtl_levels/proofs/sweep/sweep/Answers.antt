@@ -7,7 +7,7 @@ use Rattle.rtl_levels.specs.Marks.{Marks}
 use Rattle.rtl_levels.specs.Running.{IsWritten}
 use Rattle.rtl_levels.proofs.Awake.{unmarked_more}
 use Rattle.rtl_levels.proofs.Sweeping.{all_settled, at_rank, none_left, sweeping_run, sweeping_skip}
-use Rattle.rtl_levels.proofs.Touching.{touches_none, touches_then}
+use Rattle.rtl_net_groups.proofs.Touching.{touches_none, touches_then}
 use Rattle.rtl_levels.proofs.sweep.sweep.Goals as goal
 
 pub loop-rank-init : goal.loop-rank-init

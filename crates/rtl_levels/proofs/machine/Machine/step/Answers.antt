@@ -2,7 +2,7 @@ use Rattle.std.proofs.Common.{sym, ◌∙◌}
 use Rattle.rtl_levels.proofs.Advancing.{have_readers}
 use Rattle.rtl_levels.proofs.Machines as machines
 use Rattle.rtl_levels.proofs.Stepping.{clocked_below}
-use Rattle.rtl_levels.proofs.Touching.{touches_then}
+use Rattle.rtl_net_groups.proofs.Touching.{touches_then}
 use Rattle.rtl_levels.proofs.machine.Machine.step.Goals as goal
 
 pub take_inputs-requires-clause-there : goal.take_inputs-requires-clause-there

@@ -1,6 +1,6 @@
 use Rattle.std.proofs.Common.{arith}
 use Rattle.std.proofs.lemmas.List.{length-set}
-use Rattle.rtl_levels.proofs.Touching.{touches_set}
+use Rattle.rtl_net_groups.proofs.Touching.{touches_set}
 use Rattle.rtl_levels.proofs.state.State.set.Goals as goal
 
 pub mark_readers-requires-clause-there : goal.mark_readers-requires-clause-there
