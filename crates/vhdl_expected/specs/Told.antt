@@ -16,12 +16,12 @@ use Rattle.vhdl_parser_rules.specs.Near.{is_near}
 use Rattle.vhdl_expected.specs.Reading.{Reading, before, from}
 use Rattle.vhdl_expected.specs.declared.reading.TheConstants.{MOST_TOKENS}
 use Rattle.vhdl_expected.specs.declared.respelling.TheConstants.{MOST_PLACES}
-use Rattle.vhdl_expected.specs.declared.otherwise.TheConstants.{OTHERWISE}
-use Rattle.vhdl_expected.specs.declared.closed.TheConstants.{CLOSED, PLACES}
-use Rattle.vhdl_expected.specs.declared.names.TheConstants.{NAMES, TYPES}
-use Rattle.vhdl_expected.specs.declared.instead.TheConstants.{INSTEAD, PARTS}
-use Rattle.vhdl_expected.specs.declared.table.TheConstants.{SLIPS, ENDED, OPERANDS, JOINTS, DECLARED, HEADS}
-use Rattle.vhdl_expected.specs.declared.word.TheConstants.{EARLY, LATE, JOINED}
+use Rattle.vhdl_expected.specs.declared.otherwise.TheConstants.{OPERATORS, DELIMITERS, SPARES, STRAYS}
+use Rattle.vhdl_expected.specs.declared.closed.TheConstants.{CLOSED, UNENDED, PLACES, MODES}
+use Rattle.vhdl_expected.specs.declared.names.TheConstants.{NAMES, MAPPED, TYPES, RANGES}
+use Rattle.vhdl_expected.specs.declared.instead.TheConstants.{INSTEAD, PARTS, DIVIDED, UNPARTED}
+use Rattle.vhdl_expected.specs.declared.table.TheConstants.{SLIPS, BLANKS, ENDED, ENDINGS, OPERANDS, VALUES, JOINTS, TARGETS, DECLARED, LISTS, HEADS, UNITS}
+use Rattle.vhdl_expected.specs.declared.word.TheConstants.{FROM_A, FROM_E, FROM_L, FROM_P, ENDS, JOINED}
 use Rattle.vhdl_expected.specs.declared.reserved.TheConstants.{NO_NAMES}
 use Rattle.vhdl_expected.specs.declared.texts.TheConstants.{RESERVED}
 
@@ -77,17 +77,10 @@ word_of w = word w.0.now w.1.now w.2 (said_of w.3) (said_of w.4)
 abbrev pub words_of : Bor (List CodeWord) → List Word
 words_of table = map word_of table.now
 
-unfoldable pub early : List Word
-early = map (λ w. word w.0.now w.1.now w.2 (w.3.0.now, w.3.1.now) (w.4.0.now, w.4.1.now)) EARLY
-
-unfoldable pub late : List Word
-late = map (λ w. word w.0.now w.1.now w.2 (w.3.0.now, w.3.1.now) (w.4.0.now, w.4.1.now)) LATE
-
-unfoldable pub joined : List Word
-joined = map (λ w. word w.0.now w.1.now w.2 (w.3.0.now, w.3.1.now) (w.4.0.now, w.4.1.now)) JOINED
-
-abbrev pub words : List (List Word)
-words = early ∷ late ∷ joined ∷ []
+unfoldable pub words : List (List Word)
+words =
+    map (map (λ w. word w.0.now w.1.now w.2 (w.3.0.now, w.3.1.now) (w.4.0.now, w.4.1.now)))
+    (FROM_A ∷ FROM_E ∷ FROM_L ∷ FROM_P ∷ ENDS ∷ JOINED ∷ [])
 
 -- the word in place of the refused token, or of another
 abbrev pub in_place : (is_refused : Bool) → Word → Change
@@ -180,54 +173,22 @@ tried_in r rows = flat_map (tried_as r) rows
 
 -- ---- in which order
 
-unfoldable pub slips : List Row
-slips = map (λ c. row c.0 c.1.now c.2.now c.3 (c.4.0.now, c.4.1.now)) SLIPS
-
-unfoldable pub ended : List Row
-ended = map (λ c. row c.0 c.1.now c.2.now c.3 (c.4.0.now, c.4.1.now)) ENDED
-
-unfoldable pub operands : List Row
-operands = map (λ c. row c.0 c.1.now c.2.now c.3 (c.4.0.now, c.4.1.now)) OPERANDS
-
-unfoldable pub joints : List Row
-joints = map (λ c. row c.0 c.1.now c.2.now c.3 (c.4.0.now, c.4.1.now)) JOINTS
-
-unfoldable pub declared : List Row
-declared = map (λ c. row c.0 c.1.now c.2.now c.3 (c.4.0.now, c.4.1.now)) DECLARED
-
-unfoldable pub heads : List Row
-heads = map (λ c. row c.0 c.1.now c.2.now c.3 (c.4.0.now, c.4.1.now)) HEADS
-
-unfoldable pub closed : List Row
-closed = map (λ c. row c.0 c.1.now c.2.now c.3 (c.4.0.now, c.4.1.now)) CLOSED
-
-unfoldable pub places : List Row
-places = map (λ c. row c.0 c.1.now c.2.now c.3 (c.4.0.now, c.4.1.now)) PLACES
-
-unfoldable pub names : List Row
-names = map (λ c. row c.0 c.1.now c.2.now c.3 (c.4.0.now, c.4.1.now)) NAMES
-
-unfoldable pub types : List Row
-types = map (λ c. row c.0 c.1.now c.2.now c.3 (c.4.0.now, c.4.1.now)) TYPES
-
-unfoldable pub instead : List Row
-instead = map (λ c. row c.0 c.1.now c.2.now c.3 (c.4.0.now, c.4.1.now)) INSTEAD
-
-unfoldable pub parts : List Row
-parts = map (λ c. row c.0 c.1.now c.2.now c.3 (c.4.0.now, c.4.1.now)) PARTS
-
-unfoldable pub other_rows : List Row
-other_rows = map (λ c. row c.0 c.1.now c.2.now c.3 (c.4.0.now, c.4.1.now)) OTHERWISE
-
-abbrev pub missing_tables : List (List Row)
+unfoldable pub missing_tables : List (List Row)
 missing_tables =
-    slips ∷ ended ∷ operands ∷ joints ∷ declared ∷ heads ∷ closed ∷ places ∷ names ∷ types ∷ instead ∷ parts ∷ []
+    map (map (λ c. row c.0 c.1.now c.2.now c.3 (c.4.0.now, c.4.1.now)))
+    (SLIPS ∷ BLANKS ∷ ENDED ∷ ENDINGS ∷ OPERANDS ∷ VALUES ∷ JOINTS ∷ TARGETS ∷ DECLARED ∷ LISTS ∷ HEADS ∷ UNITS
+    ∷ CLOSED ∷ UNENDED ∷ PLACES ∷ MODES ∷ NAMES ∷ MAPPED ∷ TYPES ∷ RANGES ∷ INSTEAD ∷ PARTS ∷ DIVIDED ∷ UNPARTED ∷ [])
+
+unfoldable pub other_tables : List (List Row)
+other_tables =
+    map (map (λ c. row c.0 c.1.now c.2.now c.3 (c.4.0.now, c.4.1.now)))
+    (OPERATORS ∷ DELIMITERS ∷ SPARES ∷ STRAYS ∷ [])
 
 abbrev pub missing : Reading → List Trial
 missing r = flat_map (tried_in r) missing_tables
 
 abbrev pub otherwise : Reading → List Trial
-otherwise r = tried_in r other_rows
+otherwise r = flat_map (tried_in r) other_tables
 
 abbrev pub perhaps_said : Option Said → Expected
 perhaps_said None = nothing

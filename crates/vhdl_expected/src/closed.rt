@@ -12,8 +12,8 @@ use crate::texts::{
 };
 use vhdl_lexer::TokenKind;
 
-/// What is closed or ended too early, or isn't.
-pub static CLOSED: [Row; 26] = [
+/// What is closed too early, or lacks the word that ends it.
+pub static CLOSED: [Row; 14] = [
     row!(SPARE_BEFORE, 1, [Semicolon And] 1, []),
     row!(SPARE_BEFORE, 1, [Semicolon Or] 1, []),
     row!(SPARE_BEFORE, 1, [Semicolon Ampersand] 1, []),
@@ -30,6 +30,10 @@ pub static CLOSED: [Row; 26] = [
     row!(NO_END, 1, [If Semicolon] 0, [End]),
     row!(NO_END, 1, [Case Semicolon] 0, [End]),
     before!("`.all`", ALL, [] Dot All),
+];
+
+/// What is neither closed nor ended.
+pub static UNENDED: [Row; 12] = [
     before!("`end;`", END_UNIT, [] End Semicolon),
     before!("`);`", CLOSE_LIST, [] RightParen Semicolon),
     row!(("can't stand here: `)` is expected before the `;` before it", CLOSE_LIST),
@@ -48,7 +52,7 @@ pub static CLOSED: [Row; 26] = [
 ];
 
 /// What stands in another place than its own.
-pub static PLACES: [Row; 38] = [
+pub static PLACES: [Row; 21] = [
     row!(OPEN_PROCESS, 0, [Process] 0, [Null Semicolon End Process Semicolon]),
     row!(OPEN_PROCESS, 0, [Entity] 0, [Null Semicolon End Process Semicolon Identifier Colon]),
     row!(OPEN_PROCESS, 0, [Component] 0, [Null Semicolon End Process Semicolon Identifier Colon]),
@@ -72,6 +76,10 @@ pub static PLACES: [Row; 38] = [
     row!(NO_IF, 0, [Elsif] 0, [If Identifier Then]),
     row!(NO_CASE, 1, [Begin When] 1, [Begin Case Identifier Is]),
     row!(NO_CASE, 1, [Then When] 1, [Then Case Identifier Is]),
+];
+
+/// Modes and declarations in another place than their own.
+pub static MODES: [Row; 17] = [
     row!(MODE_IN, 1, [Identifier In] 2, [In Identifier]),
     row!(MODE_OUT, 1, [Identifier Out] 2, [Out Identifier]),
     here!(NO_PORT, 1, [RightParen In] [RightParen Semicolon Type]),

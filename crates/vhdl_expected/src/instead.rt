@@ -70,8 +70,8 @@ pub static INSTEAD: [Row; 19] = [
     in_place_here!("`=>`", ARROW, [Colon] Arrow Identifier RightParen Semicolon),
 ];
 
-/// What parts values, statements and declarations otherwise than it has to, or lacks between them.
-pub static PARTS: [Row; 40] = [
+/// What parts values and statements otherwise than it has to.
+pub static PARTS: [Row; 14] = [
     row!((LAST_COMMA, END_STATEMENT), 8, [Comma Identifier LessEqual] 1, [Semicolon]),
     row!((LAST_COMMA, END_STATEMENT), 4, [Comma Identifier LessEqual] 1, [Semicolon]),
     row!((LAST_COMMA, END_STATEMENT), 5, [Comma Identifier LessEqual] 1, [Semicolon]),
@@ -86,6 +86,10 @@ pub static PARTS: [Row; 40] = [
     before!("`when`", SELECT, [Others] When),
     here!(CHOICES_BEFORE, 0, [Comma] [When Others Comma Integer When Others Semicolon]),
     here!(CHOICES_BEFORE, 0, [Else] [When Others Semicolon]),
+];
+
+/// What parts alternatives and declarations otherwise than it has to.
+pub static DIVIDED: [Row; 13] = [
     row!(SPARE_BEFORE, 1, [Semicolon Else] 1, []),
     row!(SPARE, 0, [Semicolon Then] 1, []),
     row!(ELSE_BEFORE, 1, [Semicolon Character] 1, [Else]),
@@ -102,6 +106,10 @@ pub static PARTS: [Row; 40] = [
     in_place!("`;`", END_STATEMENT, [Comma Signal] Semicolon),
     in_place!("`;`", END_STATEMENT, [Dot] Semicolon),
     in_place_here!("`,`", COMMA, [Semicolon Identifier] Comma Identifier RightParen Semicolon),
+];
+
+/// What a comma or another sign stands in place of, and what says nothing.
+pub static UNPARTED: [Row; 13] = [
     here!(("can't stand here: `)` is expected before the comma before it", CLOSE),
         2, [Comma Identifier Arrow] [RightParen Comma Identifier Arrow Identifier RightParen Semicolon]),
     in_place!("`;`", END_STATEMENT, [Comma Identifier] Semicolon),

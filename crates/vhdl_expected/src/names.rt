@@ -41,8 +41,8 @@ const RANGE: Said = (
     TO,
 );
 
-/// What is wrong with a name, an end, a library, or what is mapped; and a word too many.
-pub static NAMES: [Row; 28] = [
+/// What is wrong with a name, an end or a library.
+pub static NAMES: [Row; 14] = [
     here!(HYPHEN, 1, [Identifier Minus Identifier] [Identifier Colon Identifier Assign Integer]),
     here!(HYPHEN, 1, [Identifier Minus Identifier] [Identifier RightParen Semicolon]),
     row!(HYPHEN, 1, [Identifier Minus Identifier Minus Identifier] 5, [Identifier]),
@@ -61,6 +61,10 @@ pub static NAMES: [Row; 28] = [
         1, [LeftParen Star] 2, [LeftParen All]),
     here!(("can't stand here: all stands alone in a sensitivity list", "write process (all), or each name that is read"),
         1, [All] [All RightParen Begin]),
+];
+
+/// What is wrong with what is mapped; and a word too many.
+pub static MAPPED: [Row; 14] = [
     row!(("can't stand here: the index of a loop has no type", IN), 0, [Colon Identifier In] 3, [In]),
     in_place!("`all`", ALL, [Star] All),
     row!(("can't stand here: parentheses are expected around it", "write process (all)"),
@@ -82,8 +86,8 @@ pub static NAMES: [Row; 28] = [
     row!(SPARE, 1, [Out Signal] 2, [Out]),
 ];
 
-/// What is wrong with a type, a range, or the value in a declaration.
-pub static TYPES: [Row; 21] = [
+/// What is wrong with a type.
+pub static TYPES: [Row; 10] = [
     here!(("can't stand here: `(` is expected before it", TYPE),
         1, [Is Identifier Comma] [Is LeftParen Identifier RightParen Semicolon]),
     here!(("can't stand here: a type is declared by its values, and not by another type",
@@ -107,6 +111,10 @@ pub static TYPES: [Row; 21] = [
     in_place!("`signal` or `constant`", OBJECT, [Identifier Identifier Colon] Constant),
     in_place!("`signal`", SIGNAL, [Identifier Identifier Colon] Signal),
     in_place!("`variable`", VARIABLE, [Identifier Identifier Colon] Variable),
+];
+
+/// What is wrong with a range, or with the beginning of a declaration.
+pub static RANGES: [Row; 11] = [
     in_place!("`type`", TYPE, [Identifier Identifier Is] Type),
     row!(UNDECLARED, 0, [Identifier Identifier] 2, [Signal Identifier Colon Identifier]),
     row!(UNDECLARED, 0, [Identifier Identifier] 2, [Variable Identifier Colon Identifier]),

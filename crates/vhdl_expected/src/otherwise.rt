@@ -1,6 +1,6 @@
 //! The changes that are tried where no other is told, nor a form that is known.
 
-ghost use Rattle.std.specs.Prelude.{◌≡◌};
+ghost use Rattle.std.specs.Prelude.{◌≡◌, map};
 ghost use Rattle.vhdl_expected.specs.Told as spec;
 
 use crate::help::{
@@ -12,8 +12,8 @@ use crate::row::{Row, before, here, in_place, in_place_here, row};
 use crate::texts::{COMMENT, MERGE, OPERATOR, SPARE, UNREAD};
 use vhdl_lexer::TokenKind;
 
-/// What else the token may be: the first counts with which the text goes on.
-pub static OTHERWISE: [Row; 59] = [
+/// An operator that lacks, and a word in place of another.
+pub static OPERATORS: [Row; 15] = [
     row!(("can't stand here: no unit is read behind a number, and no name without an operator",
         "leave out what is a time or a delay; else write what joins the two, as + or &"),
         1, [Integer Identifier] 1, [Integer Ampersand]),
@@ -37,6 +37,10 @@ pub static OTHERWISE: [Row; 59] = [
     in_place!("`is`", IS, [Equal] Is),
     in_place!("`is`", IS, [Colon] Is),
     in_place!("`is`", IS, [Semicolon] Is),
+];
+
+/// A delimiter or a word in place of another.
+pub static DELIMITERS: [Row; 20] = [
     in_place!("`loop`", LOOP, [] Loop),
     row!(("can't stand outside of a process: `generate` is expected in its place, or a process around it", OUTSIDE_IF),
         0, [Then] 1, [Generate]),
@@ -58,6 +62,10 @@ pub static OTHERWISE: [Row; 59] = [
     in_place!("`:`", COLON, [Is] Colon),
     in_place!("`of`", OF, [] Of),
     before!("`when`", CONDITIONAL, [] When),
+];
+
+/// What may be left out.
+pub static SPARES: [Row; 14] = [
     row!(UNREAD, 0, [New] 1, []),
     row!(UNREAD, 0, [Postponed] 1, []),
     row!(SPARE, 1, [Then Semicolon] 2, [Then]),
@@ -78,6 +86,10 @@ pub static OTHERWISE: [Row; 59] = [
     row!(("can't stand here, and what follows goes on without it",
         "leave it out if it is one too many; else write what lacks before it, or put parentheses around what it begins"),
         0, [] 1, []),
+];
+
+/// What is no VHDL here, or stands outside of all units.
+pub static STRAYS: [Row; 10] = [
     // Before an aggregate: so an operand isn't taken for the beginning of a statement.
     here!(COMMENT, 1, [Identifier Identifier Identifier] [Identifier LessEqual LeftParen Others Arrow Integer RightParen Semicolon]),
     here!(COMMENT, 0, [Identifier Identifier Identifier] [Signal]),
@@ -94,10 +106,9 @@ pub static OTHERWISE: [Row; 59] = [
         0, [] [Entity Identifier Is]),
 ];
 
-/// What else the token may be.
-#[tactic(auto, unfolding(crate::specs::Told::other_rows))]
-pub(crate) fn otherwise() -> &'static [Row]
-    ensures { spec.rows_of result ≡ spec.other_rows }
+/// The tables of what else the token may be; the first row counts with which the text goes on.
+pub(crate) fn otherwise() -> [&'static [Row]; 4]
+    ensures { map spec.rows_of result ≡ spec.other_tables }
 {
-    &OTHERWISE
+    [&OPERATORS, &DELIMITERS, &SPARES, &STRAYS]
 }

@@ -3,15 +3,15 @@
 ghost use Rattle.std.specs.Prelude.{◌≡◌, map};
 ghost use Rattle.vhdl_expected.specs.Told as spec;
 
-use crate::closed::{CLOSED, PLACES};
+use crate::closed::{CLOSED, MODES, PLACES, UNENDED};
 use crate::help::{
     ALL, ALTERNATIVE, ARROW, ASSIGN, BEGIN, CASE, CLOSE, COLON, COMMA, COMPONENT, CONDITIONAL, DOT,
     END_CASE, END_COMPONENT, END_GENERATE, END_IF, END_IT, END_LOOP, END_PROCESS, ENTITY, GENERATE,
     IF, IN, IS, IS_PORT, LIBRARY, LOOP, MAP, OBJECT, OF, OPEN, PORT, PROCESS, SELECT, SIGNAL,
     SPARE_END, THEN, TO, TYPE, VARIABLE,
 };
-use crate::instead::{INSTEAD, PARTS};
-use crate::names::{NAMES, TYPES};
+use crate::instead::{DIVIDED, INSTEAD, PARTS, UNPARTED};
+use crate::names::{MAPPED, NAMES, RANGES, TYPES};
 use crate::reading::MOST_TOKENS;
 use crate::row::{Row, bare, before, before_name, here, in_place_here, row, spare_end, unended};
 use crate::texts::{
@@ -20,8 +20,8 @@ use crate::texts::{
 };
 use vhdl_lexer::TokenKind;
 
-/// What is written otherwise, or one too many.
-pub static SLIPS: [Row; 30] = [
+/// What is written twice, or in place of a delimiter.
+pub static SLIPS: [Row; 14] = [
     row!(TWICE, 1, [Begin Begin] 1, []),
     row!(TWICE, 1, [Then Then] 1, []),
     row!(TWICE, 1, [Is Is] 1, []),
@@ -41,6 +41,10 @@ pub static SLIPS: [Row; 30] = [
     in_place_here!("`=>`", ARROW, [Minus Greater] Arrow Integer RightParen Semicolon),
     row!(("can't stand here: `<=` is expected in place of it and the delimiter behind it", ASSIGN),
         0, [Less Minus] 2, [LessEqual]),
+];
+
+/// What a blank parts, and what is one too many.
+pub static BLANKS: [Row; 16] = [
     row!(BLANK, 0, [Less Equal] 2, [LessEqual]),
     row!(BLANK, 1, [Less Equal] 2, [LessEqual]),
     row!(BLANK, 0, [Greater Equal] 2, [GreaterEqual]),
@@ -60,8 +64,8 @@ pub static SLIPS: [Row; 30] = [
     row!(TWO_MODES, 1, [Out In] 1, []),
 ];
 
-/// What lacks at an end, or is one too many.
-pub static ENDED: [Row; 24] = [
+/// What lacks at an end.
+pub static ENDED: [Row; 12] = [
     bare!("`end if;`", END_IF, If),
     bare!("`end loop;`", END_LOOP, Loop),
     bare!("`end case;`", END_CASE, Case),
@@ -74,6 +78,10 @@ pub static ENDED: [Row; 24] = [
     unended!("`end process;`", END_PROCESS, Process),
     unended!("`end generate;`", END_GENERATE, Generate),
     unended!("`end component;`", END_COMPONENT, Component),
+];
+
+/// What ends something else, or is an end too many.
+pub static ENDINGS: [Row; 12] = [
     row!(("can't follow this end: it ends an entity", "write end entity;"),
         1, [End Architecture] 2, [End Entity]),
     row!(("can't follow this end: it ends an architecture", "write end architecture;"),
@@ -91,8 +99,8 @@ pub static ENDED: [Row; 24] = [
     spare_end!("port list", Port),
 ];
 
-/// What is wrong with an operand, an operator or a value.
-pub static OPERANDS: [Row; 27] = [
+/// What is wrong with an operand or an operator.
+pub static OPERANDS: [Row; 14] = [
     row!(TWICE, 1, [And And] 1, []),
     row!(TWICE, 1, [Or Or] 1, []),
     row!(TWICE, 1, [Xor Xor] 1, []),
@@ -108,6 +116,10 @@ pub static OPERANDS: [Row; 27] = [
     row!(RELATION, 0, [NotEqual] 1, [And]),
     row!(RELATION, 0, [Less] 1, [And]),
     row!(RELATION, 0, [Greater] 1, [And]),
+];
+
+/// What is wrong with a value, or with what gets it.
+pub static VALUES: [Row; 13] = [
     row!(("can't stand here: a literal of bits has no length before it",
         "write \"0101\", b\"0101\" or x\"5\" for a vector, and '1' for one element"),
         1, [Integer Tick Identifier] 3, [BitString]),
@@ -129,7 +141,7 @@ pub static OPERANDS: [Row; 27] = [
 ];
 
 /// What lacks between two parts.
-pub static JOINTS: [Row; 21] = [
+pub static JOINTS: [Row; 12] = [
     before!("`then`", THEN, [] Then),
     before!("`is`", IS, [] Is),
     before!("`loop`", LOOP, [] Loop),
@@ -145,6 +157,10 @@ pub static JOINTS: [Row; 21] = [
     here!(("can't stand here: `<=` is expected before it, or in an instance `:` and the word entity",
         "write y <= resize(a, 8); or u : entity work.k port map (a, b);"),
         1, [Identifier Identifier LeftParen] [Identifier Colon Identifier Port]),
+];
+
+/// Of what an assignment or a value in a declaration lacks.
+pub static TARGETS: [Row; 9] = [
     // Behind an aggregate, and behind another statement: so neither an operand nor a declaration is
     // taken for an assignment. The token stands in a relation: so none follows it, as that of
     // another assignment.
@@ -160,8 +176,8 @@ pub static JOINTS: [Row; 21] = [
     row!(VALUE, 0, [LeftParen Others] 0, [Assign]),
 ];
 
-/// What lacks in a declaration, or in a list.
-pub static DECLARED: [Row; 26] = [
+/// What lacks in a declaration.
+pub static DECLARED: [Row; 13] = [
     before!("`signal` or `constant`", OBJECT, [Identifier] Constant),
     before!("`signal`", SIGNAL, [Identifier] Signal),
     before!("`variable`", VARIABLE, [Identifier] Variable),
@@ -176,6 +192,10 @@ pub static DECLARED: [Row; 26] = [
     row!(UNTYPED, 0, [Equal Character] 1, [Colon Identifier Assign Integer Semicolon Constant Identifier Colon Identifier Assign]),
     row!(UNTYPED, 0, [Equal Integer] 1, [Colon Identifier Assign Integer Semicolon Variable Identifier Colon Identifier Assign]),
     row!(UNTYPED, 0, [Equal Character] 1, [Colon Identifier Assign Integer Semicolon Variable Identifier Colon Identifier Assign]),
+];
+
+/// What lacks in a list, or in what goes on behind a name.
+pub static LISTS: [Row; 13] = [
     before!("`:`", COLON, [] Colon),
     // Behind a slice: so an index in an expression, or in the name that is assigned, isn't taken
     // for a list of names.
@@ -193,8 +213,8 @@ pub static DECLARED: [Row; 26] = [
     before!("`process`", PROCESS, [Begin] Process),
 ];
 
-/// What lacks at the beginning of a statement, a list or a unit.
-pub static HEADS: [Row; 24] = [
+/// What lacks at the beginning of a statement or a list.
+pub static HEADS: [Row; 12] = [
     before!("`if`", IF, [] If),
     row!(("can't stand here: `elsif` is expected in place of the else before it", "write elsif b = '1' then"),
         2, [Else Identifier] 1, [Elsif]),
@@ -211,6 +231,10 @@ pub static HEADS: [Row; 24] = [
         0, [Map Port] 2, [Port Map]),
     here!(("can't stand here: `(` is expected before it", "write port map (a => b, c => d)"),
         1, [Map Identifier] [Map LeftParen Open RightParen Semicolon]),
+];
+
+/// What lacks in a unit, or in what is named.
+pub static UNITS: [Row; 12] = [
     before!("`entity`", ENTITY, [] Entity),
     before!("`architecture`", OF, [] Architecture),
     before!("`.`", DOT, [] Dot),
@@ -232,11 +256,12 @@ pub static HEADS: [Row; 24] = [
 
 /// The tables of what lacks, or of what else is wrong, at the token or shortly before it; the first
 /// row counts with which the text goes on.
-pub(crate) fn missing() -> [&'static [Row]; 12]
+pub(crate) fn missing() -> [&'static [Row]; 24]
     ensures { map spec.rows_of result ≡ spec.missing_tables }
 {
     [
-        &SLIPS, &ENDED, &OPERANDS, &JOINTS, &DECLARED, &HEADS, &CLOSED, &PLACES, &NAMES, &TYPES,
-        &INSTEAD, &PARTS,
+        &SLIPS, &BLANKS, &ENDED, &ENDINGS, &OPERANDS, &VALUES, &JOINTS, &TARGETS, &DECLARED,
+        &LISTS, &HEADS, &UNITS, &CLOSED, &UNENDED, &PLACES, &MODES, &NAMES, &MAPPED, &TYPES,
+        &RANGES, &INSTEAD, &PARTS, &DIVIDED, &UNPARTED,
     ]
 }

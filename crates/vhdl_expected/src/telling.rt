@@ -11,7 +11,7 @@ use crate::reading::{MOST_TOKENS, Reading, halves_at, joined};
 use crate::reserved::named;
 use crate::respelling::respelt;
 use crate::table::missing;
-use crate::trial::{first_among, first_said};
+use crate::trial::first_among;
 use std::alloc::{AllocError, Global};
 use vhdl_lexer::{Language, Token};
 use vhdl_parser_rules::{Expected, Said};
@@ -109,7 +109,7 @@ fn perhaps(alloc: Global, reading: Reading<'_>) -> Result<Expected, AllocError>
     requires place { reading.refused ≤ length reading.tokens.now }
     ensures { IfOk result (λ found. spec.IsToldBehind (reading_of reading.entry) None (expected_of found)) }
 {
-    match first_said(alloc, reading, otherwise())? {
+    match first_among(alloc, reading, &otherwise())? {
         Some(said) => Ok(Expected::Perhaps(said)),
         None => Ok(Expected::Nothing),
     }

@@ -39,11 +39,7 @@ pub(crate) fn first_among(
 }
 
 /// What is said of the first of these rows with which the text goes on.
-pub(crate) fn first_said(
-    alloc: Global,
-    reading: Reading<'_>,
-    rows: &[Row],
-) -> Result<Option<Said>, AllocError>
+fn first_said(alloc: Global, reading: Reading<'_>, rows: &[Row]) -> Result<Option<Said>, AllocError>
     requires within { IsWithin reading }
     requires place { reading.refused ≤ length reading.tokens.now }
     ensures { IfOk result (λ said. spec.Finds (reading_of reading.entry)

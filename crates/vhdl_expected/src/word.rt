@@ -92,9 +92,9 @@ const FORCE_BEFORE: Said = (
     "assign the value alone, without the word before it",
 );
 
-/// The words of the grammar from a to i, but for those between operands: a name that is near to an
-/// operator, as reg to rem, mostly stands behind a `;` that is missing.
-pub static EARLY: [Word; 20] = [
+/// The words of the grammar from a to elsif, but for those between operands: a name that is near to
+/// an operator, as reg to rem, mostly stands behind a `;` that is missing.
+pub static FROM_A: [Word; 10] = [
     word!("all", "all", All),
     word!("architecture", "architecture", Architecture),
     word!("begin", "begin", Begin),
@@ -105,6 +105,10 @@ pub static EARLY: [Word; 20] = [
     one_word!("down", "downto", Downto),
     word!("elsif", "elsif", Elsif),
     one_word!("els", "elsif", Elsif),
+];
+
+/// Those from else to is.
+pub static FROM_E: [Word; 10] = [
     word!("else", "else", Else),
     word!("end", "end", End),
     word!("entity", "entity", Entity),
@@ -117,8 +121,8 @@ pub static EARLY: [Word; 20] = [
     word!("is", "is", Is),
 ];
 
-/// Those from l to w.
-pub static LATE: [Word; 21] = [
+/// Those from l to output.
+pub static FROM_L: [Word; 10] = [
     word!("library", "library", Library),
     word!("loop", "loop", Loop),
     word!("map", "map", Map),
@@ -130,6 +134,10 @@ pub static LATE: [Word; 21] = [
     word!("others", "others", Others),
     word!("out", "out", Out),
     word!("output", "out", Out),
+];
+
+/// Those from p to w.
+pub static FROM_P: [Word; 11] = [
     word!("port", "port", Port),
     word!("process", "process", Process),
     word!("select", "select", Select),
@@ -143,8 +151,8 @@ pub static LATE: [Word; 21] = [
     word!("with", "with", With),
 ];
 
-/// Ends and maps in one word, words that are written in two, and names that aren't read.
-pub static JOINED: [Word; 21] = [
+/// Ends in one word.
+pub static ENDS: [Word; 8] = [
     word!("endif", "end if", End If),
     word!("endcase", "end case", End Case),
     word!("endloop", "end loop", End Loop),
@@ -153,6 +161,10 @@ pub static JOINED: [Word; 21] = [
     word!("endcomponent", "end component", End Component),
     word!("endentity", "end entity", End Entity),
     word!("endarchitecture", "end architecture", End Architecture),
+];
+
+/// Maps and bounds in one word, words that are written in two, and names that aren't read.
+pub static JOINED: [Word; 13] = [
     word!("downto0", "downto ..", Downto Integer),
     word!("to0", "to ..", To Integer),
     word!("portmap", "port map", Port Map),
@@ -176,8 +188,8 @@ pub static JOINED: [Word; 21] = [
 
 /// The tables of words that are suggested; of two that are meant the first counts with which the
 /// text goes on.
-pub(crate) fn words() -> [&'static [Word]; 3]
+pub(crate) fn words() -> [&'static [Word]; 6]
     ensures { map spec.words_of result ≡ spec.words }
 {
-    [&EARLY, &LATE, &JOINED]
+    [&FROM_A, &FROM_E, &FROM_L, &FROM_P, &ENDS, &JOINED]
 }

@@ -2,7 +2,7 @@
 
 ghost use Rattle.std.specs.Prelude.{◌≡◌, Some, option_map};
 ghost use Rattle.vhdl_misfits.specs.Lengths.{measure_view};
-ghost use Rattle.vhdl_misfits.specs.Misfits.{said_of};
+ghost use Rattle.vhdl_slips.specs.Forms.{said_of};
 ghost use Rattle.vhdl_slips.specs.Parts.{first_of};
 ghost use Rattle.vhdl_slips.specs.Words.{read_of, with_tokens};
 ghost use Rattle.vhdl_hints.specs.Hinted.{hint_view, is_nothing, or_else};

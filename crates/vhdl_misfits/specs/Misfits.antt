@@ -7,7 +7,7 @@ use Rattle.std.specs.Borrow.{Bor}
 use Rattle.std.specs.Str.{str_eq_ignore_ascii_case}
 use Rattle.vhdl_slips.specs.Parts.{begins}
 use Rattle.vhdl_slips.specs.Words.{text_of_first}
-use Rattle.vhdl_slips.specs.Forms.{Said}
+use Rattle.vhdl_slips.specs.Forms.{Said, Texts, said_of}
 use Rattle.vhdl_misfits.specs.Places.{at_depth, begins_one_of, behind_name, from_one_of, has_one_argument, has_slice, is_target}
 use Rattle.vhdl_misfits.specs.Sorts.{relations, stand}
 use Rattle.vhdl_misfits.specs.Values.{are_elements, is_one_value}
@@ -15,7 +15,7 @@ use Rattle.vhdl_misfits.specs.declared.row.Provided.{Provided}
 use Rattle.vhdl_misfits.specs.declared.row.Provided.TheVariants as provided
 use Rattle.vhdl_misfits.specs.declared.sort.Sort.{Sort}
 use Rattle.vhdl_misfits.specs.declared.sort.Sort.TheVariants as sort
-use Rattle.vhdl_misfits.specs.declared.table.TheConstants.{CALLS, FOREIGN, OPERATORS, PLACES, VALUES}
+use Rattle.vhdl_misfits.specs.declared.table.TheConstants.{CONDITIONS, ASSIGNED, NAMES, CALLS, CONVERSIONS, PLACES, OPERATORS, COMPUTING, FOREIGN}
 use Rattle.vhdl_misfits.specs.declared.told.Known.{Known}
 use Rattle.vhdl_misfits.specs.declared.told.Known.TheVariants as shown
 use Rattle.vhdl_lexer.specs.declared.token.Token.{Token}
@@ -29,13 +29,6 @@ use Rattle.vhdl_lexer.specs.declared.token.TokenKind.TheVariants as k
 abbrev pub Row : Type 0
 Row = List ℕ × List Sort × List Sort × Provided × Said
 
--- what is told, in the code
-abbrev pub Texts : Type 0
-Texts = Bor (List ℕ) × Bor (List ℕ)
-
-abbrev pub said_of : Texts → Said
-said_of said = (said.0.now, said.1.now)
-
 -- a row of the code
 abbrev pub CodeRow : Type 0
 CodeRow = Bor (List ℕ) × Bor (List Sort) × Bor (List Sort) × Provided × Texts
@@ -43,17 +36,14 @@ CodeRow = Bor (List ℕ) × Bor (List Sort) × Bor (List Sort) × Provided × Te
 abbrev pub row_of : CodeRow → Row
 row_of row = (row.0.now, row.1.now, row.2.now, row.3, said_of row.4)
 
-unfoldable pub values : List Row
-values = map (λ row. (row.0.now, row.1.now, row.2.now, row.3, (row.4.0.now, row.4.1.now))) VALUES
+-- a table of the code
+abbrev pub rows_of : Bor (List CodeRow) → List Row
+rows_of table = map row_of table.now
 
-unfoldable pub calls : List Row
-calls = map (λ row. (row.0.now, row.1.now, row.2.now, row.3, (row.4.0.now, row.4.1.now))) CALLS
-
-unfoldable pub places : List Row
-places = map (λ row. (row.0.now, row.1.now, row.2.now, row.3, (row.4.0.now, row.4.1.now))) PLACES
-
-unfoldable pub operators : List Row
-operators = map (λ row. (row.0.now, row.1.now, row.2.now, row.3, (row.4.0.now, row.4.1.now))) OPERATORS
+unfoldable pub misfits : List (List Row)
+misfits =
+    map (map (λ row. (row.0.now, row.1.now, row.2.now, row.3, (row.4.0.now, row.4.1.now))))
+    (CONDITIONS ∷ ASSIGNED ∷ NAMES ∷ CALLS ∷ CONVERSIONS ∷ PLACES ∷ OPERATORS ∷ COMPUTING ∷ [])
 
 unfoldable pub foreigns : List Row
 foreigns = map (λ row. (row.0.now, row.1.now, row.2.now, row.3, (row.4.0.now, row.4.1.now))) FOREIGN
@@ -130,19 +120,26 @@ fits row known text last_two tokens =
     stand row.1 last_two && stand row.2 tokens && is_called row.0 known (text_of_first text tokens)
     && holds row.3 known (text_of_first text tokens) tokens
 
--- what the first row tells that fits, or else this
-abbrev pub first_told : List Row → Known → (text : List ℕ)
-    → (last_two from : List Token) → (otherwise : Option Said) → Option Said
-first_told [] known text last_two tokens otherwise = otherwise
-first_told (row ∷ rows) known text last_two tokens otherwise =
-    if fits row known text last_two tokens then Some row.4 else first_told rows known text last_two tokens otherwise
+-- what the first row tells that fits
+abbrev pub told_in : List Row → Known → (text : List ℕ) → (last_two from : List Token) → Option Said
+told_in [] known text last_two tokens = None
+told_in (row ∷ rows) known text last_two tokens =
+    if fits row known text last_two tokens then Some row.4 else told_in rows known text last_two tokens
+
+abbrev pub or_else : Option Said → (other : Option Said) → Option Said
+or_else None other = other
+or_else (Some said) other = Some said
+
+-- what the first table tells that has such a row
+abbrev pub first_told : List (List Row) → Known → (text : List ℕ) → (last_two from : List Token) → Option Said
+first_told [] known text last_two tokens = None
+first_told (rows ∷ tables) known text last_two tokens =
+    or_else (told_in rows known text last_two tokens) (first_told tables known text last_two tokens)
 
 -- behind the last two of the tokens before it; `known`: what else has the name at the front
 abbrev pub misfit : Known → (text : List ℕ) → (last_two from : List Token) → Option Said
-misfit known text last_two tokens =
-    first_told values known text last_two tokens (first_told calls known text last_two tokens
-    (first_told places known text last_two tokens (first_told operators known text last_two tokens None)))
+misfit known text last_two tokens = first_told misfits known text last_two tokens
 
 -- a name that isn't declared, where another package or language has it
 abbrev pub foreign : (text : List ℕ) → List Token → Option Said
-foreign text tokens = first_told foreigns shown.Unknown text [] tokens None
+foreign text tokens = told_in foreigns shown.Unknown text [] tokens

@@ -1,5 +1,8 @@
 //! What is told of a type that doesn't fit, and where.
 
+ghost use Rattle.std.specs.Prelude.{◌≡◌, map};
+ghost use Rattle.vhdl_misfits.specs.Misfits as spec;
+
 use crate::form::{
     BEGINS, BOUND, CONVERTED, EDGE, EXCHANGED, FOREIGN_CALL, JOINED, JOINED_NUMBER, LACKING, NAMED,
     REDUCTION, SHIFTED, TURN,
@@ -8,8 +11,8 @@ use crate::row::{Provided, Row, row};
 use crate::sort::Sort;
 use vhdl_lexer::TokenKind;
 
-/// Of what is no value, a condition or what is assigned; of all rows the first that fits counts.
-pub static VALUES: [Row; 23] = [
+/// Of what is no value, or no condition; of all rows the first that fits counts.
+pub static CONDITIONS: [Row; 10] = [
     // a literal that is no value, and what fills no vector
     row!(b"" [] [Is(String)] NoElements (
         "has a character in it that is none of U X 0 1 Z W L H -",
@@ -39,7 +42,10 @@ pub static VALUES: [Row; 23] = [
     row!(b"" [Any Condition] [Is(Identifier) Is(LeftParen)] Slice BEGINS),
     row!(b"unsigned" [Any Condition] [Any Is(LeftParen)] NoTest BEGINS),
     row!(b"resize" [Any Condition] [Any Is(LeftParen)] NoTest BEGINS),
-    // what is assigned to, or assigned
+];
+
+/// Of what is assigned to, or assigned.
+pub static ASSIGNED: [Row; 9] = [
     row!(b"" [Any Statement] [Is(Identifier) Is(LeftParen)] Target (
         "can't be assigned to so: it has no elements, or its parentheses have no static index or slice",
         "leave out the index of one element, and write (3 downto 0) for (3, 0); for v(p) compare in a loop: for i in 0 \
@@ -81,14 +87,18 @@ pub static VALUES: [Row; 23] = [
         "begins a whole number, which doesn't fit here",
         "write to_unsigned(5, 8) for 5; unsigned has no negative numbers, and 0 - n for -n",
     )),
+];
+
+/// Of a name that is assigned, or goes on with a value.
+pub static NAMES: [Row; 4] = [
     row!(b"" [Any Assignment] [Is(Identifier) End] Turn TURN),
     row!(b"" [Any Assignment] [Is(Identifier) End] Value NAMED),
     row!(b"" [Any Further] [Is(Identifier) Ended] Turn TURN),
     row!(b"" [Any Further] [Is(Identifier) Ended] Always NAMED),
 ];
 
-/// Of a name and its parentheses.
-pub static CALLS: [Row; 22] = [
+/// Of a call.
+pub static CALLS: [Row; 10] = [
     row!(b"resize" [] [Any Is(LeftParen)] OneArgument LACKING),
     row!(b"shift_left" [] [Any Is(LeftParen)] OneArgument LACKING),
     row!(b"shift_right" [] [Any Is(LeftParen)] OneArgument LACKING),
@@ -99,6 +109,10 @@ pub static CALLS: [Row; 22] = [
     row!(b"resize" [] [Any Is(LeftParen)] Always SHIFTED),
     row!(b"shift_left" [] [Any Is(LeftParen)] Always SHIFTED),
     row!(b"shift_right" [] [Any Is(LeftParen)] Always SHIFTED),
+];
+
+/// Of a conversion, and of a name and its parentheses.
+pub static CONVERSIONS: [Row; 12] = [
     row!(b"unsigned" [] [Any Is(LeftParen)] Always CONVERTED),
     row!(b"std_logic_vector" [] [Any Is(LeftParen)] Always CONVERTED),
     row!(b"std_ulogic_vector" [] [Any Is(LeftParen)] Always CONVERTED),
@@ -165,8 +179,8 @@ pub static PLACES: [Row; 7] = [
     )),
 ];
 
-/// Of an operator.
-pub static OPERATORS: [Row; 15] = [
+/// Of an operator that compares, or joins tests or values.
+pub static OPERATORS: [Row; 8] = [
     row!(b"" [] [Equality Is(Character)] Always (
         "compares two values of one type, and no tests here",
         "'0' and '1' are single elements: of a vector v write v(0) = '1' or v = \"0001\", and of unsigned n = 1; \
@@ -207,6 +221,10 @@ pub static OPERATORS: [Row; 15] = [
          unsigned(v) or std_logic_vector(n); for v and en, v a vector and en one element, write v when en = '1' else (others \
          => '0'), for v or en (others => '1') when en = '1' else v, or in a process an if",
     )),
+];
+
+/// Of one that makes vectors or numbers.
+pub static COMPUTING: [Row; 7] = [
     row!(b"" [] [Is(Ampersand) Is(Integer)] Always JOINED_NUMBER),
     row!(b"" [Arithmetic Is(Integer)] [Is(Ampersand)] Always JOINED),
     row!(b"" [Any Is(Integer)] [Is(Ampersand)] Always JOINED_NUMBER),
@@ -245,3 +263,19 @@ pub static FOREIGN: [Row; 12] = [
         "write when others =>",
     )),
 ];
+
+/// The tables of what doesn't fit.
+pub(crate) fn misfits() -> [&'static [Row]; 8]
+    ensures { map spec.rows_of result ≡ spec.misfits }
+{
+    [
+        &CONDITIONS,
+        &ASSIGNED,
+        &NAMES,
+        &CALLS,
+        &CONVERSIONS,
+        &PLACES,
+        &OPERATORS,
+        &COMPUTING,
+    ]
+}

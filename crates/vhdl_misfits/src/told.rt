@@ -1,12 +1,13 @@
 //! Which form stands at a word.
 
 ghost use Rattle.std.specs.Prelude.{◌≡◌, map, option_map};
+ghost use Rattle.vhdl_slips.specs.Forms.{said_of};
 ghost use Rattle.vhdl_misfits.specs.Misfits as spec;
 
 use crate::provided::holds;
 use crate::row::Row;
 use crate::sort::stand;
-use crate::table::{CALLS, FOREIGN, OPERATORS, PLACES, VALUES};
+use crate::table::{FOREIGN, misfits};
 use vhdl_lexer::Token;
 use vhdl_slips::{Lexed, Said, first_text, is_same_word};
 
@@ -26,32 +27,49 @@ pub enum Known {
 /// What is told of what stands at the front, and has or takes another type, behind the last two of
 /// the tokens before it; nothing where that shows no more.
 pub fn misfit(known: Known, text: &[u8], last_two: &[Token], from: &[Token]) -> Option<Said>
-    ensures { option_map spec.said_of result ≡ spec.misfit known text.now last_two.now from.now }
+    ensures { option_map said_of result ≡ spec.misfit known text.now last_two.now from.now }
 {
-    let operator = first_told(&OPERATORS, known, text, last_two, from, None);
-    let place = first_told(&PLACES, known, text, last_two, from, operator);
-    let call = first_told(&CALLS, known, text, last_two, from, place);
-    first_told(&VALUES, known, text, last_two, from, call)
+    first_told(&misfits(), known, text, last_two, from)
 }
 
 /// What is told of a name that isn't declared, where another package or language has it.
 pub fn foreign(text: &[u8], from: &[Token]) -> Option<Said>
-    ensures { option_map spec.said_of result ≡ spec.foreign text.now from.now }
+    ensures { option_map said_of result ≡ spec.foreign text.now from.now }
 {
-    first_told(&FOREIGN, Known::Unknown, text, &[], from, None)
+    told_in(&FOREIGN, Known::Unknown, text, &[], from)
 }
 
-/// What the first of these rows tells that fits, or else this.
+/// What the first of these tables tells that has a row that fits.
 fn first_told(
+    mut tables: &[&[Row]],
+    known: Known,
+    text: &[u8],
+    last_two: &[Token],
+    from: &[Token],
+) -> Option<Said>
+    ensures { option_map said_of result ≡ spec.first_told (map spec.rows_of tables.entry.now)
+        known text.now last_two.now from.now }
+{
+    while let [rows, rest @ ..] = tables {
+        let told = told_in(rows, known, text, last_two, from);
+        if told.is_some() {
+            return told;
+        }
+        tables = rest;
+    }
+    None
+}
+
+/// What the first of these rows tells that fits.
+fn told_in(
     mut rows: &[Row],
     known: Known,
     text: &[u8],
     last_two: &[Token],
     from: &[Token],
-    otherwise: Option<Said>,
 ) -> Option<Said>
-    ensures { option_map spec.said_of result ≡ spec.first_told (map spec.row_of rows.entry.now)
-        known text.now last_two.now from.now (option_map spec.said_of otherwise.entry) }
+    ensures { option_map said_of result ≡ spec.told_in (spec.rows_of rows.entry)
+        known text.now last_two.now from.now }
 {
     while let [row, rest @ ..] = rows {
         if fits(*row, known, text, last_two, from) {
@@ -59,7 +77,7 @@ fn first_told(
         }
         rows = rest;
     }
-    otherwise
+    None
 }
 
 /// Whether a row fits what stands at the front.

@@ -1,8 +1,7 @@
 -- Choices and literals, by the first token.
 use Rattle.std.proofs.Common.{◌≡◌, ℕ, ◌+◌, ◌-◌, ◌<◌, ◌≤◌, Bool, true, false, List, [], ◌∷◌, ◌++◌, if◌then◌else◌, Option, Some, None, option_map, length, slice_index_or, refl, sym, ap, ◌∙◌, arith}
-use Rattle.std.specs.List.{list_any, list_all}
-use Rattle.std.specs.Str.{str_eq_ignore_ascii_case}
-use Rattle.vhdl_slips.specs.Choices.{choices_from, chooses, ends, is_among, is_left_out, is_written, left_out, missing_in, missing_of, open_behind, type_of}
+use Rattle.std.specs.List.{list_all}
+use Rattle.vhdl_slips.specs.Choices.{choices_from, chooses, ends, is_among, is_left_out, left_out, missing_in, missing_of, open_behind, type_of}
 use Rattle.vhdl_slips.specs.Words.{Read, text_of}
 use Rattle.vhdl_slips.proofs.Rest.{rest, rest_is}
 use Rattle.vhdl_slips.proofs.Rest as lists

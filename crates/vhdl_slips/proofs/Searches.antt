@@ -1,5 +1,5 @@
 -- What is looked for, by the first of some tokens.
-use Rattle.std.proofs.Common.{◌≡◌, ℕ, ◌≤◌, Bool, true, false, List, [], ◌∷◌, length, slice_index_or, Option, Some, refl, sym, ap, ◌∙◌, arith}
+use Rattle.std.proofs.Common.{◌≡◌, ℕ, ◌≤◌, true, false, List, [], ◌∷◌, length, slice_index_or, Some, refl, sym, ap, ◌∙◌, arith}
 use Rattle.vhdl_slips.proofs.Rest.{rest, rest_is}
 use Rattle.vhdl_slips.specs.Instances.{first_open, gives, is_given, is_left_open}
 use Rattle.vhdl_slips.specs.Interfaces.{begins_entity, interface_of}

@@ -1,12 +1,13 @@
 -- Forms of VHDL that aren't read, and slips of the pen: which of them stands at a word.
-use Rattle.std.specs.Prelude.{ℕ, ◌&&◌, ◌||◌, not, Bool, true, false, if◌then◌else◌, List, [], ◌∷◌, Option, Some, None, map, length, ◌==◌}
+use Rattle.std.specs.Prelude.{ℕ, ◌&&◌, ◌||◌, not, Bool, true, false, if◌then◌else◌, List, [], ◌∷◌, Option, Some, None, map, unwrap_or, length, ◌==◌}
+use Rattle.std.specs.Borrow.{Bor}
 use Rattle.std.specs.Str.{str_eq_ignore_ascii_case}
 use Rattle.vhdl_slips.specs.Parts.{found_by}
 use Rattle.vhdl_slips.specs.declared.form.Behind.{Behind}
 use Rattle.vhdl_slips.specs.declared.form.Behind.TheVariants as behind
 use Rattle.vhdl_slips.specs.declared.form.TheConstants.{OTHER}
 use Rattle.vhdl_slips.specs.declared.slip.TheConstants.{SLIP}
-use Rattle.vhdl_slips.specs.declared.table.TheConstants.{LEFT_OUT, SLIPS, UNREAD}
+use Rattle.vhdl_slips.specs.declared.table.TheConstants.{BEGUN, CONDITIONS, LISTS, TARGETS, SIGNS, DECLARED, TYPES, UNITS, WAITS, STATEMENTS, AGGREGATES, LOGICAL, SHIFTS, ENDED, VALUES, ELEMENTS, FUNCTIONS, OTHER_TYPES, PLACES}
 use Rattle.vhdl_slips.specs.declared.unread.Context.{Context}
 use Rattle.vhdl_lexer.specs.declared.token.Token.{Token}
 use Rattle.vhdl_lexer.specs.declared.token.TokenKind.{TokenKind}
@@ -20,6 +21,17 @@ Said = List ℕ × List ℕ
 -- a form begins at this word, in letters of either case, behind that; the empty word stands for any
 abbrev pub FormWord : Type 0
 FormWord = List ℕ × Behind × Said
+
+-- what is said, in the code
+abbrev pub Texts : Type 0
+Texts = Bor (List ℕ) × Bor (List ℕ)
+
+abbrev pub said_of : Texts → Said
+said_of said = (said.0.now, said.1.now)
+
+-- a table of the code
+abbrev pub words_of : Bor (List (Bor (List ℕ) × Behind × Texts)) → List FormWord
+words_of table = map (λ w. (w.0.now, w.1, said_of w.2)) table.now
 
 -- ---- what stands before a token
 
@@ -152,18 +164,29 @@ abbrev pub fits : (form : List ℕ) → Behind → Context → (word : List ℕ)
 fits form behind c word = (length form == 0 || str_eq_ignore_ascii_case form word) && holds behind c
 
 -- the first that fits in such a table
-abbrev pub form_among : List FormWord → Context → (word : List ℕ) → (fallback : Said) → Said
+abbrev pub form_in : List FormWord → Context → (word : List ℕ) → Option Said
+form_in [] c word = None
+form_in (w ∷ words) c word = if fits w.0 w.1 c word then Some w.2 else form_in words c word
+
+-- the first in such tables, or else this
+abbrev pub form_among : List (List FormWord) → Context → (word : List ℕ) → (fallback : Said) → Said
 form_among [] c word fallback = fallback
-form_among (w ∷ words) c word fallback = if fits w.0 w.1 c word then w.2 else form_among words c word fallback
+form_among (words ∷ tables) c word fallback = unwrap_or (form_in words c word) (form_among tables c word fallback)
 
-abbrev pub slips : List FormWord
-slips = map (λ w. (w.0.now, w.1, (w.2.0.now, w.2.1.now))) SLIPS
+unfoldable pub slips : List (List FormWord)
+slips =
+    map (map (λ w. (w.0.now, w.1, (w.2.0.now, w.2.1.now))))
+    (BEGUN ∷ CONDITIONS ∷ LISTS ∷ TARGETS ∷ SIGNS ∷ DECLARED ∷ [])
 
-abbrev pub unread : List FormWord
-unread = map (λ w. (w.0.now, w.1, (w.2.0.now, w.2.1.now))) UNREAD
+unfoldable pub unread : List (List FormWord)
+unread =
+    map (map (λ w. (w.0.now, w.1, (w.2.0.now, w.2.1.now))))
+    (TYPES ∷ UNITS ∷ WAITS ∷ STATEMENTS ∷ AGGREGATES ∷ LOGICAL ∷ SHIFTS ∷ ENDED ∷ [])
 
-abbrev pub left_out : List FormWord
-left_out = map (λ w. (w.0.now, w.1, (w.2.0.now, w.2.1.now))) LEFT_OUT
+unfoldable pub left_out : List (List FormWord)
+left_out =
+    map (map (λ w. (w.0.now, w.1, (w.2.0.now, w.2.1.now))))
+    (VALUES ∷ ELEMENTS ∷ FUNCTIONS ∷ OTHER_TYPES ∷ PLACES ∷ [])
 
 -- a slip of the pen at the word, or a form that isn't read
 abbrev pub form_behind : Context → (word : List ℕ) → Said

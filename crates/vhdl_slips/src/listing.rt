@@ -1,6 +1,6 @@
 //! Names of a text, listed.
 
-ghost use Rattle.std.specs.Prelude.{◌≡◌, []};
+ghost use Rattle.std.specs.Prelude.{◌≡◌};
 ghost use Rattle.byte_streams.specs.Written.{Goes};
 ghost use Rattle.vhdl_slips.specs.Interfaces as interfaces;
 ghost use Rattle.vhdl_slips.specs.Listings as spec;

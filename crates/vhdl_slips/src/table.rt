@@ -1,4 +1,8 @@
-//! The words at which forms of VHDL begin that aren't read, and slips of the pen.
+//! The words at which forms of VHDL begin that aren't read, and slips of the pen; of two rows that
+//! fit the first counts.
+
+ghost use Rattle.std.specs.Prelude.{◌≡◌, map};
+ghost use Rattle.vhdl_slips.specs.Forms as spec;
 
 use crate::form::{
     ABSOLUTE, ACTUAL, AGGREGATE, ALIAS, ARRAY, ATTRIBUTE, BLOCK, Behind, CHOICE, DEFAULT, DELAY,
@@ -16,8 +20,8 @@ use crate::slip::{
 };
 use vhdl_lexer::TokenKind;
 
-/// The words at which slips of the pen are told; of two lines that fit the first counts.
-pub static SLIPS: [FormWord; 65] = [
+/// Slips of the pen: words in place of a name, and what begins in another place than its own.
+pub static BEGUN: [FormWord; 11] = [
     (b"", Behind::Kind(TokenKind::Signal), NAME),
     (b"", Behind::Kind(TokenKind::Variable), NAME),
     (b"", Behind::Kind(TokenKind::Constant), NAME),
@@ -29,6 +33,10 @@ pub static SLIPS: [FormWord; 65] = [
     (b"case", Behind::Concurrent, CASE_GENERATE),
     (b"generic", Behind::Kind(TokenKind::Semicolon), GENERICS),
     (b"generic", Behind::Kind(TokenKind::RightParen), GENERICS),
+];
+
+/// Conditions, alternatives and choices.
+pub static CONDITIONS: [FormWord; 11] = [
     (b"if", Behind::Kind(TokenKind::Else), ELSE_CONDITION),
     (b"when", Behind::Kind(TokenKind::Else), ELSE_CONDITION),
     (b"when", Behind::Target, SELECTED),
@@ -40,6 +48,10 @@ pub static SLIPS: [FormWord; 65] = [
     (b"downto", Behind::Opener(TokenKind::When), CHOICE_RANGE),
     (b",", Behind::Opener(TokenKind::When), CHOICES),
     (b",", Behind::Opener(TokenKind::Bar), CHOICES),
+];
+
+/// Lists of ports, of names and of a loop.
+pub static LISTS: [FormWord; 10] = [
     (b",", Behind::Instance, PORT_MAP),
     (b";", Behind::Instance, PORT_MAP),
     (b",", Behind::Index(TokenKind::Dot), PORT_MAP),
@@ -50,6 +62,10 @@ pub static SLIPS: [FormWord; 65] = [
     (b"or", Behind::Opener(TokenKind::LeftParen), NAMES),
     (b"or", Behind::Opener(TokenKind::Comma), NAMES),
     (b"(", Behind::Kind(TokenKind::For), LOOP_NAME),
+];
+
+/// What nothing is assigned to, and a begin too many.
+pub static TARGETS: [FormWord; 11] = [
     (b"(", Behind::Kind(TokenKind::Semicolon), TARGET),
     (b"(", Behind::Kind(TokenKind::Begin), TARGET),
     (b"(", Behind::Kind(TokenKind::Then), TARGET),
@@ -61,6 +77,10 @@ pub static SLIPS: [FormWord; 65] = [
     (b"&", Behind::Opener(TokenKind::Begin), TARGET),
     (b"begin", Behind::NewLine, BEGIN_LINE),
     (b"begin", Behind::Kind(TokenKind::RightParen), BEGIN),
+];
+
+/// Signs that are written twice, or in place of another.
+pub static SIGNS: [FormWord; 11] = [
     (b"&", Behind::Kind(TokenKind::Ampersand), LOGIC),
     (b"|", Behind::Anything, LOGIC),
     (b"/", Behind::Anything, COMMENT),
@@ -72,6 +92,10 @@ pub static SLIPS: [FormWord; 65] = [
     (b"=", Behind::Kind(TokenKind::Equal), EQUALITIES),
     (b"=", Behind::Opener(TokenKind::Else), ELSE_CONDITION),
     (b"=", Behind::Target, EQUALITY),
+];
+
+/// Declarations, and the end of a list.
+pub static DECLARED: [FormWord; 11] = [
     (b"constant", Behind::NewLine, DECLARATION_LINE),
     (b"constant", Behind::Anything, DECLARATION),
     (b"type", Behind::NewLine, DECLARATION_LINE),
@@ -85,9 +109,8 @@ pub static SLIPS: [FormWord; 65] = [
     (b")", Behind::Kind(TokenKind::Semicolon), LIST_END),
 ];
 
-/// The words at which a form begins that the grammar hasn't, where none of these slips is told; of
-/// two lines that fit the first counts.
-pub static UNREAD: [FormWord; 76] = [
+/// Forms that the grammar hasn't: types and objects.
+pub static TYPES: [FormWord; 10] = [
     (b"range", Behind::Kind(TokenKind::Tick), RANGE_ATTRIBUTE),
     (b"range", Behind::Anything, NUMBER_RANGE),
     (b"array", Behind::Anything, ARRAY),
@@ -98,6 +121,10 @@ pub static UNREAD: [FormWord; 76] = [
     (b"access", Behind::Anything, OTHER_TYPE),
     (b"file", Behind::Anything, OTHER_TYPE),
     (b"shared", Behind::Anything, OTHER_TYPE),
+];
+
+/// Subprograms, packages and declarations.
+pub static UNITS: [FormWord; 10] = [
     (b"function", Behind::Anything, SUBPROGRAM),
     (b"procedure", Behind::Anything, SUBPROGRAM),
     (b"pure", Behind::Anything, SUBPROGRAM),
@@ -108,6 +135,10 @@ pub static UNREAD: [FormWord; 76] = [
     (b"group", Behind::Anything, ATTRIBUTE),
     (b"alias", Behind::Anything, ALIAS),
     (b"subtype", Behind::Anything, SUBTYPE),
+];
+
+/// Modes, waits and delays.
+pub static WAITS: [FormWord; 11] = [
     (b"inout", Behind::Anything, MODE),
     (b"buffer", Behind::Anything, MODE),
     (b"linkage", Behind::Anything, MODE),
@@ -119,6 +150,10 @@ pub static UNREAD: [FormWord; 76] = [
     (b"transport", Behind::Anything, DELAY),
     (b"inertial", Behind::Anything, DELAY),
     (b"reject", Behind::Anything, DELAY),
+];
+
+/// Statements and blocks.
+pub static STATEMENTS: [FormWord; 11] = [
     (b"assert", Behind::Anything, MESSAGE),
     (b"report", Behind::Anything, MESSAGE),
     (b"configuration", Behind::Anything, BLOCK),
@@ -130,6 +165,10 @@ pub static UNREAD: [FormWord; 76] = [
     (b"while", Behind::Anything, OTHER_LOOP),
     (b"next", Behind::Anything, OTHER_LOOP),
     (b"exit", Behind::Anything, OTHER_LOOP),
+];
+
+/// Conditional values, aggregates and associations.
+pub static AGGREGATES: [FormWord; 8] = [
     (b"when", Behind::Anything, CONDITIONAL),
     (b"to", Behind::Opener(TokenKind::LeftParen), AGGREGATE),
     (b"downto", Behind::Opener(TokenKind::LeftParen), AGGREGATE),
@@ -138,6 +177,10 @@ pub static UNREAD: [FormWord; 76] = [
     (b"=>", Behind::Anything, ARROW),
     (b"others", Behind::Anything, OTHERS),
     (b",", Behind::Anything, COMMA),
+];
+
+/// Logical operators.
+pub static LOGICAL: [FormWord; 12] = [
     (b"and", Behind::Operand, MIXED_LOGIC),
     (b"and", Behind::Anything, REDUCTION),
     (b"or", Behind::Operand, MIXED_LOGIC),
@@ -150,6 +193,10 @@ pub static UNREAD: [FormWord; 76] = [
     (b"nor", Behind::Anything, REDUCTION),
     (b"xnor", Behind::Operand, MIXED_LOGIC),
     (b"xnor", Behind::Anything, REDUCTION),
+];
+
+/// Other operators.
+pub static SHIFTS: [FormWord; 8] = [
     (b"sll", Behind::Anything, SHIFT),
     (b"srl", Behind::Anything, SHIFT),
     (b"sla", Behind::Anything, SHIFT),
@@ -158,6 +205,10 @@ pub static UNREAD: [FormWord; 76] = [
     (b"ror", Behind::Anything, SHIFT),
     (b"abs", Behind::Anything, ABSOLUTE),
     (b"*", Behind::Kind(TokenKind::Star), POWER),
+];
+
+/// Parentheses, and what isn't ended.
+pub static ENDED: [FormWord; 6] = [
     (b"(", Behind::Kind(TokenKind::Tick), QUALIFIED),
     (b"(", Behind::Kind(TokenKind::RightParen), SECOND_INDEX),
     (b"(", Behind::Target, VECTOR_GENERIC),
@@ -166,8 +217,8 @@ pub static UNREAD: [FormWord; 76] = [
     (b"loop", Behind::Anything, OTHER_LOOP),
 ];
 
-/// The names of packages, types and attributes that are left out.
-pub static LEFT_OUT: [FormWord; 42] = [
+/// What is left out: values, actuals and attributes.
+pub static VALUES: [FormWord; 9] = [
     (b"true", Behind::Anything, TRUTH),
     (b"false", Behind::Anything, TRUTH),
     (b"", Behind::Kind(TokenKind::Arrow), ACTUAL),
@@ -177,6 +228,10 @@ pub static LEFT_OUT: [FormWord; 42] = [
     (b"left", Behind::Kind(TokenKind::Tick), RANGE_ATTRIBUTE),
     (b"right", Behind::Kind(TokenKind::Tick), RANGE_ATTRIBUTE),
     (b"length", Behind::Kind(TokenKind::Tick), RANGE_ATTRIBUTE),
+];
+
+/// Types without a range, and relations.
+pub static ELEMENTS: [FormWord; 9] = [
     (b"std_logic_vector", Behind::Declared, VECTOR),
     (b"std_ulogic_vector", Behind::Declared, VECTOR),
     (b"unsigned", Behind::Declared, VECTOR),
@@ -186,12 +241,20 @@ pub static LEFT_OUT: [FormWord; 42] = [
     (b"<=", Behind::Anything, ORDER),
     (b">", Behind::Anything, ORDER),
     (b">=", Behind::Anything, ORDER),
+];
+
+/// Functions of packages.
+pub static FUNCTIONS: [FormWord; 6] = [
     (b"to_integer", Behind::Anything, DYNAMIC_INDEX),
     (b"rotate_left", Behind::Anything, FUNCTION),
     (b"rotate_right", Behind::Anything, FUNCTION),
     (b"minimum", Behind::Anything, FUNCTION),
     (b"maximum", Behind::Anything, FUNCTION),
     (b"std_match", Behind::Anything, FUNCTION),
+];
+
+/// Other types.
+pub static OTHER_TYPES: [FormWord; 11] = [
     (b"signed", Behind::Anything, SIGNED),
     (b"integer", Behind::Anything, WHOLE_NUMBERS),
     (b"natural", Behind::Anything, WHOLE_NUMBERS),
@@ -203,6 +266,10 @@ pub static LEFT_OUT: [FormWord; 42] = [
     (b"string", Behind::Anything, OTHER_TYPE),
     (b"character", Behind::Anything, OTHER_TYPE),
     (b"time", Behind::Anything, OTHER_TYPE),
+];
+
+/// What is told by its place.
+pub static PLACES: [FormWord; 7] = [
     (b"wait", Behind::Anything, WAIT_HEAD),
     (b"", Behind::Kind(TokenKind::Assign), DEFAULT),
     (b"", Behind::Kind(TokenKind::When), CHOICE),
@@ -211,3 +278,33 @@ pub static LEFT_OUT: [FormWord; 42] = [
     (b"", Behind::Kind(TokenKind::Dot), LIBRARY),
     (b"", Behind::Kind(TokenKind::Bar), CHOICE),
 ];
+
+/// The words at which slips of the pen are told.
+pub(crate) fn slips() -> [&'static [FormWord]; 6]
+    ensures { map spec.words_of result ≡ spec.slips }
+{
+    [&BEGUN, &CONDITIONS, &LISTS, &TARGETS, &SIGNS, &DECLARED]
+}
+
+/// The words at which a form begins that the grammar hasn't, where none of these slips is told.
+pub(crate) fn unread() -> [&'static [FormWord]; 8]
+    ensures { map spec.words_of result ≡ spec.unread }
+{
+    [
+        &TYPES,
+        &UNITS,
+        &WAITS,
+        &STATEMENTS,
+        &AGGREGATES,
+        &LOGICAL,
+        &SHIFTS,
+        &ENDED,
+    ]
+}
+
+/// The names of packages, types and attributes that are left out.
+pub(crate) fn left_out() -> [&'static [FormWord]; 5]
+    ensures { map spec.words_of result ≡ spec.left_out }
+{
+    [&VALUES, &ELEMENTS, &FUNCTIONS, &OTHER_TYPES, &PLACES]
+}

@@ -1,12 +1,12 @@
 //! Which form stands at a token where nothing of the language can stand.
 
-ghost use Rattle.std.specs.Prelude.{◌≡◌, map};
+ghost use Rattle.std.specs.Prelude.{◌≡◌, map, option_map};
 ghost use Rattle.vhdl_slips.specs.Forms as spec;
 
 use crate::form::{Behind, FormWord, OTHER, Said};
 use crate::lexed::{is_same_kind, is_same_word};
 use crate::slip::SLIP;
-use crate::table::{LEFT_OUT, SLIPS, UNREAD};
+use crate::table::{left_out, slips, unread};
 use vhdl_lexer::{Token, TokenKind};
 
 /// What stands before a token.
@@ -33,30 +33,42 @@ pub fn unexpected_form(before: &[Token], begins_line: bool, word: &[u8]) -> Said
     ensures { (result.0.now, result.1.now) ≡ spec.unexpected_form before.now begins_line word.now }
 {
     let context = context_of(before, begins_line);
-    let unread = form_among(&UNREAD, context, word, SLIP);
-    form_among(&SLIPS, context, word, unread)
+    let form = form_among(&unread(), context, word, SLIP);
+    form_among(&slips(), context, word, form)
 }
 
 /// What stands where something is left out, behind these tokens.
 pub fn left_out_form(before: &[Token], word: &[u8]) -> Said
     ensures { (result.0.now, result.1.now) ≡ spec.left_out_form before.now word.now }
 {
-    form_among(&LEFT_OUT, context_of(before, false), word, OTHER)
+    form_among(&left_out(), context_of(before, false), word, OTHER)
 }
 
-/// The form of a word in a table, or another one.
-fn form_among(mut words: &[FormWord], context: Context, word: &[u8], fallback: Said) -> Said
-    ensures { (result.0.now, result.1.now) ≡ spec.form_among
-        (map (λ w. (w.0.now, w.1, (w.2.0.now, w.2.1.now))) words.entry.now) context word.now
-        (fallback.entry.0.now, fallback.entry.1.now) }
+/// The form of a word in the first of these tables that has it, or another one.
+fn form_among(mut tables: &[&[FormWord]], context: Context, word: &[u8], fallback: Said) -> Said
+    ensures { (result.0.now, result.1.now) ≡ spec.form_among (map spec.words_of tables.entry.now) context
+        word.now (fallback.entry.0.now, fallback.entry.1.now) }
+{
+    while let [words, rest @ ..] = tables {
+        if let Some(said) = form_in(words, context, word) {
+            return said;
+        }
+        tables = rest;
+    }
+    fallback
+}
+
+/// The form of a word in a table.
+fn form_in(mut words: &[FormWord], context: Context, word: &[u8]) -> Option<Said>
+    ensures { option_map spec.said_of result ≡ spec.form_in (spec.words_of words.entry) context word.now }
 {
     while let [first, rest @ ..] = words {
         if fits(*first, context, word) {
-            return first.2;
+            return Some(first.2);
         }
         words = rest;
     }
-    fallback
+    None
 }
 
 /// Whether a form begins at a word.

@@ -1,7 +1,7 @@
 use Rattle.std.proofs.Common.{refl}
-use Rattle.vhdl_expected.specs.Told.{other_rows}
+use Rattle.vhdl_expected.specs.Told.{other_tables}
 use Rattle.vhdl_expected.proofs.otherwise.otherwise.Goals as goal
 
 pub returns : goal.returns
-unfolding other_rows
+unfolding other_tables
 returns c = refl

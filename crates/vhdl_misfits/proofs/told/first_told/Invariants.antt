@@ -1,12 +1,12 @@
-use Rattle.std.proofs.Common.{◌≡◌, map, option_map, length}
-use Rattle.vhdl_misfits.specs.Misfits.{first_told, row_of, said_of}
+use Rattle.std.proofs.Common.{◌≡◌, map, length}
+use Rattle.vhdl_misfits.specs.Misfits.{first_told, rows_of}
 use Rattle.vhdl_misfits.proofs.told.first_told.Given as goal
 
--- the rows that are left decide
-abbrev pub invariant-loop-rows : goal.invariant-loop-rows
-invariant-loop-rows l =
-    first_told (map row_of l.rows) l.known l.text l.last_two l.from (option_map said_of l.otherwise)
-    ≡ first_told (map row_of l.initial.rows) l.known l.text l.last_two l.from (option_map said_of l.otherwise)
+-- the tables that are left decide
+abbrev pub invariant-loop-tables : goal.invariant-loop-tables
+invariant-loop-tables l =
+    first_told (map rows_of l.tables) l.known l.text l.last_two l.from
+    ≡ first_told (map rows_of l.initial.tables) l.known l.text l.last_two l.from
 
-abbrev pub decreases-loop-rows : goal.decreases-loop-rows
-decreases-loop-rows l = length l.rows
+abbrev pub decreases-loop-tables : goal.decreases-loop-tables
+decreases-loop-tables l = length l.tables

@@ -3,4 +3,4 @@ use Rattle.vhdl_misfits.proofs.told.foreign.Goals as goal
 
 pub returns : goal.returns
 unfolding foreigns
-returns c = c.first_told.ensures
+returns c = c.told_in.ensures

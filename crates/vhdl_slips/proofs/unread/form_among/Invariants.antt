@@ -1,10 +1,12 @@
 use Rattle.std.proofs.Common.{◌≡◌, map, length}
-use Rattle.vhdl_slips.specs.Forms.{form_among}
+use Rattle.vhdl_slips.specs.Forms.{form_among, said_of, words_of}
 use Rattle.vhdl_slips.proofs.unread.form_among.Given as goal
 
-abbrev pub invariant-loop-words : goal.invariant-loop-words
-invariant-loop-words l = form_among (map (λ w. (w.0.now, w.1, (w.2.0.now, w.2.1.now))) l.words) l.context l.word (l.fallback.0.now, l.fallback.1.now)
-    ≡ form_among (map (λ w. (w.0.now, w.1, (w.2.0.now, w.2.1.now))) l.initial.words) l.context l.word (l.fallback.0.now, l.fallback.1.now)
+-- the tables that are left decide
+abbrev pub invariant-loop-tables : goal.invariant-loop-tables
+invariant-loop-tables l =
+    form_among (map words_of l.tables) l.context l.word (said_of l.fallback)
+    ≡ form_among (map words_of l.initial.tables) l.context l.word (said_of l.fallback)
 
-abbrev pub decreases-loop-words : goal.decreases-loop-words
-decreases-loop-words l = length l.words
+abbrev pub decreases-loop-tables : goal.decreases-loop-tables
+decreases-loop-tables l = length l.tables

@@ -1,5 +1,5 @@
-use Rattle.std.proofs.Common.{ap, ◌∙◌}
-use Rattle.vhdl_slips.specs.Forms.{form_among, left_out, left_out_form}
+use Rattle.std.proofs.Common.{List, ap, ◌∙◌}
+use Rattle.vhdl_slips.specs.Forms.{FormWord, form_among, left_out, left_out_form}
 use Rattle.vhdl_slips.specs.declared.form.TheConstants.{OTHER}
 use Rattle.vhdl_slips.specs.declared.unread.Context.{Context}
 use Rattle.vhdl_slips.proofs.unread.left_out_form.Goals as goal
@@ -7,4 +7,6 @@ use Rattle.vhdl_slips.proofs.unread.left_out_form.Goals as goal
 pub returns : goal.returns
 unfolding left_out_form
 returns c =
-    c.form_among.ensures ∙ ap (λ (context : Context). form_among left_out context c.args.word.now (OTHER.0.now, OTHER.1.now)) c.context_of.ensures
+    c.form_among.ensures
+    ∙ ap (λ (tables : List (List FormWord)). form_among tables c.context_of.result c.args.word.now (OTHER.0.now, OTHER.1.now)) c.left_out.ensures
+    ∙ ap (λ (context : Context). form_among left_out context c.args.word.now (OTHER.0.now, OTHER.1.now)) c.context_of.ensures
