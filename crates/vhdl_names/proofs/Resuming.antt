@@ -6,7 +6,6 @@ use Rattle.vhdl_names_rules.specs.units.Units as u
 use Rattle.vhdl_names_rules.specs.Rules.{◌>>=◌, each}
 use Rattle.vhdl_names_rules.specs.Visibility.{Sight}
 use Rattle.vhdl_names_rules.specs.Statements.{SignalName, signal}
-use Rattle.vhdl_names_rules.specs.Concurrent.{sensitivity}
 use Rattle.vhdl_names.specs.steps.Processes.{place_of}
 
 places : (sight : Sight) (ns : List t.Name) → option_map (map (λ (x : SignalName). x.place)) (each (signal sight) ns) ≡ each (place_of sight) ns

@@ -1,6 +1,6 @@
 //! The architectures of a file, in order of the text (IEEE 1076-2008, 3.3).
 
-ghost use Rattle.std.specs.Prelude.{◌≡◌, ◌∷◌, [], false, true, IfOk, length, List, map, Option, Some, None, option_map, replicate};
+ghost use Rattle.std.specs.Prelude.{◌≡◌, ◌∷◌, [], false, true, IfOk, length, map, Option, Some, None, option_map, replicate};
 ghost use Rattle.vhdl_names.specs.Finding.{Finds};
 ghost use Rattle.vhdl_names.specs.Views.{is_hidden};
 ghost use Rattle.vhdl_names.specs.steps.Architectures as steps;

@@ -1,6 +1,6 @@
 //! The labels inside a process, however deep they stand (IEEE 1076-2008, 10.1).
 
-ghost use Rattle.std.specs.Prelude.{◌≡◌, ◌++◌, [], IfErr, map};
+ghost use Rattle.std.specs.Prelude.{◌++◌, [], IfErr, map};
 ghost use Rattle.vhdl_names.specs.steps.Labels as steps;
 ghost use Rattle.vhdl_names_units.specs.Lists.{in_turn};
 ghost use Rattle.vhdl_names_units.specs.Once.{names_view, one_name};

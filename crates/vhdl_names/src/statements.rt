@@ -1,6 +1,6 @@
 //! Concurrent statements (IEEE 1076-2008, clause 11).
 
-ghost use Rattle.std.specs.Prelude.{◌≡◌, List, [], map, IfErr, Some, OnOk, OnErr};
+ghost use Rattle.std.specs.Prelude.{◌≡◌, List, [], map, IfErr, Some, OnOk};
 ghost use Rattle.vhdl_names_instances.specs.Table.{AreEntities, seens_view};
 ghost use Rattle.vhdl_names.specs.steps.Concurrents as steps;
 ghost use Rattle.vhdl_names_instances.specs.steps.Instances.{instance as instance_of};

@@ -1,6 +1,6 @@
 //! What instances see of the entities of a file (IEEE 1076-2008, 6.5.6 and 11.7).
 
-ghost use Rattle.std.specs.Prelude.{◌≡◌, Some};
+ghost use Rattle.std.specs.Prelude.{Some};
 ghost use Rattle.vhdl_names.specs.steps.Tables as steps;
 ghost use Rattle.vhdl_names.specs.steps.Tables.{table_view};
 ghost use Rattle.vhdl_names_instances.specs.Table.{seen_view, seen};

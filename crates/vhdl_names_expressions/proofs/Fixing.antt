@@ -16,9 +16,9 @@ use Rattle.vhdl_names_rules.specs.Operators as o
 use Rattle.vhdl_names_rules.specs.Operators.{integer, elements, enumerated, truth}
 use Rattle.vhdl_names_rules.specs.Expressions.{typed, typed_each, typed_suffix, as_integer, is_one_name}
 use Rattle.vhdl_names_rules.specs.Subtypes as r
-use Rattle.vhdl_names_sight.specs.declared.types.Typed.{Typed}
+use Rattle.vhdl_names_rules.specs.declared.typed.Typed.{Typed}
 use Rattle.vhdl_names_sight.specs.Steps.{two}
-use Rattle.vhdl_names_sight.specs.Views.{typed_view}
+use Rattle.vhdl_names_rules.specs.views.Expressions.{typed_view}
 use Rattle.vhdl_names_sight.proofs.Meant.{both_views, two_map}
 use Rattle.vhdl_names_expressions.specs.Asked.{unattributed}
 use Rattle.vhdl_names_rules.specs.Instances.{as_name}

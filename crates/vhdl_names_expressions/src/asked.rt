@@ -13,14 +13,16 @@ ghost use Rattle.vhdl_names_rules.specs.Gives.{Gives};
 ghost use Rattle.vhdl_names_rules.specs.declared.kind.ObjectType.TheVariants.{Elements, Enumeration};
 ghost use Rattle.vhdl_names_rules.specs.views.Tests.{test_view, static_test_view};
 ghost use Rattle.vhdl_tree.specs.View as trees;
-ghost use Rattle.vhdl_names_sight.specs.Views.{typed_view};
+ghost use Rattle.vhdl_names_rules.specs.views.Expressions.{typed_view};
 ghost use Rattle.vhdl_names_expressions.specs.Asked.{static_condition as static_condition_of, selected_by};
 ghost use Rattle.vhdl_names_units.specs.views.Answers.{given_view, selector_view};
 
 use crate::expressions::{start, typed};
 use std::alloc::Global;
-use vhdl_names_rules::{ElementKind, NameFault, NameProblem, ObjectType, StaticTest, Test, Value};
-use vhdl_names_sight::{Sight, Typed};
+use vhdl_names_rules::{
+    ElementKind, NameFault, NameProblem, ObjectType, StaticTest, Test, Typed, Value,
+};
+use vhdl_names_sight::Sight;
 use vhdl_names_units::Given;
 use vhdl_tree::{Expr, Value as TreeValue};
 

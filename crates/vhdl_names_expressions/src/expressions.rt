@@ -15,13 +15,15 @@ ghost use Rattle.vhdl_tree.specs.View.{view, suffix_view, ident_view, range_view
 ghost use Rattle.vhdl_names_expressions.specs.Chosen.{is_name, arguments_of, started, links_of};
 ghost use Rattle.vhdl_names_expressions.specs.Steps.{is_parens, enclosed_if, linked, all_linked};
 ghost use Rattle.vhdl_names_expressions.specs.Breaking.{link_breaks, all_break, started_breaks};
-ghost use Rattle.vhdl_names_sight.specs.Views.{meaning_view, typed_view, typed_suffix_view};
+ghost use Rattle.vhdl_names_sight.specs.Views.{meaning_view};
+ghost use Rattle.vhdl_names_rules.specs.views.Expressions.{typed_view, typed_suffix_view};
 
-use vhdl_names_rules::{NameFault, NameProblem, Static, StaticRange};
-use vhdl_names_sight::{
-    Meaning, Sight, Typed, TypedSuffix, attributed, bit_string_literal, character_literal, denoted,
-    enclosed, integer_literal, inverse, meaning_of, operated, signed, string_literal,
+use vhdl_names_operators::{
+    bit_string_literal, character_literal, enclosed, integer_literal, inverse, operated, signed,
+    string_literal,
 };
+use vhdl_names_rules::{NameFault, NameProblem, Static, StaticRange, Typed, TypedSuffix};
+use vhdl_names_sight::{Meaning, Sight, attributed, denoted, meaning_of};
 use vhdl_tree::{Chain, Expr, Identifier, Link, Name, Range, Suffix};
 
 /// The byte at which an expression starts.

@@ -10,7 +10,8 @@ ghost use Rattle.vhdl_names_rules.specs.Subtypes as rules;
 ghost use Rattle.vhdl_names_rules.specs.declared.kind.ObjectType.TheVariants.{Elements, Enumeration};
 ghost use Rattle.vhdl_tree.specs.Tree as t;
 ghost use Rattle.vhdl_tree.specs.View.{view, ident_view, suffix_view, option_ident_view, value_view as tree_value_view};
-ghost use Rattle.vhdl_names_sight.specs.Views.{meaning_view, typed_view, typed_suffix_view};
+ghost use Rattle.vhdl_names_sight.specs.Views.{meaning_view};
+ghost use Rattle.vhdl_names_rules.specs.views.Expressions.{typed_view, typed_suffix_view};
 ghost use Rattle.vhdl_names_expressions.specs.Chosen.{as_character};
 ghost use Rattle.vhdl_names_expressions.specs.Fixing.{encoded_fixed, filled_with, suffixed_value};
 ghost use Rattle.vhdl_names_units.specs.views.Answers.{fixed_view};
@@ -19,8 +20,10 @@ use crate::expressions::start;
 use crate::literals::{literal_values, name_of, no_literal};
 use crate::objects::unattributed;
 use std::alloc::Global;
-use vhdl_names_rules::{ElementKind, Function, NameFault, NameProblem, ObjectType, nine_of};
-use vhdl_names_sight::{Meaning, Sight, Typed, TypedSuffix, two_arguments};
+use vhdl_names_rules::{
+    ElementKind, Function, NameFault, NameProblem, ObjectType, Typed, TypedSuffix, nine_of,
+};
+use vhdl_names_sight::{Meaning, Sight, two_arguments};
 use vhdl_names_units::Fixed;
 use vhdl_tree::{Expr, Name, Value as TreeValue};
 

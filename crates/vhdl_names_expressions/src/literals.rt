@@ -14,8 +14,8 @@ ghost use Rattle.vhdl_names_expressions.specs.Chosen.{character_values as charac
 
 use crate::expressions::start;
 use std::alloc::Global;
+use vhdl_names_operators::{bit_string_values, string_values};
 use vhdl_names_rules::{ElementKind, NameFault, NameProblem, nine_of};
-use vhdl_names_sight::{bit_string_values, string_values};
 use vhdl_tree::{Expr, Name};
 use vhdl_values::Nine;
 

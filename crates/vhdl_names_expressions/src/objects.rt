@@ -7,13 +7,14 @@ ghost use Rattle.vhdl_names_rules.specs.problems.Statements as broken;
 ghost use Rattle.vhdl_names_rules.specs.Gives.{Gives};
 ghost use Rattle.vhdl_names_rules.specs.Statements as rules;
 ghost use Rattle.vhdl_tree.specs.View.{name_view};
-ghost use Rattle.vhdl_names_sight.specs.Views.{meaning_view, typed_suffix_view};
+ghost use Rattle.vhdl_names_sight.specs.Views.{meaning_view};
+ghost use Rattle.vhdl_names_rules.specs.views.Expressions.{typed_suffix_view};
 ghost use Rattle.vhdl_names_expressions.specs.Asked.{unattributed as unattributed_name};
 ghost use Rattle.vhdl_names_units.specs.views.Answers.{signal_name_view, variable_name_view};
 
 use crate::expressions::typed_suffix;
-use vhdl_names_rules::{NameFault, NameProblem, ObjectType, Signal, SignalPart};
-use vhdl_names_sight::{Meaning, Sight, TypedSuffix, meaning_of, part_of};
+use vhdl_names_rules::{NameFault, NameProblem, ObjectType, Signal, SignalPart, TypedSuffix};
+use vhdl_names_sight::{Meaning, Sight, meaning_of, part_of};
 use vhdl_names_units::{SignalName, VariableName};
 use vhdl_tree::{Mode, Name};
 

@@ -1,4 +1,6 @@
 pub mod laws
 pub mod rows
 pub mod Telling
+pub mod Along
+pub mod Memory
 pub mod kept

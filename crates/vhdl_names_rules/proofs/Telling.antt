@@ -3,6 +3,7 @@ use Rattle.std.proofs.Common.{◌≡◌, ◌≢◌, ℕ, Bool, true, false, List
 use Rattle.vhdl_names_rules.specs.declared.fault.NameFault.{NameFault}
 use Rattle.vhdl_names_rules.specs.declared.fault.NameFault.TheVariants.{At, NoMemory}
 use Rattle.vhdl_names_rules.specs.declared.fault.NameProblem.{NameProblem}
+use Rattle.vhdl_names_rules.specs.Gives.{Gives}
 use Rattle.vhdl_names_rules.specs.problems.Broken.{Broken, Tells, nothing, refused, ◌▸◌, unless, lacking, where_given, any_of}
 
 -- ---- parts that break nothing
@@ -96,3 +97,9 @@ any_append b (x ∷ xs) ys = ap (λ z. b x ▸ z) (any_append b xs ys) ∙ assoc
     associative : (x y z : Broken) → (x ▸ (y ▸ z)) ≡ ((x ▸ y) ▸ z)
     associative None y z = refl
     associative (Some p) y z = refl
+
+-- the one problem of what is given or not
+pub told_of : {X Y : Type 0} (view : X → Y) (p : NameProblem) (at : ℕ) (o : Option Y) (r : Result X NameFault) →
+    Gives view o r → IfErr r (Tells (refused p at)) → IfErr r (Tells (lacking p at o))
+told_of view p at o (Ok x) given told = tt
+told_of view p at o (Err f) given told = told_lacking p at o f given told

@@ -3,3 +3,4 @@ pub mod Integers
 pub mod Vectors
 pub mod Tests
 pub mod Parted
+pub mod Expressions

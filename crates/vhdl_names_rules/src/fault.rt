@@ -90,3 +90,10 @@ impl<T: Drop> From<AllocFailed<T>> for NameFault {
         NameFault::NoMemory
     }
 }
+
+/// A fault, of something that is let go.
+pub fn without<T: Drop>(_held: T, fault: NameFault) -> NameFault
+    ensures { result ≡ fault }
+{
+    fault
+}

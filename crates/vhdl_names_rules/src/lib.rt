@@ -14,12 +14,14 @@ mod literal;
 mod operator;
 pub mod rule_laws;
 mod test;
+mod typed;
 mod vector;
 
-pub use fault::{NameFault, NameProblem};
+pub use fault::{NameFault, NameProblem, without};
 pub use integer::{Static, StaticLink, StaticRange, StaticStart};
 pub use kind::{ElementKind, Function, ObjectType};
 pub use literal::nine_of;
 pub use operator::{Arithmetic, IntegerType, Numeric, VectorOperator};
 pub use test::{StaticTest, StaticTestLink, StaticTestStart, Test, TestLink, TestStart};
+pub use typed::{Typed, TypedSuffix};
 pub use vector::{Part, Signal, SignalPart, Value, Vector, VectorLink, VectorStart};

@@ -30,9 +30,9 @@ use Rattle.vhdl_names_rules.specs.units.Expressions as u
 use Rattle.vhdl_names_rules.specs.views.Integers.{static_view, start_view, static_chained}
 use Rattle.vhdl_names_rules.proofs.rows.Integers.{view_chain}
 use Rattle.vhdl_names_rules.specs.views.Vectors.{vector_view, links_view, linked}
-use Rattle.vhdl_names_sight.specs.declared.types.Typed.{Typed}
+use Rattle.vhdl_names_rules.specs.declared.typed.Typed.{Typed}
 use Rattle.vhdl_names_sight.specs.Steps.{sole, two, indexed, conversion, counting, encoded_by, edge_by, edge_call_problem, is_signal}
-use Rattle.vhdl_names_sight.specs.Views.{typed_view}
+use Rattle.vhdl_names_rules.specs.views.Expressions.{typed_view}
 
 -- ---- one argument
 

@@ -15,14 +15,12 @@ ghost use Rattle.vhdl_names_rules.specs.units.Expressions as units;
 ghost use Rattle.vhdl_names_rules.specs.views.Integers.{static_view, start_view};
 ghost use Rattle.vhdl_names_rules.specs.views.Vectors.{part_view, place_view, vector_view};
 ghost use Rattle.vhdl_names_sight.specs.Steps.{edge_by, edge_call_problem, is_signal};
-ghost use Rattle.vhdl_names_sight.specs.Views.{typed_view, typed_suffix_view};
+ghost use Rattle.vhdl_names_rules.specs.views.Expressions.{typed_view, typed_suffix_view};
 
-use crate::held::without;
 use crate::parts::sole_argument;
-use crate::types::{Typed, TypedSuffix};
 use vhdl_names_rules::{
     ElementKind, NameFault, NameProblem, Part, SignalPart, Static, StaticLink, StaticStart, Test,
-    Vector,
+    Typed, TypedSuffix, Vector, without,
 };
 use vhdl_values::Edge;
 

@@ -15,17 +15,16 @@ ghost use Rattle.vhdl_names_rules.specs.views.Integers.{static_view};
 ghost use Rattle.vhdl_names_rules.specs.views.Vectors.{signal_view, value_view, vector_view};
 ghost use Rattle.vhdl_tree.specs.View.{ident_view};
 ghost use Rattle.vhdl_names_sight.specs.Steps.{conversion, counting, encoded_by, two};
-ghost use Rattle.vhdl_names_sight.specs.Views.{meaning_view, typed_view, typed_suffix_view};
+ghost use Rattle.vhdl_names_sight.specs.Views.{meaning_view};
+ghost use Rattle.vhdl_names_rules.specs.views.Expressions.{typed_view, typed_suffix_view};
 
 use crate::edges::{edge_of, edge_signal};
-use crate::held::without;
 use crate::meaning::Meaning;
 use crate::parts::{if_plain, part, sole_argument, two_arguments};
-use crate::types::{Typed, TypedSuffix};
 use std::alloc::Global;
 use vhdl_names_rules::{
     ElementKind, Function, NameFault, NameProblem, ObjectType, Signal, SignalPart, Static, Test,
-    Value, Vector,
+    Typed, TypedSuffix, Value, Vector, without,
 };
 use vhdl_tree::Identifier;
 

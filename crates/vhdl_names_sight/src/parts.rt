@@ -8,11 +8,11 @@ ghost use Rattle.vhdl_names_rules.specs.Gives.{Gives};
 ghost use Rattle.vhdl_names_rules.specs.Names as rules;
 ghost use Rattle.vhdl_names_rules.specs.views.Vectors.{part_view};
 ghost use Rattle.vhdl_names_sight.specs.Steps.{sole, two, indexed};
-ghost use Rattle.vhdl_names_sight.specs.Views.{typed_view, typed_suffix_view};
+ghost use Rattle.vhdl_names_rules.specs.views.Expressions.{typed_view, typed_suffix_view};
 
-use crate::held::{before, without};
-use crate::types::{Typed, TypedSuffix};
-use vhdl_names_rules::{ElementKind, NameFault, NameProblem, ObjectType, Part};
+use vhdl_names_rules::{
+    ElementKind, NameFault, NameProblem, ObjectType, Part, Typed, TypedSuffix, without,
+};
 
 /// The argument that stands alone.
 pub(crate) fn sole_argument(mut arguments: Vec<Typed>) -> Option<Typed>
@@ -22,6 +22,16 @@ pub(crate) fn sole_argument(mut arguments: Vec<Typed>) -> Option<Typed>
         arguments.pop()
     } else {
         None
+    }
+}
+
+/// Two things, where the first is there.
+fn before<L, R: Drop>(left: Option<L>, right: R) -> Option<(L, R)>
+    ensures { result ≡ option_map (λ l. (l, right)) left }
+{
+    match left {
+        Some(left) => Some((left, right)),
+        None => None,
     }
 }
 

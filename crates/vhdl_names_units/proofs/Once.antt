@@ -5,7 +5,7 @@ use Rattle.std.specs.List.{list_any}
 use Rattle.std.proofs.lemmas.List.{append-nil, append_assoc, map-append}
 use Rattle.std.proofs.lemmas.Slice.Eq.{bytes_eq-Decides}
 use Rattle.vhdl_values.specs.declared.scalar.Nine.{Nine}
-use Rattle.vhdl_values.specs.declared.scalar.Nine.TheVariants.{U, X, Zero, One, Z, W, L, H, Dash}
+use Rattle.vhdl_values.specs.declared.scalar.Nine.TheVariants.{U}
 use Rattle.vhdl_values.specs.Scalar.{code_of}
 use Rattle.vhdl_names_rules.specs.units.Statements.{Choice, values, position}
 use Rattle.vhdl_names_rules.specs.Rules.{◌>>=◌, then_some}

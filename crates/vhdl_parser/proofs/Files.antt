@@ -24,8 +24,8 @@ use Rattle.vhdl_parser_expressions.proofs.Gives.{Gives, Reaches, Whatever, front
 use Rattle.vhdl_parser_statements.proofs.Plain.{an_ident}
 use Rattle.vhdl_parser_statements.proofs.Subtypes.{last_gives}
 use Rattle.vhdl_parser.proofs.Contexts.{context_rule, context_gives}
-use Rattle.vhdl_parser.proofs.Ports.{optional_generics_rule, optional_generics_gives, optional_ports_rule, optional_ports_gives}
-use Rattle.vhdl_parser.proofs.Declared.{declarations_rule, declarations_gives}
+use Rattle.vhdl_parser_declarations.proofs.Ports.{optional_generics_rule, optional_generics_gives, optional_ports_rule, optional_ports_gives}
+use Rattle.vhdl_parser_declarations.proofs.Declared.{declarations_rule, declarations_gives}
 use Rattle.vhdl_parser.proofs.Concurrents.{concurrents_rule}
 use Rattle.vhdl_parser.proofs.GiveConcurrents.{concurrents_gives}
 

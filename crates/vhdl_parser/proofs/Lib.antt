@@ -1,5 +1,3 @@
-pub mod Ports
-pub mod Declared
 pub mod Contexts
 pub mod WalkInstance
 pub mod GiveInstance

@@ -4,14 +4,10 @@
 
 mod concurrent;
 mod context;
-mod declaration;
 mod file;
 mod instances;
-mod interface;
 mod unit;
 
 pub use context::context_clause;
-pub use declaration::declarations;
 pub use file::{parse, parse_in};
 pub use instances::instance;
-pub use interface::{optional_generics, optional_ports};

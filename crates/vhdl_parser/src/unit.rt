@@ -8,9 +8,8 @@ ghost use Rattle.vhdl_parser.specs.reader.Units as read;
 
 use crate::concurrent::concurrents;
 use crate::context::context_clause;
-use crate::declaration::declarations;
-use crate::interface::{optional_generics, optional_ports};
 use vhdl_lexer::{Language, TokenKind};
+use vhdl_parser_declarations::{declarations, optional_generics, optional_ports};
 use vhdl_parser_expressions::{Parser, Stop, followed, many};
 use vhdl_tree::{Architecture, DesignUnit, Entity, File, LibraryUnit, MAX_OPEN};
 

@@ -29,7 +29,7 @@ use Rattle.vhdl_names_rules.specs.problems.Concurrent as problems
 use Rattle.vhdl_names_rules.proofs.Telling.{IsKept, told_same, told_left, told_right}
 use Rattle.vhdl_names_rules.proofs.kept.Statements.{target_kept, end_label_kept}
 use Rattle.vhdl_names_rules.proofs.kept.Covered.{covered_kept}
-use Rattle.vhdl_names_sight.proofs.Along.{gives_along}
+use Rattle.vhdl_names_rules.proofs.Along.{gives_along}
 use Rattle.vhdl_names_units.specs.declared.sequential.Alternative.{Alternative}
 use Rattle.vhdl_names_units.specs.views.Sequential.{Chosen, alternatives_view}
 use Rattle.vhdl_names_units.specs.Once.{key_of}

@@ -8,7 +8,7 @@ use Rattle.vhdl_tree.specs.Levels.{most_open}
 use Rattle.vhdl_parser_expressions.specs.reader.Input.{Parser, ◌>>=◌, ◌>>◌, ◌<$>◌, pure, refuse, is_kind, is_more, choose, test, expect, eat, identifier, optional, many}
 use Rattle.vhdl_parser.specs.reader.Concurrent.{concurrents}
 use Rattle.vhdl_parser.specs.reader.Context.{context}
-use Rattle.vhdl_parser.specs.reader.Declarations.{optional_generics, optional_ports, declarations}
+use Rattle.vhdl_parser_declarations.specs.reader.Declarations.{optional_generics, optional_ports, declarations}
 
 abbrev pub max_open : ℕ
 max_open = most_open

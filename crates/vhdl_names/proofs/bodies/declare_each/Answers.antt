@@ -5,7 +5,7 @@ use Rattle.vhdl_names_rules.specs.problems.Labels.{label_of}
 use Rattle.vhdl_names_sight.specs.Views.{region_view}
 use Rattle.vhdl_names_declarations.specs.Entered.{more}
 use Rattle.vhdl_names_declarations.proofs.Regions.{names_apart}
-use Rattle.vhdl_names_sight.proofs.Along.{gives_along}
+use Rattle.vhdl_names_rules.proofs.Along.{gives_along}
 use Rattle.vhdl_names_declarations.proofs.Labelling.{labels_in, names_of_label}
 use Rattle.vhdl_names.proofs.Labels.{Labelled, none_labelled, one_more, one_label, next_left, all_told, all_past, all_given}
 use Rattle.vhdl_names.proofs.bodies.declare_each.Goals as goal

@@ -10,7 +10,7 @@ use Rattle.vhdl_names_rules.specs.problems.Broken.{Tells}
 use Rattle.vhdl_names_rules.specs.problems.Labels as broken
 use Rattle.vhdl_names_rules.specs.problems.Twice.{twice}
 use Rattle.vhdl_names_rules.proofs.Telling.{told_same, told_on}
-use Rattle.vhdl_names_sight.proofs.Along.{gives_along}
+use Rattle.vhdl_names_rules.proofs.Along.{gives_along}
 use Rattle.vhdl_names_units.specs.Lists.{in_turn}
 use Rattle.vhdl_names_units.specs.Once.{names_view, one_name}
 use Rattle.vhdl_names_statements.proofs.steps.Cases.{case_is}

@@ -12,7 +12,7 @@ use Rattle.vhdl_names_units.proofs.Lists.{each_in_turn}
 use Rattle.vhdl_names_rules.specs.views.Vectors.{place_view}
 use Rattle.vhdl_names.specs.AllPlaces.{all_places_view}
 use Rattle.vhdl_names.specs.steps.Processes.{place_of}
-use Rattle.vhdl_names_sight.proofs.Memory.{memory_gives, memory_told}
+use Rattle.vhdl_names_rules.proofs.Memory.{memory_gives, memory_told}
 use Rattle.vhdl_names_statements.proofs.steps.Told.{more_done, none_more}
 use Rattle.vhdl_names.proofs.Finding.{passed_err}
 use Rattle.vhdl_names_sight.proofs.Passing.{passed_on}

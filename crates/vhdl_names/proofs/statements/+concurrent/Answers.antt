@@ -6,8 +6,8 @@ use Rattle.vhdl_tree.specs.View as tree
 use Rattle.vhdl_names_rules.specs.units.Units as u
 use Rattle.vhdl_names_rules.specs.Visibility.{are_distinct}
 use Rattle.vhdl_names_rules.specs.Concurrent.{concurrent_labels}
-use Rattle.vhdl_names_sight.proofs.Along.{gives_along}
-use Rattle.vhdl_names_sight.proofs.Memory.{memory_gives, memory_told}
+use Rattle.vhdl_names_rules.proofs.Along.{gives_along}
+use Rattle.vhdl_names_rules.proofs.Memory.{memory_gives, memory_told}
 use Rattle.vhdl_names_statements.proofs.steps.Told.{more_done, none_more}
 use Rattle.vhdl_names_statements.proofs.steps.Turns.{none_done, all_done}
 use Rattle.vhdl_names_interfaces.proofs.Interfacing.{told_nothing}

@@ -1,4 +1,4 @@
-use Rattle.vhdl_names_sight.proofs.Memory.{memory_gives}
+use Rattle.vhdl_names_rules.proofs.Memory.{memory_gives}
 use Rattle.vhdl_names_interfaces.specs.Views.{named_view}
 use Rattle.vhdl_names.specs.steps.Tables.{table_view}
 use Rattle.vhdl_names.proofs.Finding.{some_none}

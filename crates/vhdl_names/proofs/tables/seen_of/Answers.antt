@@ -1,7 +1,7 @@
 use Rattle.std.proofs.Common.{sym}
 use Rattle.std.specs.Prelude.{option_map}
 use Rattle.vhdl_names_sight.specs.Views.{region_view}
-use Rattle.vhdl_names_sight.proofs.Along.{gives_along}
+use Rattle.vhdl_names_rules.proofs.Along.{gives_along}
 use Rattle.vhdl_names_declarations.proofs.Regions.{names_apart}
 use Rattle.vhdl_names_instances.specs.Table.{seen_view}
 use Rattle.vhdl_names.proofs.Seeing.{all_seen}

@@ -4,7 +4,7 @@ use Rattle.vhdl_names_rules.specs.declared.fault.NameFault.TheVariants.{NoMemory
 use Rattle.vhdl_names_rules.specs.Choices.{choice}
 use Rattle.vhdl_names_rules.specs.Rules.{each}
 use Rattle.vhdl_tree.specs.View.{choice_view as tree_choice_view}
-use Rattle.vhdl_names_sight.proofs.Memory.{memory_gives, memory_told}
+use Rattle.vhdl_names_rules.proofs.Memory.{memory_gives, memory_told}
 use Rattle.vhdl_names_units.specs.views.Answers.{choice_view, choices_view}
 use Rattle.vhdl_names_expressions.proofs.Each.{behind, none_behind, each_fails, each_goes, each_ends}
 use Rattle.vhdl_names_rules.specs.problems.Broken.{Tells, any_of}

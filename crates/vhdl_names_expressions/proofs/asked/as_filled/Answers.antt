@@ -4,7 +4,7 @@ use Rattle.vhdl_names_rules.specs.declared.fault.NameProblem.TheVariants.{TypeMi
 use Rattle.vhdl_names_rules.specs.declared.kind.ObjectType.TheVariants.{Elements}
 use Rattle.vhdl_names_rules.specs.Expressions.{as_filled}
 use Rattle.vhdl_names_rules.specs.views.Vectors.{vector_view}
-use Rattle.vhdl_names_sight.specs.Views.{typed_view}
+use Rattle.vhdl_names_rules.specs.views.Expressions.{typed_view}
 use Rattle.vhdl_names_rules.specs.problems.Expressions.{is_vector_type}
 use Rattle.vhdl_names_expressions.proofs.Breaking.{told_fault}
 use Rattle.vhdl_names_expressions.proofs.BreakingValues.{no_vectors, no_element, not_vector, other_filled}

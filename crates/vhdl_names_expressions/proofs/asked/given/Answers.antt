@@ -4,7 +4,7 @@ use Rattle.vhdl_names_rules.specs.declared.fault.NameProblem.TheVariants.{TypeMi
 use Rattle.vhdl_names_rules.specs.Expressions as are
 use Rattle.vhdl_names_rules.specs.Expressions.{as_value, as_filled}
 use Rattle.vhdl_names_units.specs.views.Answers.{given_view}
-use Rattle.vhdl_names_sight.specs.Views.{typed_view}
+use Rattle.vhdl_names_rules.specs.views.Expressions.{typed_view}
 use Rattle.vhdl_names_rules.specs.problems.Broken.{◌▸◌, unless, lacking}
 use Rattle.vhdl_names_rules.specs.problems.Places.{start}
 use Rattle.vhdl_names_rules.specs.problems.Expressions as broken

@@ -7,9 +7,10 @@ use Rattle.vhdl_tree.specs.View.{view}
 use Rattle.vhdl_tree.specs.declared.expression.Chain.{out-Chain}
 use Rattle.vhdl_names_expressions.specs.Chosen.{arguments_of, links_of}
 use Rattle.vhdl_names_expressions.specs.Steps.{is_parens, enclosed_if, linked, all_linked}
-use Rattle.vhdl_names_sight.specs.Views.{meaning_view, typed_view, typed_suffix_view}
-use Rattle.vhdl_names_sight.proofs.Along.{gives_along}
-use Rattle.vhdl_names_sight.proofs.Memory.{memory_gives, memory_told}
+use Rattle.vhdl_names_sight.specs.Views.{meaning_view}
+use Rattle.vhdl_names_rules.specs.views.Expressions.{typed_view, typed_suffix_view}
+use Rattle.vhdl_names_rules.proofs.Along.{gives_along}
+use Rattle.vhdl_names_rules.proofs.Memory.{memory_gives, memory_told}
 use Rattle.vhdl_names_expressions.proofs.Chains.{started_is, link_goes, chain_begun, all_linked_none, link_fails, front, none_before, each_fails, each_goes, each_ends, arguments_whole}
 use Rattle.vhdl_tree.specs.View.{ident_view, suffix_view, range_view}
 use Rattle.vhdl_names_rules.specs.declared.fault.NameProblem.TheVariants.{TypeMismatch}

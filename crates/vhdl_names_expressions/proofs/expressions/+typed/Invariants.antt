@@ -5,7 +5,7 @@ use Rattle.vhdl_names_rules.specs.Expressions as are
 use Rattle.vhdl_names_rules.specs.problems.Expressions.{typed_each}
 use Rattle.vhdl_names_expressions.specs.Breaking.{all_break}
 use Rattle.vhdl_names_expressions.specs.Steps.{all_linked}
-use Rattle.vhdl_names_sight.specs.Views.{typed_view}
+use Rattle.vhdl_names_rules.specs.views.Expressions.{typed_view}
 use Rattle.vhdl_names_expressions.proofs.Chains.{front}
 use Rattle.vhdl_names_expressions.proofs.expressions.+typed.Given as goal
 

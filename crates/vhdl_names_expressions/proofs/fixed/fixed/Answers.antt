@@ -2,7 +2,7 @@ use Rattle.std.proofs.Common.{ap, sym}
 use Rattle.vhdl_tree.specs.View.{view}
 use Rattle.vhdl_names_rules.specs.Subtypes as rules
 use Rattle.vhdl_names_rules.specs.problems.Subtypes as broken
-use Rattle.vhdl_names_sight.proofs.Along.{gives_along}
+use Rattle.vhdl_names_rules.proofs.Along.{gives_along}
 use Rattle.vhdl_names_units.specs.views.Answers.{fixed_view}
 use Rattle.vhdl_names_expressions.proofs.Breaking.{told_as}
 use Rattle.vhdl_names_expressions.proofs.Choosing.{named_as, unnamed_as}

@@ -5,11 +5,12 @@ use Rattle.vhdl_names_rules.specs.Visibility.{Meaning}
 use Rattle.vhdl_names_rules.specs.Names.{Suffix}
 use Rattle.vhdl_names_rules.specs.problems.Broken.{lacking}
 use Rattle.vhdl_names_rules.specs.problems.Subtypes.{suffixed_problem, value_of}
-use Rattle.vhdl_names_sight.specs.Views.{meaning_view, typed_suffix_view}
+use Rattle.vhdl_names_sight.specs.Views.{meaning_view}
+use Rattle.vhdl_names_rules.specs.views.Expressions.{typed_suffix_view}
 use Rattle.vhdl_names_units.specs.views.Answers.{fixed_view}
 use Rattle.vhdl_names_sight.proofs.Passing.{passed_on, told_first}
 use Rattle.vhdl_names_expressions.specs.Fixing.{suffixed_value}
-use Rattle.vhdl_names_sight.proofs.Along.{gives_along}
+use Rattle.vhdl_names_rules.proofs.Along.{gives_along}
 use Rattle.vhdl_names_expressions.proofs.Fixing.{name_fixed}
 use Rattle.vhdl_names_expressions.proofs.Breaking.{told_as, refused_told}
 use Rattle.vhdl_names_expressions.proofs.BreakingValues.{fixed_as, name_told, value_is}

@@ -4,7 +4,8 @@ use Rattle.vhdl_names_rules.specs.declared.fault.NameFault.TheVariants.{At}
 use Rattle.vhdl_names_rules.specs.declared.fault.NameProblem.TheVariants.{LeftOut}
 use Rattle.vhdl_names_rules.specs.problems.Broken.{◌▸◌}
 use Rattle.vhdl_names_rules.specs.problems.Expressions.{meaning, typed_suffix, no_attribute}
-use Rattle.vhdl_names_sight.specs.Views.{meaning_view, typed_suffix_view}
+use Rattle.vhdl_names_sight.specs.Views.{meaning_view}
+use Rattle.vhdl_names_rules.specs.views.Expressions.{typed_suffix_view}
 use Rattle.vhdl_names_rules.proofs.Telling.{told_left, told_right}
 use Rattle.vhdl_names_rules.proofs.kept.Expressions.{meaning_kept, typed_suffix_kept}
 use Rattle.vhdl_names_sight.proofs.Passing.{told_first, told_second}

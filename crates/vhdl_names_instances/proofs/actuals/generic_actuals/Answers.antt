@@ -4,7 +4,7 @@ use Rattle.std.specs.Prelude.{option_map}
 use Rattle.vhdl_names_rules.specs.Expressions.{static}
 use Rattle.vhdl_names_rules.specs.Rules.{if_any}
 use Rattle.vhdl_names_rules.specs.views.Integers.{static_view}
-use Rattle.vhdl_names_sight.proofs.Memory.{memory_gives}
+use Rattle.vhdl_names_rules.proofs.Memory.{memory_gives}
 use Rattle.vhdl_names_units.specs.views.Actuals.{each_actual}
 use Rattle.vhdl_names_units.specs.Lists.{in_turn, one_more}
 use Rattle.vhdl_names_units.proofs.Lists.{each_in_turn}

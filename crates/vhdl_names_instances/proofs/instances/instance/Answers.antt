@@ -1,5 +1,5 @@
 use Rattle.vhdl_tree.specs.View as tree
-use Rattle.vhdl_names_sight.proofs.Along.{gives_along}
+use Rattle.vhdl_names_rules.proofs.Along.{gives_along}
 use Rattle.vhdl_names_units.specs.views.Concurrent.{instance_view}
 use Rattle.vhdl_names_instances.proofs.Instancing.{instance_gives}
 use Rattle.vhdl_names_instances.proofs.instances.instance.Goals as goal

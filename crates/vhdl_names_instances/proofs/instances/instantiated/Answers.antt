@@ -13,7 +13,7 @@ use Rattle.vhdl_names_instances.proofs.Told.{told_along, passed_told}
 use Rattle.vhdl_names_instances.proofs.Instanced.{entity_of_told}
 use Rattle.vhdl_tree.specs.View as tree
 use Rattle.vhdl_names_sight.specs.Views.{meaning_view}
-use Rattle.vhdl_names_sight.proofs.Along.{gives_along}
+use Rattle.vhdl_names_rules.proofs.Along.{gives_along}
 use Rattle.vhdl_names_units.specs.Once.{names_view}
 use Rattle.vhdl_names_instances.specs.Table.{seens_view}
 use Rattle.vhdl_names_instances.specs.steps.Instances as steps

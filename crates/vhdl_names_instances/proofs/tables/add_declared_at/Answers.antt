@@ -1,7 +1,7 @@
 use Rattle.std.proofs.Common.{Some, ap, sym, ◌∙◌}
 use Rattle.vhdl_names_rules.specs.Visibility.{declare}
 use Rattle.vhdl_names_sight.specs.Views.{meaning_view}
-use Rattle.vhdl_names_sight.proofs.Along.{gives_along}
+use Rattle.vhdl_names_rules.proofs.Along.{gives_along}
 use Rattle.vhdl_names_instances.specs.Table.{seen_view}
 use Rattle.vhdl_names_instances.specs.steps.Tables.{with_entry, with_declared}
 use Rattle.vhdl_names_instances.proofs.Tabling.{entry_at}

@@ -2,7 +2,7 @@ use Rattle.std.proofs.Common.{map, option_map, Some, sym, ap, ◌∙◌}
 use Rattle.vhdl_names_rules.specs.Packages.{sight_of}
 use Rattle.vhdl_tree.specs.View as view
 use Rattle.vhdl_names_sight.specs.Views.{entry_view}
-use Rattle.vhdl_names_sight.proofs.Along.{gives_along}
+use Rattle.vhdl_names_rules.proofs.Along.{gives_along}
 use Rattle.vhdl_names_declarations.specs.Contexts.{context_view}
 use Rattle.vhdl_names_rules.specs.problems.Interfaces as broken
 use Rattle.vhdl_names_rules.proofs.Telling.{told_on}

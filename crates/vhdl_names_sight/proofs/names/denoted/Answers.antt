@@ -1,5 +1,5 @@
-use Rattle.vhdl_names_sight.specs.Views.{typed_view}
-use Rattle.vhdl_names_sight.proofs.Operating.{told_of}
+use Rattle.vhdl_names_rules.specs.views.Expressions.{typed_view}
+use Rattle.vhdl_names_rules.proofs.Telling.{told_of}
 use Rattle.vhdl_names_sight.proofs.names.denoted.Goals as goal
 
 pub returns-in-Generic : goal.returns-in-Generic

@@ -1,7 +1,7 @@
 use Rattle.std.proofs.Common.{◌≡◌, map, None, Some, ap, sym, ◌∙◌}
 use Rattle.vhdl_tree.specs.View as tree
 use Rattle.vhdl_names_rules.specs.Rules.{each}
-use Rattle.vhdl_names_sight.proofs.Along.{gives_along}
+use Rattle.vhdl_names_rules.proofs.Along.{gives_along}
 use Rattle.vhdl_names_units.specs.views.Sequential as views
 use Rattle.vhdl_names_rules.specs.problems.Broken.{nothing, any_of}
 use Rattle.vhdl_names_rules.specs.problems.Covered.{covered}

@@ -7,8 +7,8 @@ use Rattle.vhdl_tree.specs.declared.sequential.If.{out-If}
 use Rattle.vhdl_names_rules.specs.Rules.{◌>>◌, each, if_any}
 use Rattle.vhdl_names_rules.specs.Choices as are
 use Rattle.vhdl_names_rules.specs.Statements.{statement}
-use Rattle.vhdl_names_sight.proofs.Along.{gives_along}
-use Rattle.vhdl_names_sight.proofs.Memory.{memory_gives, memory_told}
+use Rattle.vhdl_names_rules.proofs.Along.{gives_along}
+use Rattle.vhdl_names_rules.proofs.Memory.{memory_gives, memory_told}
 use Rattle.vhdl_names_units.specs.views.Sequential.{statement_view, statements_view, branch_view, branches_view, alternative_view, alternatives_view}
 use Rattle.vhdl_names_rules.specs.problems.Expressions.{condition}
 use Rattle.vhdl_names_rules.specs.problems.Choices.{choices}

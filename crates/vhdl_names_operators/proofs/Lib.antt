@@ -1,0 +1,4 @@
+pub mod Characters
+pub mod Closing
+pub mod Quotations
+pub mod Operating

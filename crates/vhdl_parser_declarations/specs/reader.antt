@@ -1,0 +1,2 @@
+-- How the parser reads generics, ports and declarations.
+pub mod Declarations
