@@ -2,7 +2,8 @@
 
 ghost use Rattle.std.specs.Prelude.{◌≡◌, map, IfOk};
 
-use rtl_eval::{Drives, Exec};
+use rtl_drives::Drives;
+use rtl_eval::Exec;
 use std::alloc::{AllocError, Global};
 use std::cell::Cell;
 

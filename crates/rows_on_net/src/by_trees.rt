@@ -11,7 +11,8 @@ use rtl_check::stored;
 use rtl_eval::trees;
 use rtl_kernel::Pick;
 use rtl_net::Net;
-use rtl_run::{MachineFault, RunFault, Simulation, Summary, admit};
+use rtl_run::{MachineFault, admit};
+use rtl_simulation::{RunFault, Simulation, Summary};
 use rtl_stim::{MapAgenda, StimFault, Stimulus};
 use std::alloc::Global;
 

@@ -1,9 +1,4 @@
-pub mod Counting
-pub mod Listing
-pub mod Assigned
-pub mod Marking
 pub mod Lanes
-pub mod Places
 pub mod Reading
 pub mod Chains
 pub mod Values

@@ -2,7 +2,7 @@
 use Rattle.std.proofs.Common.{◌≡◌, ℕ, ◌+◌, ◌<◌, ◌≤◌, List, [], ◌∷◌, length, drop, slice_index, slice_set, Option, Some, ap, refl, sym}
 use Rattle.std.specs.List.{range_with_len}
 use Rattle.std.proofs.lemmas.List.{at_drop_more, drop_all}
-use Rattle.rtl_eval.specs.Spans.{written}
+use Rattle.rtl_drives.specs.Spans.{written}
 use Rattle.rtl_model.specs.bodies.Variables.{values_put}
 use Rattle.rtl_eval.specs.Running.{assigned}
 

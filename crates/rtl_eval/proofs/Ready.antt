@@ -12,7 +12,7 @@ use Rattle.rtl_net.specs.declared.body.Branch.{Branch}
 use Rattle.rtl_net.specs.declared.body.Alternative.{Alternative}
 use Rattle.rtl_net.specs.Bodies.{value_view, test_view, statement_view, statements_of, branches_of, alternatives_of}
 use Rattle.rtl_net.proofs.Rows.{view_if, view_case}
-use Rattle.rtl_eval.specs.Runs.{Outcome}
+use Rattle.rtl_drives.specs.Outcomes.{Outcome}
 use Rattle.rtl_eval.specs.declared.seen.Valuations.{Valuations}
 use Rattle.rtl_eval.specs.Seeing.{Within}
 use Rattle.rtl_eval.specs.Running.{seen_by, IsReady, Does, IsFirstTrue, NoneIsTrue, met_by, chosen_by, FitsSomehow, else_of}

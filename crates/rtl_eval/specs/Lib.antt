@@ -1,8 +1,4 @@
-pub mod Listed
 pub mod Runs
-pub mod Spans
-pub mod Marked
-pub mod Tracked
 pub mod Combined
 pub mod Evaluations
 pub mod Running

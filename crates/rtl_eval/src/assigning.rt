@@ -5,14 +5,11 @@ ghost use Rattle.rtl_model.specs.bodies.Variables.{values_put};
 ghost use Rattle.rtl_net.specs.Indices.{numbers};
 ghost use Rattle.rtl_eval.specs.Combined.{combined};
 ghost use Rattle.rtl_eval.specs.Evaluations.{codes_of};
-ghost use Rattle.rtl_eval.specs.Running.{assigned};
-ghost use Rattle.rtl_eval.specs.Tracked.{IsFreeRun};
+ghost use Rattle.rtl_eval.specs.Running.{IsFreeRun, assigned};
 
 use crate::combining::Combination;
-use crate::drives::Drives;
 use crate::evaluated::Evaluated;
-use crate::making::Maker;
-use crate::spans::Span;
+use rtl_drives::{Drives, Maker, Span};
 use rtl_net::Indices;
 use vhdl_values::Logic;
 

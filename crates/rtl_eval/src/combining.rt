@@ -8,7 +8,7 @@ ghost use Rattle.vhdl_values.specs.declared.kinds.Logic.TheVariants.{And, Or, Xo
 ghost use Rattle.vhdl_values.specs.declared.scalar.Nine.{Nine};
 ghost use Rattle.rtl_eval.specs.Combined.{combined, AreStripped, Operates};
 
-use crate::making::Maker;
+use rtl_drives::Maker;
 use std::simd::prelude::*;
 use vhdl_values::Logic;
 

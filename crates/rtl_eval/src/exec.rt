@@ -6,7 +6,7 @@ ghost use Rattle.rtl_model.specs.nets.FlatNetlist.{FlatProcess};
 ghost use Rattle.rtl_model.specs.nets.CoreNetlist.{part_effect};
 ghost use Rattle.rtl_eval.specs.Runs.{IsOf, Leaves};
 
-use crate::drives::Drives;
+use rtl_drives::Drives;
 
 /// The body of one process, as something that runs.
 pub trait Exec {

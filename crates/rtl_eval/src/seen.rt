@@ -4,7 +4,7 @@ ghost use Rattle.std.specs.Prelude.{◌≡◌};
 ghost use Rattle.rtl_eval.specs.Seeing.{seen_of};
 ghost use Rattle.rtl_eval.specs.Running.{seen_by};
 
-use crate::drives::Drives;
+use rtl_drives::Drives;
 
 /// The codes of all nets now and before the last update, and of the process's variable elements.
 #[derive(Clone, Copy)]

@@ -10,10 +10,10 @@ ghost use Rattle.rtl_eval.specs.Running.{IsPlaceOfFirst, else_of, met_by, chosen
 ghost use Rattle.rtl_eval.specs.Seeing.{seen_of, Within};
 
 use crate::assigning::{assign, set};
-use crate::drives::Drives;
 use crate::evaluated::{Evaluated, evaluate, is_chosen};
 use crate::seen::{SeenValues, Valuations, seeing};
 use crate::tests::is_met;
+use rtl_drives::Drives;
 use rtl_net::{Alternative, Branch, Statement};
 
 /// Statements, one after another.

@@ -3,10 +3,10 @@
 ghost use Rattle.std.specs.Prelude.{◌≡◌, IfOk};
 ghost use Rattle.rtl_eval.specs.Trees.{process_of, processes_of};
 
-use crate::drives::Drives;
 use crate::exec::Exec;
 use crate::seen::Valuations;
 use crate::statements::run_all;
+use rtl_drives::Drives;
 use rtl_net::Net;
 use std::alloc::{AllocError, Global};
 use std::marker::Model;

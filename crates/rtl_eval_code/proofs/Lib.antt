@@ -1,6 +1,5 @@
 pub mod Leading
 pub mod Spanned
-pub mod Copied
 pub mod Places
 pub mod Lengths
 pub mod Expressions
@@ -13,9 +12,6 @@ pub mod Effects
 pub mod Statements
 pub mod Given
 pub mod Branches
-pub mod Compared
 pub mod Conjunctions
 pub mod Alternatives
-pub mod Backwards
 pub mod Bodies
-pub mod Digits

@@ -1,10 +1,5 @@
-pub mod Spans
-pub mod Instructions
-pub mod Operated
-pub mod Ends
 pub mod Bodies
 pub mod Written
 pub mod Parts
 pub mod Codes
 pub mod Kept
-pub mod Summed

@@ -5,8 +5,8 @@ use Rattle.std.specs.Option.{is_some}
 use Rattle.std.proofs.lemmas.Bool.{cases_eq, cases_lt, ne_eqb}
 use Rattle.std.proofs.lemmas.List.{get_or-set_same, get_or-set_other, get_or_past, length-map, length-set, map-set}
 use Rattle.std.proofs.lemmas.List.Elements.{Contains-get_or}
-use Rattle.rtl_eval.specs.Runs.{Outcome}
-use Rattle.rtl_eval.specs.Tracked.{AreAssigned}
+use Rattle.rtl_drives.specs.Outcomes.{Outcome}
+use Rattle.rtl_drives.specs.Tracked.{AreAssigned}
 use Rattle.rtl_model.proofs.basics.Lists.{all_none, any_true, Contains-none}
 use Rattle.rtl_kernel.specs.worklists.Numbers.{Numbers, IsWith}
 use Rattle.rtl_model.specs.simulation.Cycle.{all_driver_values}

@@ -9,7 +9,8 @@ use Rattle.rtl_model.specs.simulation.Netlist.{Process, process}
 use Rattle.rtl_model.specs.simulation.Cycle.{State, over, all_driver_values, resumed_processes, after_update, after_inputs, with_inputs, after_run}
 use Rattle.rtl_model.proofs.basics.Lists.{get_or-map_within}
 use Rattle.rtl_model.proofs.nets.Processes.{process-core_net}
-use Rattle.rtl_eval.specs.Runs.{Outcome, IsOf, Leaves}
+use Rattle.rtl_drives.specs.Outcomes.{Outcome}
+use Rattle.rtl_eval.specs.Runs.{IsOf, Leaves}
 use Rattle.rtl_kernel.specs.drivers.Transactions.{Transactions, IsActive, HasRunOf, pending_of, without_entries, no_outcome}
 use Rattle.rtl_kernel.specs.kernel.Kept.{HaveRoom, state_of}
 use Rattle.rtl_kernel.specs.values.TwoValues.{TwoValues}

@@ -3,12 +3,12 @@ use Rattle.std.proofs.Common.{◌≡◌, ℕ, zero, suc, ◌+◌, ◌-◌, ◌<�
 use Rattle.std.proofs.lemmas.Bool.{cases_eq, cases_lt}
 use Rattle.std.proofs.lemmas.List.{ext_get_or, get_or-set_same, get_or-set_other, get_or_default, length-set, length-map, length-replicate, map-set}
 use Rattle.std.proofs.Math.Seq.{map-set_same}
-use Rattle.rtl_eval.specs.Runs.{Outcome}
-use Rattle.rtl_eval.specs.declared.spans.Span.{Span}
-use Rattle.rtl_eval.specs.Spans.{places_of}
-use Rattle.rtl_eval.specs.Tracked.{AreAssigned}
-use Rattle.rtl_eval.proofs.Assigned.{no_entry}
-use Rattle.rtl_eval.proofs.Places.{left_of, none_behind}
+use Rattle.rtl_drives.specs.Outcomes.{Outcome}
+use Rattle.rtl_drives.specs.declared.spans.Span.{Span}
+use Rattle.rtl_drives.specs.Spans.{places_of}
+use Rattle.rtl_drives.specs.Tracked.{AreAssigned}
+use Rattle.rtl_drives.proofs.Assigned.{no_entry}
+use Rattle.rtl_drives.proofs.Places.{left_of, none_behind}
 use Rattle.rtl_model.specs.simulation.Cycle.{driver_values, all_driver_values, none_pending}
 use Rattle.rtl_model.specs.simulation.Machine.{entry_or}
 use Rattle.rtl_model.proofs.basics.Lists.{get_or-map_within}

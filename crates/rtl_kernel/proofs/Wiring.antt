@@ -10,7 +10,7 @@ use Rattle.rtl_model.specs.simulation.Netlist.{Process, process}
 use Rattle.rtl_model.proofs.basics.Lists.{Contains-none, get_or-map_within}
 use Rattle.rtl_model.proofs.nets.InRange.{process_in_range}
 use Rattle.rtl_model.proofs.nets.Processes.{process-core_net}
-use Rattle.rtl_eval.specs.Runs.{Outcome}
+use Rattle.rtl_drives.specs.Outcomes.{Outcome}
 use Rattle.rtl_net.specs.Nets.{NetlistView, flat, driver_view, process_view}
 use Rattle.rtl_net.specs.declared.process.Driver as r
 use Rattle.rtl_net.specs.declared.process.Process as q

@@ -8,7 +8,8 @@ ghost use Rattle.rtl_kernel.specs.drivers.Starts.{AreFresh, start_row, starts_of
 ghost use Rattle.rtl_kernel.specs.kernel.Simulation.{each_given};
 ghost use Rattle.rtl_kernel.specs.values.TwoValues.{AreChanged};
 
-use rtl_eval::{Drives, Exec};
+use rtl_drives::Drives;
+use rtl_eval::Exec;
 use rtl_net::{Driver, Net, Process, Variable};
 use std::alloc::{AllocError, Global};
 use vhdl_values::Nine;

@@ -11,3 +11,4 @@ pub mod Lanes
 pub mod Writing
 pub mod BothEnds
 pub mod Replaced
+pub mod Touching

@@ -1,13 +1,4 @@
-pub mod MomentTexts
-pub mod Steps
-pub mod Turns
-pub mod Results
 pub mod Admitting
-pub mod Stands
-pub mod Moments
-pub mod Going
-pub mod Events
-pub mod Failing
 pub mod Theorem
 pub mod BadLines
 pub mod Refusals
@@ -15,6 +6,4 @@ pub mod Texts
 pub mod Traces
 pub mod Codes
 pub mod Saying
-pub mod Alike
 pub mod levels
-pub mod Touching

@@ -10,9 +10,9 @@ use Rattle.byte_streams.proofs.Writing.{TakesBeginning-append}
 use Rattle.rtl_vcd.specs.Header.{header_text}
 use Rattle.rtl_vcd.specs.Trace.{Moment, first_text, moment_text, moments_text, trace_text, are_some, changes}
 use Rattle.rtl_stim.specs.Stimuli.{StimulusView, moments, inputs_at}
-use Rattle.rtl_run.specs.simulations.Simulated.{Settled, AreMoments}
-use Rattle.rtl_run.specs.simulations.Traced.{behind_first, at_times, changes_text, text_so_far, whole_text}
-use Rattle.rtl_run.specs.simulations.Answered.{IsTextOf}
+use Rattle.rtl_simulation.specs.Simulated.{Settled, AreMoments}
+use Rattle.rtl_simulation.specs.Traced.{behind_first, at_times, changes_text, text_so_far, whole_text}
+use Rattle.rtl_simulation.specs.Answered.{IsTextOf}
 use Rattle.rtl_run.specs.Traced.{run_at, machine_text}
 
 -- these settle in the valuations of a run

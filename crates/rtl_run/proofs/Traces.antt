@@ -10,17 +10,18 @@ use Rattle.byte_streams.specs.Written.{SinkState, TakesAll}
 use Rattle.rtl_model.proofs.nets.Connected.{connected_is_elaborated}
 use Rattle.rtl_stim.specs.Stimuli.{StimulusView, moments, inputs_at}
 use Rattle.rtl_stim.proofs.Next.{each_begins_at_zero}
-use Rattle.rtl_run.specs.declared.summary.RunFault.{RunFault}
-use Rattle.rtl_run.specs.declared.summary.RunFault.TheVariants.{NoSettling, Memory, Output}
-use Rattle.rtl_run.specs.declared.summary.Summary.{Summary}
+use Rattle.rtl_simulation.specs.declared.summary.RunFault.{RunFault}
+use Rattle.rtl_simulation.specs.declared.summary.RunFault.TheVariants.{NoSettling, Memory, Output}
+use Rattle.rtl_simulation.specs.declared.summary.Summary.{Summary}
 use Rattle.rtl_run.specs.Faults.{of_run}
 use Rattle.rtl_run.specs.Synchronous.{SaysYes, IsSynchronous}
 use Rattle.rtl_run.specs.Traced.{machine_text, IsTrace, TracesMoments, TracesAll, TracesBeginning, Leaves}
 use Rattle.rtl_run.specs.Watched.{AreStandsOf, IsToldRun, IsToldRunFirst}
-use Rattle.rtl_run.specs.simulations.Answered.{Fails, IsWhole, LeavesBeginning, WritesAll}
-use Rattle.rtl_run.specs.simulations.Engines.{ComesTo}
-use Rattle.rtl_run.specs.simulations.Simulated.{NeverSettles}
-use Rattle.rtl_run.specs.simulations.Watched.{AreStands, IsToldAll, IsToldFirst, WasTold}
+use Rattle.rtl_simulation.specs.Answered.{Fails, IsWhole, LeavesBeginning, WritesAll}
+use Rattle.rtl_simulation.specs.Engines.{ComesTo}
+use Rattle.rtl_simulation.specs.Simulated.{NeverSettles}
+use Rattle.rtl_simulation.specs.Watched.{AreStands, IsToldAll, IsToldFirst, WasTold}
+use Rattle.rtl_run.proofs.Theorem.{bound_of}
 use Rattle.rtl_run.proofs.Texts.{are_of_run, whole_is, beginning_is}
 
 module _ (net : NetlistView) (s : StimulusView) (limit : ℕ) (run : ℕ → List ℕ) (synchronous : IsSynchronous (core net) limit (inputs_at s) run) where
@@ -81,10 +82,9 @@ module _ (net : NetlistView) (s : StimulusView) (limit : ℕ) (run : ℕ → Lis
     whole summary is_net one said is_whole =
         let moments_are = is_whole.all.count_is ∙ is_whole.all.all in
         let most = subst (λ (k : ℕ). IsMost (core net) (inputs_at s) k summary.most_deltas) (ap pred moments_are) is_whole.most in
-        let greatest = one (core net) said.levels said.report.greatest (connected_is_elaborated (flat net) is_net.in_range is_net.connected) said.accepted said.report.levels_are (inputs_at s) (pred (length (moments s))) in
+        let greatest = one (core net) said.report.greatest limit (connected_is_elaborated (flat net) is_net.in_range is_net.connected) said.accepted (bound_of said.report) (inputs_at s) (pred (length (moments s))) in
         let same : summary.most_deltas ≡ greatest.0 = greatest.3 summary.most_deltas most in
-        let within = subst (λ (b : ℕ). greatest.0 ≤ b) (sym said.report.rest.bound_is) greatest.2 in
-        record { all = traces_moments summary.moments is_whole.all; most = most; within = subst (λ (k : ℕ). k ≤ limit) (sym same) within }
+        record { all = traces_moments summary.moments is_whole.all; most = most; within = subst (λ (k : ℕ). k ≤ limit) (sym same) greatest.2 }
 
   -- ---- what the watch was told
 

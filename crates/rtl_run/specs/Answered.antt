@@ -4,7 +4,7 @@ use Rattle.std.specs.Prelude.{◌≡◌, ℕ, ◌⊎◌, List, Result, Err}
 use Rattle.rtl_net.specs.Nets.{NetlistView, SignalView}
 use Rattle.byte_streams.specs.Written.{SinkState}
 use Rattle.rtl_stim.specs.Stimuli.{StimulusView}
-use Rattle.rtl_run.specs.declared.summary.Summary.{Summary}
+use Rattle.rtl_simulation.specs.declared.summary.Summary.{Summary}
 use Rattle.rtl_run.specs.declared.fault.MachineFault.{MachineFault}
 use Rattle.rtl_run.specs.Traced.{Traces}
 use Rattle.rtl_run.specs.Admitted.{IsAdmitted, RefusesNet}

@@ -1,4 +1,3 @@
-pub mod simulations
 pub mod Synchronous
 pub mod Traced
 pub mod Watched
@@ -8,5 +7,4 @@ pub mod Answered
 pub mod Beginnings
 pub mod Words
 pub mod Evaluated
-pub mod Laws
 pub mod levels

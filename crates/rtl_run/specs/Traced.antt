@@ -5,9 +5,9 @@ use Rattle.rtl_net.specs.Nets.{NetlistView, SignalView}
 use Rattle.byte_streams.specs.Written.{SinkState, IsIntact, HasFailed, TakesAll, TakesBeginning}
 use Rattle.rtl_vcd.specs.Trace.{Moment, trace_text}
 use Rattle.rtl_stim.specs.Stimuli.{StimulusView, moments, inputs_at}
-use Rattle.rtl_run.specs.declared.summary.Summary.{Summary}
+use Rattle.rtl_simulation.specs.declared.summary.Summary.{Summary}
 use Rattle.rtl_net.specs.Core.{core}
-use Rattle.rtl_run.specs.simulations.Traced.{behind_first}
+use Rattle.rtl_simulation.specs.Traced.{behind_first}
 use Rattle.rtl_run.specs.declared.fault.MachineFault.{MachineFault}
 use Rattle.rtl_run.specs.declared.fault.MachineFault.TheVariants.{Memory, Output}
 use Rattle.rtl_run.specs.Synchronous.{IsSynchronous}

@@ -5,7 +5,7 @@ use Rattle.rtl_net.specs.Nets.{NetlistView}
 use Rattle.rtl_net.specs.Core.{core}
 use Rattle.rtl_stim.specs.Stimuli.{StimulusView, moments, inputs_at}
 use Rattle.byte_streams.specs.Stands.{Stand}
-use Rattle.rtl_run.specs.simulations.Watched.{until_of}
+use Rattle.rtl_simulation.specs.Watched.{until_of}
 use Rattle.rtl_run.specs.Answered.{Admits}
 use Rattle.rtl_run.specs.Synchronous.{IsSynchronous}
 

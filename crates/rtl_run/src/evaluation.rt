@@ -9,9 +9,6 @@ ghost use Rattle.rtl_run.specs.Synchronous.{SaysYes, IsRaceless};
 ghost use Rattle.rtl_run.specs.Evaluated.{Evaluates, IsFirstOf};
 
 use crate::admission::{Admitted, admit_words};
-use crate::course::Course;
-use crate::engine::Engine;
-use crate::event_engine::EventEngine;
 use crate::fault::MachineFault;
 use crate::laws::accepted_nets_are_synchronous;
 use crate::ports::push_ports;
@@ -19,6 +16,7 @@ use byte_streams::{Sink, Unwatched, finish};
 use rtl_eval_code::codes;
 use rtl_kernel::Forward;
 use rtl_net::{Net, Shown};
+use rtl_simulation::{Course, Engine, EventEngine};
 use std::alloc::{AllocError, Global};
 
 /// Writes, for each out port of the top in order of declaration, the line `NAME=VALUE` with its

@@ -2,12 +2,12 @@
 
 ghost use Rattle.std.specs.Prelude.{◌≡◌, ℕ};
 ghost use Rattle.rtl_run.specs.declared.fault.MachineFault.TheVariants.{Memory, Output};
-ghost use Rattle.rtl_run.specs.declared.summary.RunFault.TheVariants.{NoSettling};
+ghost use Rattle.rtl_simulation.specs.declared.summary.RunFault.TheVariants.{NoSettling};
 ghost use Rattle.rtl_run.specs.Faults.{of_run, of_stim};
 
-use crate::summary::RunFault;
 use byte_streams::WriteFailed;
 use rtl_check::CheckFault;
+use rtl_simulation::RunFault;
 use rtl_stim::StimFault;
 use std::alloc::AllocError;
 

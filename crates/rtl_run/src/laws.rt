@@ -1,8 +1,7 @@
 //! The laws, each the contract of a function that does nothing: the settling theorem, over
 //! `specs/Synchronous.antt`; what the text of words says, over `specs/Words.antt`; and what is
-//! written, over `specs/Laws.antt` and `specs/levels/Laws.antt`.
+//! written, over `specs/levels/Laws.antt`.
 
-ghost use Rattle.rtl_run.specs.Laws.{EachOrderIsWrittenAlike};
 ghost use Rattle.rtl_run.specs.Synchronous.{EachAcceptedIsSynchronous};
 ghost use Rattle.rtl_run.specs.Words.{EachWordSets};
 ghost use Rattle.rtl_run.specs.levels.Laws.{EachRunIsWrittenAlike, EachTraceIsTheOne};
@@ -26,15 +25,6 @@ pub fn accepted_nets_are_synchronous()
 pub fn each_word_sets()
     ensures { EachWordSets }
 {}
-
-/// Two simulations of a netlist under a stimulus that both come to their end, or to a moment that
-/// doesn't settle, answer the same and write the same bytes, whatever the orders in which they ran
-/// the processes.
-pub fn each_order_is_written_alike()
-    ensures { EachOrderIsWrittenAlike }
-{
-    simulation_laws::simulations_agree();
-}
 
 /// An accepted netlist has one trace under a stimulus, since the synchronous machine has one run.
 pub fn each_trace_is_the_one()

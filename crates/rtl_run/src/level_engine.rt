@@ -1,13 +1,12 @@
 //! The engine that simulates by levels.
 
-ghost use Rattle.rtl_run.specs.simulations.Engines.{MachineSettled};
+ghost use Rattle.rtl_run.specs.levels.Settled.{MachineSettled};
 
-use crate::engine::Engine;
-use crate::summary::RunFault;
 use byte_streams::Watch;
 use rtl_eval::Exec;
 use rtl_levels::Machine;
 use rtl_net_groups::Touched;
+use rtl_simulation::{Engine, RunFault};
 use vhdl_values::Nine;
 
 /// The synchronous machine of an accepted netlist, which is at the first moment from the start on.

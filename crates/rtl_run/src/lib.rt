@@ -1,12 +1,5 @@
-//! The simulation of a netlist under a stimulus, with its trace, and accepted netlists as
-//! synchronous machines: what the checker's yes means for a simulation, and the calls that rest on
-//! it.
-//!
-//! A simulation goes from the first moment to the stop (IEEE 1076-2008, 14.7.5; IEEE 1364-2005,
-//! clause 18). `specs/simulations/Simulated.antt` says what the moments settle to,
-//! `specs/simulations/Traced.antt` what their trace is, and `specs/simulations/Answered.antt` what
-//! a simulation answers. Whatever the order of processes, it answers alike and writes the same
-//! bytes (`specs/Laws.antt`).
+//! Accepted netlists as synchronous machines: what the checker's yes means for a simulation, and
+//! the calls that rest on it.
 //!
 //! `specs/Synchronous.antt` has the settling theorem, `specs/Traced.antt`, `specs/Admitted.antt`
 //! and `specs/Answered.antt` say what `run_watched` answers, `specs/Watched.antt` what a watch is
@@ -14,12 +7,8 @@
 //!
 //! `run_levels_watched` runs an accepted netlist as the synchronous machine that it is, without
 //! delta cycles. `specs/levels/Answered.antt` says what it answers, and `specs/levels/Laws.antt`
-//! that it writes what `run_watched` writes.
-//!
-//! Both go through one loop over the moments (`course`), with an engine that lets each moment
-//! settle (`engine`): by events (`event_engine`) or by levels (`level_engine`).
-//! `specs/simulations/Engines.antt` says what is so of an engine at a moment, and
-//! `specs/simulations/Progress.antt` how far the loop has come.
+//! that it writes what `run_watched` writes. Its engine (`level_engine`) is one for the loop over
+//! moments of rtl_simulation; `specs/levels/Settled.antt` says what is so of it at a moment.
 //!
 //! These calls ask that the ports of the netlist's top have names of their own, and that the
 //! elements of its in ports are the netlist's inputs, in their order (`HasOwnPorts` of rtl_stim). A
@@ -30,21 +19,15 @@
 
 mod admission;
 mod by_levels;
-mod course;
-mod engine;
 mod evaluation;
-mod event_engine;
 mod fault;
 mod laws;
 mod level_engine;
 mod level_summary;
 mod ports;
 mod prepared;
-mod progress;
 mod running;
-mod simulation;
 mod stepping;
-mod summary;
 mod words;
 
 pub use admission::{Admitted, admit};
@@ -52,12 +35,9 @@ pub use by_levels::run_levels_watched;
 pub use evaluation::eval;
 pub use fault::MachineFault;
 pub use laws::{
-    accepted_nets_are_synchronous, each_order_is_written_alike, each_run_is_written_alike,
-    each_trace_is_the_one, each_word_sets,
+    accepted_nets_are_synchronous, each_run_is_written_alike, each_trace_is_the_one, each_word_sets,
 };
 pub use level_summary::LevelSummary;
 pub use prepared::SLOTS;
 pub use running::run_watched;
-pub use simulation::Simulation;
 pub use stepping::Stepping;
-pub use summary::{RunFault, Summary};

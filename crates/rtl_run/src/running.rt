@@ -12,13 +12,12 @@ ghost use Rattle.rtl_run.specs.Watched.{IsToldRun, IsToldRunFirst, WasToldRun};
 use crate::fault::{MachineFault, settled_fault};
 use crate::laws::accepted_nets_are_synchronous;
 use crate::prepared::{Prepared, prepare};
-use crate::simulation::Simulation;
-use crate::summary::Summary;
 use byte_streams::{Sink, Watch};
 use rtl_eval::Exec;
 use rtl_kernel::Pick;
 use rtl_model::simulation_laws;
 use rtl_net::Shown;
+use rtl_simulation::{Simulation, Summary};
 use rtl_stim::Agenda;
 use std::alloc::Global;
 

@@ -8,7 +8,6 @@ ghost use Rattle.rtl_run.specs.Beginnings.{IsReady};
 ghost use Rattle.rtl_run.specs.Watched.{IsToldRun, IsToldRunFirst};
 ghost use Rattle.rtl_run.specs.levels.Answered.{TracesLevels};
 
-use crate::course::Course;
 use crate::fault::{MachineFault, settled_fault};
 use crate::laws::accepted_nets_are_synchronous;
 use crate::level_engine::LevelEngine;
@@ -17,6 +16,7 @@ use byte_streams::{Sink, Watch};
 use rtl_eval::Exec;
 use rtl_levels::Machine;
 use rtl_net::Shown;
+use rtl_simulation::Course;
 use rtl_stim::{Agenda, Stimulus};
 use std::alloc::Global;
 

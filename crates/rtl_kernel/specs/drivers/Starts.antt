@@ -4,7 +4,7 @@ use Rattle.rtl_model.specs.nets.FlatNetlist.{element_starts}
 use Rattle.rtl_net.specs.Nets.{variable_view}
 use Rattle.rtl_net.specs.declared.process.Driver as net
 use Rattle.rtl_net.specs.declared.process.Process.{Process}
-use Rattle.rtl_eval.specs.Runs.{Outcome}
+use Rattle.rtl_drives.specs.Outcomes.{Outcome}
 use Rattle.rtl_kernel.specs.drivers.Transactions.{no_outcome, pending_of}
 
 -- what these drivers start with

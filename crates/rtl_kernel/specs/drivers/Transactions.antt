@@ -1,6 +1,7 @@
 -- The drivers of all processes, and their transactions (IEEE 1076-2008, 14.7.2).
 use Rattle.std.specs.Prelude.{◌≡◌, ℕ, ◌<◌, List, [], length, map, replicate, slice_index, slice_index_or, slice_set, Option, None, IsSome}
-use Rattle.rtl_eval.specs.Runs.{Outcome, Leaves}
+use Rattle.rtl_drives.specs.Outcomes.{Outcome}
+use Rattle.rtl_eval.specs.Runs.{Leaves}
 use Rattle.rtl_net.specs.declared.process.Driver as net
 use Rattle.rtl_net.specs.declared.process.Process.{Process}
 

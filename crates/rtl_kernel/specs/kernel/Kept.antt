@@ -11,7 +11,8 @@ use Rattle.rtl_model.specs.simulation.Laws.{IsConsistent}
 use Rattle.rtl_model.specs.simulation.Range.{StateInRange}
 use Rattle.rtl_awaited_edges.specs.declared.awaited.ClockEdge.{ClockEdge}
 use Rattle.rtl_awaited_edges.specs.Awaiting.{AwaitFirst}
-use Rattle.rtl_eval.specs.Runs.{Outcome, IsOf}
+use Rattle.rtl_drives.specs.Outcomes.{Outcome}
+use Rattle.rtl_eval.specs.Runs.{IsOf}
 use Rattle.rtl_kernel.specs.drivers.Brought.{NotedNets}
 use Rattle.rtl_kernel.specs.drivers.DriverCuts.{AreDriverCuts}
 use Rattle.rtl_kernel.specs.drivers.Transactions.{Transactions, IsActive, no_outcome, pending_of}

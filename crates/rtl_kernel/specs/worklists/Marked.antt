@@ -1,7 +1,7 @@
 -- A worklist: a mark for each number, and the list of the marked ones.
 use Rattle.std.specs.Prelude.{ℕ, ◌≤◌, Bool, false, List, length}
 use Rattle.std.specs.Vec.{vec_capacity}
-use Rattle.rtl_eval.specs.Listed.{AreListed}
+use Rattle.rtl_drives.specs.Listed.{AreListed}
 use Rattle.rtl_kernel.specs.worklists.Numbers.{Numbers}
 use Rattle.rtl_kernel.specs.declared.worklist.Worklist.TheInside.{Inside}
 

@@ -9,7 +9,7 @@ use Rattle.byte_streams.specs.Written.{SinkState, TakesAll}
 use Rattle.rtl_stim_lines.specs.Reading.{Schedule, schedule_of}
 use Rattle.rtl_stim.specs.Ports.{inputs_of}
 use Rattle.rtl_stim.specs.Stimuli.{StimulusView, moments, inputs_at}
-use Rattle.rtl_run.specs.declared.summary.Summary.{Summary}
+use Rattle.rtl_simulation.specs.declared.summary.Summary.{Summary}
 use Rattle.rtl_run.specs.Traced.{machine_text, IsTrace, Traces}
 use Rattle.rtl_run.specs.Admitted.{IsAdmitted}
 use Rattle.rtl_run.specs.Answered.{Admits, RunsNet}

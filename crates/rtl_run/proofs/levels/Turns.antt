@@ -16,7 +16,7 @@ use Rattle.rtl_stim.specs.Moments.{GivesNext}
 use Rattle.rtl_stim.specs.Ports.{HasOwnPorts, inputs_of}
 use Rattle.rtl_stim.specs.Stimuli.{StimulusView, inputs_at, initial_values}
 use Rattle.rtl_net.specs.Core.{core}
-use Rattle.rtl_run.proofs.Steps.{first_inputs, leads, of_inputs}
+use Rattle.rtl_simulation.proofs.Steps.{first_inputs, leads, of_inputs}
 use Rattle.rtl_run.specs.Synchronous.{IsRaceless, IsSynchronous}
 use Rattle.rtl_levels.specs.Laws.{EachMachineGoesOnAlike}
 

@@ -6,7 +6,7 @@ use Rattle.rtl_net.specs.Elaborated.{IsNet}
 use Rattle.byte_streams.specs.Written.{SinkState, TakesAll}
 use Rattle.rtl_stim.specs.Stimuli.{StimulusView}
 use Rattle.rtl_net.specs.Core.{core}
-use Rattle.rtl_run.specs.declared.summary.Summary.{Summary}
+use Rattle.rtl_simulation.specs.declared.summary.Summary.{Summary}
 use Rattle.rtl_run.specs.Traced.{IsTrace}
 use Rattle.rtl_run.specs.Answered.{RunsNet}
 use Rattle.rtl_run.specs.declared.level_summary.LevelSummary.{LevelSummary}

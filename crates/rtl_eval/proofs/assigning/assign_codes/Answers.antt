@@ -2,8 +2,8 @@ use Rattle.std.proofs.Common.{◌≡◌, ℕ, ◌+◌, ◌<◌, List, Option, le
 use Rattle.std.specs.List.{range_with_len}
 use Rattle.std.proofs.lemmas.List.FromFn.{length-range_with_len, get_or-range_with_len}
 use Rattle.rtl_net.specs.Indices.{numbers}
-use Rattle.rtl_eval.specs.Runs.{Outcome}
-use Rattle.rtl_eval.specs.Spans.{written}
+use Rattle.rtl_drives.specs.Outcomes.{Outcome}
+use Rattle.rtl_drives.specs.Spans.{written}
 use Rattle.rtl_eval.specs.Running.{assigned}
 use Rattle.rtl_eval.proofs.OneByOne.{assigned_span}
 use Rattle.rtl_eval.proofs.assigning.assign_codes.Goals as goal

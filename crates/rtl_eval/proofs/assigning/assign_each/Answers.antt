@@ -1,6 +1,6 @@
 use Rattle.std.proofs.Common.{◌<◌, ◌+◌, List, Option, ℕ, drop, length, slice_index, Some, ap, ◌∙◌, arith}
 use Rattle.std.proofs.lemmas.List.{length-set}
-use Rattle.rtl_eval.specs.Runs.{Outcome}
+use Rattle.rtl_drives.specs.Outcomes.{Outcome}
 use Rattle.rtl_eval.specs.Running.{assigned}
 use Rattle.rtl_eval.proofs.OneByOne.{assigned_more, none_to_assign}
 use Rattle.rtl_eval.proofs.assigning.assign_each.Goals as goal

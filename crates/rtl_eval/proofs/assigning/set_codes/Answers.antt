@@ -2,7 +2,7 @@ use Rattle.std.proofs.Common.{◌<◌, ◌+◌, List, ℕ, drop, length, slice_i
 use Rattle.std.proofs.lemmas.List.{length-set}
 use Rattle.rtl_model.specs.bodies.Variables.{values_put}
 use Rattle.rtl_net.specs.Indices.{numbers}
-use Rattle.rtl_eval.specs.Runs.{Outcome}
+use Rattle.rtl_drives.specs.Outcomes.{Outcome}
 use Rattle.rtl_eval.proofs.OneByOne.{put_more, none_to_put}
 use Rattle.rtl_eval.proofs.assigning.set_codes.Goals as goal
 

@@ -3,7 +3,7 @@ use Rattle.rtl_model.specs.bodies.Effect.{effect}
 use Rattle.rtl_model.specs.bodies.Fits.{Fits}
 use Rattle.rtl_model.specs.bodies.Variables.{variables_after}
 use Rattle.rtl_net.specs.Bodies.{statements_of}
-use Rattle.rtl_eval.specs.Runs.{Outcome}
+use Rattle.rtl_drives.specs.Outcomes.{Outcome}
 use Rattle.rtl_eval.specs.Running.{seen_by, IsReady, Does}
 use Rattle.rtl_eval.proofs.StatementWeights.{weight, weight_of, branches_weight, otherwise_weight, alternatives_weight}
 use Rattle.rtl_eval.proofs.statements.+statement.Given as goal

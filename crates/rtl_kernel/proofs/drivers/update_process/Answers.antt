@@ -1,6 +1,6 @@
 use Rattle.std.proofs.Common.{◌≡◌, ℕ, ◌+◌, ◌<◌, List, [], Some, None, arith, length, get_or, ap, sym, subst, ◌∙◌}
-use Rattle.rtl_eval.specs.declared.spans.Span.{Span}
-use Rattle.rtl_eval.proofs.Places.{place_assigned}
+use Rattle.rtl_drives.specs.declared.spans.Span.{Span}
+use Rattle.rtl_drives.proofs.Places.{place_assigned}
 use Rattle.rtl_net.specs.Nets.{NetlistView}
 use Rattle.rtl_net_groups.specs.Cuts.{Cutting, IsCut, no_cut}
 use Rattle.rtl_net_groups.specs.Groups.{Grouping}

@@ -1,5 +1,5 @@
 use Rattle.std.proofs.Common.{ℕ, ◌⊎◌, drop, Contains}
-use Rattle.rtl_eval.specs.Spans.{places_of}
+use Rattle.rtl_drives.specs.Spans.{places_of}
 use Rattle.rtl_kernel.specs.drivers.Transactions.{targets_of}
 use Rattle.rtl_kernel.specs.drivers.Updates.{TakesEntries, IsTaken}
 use Rattle.rtl_kernel.proofs.drivers.update_process.Given as goal

@@ -5,7 +5,7 @@ use Rattle.std.proofs.lemmas.List.{length-map, map-set, with_items_is}
 use Rattle.rtl_model.proofs.basics.Lists.{get_or-map_within}
 use Rattle.rtl_model.proofs.simulation.Rows.{length-driven}
 use Rattle.rtl_model.specs.simulation.Cycle.{driver_values}
-use Rattle.rtl_eval.specs.Runs.{Outcome}
+use Rattle.rtl_drives.specs.Outcomes.{Outcome}
 use Rattle.rtl_net.specs.Nets.{NetlistView}
 use Rattle.rtl_kernel.specs.drivers.Brought.{Brings}
 use Rattle.rtl_kernel.specs.drivers.DriverCuts.{AreDriverCuts}

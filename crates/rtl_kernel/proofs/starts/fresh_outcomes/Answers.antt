@@ -1,7 +1,7 @@
 use Rattle.std.proofs.Common.{refl, ◌≡◌, ℕ, ◌+◌, List, [], ◌∷◌, length, map, take, replicate, get_or, Option, None, ap, sym, subst, ◌∙◌, arith, length-append}
 use Rattle.std.proofs.lemmas.List.{take_all}
 use Rattle.rtl_model.specs.nets.FlatNetlist.{element_starts}
-use Rattle.rtl_eval.specs.Runs.{Outcome}
+use Rattle.rtl_drives.specs.Outcomes.{Outcome}
 use Rattle.rtl_net.specs.Nets.{variable_view}
 use Rattle.rtl_net.specs.declared.process.Process.{Process}
 use Rattle.rtl_net.specs.declared.process.Variable.{Variable}

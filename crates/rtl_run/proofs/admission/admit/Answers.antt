@@ -1,5 +1,5 @@
 use Rattle.rtl_run.specs.Faults.{of_stim}
-use Rattle.rtl_run.proofs.Results.{fails_with}
+use Rattle.rtl_simulation.proofs.Results.{fails_with}
 use Rattle.rtl_run.proofs.Refusals.{refused_text}
 use Rattle.rtl_run.proofs.admission.admit.Goals as goal
 

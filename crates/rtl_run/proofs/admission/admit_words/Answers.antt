@@ -4,7 +4,7 @@ use Rattle.rtl_stim_lines.specs.Reading.{schedule_of}
 use Rattle.rtl_stim.specs.Ports.{inputs_of}
 use Rattle.rtl_run.specs.Faults.{of_stim}
 use Rattle.rtl_run.specs.Words.{words_text}
-use Rattle.rtl_run.proofs.Results.{fails_with}
+use Rattle.rtl_simulation.proofs.Results.{fails_with}
 use Rattle.rtl_run.proofs.Refusals.{refused_text}
 use Rattle.rtl_run.proofs.admission.admit_words.Goals as goal
 use Rattle.rtl_run.proofs.admission.admit_words.Goals.{After-deref}

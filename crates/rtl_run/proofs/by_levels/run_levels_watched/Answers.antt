@@ -3,7 +3,7 @@ use Rattle.std.proofs.lemmas.Result.{IfOk-from_err, IfOk-weaker, IfErr-weaker}
 use Rattle.rtl_net.specs.Nets.{signal_view}
 use Rattle.rtl_run.specs.levels.Answered.{RunsLevels}
 use Rattle.rtl_run.proofs.Admitting.{admits, is_refused, ready}
-use Rattle.rtl_run.proofs.Results.{err_with, any_err}
+use Rattle.rtl_simulation.proofs.Results.{err_with, any_err}
 use Rattle.rtl_run.proofs.by_levels.run_levels_watched.Goals as goal
 
 pub returns : goal.returns

@@ -4,7 +4,7 @@ use Rattle.rtl_run.specs.declared.fault.MachineFault.{MachineFault}
 use Rattle.rtl_run.specs.declared.fault.MachineFault.TheVariants.{Output}
 use Rattle.rtl_run.specs.Evaluated.{port_lines, AreFirstLines, Prints}
 use Rattle.rtl_run.proofs.Admitting.{admits}
-use Rattle.rtl_run.proofs.Results.{err_with}
+use Rattle.rtl_simulation.proofs.Results.{err_with}
 use Rattle.rtl_run.proofs.evaluation.eval.Given.{Over}
 use Rattle.rtl_run.proofs.evaluation.eval.Goals as goal
 use Rattle.rtl_run.proofs.evaluation.eval.Goals.{After-push_ports}

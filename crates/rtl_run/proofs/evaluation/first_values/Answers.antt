@@ -4,7 +4,7 @@ use Rattle.rtl_net.specs.Core.{core}
 use Rattle.rtl_stim.specs.Stimuli.{inputs_at}
 use Rattle.rtl_run.specs.Evaluated.{IsFirstOf}
 use Rattle.rtl_run.specs.Synchronous.{IsSynchronous}
-use Rattle.rtl_run.specs.simulations.Engines.{CourseView, Shows}
+use Rattle.rtl_simulation.specs.Engines.{CourseView, Shows}
 use Rattle.rtl_run.proofs.Codes.{run_of, codes_run}
 use Rattle.rtl_run.proofs.Traces.{is_of_run, never_settles}
 use Rattle.rtl_run.proofs.evaluation.first_values.Goals as goal

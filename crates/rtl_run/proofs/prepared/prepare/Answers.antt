@@ -1,7 +1,7 @@
 use Rattle.std.proofs.Common.{ap}
 use Rattle.rtl_agenda.specs.Agenda.{AgendaState}
 use Rattle.rtl_run.specs.declared.fault.MachineFault.TheVariants.{Memory}
-use Rattle.rtl_run.proofs.Results.{fails_with}
+use Rattle.rtl_simulation.proofs.Results.{fails_with}
 use Rattle.rtl_run.proofs.Codes.{codes_run}
 use Rattle.rtl_run.proofs.prepared.prepare.Goals as goal
 

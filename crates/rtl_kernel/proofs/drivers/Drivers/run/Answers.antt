@@ -2,10 +2,10 @@ use Rattle.std.proofs.Common.{◌≡◌, ◌<◌, arith, sym, ap, subst, ◌∙�
 use Rattle.std.proofs.lemmas.Bool.{eqb-true, eqb-false}
 use Rattle.std.proofs.lemmas.List.{get_or-set_same}
 use Rattle.std.proofs.lemmas.List.FromFn.{length-map-range_with_len}
-use Rattle.rtl_eval.specs.Runs.{Outcome}
-use Rattle.rtl_eval.specs.Spans.{places_of}
-use Rattle.rtl_eval.specs.Tracked.{AreAssigned}
-use Rattle.rtl_eval.proofs.Places.{no_places}
+use Rattle.rtl_drives.specs.Outcomes.{Outcome}
+use Rattle.rtl_drives.specs.Spans.{places_of}
+use Rattle.rtl_drives.specs.Tracked.{AreAssigned}
+use Rattle.rtl_drives.proofs.Places.{no_places}
 use Rattle.rtl_model.proofs.basics.Lists.{get_or-map_within}
 use Rattle.rtl_kernel.specs.drivers.Tracked.{transactions_of}
 use Rattle.rtl_kernel.specs.drivers.Transactions.{no_outcome, pending_of}

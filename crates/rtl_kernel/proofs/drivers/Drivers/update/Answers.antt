@@ -1,6 +1,6 @@
 use Rattle.std.proofs.Common.{List, ap, sym, subst, ◌∙◌, length, get_or, []}
 use Rattle.std.proofs.lemmas.List.{length-map}
-use Rattle.rtl_eval.specs.Runs.{Outcome}
+use Rattle.rtl_drives.specs.Outcomes.{Outcome}
 use Rattle.rtl_model.proofs.basics.Lists.{Contains-none}
 use Rattle.rtl_kernel.specs.drivers.Rows.{rows}
 use Rattle.rtl_kernel.specs.drivers.Transactions.{IsActive, pending_of, without_entries}

@@ -2,7 +2,7 @@ use Rattle.std.proofs.Common.{[], ◌∙◌, ◌≡◌, Bool, false, Option, ap,
 use Rattle.std.specs.List.{count_by}
 use Rattle.rtl_awaited_edges.specs.declared.awaited.ClockEdge.{ClockEdge}
 use Rattle.rtl_awaited_edges.specs.Awaiting.{IsAsleep, first_edge}
-use Rattle.rtl_eval.proofs.Counting.{count_by-set_less}
+use Rattle.rtl_drives.proofs.Counting.{count_by-set_less}
 use Rattle.rtl_model.proofs.simulation.Order.{waits_in}
 use Rattle.rtl_model.specs.nets.CoreNetlist.{core_netlist}
 use Rattle.rtl_model.specs.simulation.Cycle.{State, after_run}

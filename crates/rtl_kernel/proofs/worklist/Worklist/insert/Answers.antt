@@ -1,6 +1,6 @@
 use Rattle.std.proofs.Common.{Bool, false, true, refl, sym, ◌∙◌, arith}
 use Rattle.std.proofs.lemmas.List.{get_or_default, length-set}
-use Rattle.rtl_eval.proofs.Listing.{room_left, listed_more}
+use Rattle.rtl_drives.proofs.Listing.{room_left, listed_more}
 use Rattle.rtl_kernel.specs.worklists.Marked.{numbers_of}
 use Rattle.rtl_kernel.proofs.Marks.{with_pushed, with_member}
 use Rattle.rtl_kernel.proofs.worklist.Worklist.insert.Goals as goal

@@ -2,7 +2,8 @@ use Rattle.std.proofs.Common.{ℕ, List, ◌∙◌}
 use Rattle.rtl_levels.proofs.Alike.{each_machine_goes_on_alike}
 use Rattle.rtl_levels.specs.Machine.{MachineView}
 use Rattle.rtl_agenda.specs.Agenda.{Change}
-use Rattle.rtl_run.specs.simulations.Engines.{CourseView, Follows, MachineSettled}
+use Rattle.rtl_simulation.specs.Engines.{CourseView, Follows}
+use Rattle.rtl_run.specs.levels.Settled.{MachineSettled}
 use Rattle.rtl_run.proofs.levels.Turns.{LeadsOn, leads_on}
 use Rattle.rtl_run.proofs.level_engine.LevelEngineEngine.step.Goals as goal
 

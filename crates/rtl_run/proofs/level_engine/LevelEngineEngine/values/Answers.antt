@@ -1,6 +1,6 @@
 use Rattle.std.proofs.Common.{ℕ, List, length, ap, sym, subst, ◌∙◌}
 use Rattle.rtl_net.specs.Nets.{NetlistView}
-use Rattle.rtl_run.specs.simulations.Engines.{ComesTo}
+use Rattle.rtl_simulation.specs.Engines.{ComesTo}
 use Rattle.rtl_run.proofs.Traces.{comes_to_run}
 use Rattle.rtl_run.proofs.level_engine.LevelEngineEngine.values.Goals as goal
 

@@ -11,11 +11,11 @@ use Rattle.rtl_run.specs.declared.fault.MachineFault.{MachineFault}
 use Rattle.rtl_run.specs.declared.fault.MachineFault.TheVariants.{Memory}
 use Rattle.rtl_run.specs.levels.Answered.{TracesLevels}
 use Rattle.rtl_run.specs.Synchronous.{IsSynchronous}
-use Rattle.rtl_run.proofs.Going.{nothing_leaves}
-use Rattle.rtl_run.proofs.Results.{err_with, any_err}
-use Rattle.rtl_run.proofs.Stands.{told_nothing}
+use Rattle.rtl_simulation.proofs.Going.{nothing_leaves}
+use Rattle.rtl_simulation.proofs.Results.{err_with, any_err}
+use Rattle.rtl_simulation.proofs.Stands.{told_nothing}
 use Rattle.rtl_run.proofs.Traces.{is_another, leaves, told_first, told_run, traces_moments}
-use Rattle.rtl_run.specs.declared.summary.RunFault.TheVariants as fault
+use Rattle.rtl_simulation.specs.declared.summary.RunFault.TheVariants as fault
 use Rattle.rtl_run.proofs.levels.Turns.{first_is}
 use Rattle.rtl_run.proofs.stepping.Stepping.trace.Given.{Over}
 use Rattle.rtl_run.proofs.stepping.Stepping.trace.Goals as goal

@@ -1,0 +1,5 @@
+pub mod Spans
+pub mod Instructions
+pub mod Operated
+pub mod Ends
+pub mod Summed

@@ -1,4 +1,0 @@
-use Rattle.rtl_run.proofs.event_engine.EventEngineEngine.touched.Goals as goal
-
-pub returns-clause-nets : goal.returns-clause-nets
-returns-clause-nets g c r m A many = A.of.nets

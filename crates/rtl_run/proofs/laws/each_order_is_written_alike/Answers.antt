@@ -1,5 +1,0 @@
-use Rattle.rtl_run.proofs.Alike as alike
-use Rattle.rtl_run.proofs.laws.each_order_is_written_alike.Goals as goal
-
-pub returns : goal.returns
-returns c = alike.each_order_is_written_alike c.simulations_agree.ensures

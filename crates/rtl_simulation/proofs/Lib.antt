@@ -1,0 +1,11 @@
+pub mod MomentTexts
+pub mod Steps
+pub mod Turns
+pub mod Results
+pub mod Stands
+pub mod Moments
+pub mod Going
+pub mod Events
+pub mod Failing
+pub mod Alike
+pub mod Touching
