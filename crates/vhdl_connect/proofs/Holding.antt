@@ -5,7 +5,7 @@ use Rattle.std.proofs.lemmas.Bool.{cases_eq}
 use Rattle.std.proofs.lemmas.List.{append_assoc, append-nil, take_more, flat_map_more, length-map, map-set}
 use Rattle.smallvec.specs.SmallVec.{SmallVec}
 use Rattle.vhdl_connect.specs.Held.{at_net, items_at, Holds}
-use Rattle.vhdl_connect.proofs.Marking.{take_whole}
+use Rattle.vhdl_connect_processes.proofs.Lists.{take_whole}
 
 pub holds_same : (f g : ℕ → List ℕ) (table : List (SmallVec ℕ)) → ((n : ℕ) → f n ≡ g n) → Holds f table → Holds g table
 holds_same f g table e h = record { each = λ n l. h.each n l ∙ e n }

@@ -18,6 +18,7 @@ use Rattle.vhdl_expand_tree.specs.declared.tree.InstancePart.{InstancePart}
 use Rattle.vhdl_expand_tree.specs.declared.tree.InstancePart.TheVariants as p
 use Rattle.vhdl_expand_tree.proofs.Parts.{view_instance}
 use Rattle.vhdl_expand_tree.specs.Views.{object_view, process_view, part_before, parts_of}
+use Rattle.vhdl_connect_processes.proofs.Lists.{take_whole}
 use Rattle.vhdl_connect.specs.declared.uses.Sources.{Sources}
 use Rattle.vhdl_connect.specs.declared.uses.Sources.TheVariants.{Zero}
 use Rattle.vhdl_connect.specs.declared.uses.Use.{Use}
@@ -118,12 +119,6 @@ module _ (driven read : List ℕ) (us : List Use) (k : ℕ) where
 -- what is driven and read may be said in other words
 pub uses_same : (driven read ds rs : List ℕ) (us : List Use) → driven ≡ ds → ((n : ℕ) → is_among read n ≡ is_among rs n) → AreUses driven read us → AreUses ds rs us
 uses_same driven read ds rs us e f h = record { each = λ k d l. h.each k d l ∙ (λ i. record { sources = sources_of (count_by (λ x. x == k) (e i)); is_read = f k i }) }
-
-pub take_whole : {X : Type 0} (xs : List X) (i : ℕ) → length xs ≤ i → take i xs ≡ xs
-take_whole [] zero h = refl
-take_whole [] (suc i) h = refl
-take_whole (x ∷ xs) zero h = absurd (omega (arith, h))
-take_whole (x ∷ xs) (suc i) h = ap (λ ys. x ∷ ys) (take_whole xs i (omega (arith, h)))
 
 -- ---- one after another
 

@@ -9,7 +9,7 @@ use Rattle.vhdl_elab_rules.specs.Numbering.{object_nets, own_size, own_sizes, el
 use Rattle.vhdl_elab_rules.specs.Wiring.{defaults_of}
 use Rattle.vhdl_expand_tree.specs.declared.tree.Object.{Object}
 use Rattle.vhdl_expand_tree.specs.Views.{object_view}
-use Rattle.vhdl_connect.proofs.Runs.{range-more}
+use Rattle.vhdl_connect_processes.proofs.Runs.{range-more}
 
 -- ---- objects behind objects
 

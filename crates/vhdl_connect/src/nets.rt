@@ -8,8 +8,8 @@ ghost use Rattle.vhdl_elab_rules.specs.Numbering as numbering;
 ghost use Rattle.vhdl_elab_rules.specs.Wiring as wiring;
 ghost use Rattle.vhdl_expand_tree.specs.Views.{object_view};
 
-use crate::process::net_at;
 use std::alloc::{AllocError, Global};
+use vhdl_connect_processes::net_at;
 use vhdl_expand_tree::Object;
 
 /// What the elements of objects start with, in order of declaration. It takes the memory of the

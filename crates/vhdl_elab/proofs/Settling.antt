@@ -19,7 +19,7 @@ use Rattle.vhdl_elab_rules.specs.Wiring.{flat_variable, sensitive_to}
 use Rattle.vhdl_elab_rules.specs.Names.{named_variable}
 use Rattle.vhdl_elab_rules.specs.laws.Signals.{kind_view}
 use Rattle.vhdl_elab_rules.specs.Shown.{variable_shown, net_process_shown, net_variable_shown}
-use Rattle.vhdl_connect.specs.Located.{VariableView, net_variable, of_variable}
+use Rattle.vhdl_connect_processes.specs.Located.{VariableView, net_variable, of_variable}
 use Rattle.vhdl_elab.specs.Made.{IsLocated}
 use Rattle.vhdl_elab.specs.Settled.{NetsAreBelow, IsSettled}
 

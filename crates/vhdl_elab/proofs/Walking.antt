@@ -19,8 +19,8 @@ use Rattle.vhdl_expand_tree.specs.declared.tree.InstancePart.{InstancePart}
 use Rattle.vhdl_expand_tree.specs.declared.tree.InstancePart.TheVariants as p
 use Rattle.vhdl_expand_tree.specs.Views.{objects_view, process_view, part_before, parts_of, parts_view}
 use Rattle.vhdl_expand_tree.proofs.Parts.{view_instance}
-use Rattle.vhdl_connect.specs.Located.{IsOf}
-use Rattle.vhdl_connect.specs.declared.process.Round.{Round}
+use Rattle.vhdl_connect_processes.specs.Located.{IsOf}
+use Rattle.vhdl_connect_processes.specs.declared.process.Round.{Round}
 use Rattle.vhdl_elab.specs.declared.made.Made.{Made}
 use Rattle.vhdl_elab.specs.declared.place.InstancePlace.{InstancePlace}
 use Rattle.vhdl_elab.specs.Made.{element_view, IsLocated, IsMade}

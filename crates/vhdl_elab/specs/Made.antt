@@ -10,7 +10,7 @@ use Rattle.vhdl_elab_rules.specs.Wiring as wiring
 use Rattle.vhdl_elab_rules.specs.Wiring.{elements_of, own_elements, defaults_of, is_top}
 use Rattle.vhdl_elab_rules.specs.laws.Scopes.{scope_views}
 use Rattle.vhdl_elab_rules.specs.Shown.{signal_shown}
-use Rattle.vhdl_connect.specs.Located.{IsOf}
+use Rattle.vhdl_connect_processes.specs.Located.{IsOf}
 use Rattle.vhdl_connect.specs.Uses.{sources_of}
 use Rattle.vhdl_connect.specs.declared.uses.Use.{Use}
 use Rattle.vhdl_elab.specs.declared.made.Element.{Element}

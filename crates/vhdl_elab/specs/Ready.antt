@@ -3,8 +3,8 @@
 use Rattle.std.specs.Prelude.{⊤, Contains}
 use Rattle.vhdl_expand_rules.specs.Tree.{Process, Instance, instance, Parts, no_parts, process, inner}
 use Rattle.vhdl_expand_rules.specs.laws.Trees.{Assigns}
-use Rattle.vhdl_connect.specs.Connected.{IsRising}
-use Rattle.vhdl_connect.specs.Located.{IsDotted}
+use Rattle.vhdl_connect_processes.specs.Connected.{IsRising}
+use Rattle.vhdl_connect_processes.specs.Located.{IsDotted}
 
 pub record ProcessIsReady (p : Process) : Type 0 where
   pub rising : IsRising p.drives

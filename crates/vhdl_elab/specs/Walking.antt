@@ -5,7 +5,7 @@ use Rattle.vhdl_elab_rules.specs.Numbering as elab
 use Rattle.vhdl_elab_rules.specs.Numbering.{Placed}
 use Rattle.vhdl_elab_rules.specs.Wiring.{defaults_of}
 use Rattle.vhdl_expand_tree.specs.Costs.{instance_costs, parts_costs}
-use Rattle.vhdl_connect.specs.declared.process.Round.{Round}
+use Rattle.vhdl_connect_processes.specs.declared.process.Round.{Round}
 use Rattle.vhdl_elab.specs.declared.walk.Above.{Above}
 
 -- how many nets the ports and signals of an instance, and of all that stand in it, have of their own

@@ -16,7 +16,7 @@ use rtl_net::Signal;
 use smallvec::SmallVec;
 use std::alloc::{AllocError, Global};
 use std::mem;
-use vhdl_connect::signal_kind;
+use vhdl_connect_processes::signal_kind;
 use vhdl_expand_rules::byte;
 use vhdl_expand_tree::{Object, Role};
 

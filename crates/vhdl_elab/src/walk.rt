@@ -14,7 +14,8 @@ use crate::place::InstancePlace;
 use rtl_net::Scope;
 use std::alloc::{AllocError, Global};
 use std::mem;
-use vhdl_connect::{Round, defaults_of, element_nets};
+use vhdl_connect::{defaults_of, element_nets};
+use vhdl_connect_processes::Round;
 use vhdl_expand_tree::{Design, Instance, InstancePart};
 
 /// What an instance stands in: the number of the instance, and the nets of that one's elements.

@@ -1,7 +1,7 @@
 use Rattle.std.proofs.Common.{map, ap, ◌∙◌}
 use Rattle.vhdl_elab_rules.specs.Wiring.{defaults_of}
 use Rattle.vhdl_expand_tree.specs.Views.{object_view}
-use Rattle.vhdl_connect.proofs.Marking.{take_whole}
+use Rattle.vhdl_connect_processes.proofs.Lists.{take_whole}
 use Rattle.vhdl_connect.proofs.Numbered.{defaults_next}
 use Rattle.vhdl_connect.proofs.nets.defaults_of.Goals as goal
 

@@ -2,7 +2,7 @@ use Rattle.std.proofs.Common.{map, ap, ◌∙◌}
 use Rattle.rtl_net.specs.Limits.{most_nets}
 use Rattle.vhdl_elab_rules.specs.Numbering.{element_nets}
 use Rattle.vhdl_expand_tree.specs.Views.{object_view}
-use Rattle.vhdl_connect.proofs.Marking.{take_whole}
+use Rattle.vhdl_connect_processes.proofs.Lists.{take_whole}
 use Rattle.vhdl_connect.proofs.Numbered.{has_room, nets_next, sizes_next}
 use Rattle.vhdl_connect.proofs.nets.element_nets.Goals as goal
 

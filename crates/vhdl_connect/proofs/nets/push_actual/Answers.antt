@@ -1,5 +1,5 @@
 use Rattle.std.proofs.Common.{slice_index}
-use Rattle.vhdl_connect.proofs.Lists.{map_next, map_done}
+use Rattle.vhdl_connect_processes.proofs.Lists.{map_next, map_done}
 use Rattle.vhdl_connect.proofs.nets.push_actual.Goals as goal
 
 pub loop-element-preserved : goal.loop-element-preserved

@@ -1,6 +1,6 @@
 use Rattle.std.proofs.Common.{◌++◌, map, sym, ap}
 use Rattle.vhdl_values.specs.Scalar.{value_of_code}
-use Rattle.vhdl_connect.proofs.Lists.{map_next, map_done}
+use Rattle.vhdl_connect_processes.proofs.Lists.{map_next, map_done}
 use Rattle.vhdl_connect.proofs.sources.nine_values.Goals as goal
 
 pub loop-code-init : goal.loop-code-init

@@ -1,5 +1,6 @@
 use Rattle.std.proofs.Common.{◌++◌, take, ap, refl}
-use Rattle.vhdl_connect.proofs.Marking.{driven_next, uses_whole, take_whole}
+use Rattle.vhdl_connect_processes.proofs.Lists.{take_whole}
+use Rattle.vhdl_connect.proofs.Marking.{driven_next, uses_whole}
 use Rattle.vhdl_connect.proofs.uses.mark_driven.Goals as goal
 
 pub loop-element-preserved : goal.loop-element-preserved

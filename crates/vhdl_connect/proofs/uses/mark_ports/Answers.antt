@@ -2,7 +2,8 @@ use Rattle.std.proofs.Common.{◌++◌, map, ap}
 use Rattle.vhdl_expand_rules.specs.Tree.{input, output}
 use Rattle.vhdl_elab_rules.specs.Numbering.{actuals_of}
 use Rattle.vhdl_expand_tree.specs.Views.{object_view}
-use Rattle.vhdl_connect.proofs.Marking.{ports_next, uses_whole, take_whole}
+use Rattle.vhdl_connect_processes.proofs.Lists.{take_whole}
+use Rattle.vhdl_connect.proofs.Marking.{ports_next, uses_whole}
 use Rattle.vhdl_connect.proofs.uses.mark_ports.Goals as goal
 
 pub loop-object-preserved : goal.loop-object-preserved

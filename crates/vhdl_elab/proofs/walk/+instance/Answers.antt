@@ -6,7 +6,7 @@ use Rattle.vhdl_elab_rules.specs.Numbering.{element_nets, with_instance}
 use Rattle.vhdl_expand_tree.specs.declared.tree.Instance.{Instance}
 use Rattle.vhdl_expand_tree.specs.declared.tree.Process.{Process}
 use Rattle.vhdl_expand_tree.specs.Views.{object_view, objects_view, process_view, instance_view, parts_of, parts_view}
-use Rattle.vhdl_connect.specs.Located.{IsOf}
+use Rattle.vhdl_connect_processes.specs.Located.{IsOf}
 use Rattle.vhdl_elab.specs.Made.{IsMade}
 use Rattle.vhdl_elab.specs.declared.walk.Above.{Above}
 use Rattle.vhdl_elab.specs.Ready.{InstanceIsReady, PartsAreReady}

@@ -1,5 +1,0 @@
-use Rattle.vhdl_connect.proofs.Taking.{dotless}
-use Rattle.vhdl_connect.proofs.process.without_dot.Goals as goal
-
-pub returns : goal.returns
-returns c = dotless c.args.prefix.items c.requires.labels _ c.args.prefix.len c.requires.is c.args.prefix.ok.0 c.pop-dot.ensures.rest

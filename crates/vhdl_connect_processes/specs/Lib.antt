@@ -1,0 +1,4 @@
+pub mod Connected
+pub mod BodyLaws
+pub mod Woken
+pub mod Located
