@@ -12,7 +12,7 @@ use Rattle.rtlsim_command_faults.specs.declared.status.Status.TheVariants as sta
 use Rattle.rtlsim_command_faults.specs.declared.telling.Telling.{Telling}
 use Rattle.rtl_run.specs.declared.level_summary.LevelSummary.{LevelSummary}
 use Rattle.rtl_net.specs.Nets.{NetlistView}
-use Rattle.rtl_run.specs.declared.summary.Summary.{Summary}
+use Rattle.rtl_simulation.specs.declared.summary.Summary.{Summary}
 use Rattle.byte_streams.specs.Written.{SinkState, TakesBeginning, Goes}
 
 -- ---- explanations of faults that name no net

@@ -1,6 +1,6 @@
 //! The commands, as clap tells of them: the texts of help and of what is wrong with words.
 
-use crate::parts::{Form, PARTS, Part};
+use crate::parts::{Form, Part, table};
 use clap::{Arg, ArgAction, Command};
 use std::alloc::{AllocError, Global};
 
@@ -88,7 +88,7 @@ fn told_command<'a>(
 ) -> Result<Command<'a>, AllocError> {
     let (name, about, usage, example) = *told;
     let mut args = Vec::new(alloc);
-    for part in &PARTS {
+    for part in table() {
         let is_there = !(is_listed && part.name == "FILE");
         if is_there && (part.command.is_empty() || part.command == name) {
             args.push(told_part(alloc, part)?)?;
@@ -112,25 +112,36 @@ fn told_part<'a>(alloc: Global, part: &Part<&'static str>) -> Result<Arg<'a>, Al
 
 /// The same as it is given.
 fn formed<'a>(arg: Arg<'a>, part: &Part<&'static str>) -> Arg<'a> {
-    match part.form {
-        Form::Operand => arg.required(true),
-        Form::Operands => arg.num_args(0..).action(ArgAction::Append),
-        Form::Flag => arg.long(part.name).action(ArgAction::SetTrue),
-        Form::File => arg.long(part.name).value_name("FILE"),
-        Form::Files => arg
-            .long(part.name)
-            .value_name("FILE")
-            .action(ArgAction::Append),
-        Form::List => arg.long(part.name).value_name("LIST"),
-        Form::Names => arg
-            .long(part.name)
-            .value_name("NAME")
-            .action(ArgAction::Append),
+    let arg = match part.form {
+        Form::Operand => return arg.required(true),
+        Form::Operands => arg.num_args(0..),
         Form::Order => arg.long(part.name).value_parser(ORDERS.as_slice()),
-        Form::Setting => arg
-            .long(part.name)
-            .short('g')
-            .value_name("NAME=VALUE")
-            .action(ArgAction::Append),
+        Form::Setting => arg.long(part.name).short('g'),
+        _ => arg.long(part.name),
+    };
+    let arg = match value_name(part.form) {
+        Some(name) => arg.value_name(name),
+        None => arg,
+    };
+    arg.action(action_of(part.form))
+}
+
+/// What help calls its value, where that isn't the option's name.
+fn value_name(form: Form) -> Option<&'static str> {
+    match form {
+        Form::File | Form::Files => Some("FILE"),
+        Form::List => Some("LIST"),
+        Form::Names => Some("NAME"),
+        Form::Setting => Some("NAME=VALUE"),
+        _ => None,
+    }
+}
+
+/// What becomes of its values.
+fn action_of(form: Form) -> ArgAction {
+    match form {
+        Form::Flag => ArgAction::SetTrue,
+        Form::Operands | Form::Files | Form::Names | Form::Setting => ArgAction::Append,
+        _ => ArgAction::Set,
     }
 }

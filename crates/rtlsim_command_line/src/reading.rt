@@ -13,8 +13,8 @@ use crate::commands::command;
 use crate::generics::settings_of;
 use crate::parsed::{Parsed, read_words};
 use crate::parts::{Part, table};
-use clap::Error;
 use clap::error::ErrorKind;
+use clap::{ArgMatches, Error};
 use std::alloc::{AllocError, Global};
 
 /// Why the words are refused.
@@ -235,16 +235,25 @@ fn standard_count(names: &[&str]) -> usize
 /// What clap tells of words that say no request: a mistake, or the help that is asked for.
 fn refusal_text<'a>(alloc: Global, words: &'a [&'a str]) -> Result<String, AllocError> {
     let is_listed = has_option(words, "--files");
-    match command(alloc, is_listed)?.try_get_matches_from(words) {
-        Ok(_) => String::from_str(alloc, unsaid(alloc, words, is_listed)?),
-        Err(error) => {
-            let is_unknown = error.kind() == ErrorKind::UnknownArgument;
-            let text = error_text(alloc, &error)?;
-            if is_unknown && has_option(words, "--with") {
-                return with_tip(alloc, text);
-            }
-            Ok(text)
-        }
+    let outcome = command(alloc, is_listed)?.try_get_matches_from(words);
+    match told_by(alloc, outcome)? {
+        None => String::from_str(alloc, unsaid(alloc, words, is_listed)?),
+        Some((true, text)) if has_option(words, "--with") => with_tip(alloc, text),
+        Some((_, text)) => Ok(text),
+    }
+}
+
+/// What clap tells, if it has something against the words, and whether it doesn't know one of them.
+fn told_by(
+    alloc: Global,
+    outcome: Result<ArgMatches<'_>, Error>,
+) -> Result<Option<(bool, String)>, AllocError> {
+    match outcome {
+        Ok(_) => Ok(None),
+        Err(error) => Ok(Some((
+            error.kind() == ErrorKind::UnknownArgument,
+            error_text(alloc, &error)?,
+        ))),
     }
 }
 

@@ -9,11 +9,11 @@ use Rattle.rtl_run.specs.declared.fault.MachineFault.TheVariants as machine
 use Rattle.rtl_model.specs.simulation.Faults.{AreStored}
 use Rattle.rtl_net.specs.Core.{core}
 use Rattle.rtl_net.specs.Nets.{NetlistView, SignalView}
-use Rattle.rtl_run.specs.simulations.Answered.{Answers}
-use Rattle.rtl_run.specs.simulations.Watched.{WasTold}
-use Rattle.rtl_run.specs.declared.summary.RunFault.{RunFault}
-use Rattle.rtl_run.specs.declared.summary.RunFault.TheVariants as run
-use Rattle.rtl_run.specs.declared.summary.Summary.{Summary}
+use Rattle.rtl_simulation.specs.Answered.{Answers}
+use Rattle.rtl_simulation.specs.Watched.{WasTold}
+use Rattle.rtl_simulation.specs.declared.summary.RunFault.{RunFault}
+use Rattle.rtl_simulation.specs.declared.summary.RunFault.TheVariants as run
+use Rattle.rtl_simulation.specs.declared.summary.Summary.{Summary}
 use Rattle.byte_streams.specs.Written.{SinkState}
 use Rattle.rtl_stim.specs.Stimuli.{StimulusView, IsRead}
 use Rattle.rtl_stim_lines.specs.declared.faults.StimFault.{StimFault}

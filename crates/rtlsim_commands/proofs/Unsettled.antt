@@ -3,7 +3,7 @@ use Rattle.std.proofs.Common.{◌≡◌, ℕ, zero, suc, Bool, true, false, List
 use Rattle.std.specs.Prelude.{if◌then◌else◌, take, IfErr}
 use Rattle.rtl_net.specs.Names.{net_name}
 use Rattle.rtl_net.specs.Nets.{NetlistView}
-use Rattle.rtl_run.specs.simulations.Simulated.{changing}
+use Rattle.rtl_simulation.specs.Simulated.{changing}
 use Rattle.byte_streams.specs.Written.{SinkState, Goes}
 use Rattle.byte_streams.specs.Stands.{Stand}
 use Rattle.rtlsim_findings.specs.Ranges.{follows, range_text}

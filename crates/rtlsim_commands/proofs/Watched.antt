@@ -8,8 +8,8 @@ use Rattle.rtlsim_command_faults.specs.declared.faults.Fault.TheVariants.{Differ
 use Rattle.rtl_run.specs.declared.fault.MachineFault.{MachineFault}
 use Rattle.rtl_run.specs.declared.fault.MachineFault.TheVariants as machine
 use Rattle.rtl_net.specs.Nets.{NetlistView}
-use Rattle.rtl_run.specs.declared.summary.RunFault.{RunFault}
-use Rattle.rtl_run.specs.declared.summary.RunFault.TheVariants as run
+use Rattle.rtl_simulation.specs.declared.summary.RunFault.{RunFault}
+use Rattle.rtl_simulation.specs.declared.summary.RunFault.TheVariants as run
 use Rattle.byte_streams.specs.Written.{SinkState}
 use Rattle.byte_streams.specs.Stands.{Stand}
 

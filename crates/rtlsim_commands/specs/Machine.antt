@@ -8,7 +8,7 @@ use Rattle.rtl_run.specs.Answered.{RunsNet}
 use Rattle.rtl_run.specs.Evaluated.{Evaluates}
 use Rattle.rtl_run.specs.declared.fault.MachineFault.{MachineFault}
 use Rattle.rtl_net.specs.Nets.{NetlistView, SignalView}
-use Rattle.rtl_run.specs.declared.summary.Summary.{Summary}
+use Rattle.rtl_simulation.specs.declared.summary.Summary.{Summary}
 use Rattle.byte_streams.specs.Written.{SinkState}
 
 abbrev pub as_answer : {A : Type 0} → Result A MachineFault → Result A Fault

@@ -1,7 +1,7 @@
 -- What a watch sees of a command, and which faults a command answers.
 use Rattle.std.specs.Prelude.{⊤, ℕ, List, Option, Some, None, Result, Ok}
 use Rattle.rtl_net.specs.Nets.{NetlistView}
-use Rattle.rtl_run.specs.simulations.Watched.{IsToldUnsettled}
+use Rattle.rtl_simulation.specs.Watched.{IsToldUnsettled}
 use Rattle.byte_streams.specs.Written.{SinkState}
 use Rattle.rtl_stim.specs.Stimuli.{StimulusView, IsRead}
 use Rattle.byte_streams.specs.Stands.{Stand}

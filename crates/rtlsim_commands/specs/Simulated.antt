@@ -9,10 +9,10 @@ use Rattle.rtl_model.specs.simulation.Faults.{AreStored}
 use Rattle.rtl_stim.specs.Ports.{inputs_of}
 use Rattle.rtl_stim.specs.Stimuli.{StimulusView, IsRead}
 use Rattle.rtl_net.specs.Nets.{NetlistView, SignalView}
-use Rattle.rtl_run.specs.simulations.Answered.{Answers}
-use Rattle.rtl_run.specs.declared.summary.RunFault.{RunFault}
-use Rattle.rtl_run.specs.declared.summary.RunFault.TheVariants as run
-use Rattle.rtl_run.specs.declared.summary.Summary.{Summary}
+use Rattle.rtl_simulation.specs.Answered.{Answers}
+use Rattle.rtl_simulation.specs.declared.summary.RunFault.{RunFault}
+use Rattle.rtl_simulation.specs.declared.summary.RunFault.TheVariants as run
+use Rattle.rtl_simulation.specs.declared.summary.Summary.{Summary}
 use Rattle.byte_streams.specs.Written.{SinkState}
 use Rattle.rtl_stim_lines.specs.Reading.{schedule_of}
 use Rattle.rtl_stim_lines.specs.declared.faults.StimFault.TheVariants as stim

@@ -1,7 +1,7 @@
 -- What is told of the nets that still change where a moment of a simulation by events doesn't settle.
 use Rattle.std.specs.Prelude.{◌≡◌, ◌⊎◌, ℕ, Bool, true, List, Option, Some, None}
 use Rattle.rtl_net.specs.Nets.{NetlistView}
-use Rattle.rtl_run.specs.simulations.Simulated.{changing}
+use Rattle.rtl_simulation.specs.Simulated.{changing}
 use Rattle.byte_streams.specs.Written.{SinkState, Goes}
 use Rattle.rtlsim_commands.specs.Sights.{OfUnsettled}
 use Rattle.rtlsim_command_faults.specs.Told.{TellsFault}

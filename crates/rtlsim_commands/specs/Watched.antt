@@ -5,7 +5,7 @@ use Rattle.rtlsim_command_faults.specs.declared.faults.Fault.TheVariants.{Differ
 use Rattle.rtl_run.specs.Answered.{Admits}
 use Rattle.rtl_run.specs.Watched.{IsToldRun}
 use Rattle.rtl_net.specs.Nets.{NetlistView}
-use Rattle.rtl_run.specs.simulations.Watched.{IsToldAll}
+use Rattle.rtl_simulation.specs.Watched.{IsToldAll}
 use Rattle.byte_streams.specs.Written.{SinkState}
 use Rattle.rtl_stim.specs.Stimuli.{StimulusView, IsRead}
 use Rattle.byte_streams.specs.Stands.{Stand}

@@ -14,7 +14,8 @@ ghost use Rattle.rtlsim_commands.specs.Sights.{Sight, Seeing, IsOfNet};
 
 use byte_streams::{Sink, Watch};
 use rtl_net::Net;
-use rtl_run::{LevelSummary, Summary};
+use rtl_run::LevelSummary;
+use rtl_simulation::Summary;
 use rtlsim_command_faults::{Fault, Status, tell_levels, tell_summary};
 use std::alloc::Global;
 

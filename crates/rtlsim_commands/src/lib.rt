@@ -40,7 +40,8 @@ pub use printing::{CheckNet, EvalNet, ListNet};
 pub use rtl_check::CheckFault;
 pub use rtl_kernel::{Forward, Pick, Reverse};
 pub use rtl_net::Net;
-pub use rtl_run::{LevelSummary, Summary};
+pub use rtl_run::LevelSummary;
+pub use rtl_simulation::Summary;
 pub use rtl_stim::StimFault;
 pub use rtlsim_command_faults::{
     Fault, Status, Telling, push_memory, tell_fault, tell_levels, tell_source_fault, tell_summary,

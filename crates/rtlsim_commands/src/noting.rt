@@ -2,7 +2,7 @@
 
 ghost use Rattle.std.specs.Prelude.{◌≡◌, length, take};
 ghost use Rattle.std.proofs.Common.{refl};
-ghost use Rattle.rtl_run.specs.simulations.Simulated as spec;
+ghost use Rattle.rtl_simulation.specs.Simulated as spec;
 
 use arrayvec::ArrayVec;
 use byte_streams::Watch;

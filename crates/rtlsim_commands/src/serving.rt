@@ -1,7 +1,7 @@
 //! One way to serve each command.
 
 ghost use Rattle.std.specs.Prelude.{◌≡◌, IfErr, take};
-ghost use Rattle.rtl_run.specs.simulations.Simulated as spec;
+ghost use Rattle.rtl_simulation.specs.Simulated as spec;
 ghost use Rattle.byte_streams.specs.Written.{IsIntact};
 ghost use Rattle.rtl_stim.specs.Ports.{HasOwnPorts};
 ghost use Rattle.rtlsim_commands.specs.Sights.{Seeing, IsOfNet, events_of};

@@ -7,7 +7,7 @@ use Rattle.std.proofs.lemmas.Bool.Decides.{nat_tests}
 use Rattle.vhdl_lexer.specs.declared.byte.ByteClass.{ByteClass}
 use Rattle.vhdl_lexer.specs.declared.byte.ByteClass.TheVariants.{Decimal}
 use Rattle.vhdl_lexer.specs.declared.fault.LexFault.{LexFault}
-use Rattle.vhdl_lexer.specs.declared.fault.LexFault.TheVariants.{BadByte, OpenComment, OpenString, BadIdentifier, BadNumber, TooLong, NoMemory}
+use Rattle.vhdl_lexer.specs.declared.fault.LexFault.TheVariants.{BadByte, OpenComment, OpenString, BadIdentifier, BadNumber}
 use Rattle.vhdl_lexer.specs.declared.token.TokenKind.{TokenKind}
 use Rattle.vhdl_lexer.specs.declared.token.TokenKind.TheVariants as k
 use Rattle.vhdl_lexer.specs.Bytes.{quote, tick, slash, star, is_word_byte, is_printable, begins_word, begins}

@@ -7,7 +7,7 @@ use Rattle.std.proofs.lemmas.Bool.{eqb-true}
 use Rattle.std.proofs.lemmas.Bool.Decides.{nat_tests}
 use Rattle.std.proofs.lemmas.List.Sums.{prefix_len-le-length}
 use Rattle.vhdl_lexer.specs.declared.byte.ByteClass.{ByteClass}
-use Rattle.vhdl_lexer.specs.declared.byte.ByteClass.TheVariants.{LetterOrDigit, Decimal, Hexadecimal, Octal, Binary}
+use Rattle.vhdl_lexer.specs.declared.byte.ByteClass.TheVariants.{LetterOrDigit, Decimal}
 use Rattle.vhdl_lexer.specs.Bytes.{underscore, quote, ends_line, is_word_byte, begins_word, has_class, Stops}
 use Rattle.vhdl_lexer.specs.Literals.{is_unquoted}
 use Rattle.vhdl_lexer.specs.Words.{is_joined, goes_on, is_identifier}

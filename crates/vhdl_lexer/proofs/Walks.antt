@@ -1,9 +1,8 @@
 -- One token more.
-use Rattle.std.proofs.Common.{◌≡◌, ℕ, ◌+◌, ◌-◌, ◌<◌, ◌≤◌, Bool, true, false, List, [], ◌∷◌, ◌++◌, if◌then◌else◌, nat_le, length, take, drop, refl, sym, ◌∙◌, slice_index_or, arith, append-nil}
+use Rattle.std.proofs.Common.{◌≡◌, ℕ, ◌+◌, ◌-◌, ◌≤◌, Bool, true, false, List, [], ◌∷◌, if◌then◌else◌, nat_le, length, take, drop, refl, slice_index_or, arith}
 use Rattle.std.proofs.lemmas.List.{take_all}
 use Rattle.vhdl_lexer.specs.Extents.{beginning, begins_behind, depth_behind, end_behind, ends_here, open_behind}
 use Rattle.vhdl_lexer.specs.Kinds.{is_end, is_left, is_right, opens}
-use Rattle.vhdl_lexer.specs.declared.extent.Extent.{Extent}
 use Rattle.vhdl_lexer.specs.declared.token.Token.{Token}
 use Rattle.vhdl_lexer.specs.declared.token.TokenKind.{TokenKind}
 

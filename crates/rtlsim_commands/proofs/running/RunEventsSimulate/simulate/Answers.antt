@@ -1,6 +1,6 @@
 use Rattle.std.proofs.Common.{map, ap, inr, refl, ◌∙◌}
 use Rattle.rtl_net.specs.Nets.{signal_view}
-use Rattle.rtl_run.specs.declared.summary.Summary.{Summary}
+use Rattle.rtl_simulation.specs.declared.summary.Summary.{Summary}
 use Rattle.rtl_run.proofs.Codes.{run_of, codes_run}
 use Rattle.rtlsim_command_faults.specs.declared.faults.Fault.TheVariants.{Memory}
 use Rattle.rtlsim_commands.specs.Simulated.{ShowsEvents}
