@@ -6,8 +6,8 @@ use Rattle.std.proofs.lemmas.List.Elements.{Contains-get_or}
 use Rattle.std.proofs.lemmas.Bool.{and_parts, or_cases, not-true, eq-eqb, ltb-true, leb-true, cases_eq, cases_lt, and_from}
 use Rattle.rtl_model.proofs.basics.Lists.{Contains-none, any_true, is_in, in_contains, contains_in}
 use Rattle.rtl_model.specs.simulation.Netlist.{Netlist, Process, Reset, ProcessKind, Combinational, Clocked, Mixed, Edge, no_process, kind_reset, process, sources_of, target, IsCombinational}
-use Rattle.rtl_model.specs.simulation.Accepted.{IsAccepted, TwoDrivers, MixedProcess, ClockNotInput, EdgeNotSensitive, ClockAsData, MissingSensitivity, Latch, Loop, StoredVariable, Feeds, IsClock}
-use Rattle.rtl_model.proofs.simulation.Report.{no_loop}
+use Rattle.rtl_model.specs.simulation.Accepted.{IsAccepted, TwoDrivers, MixedProcess, ClockNotInput, EdgeNotSensitive, ClockAsData, MissingSensitivity, Latch, Loop, NetLoop, StoredVariable, Feeds, IsClock}
+use Rattle.rtl_model.proofs.basics.Chains.{no_circle}
 
 -- ---- tests of all numbers below one, and of all elements
 
@@ -39,8 +39,15 @@ is_clocked_by n (Clocked clock edge reset) = clock == n
 is_clocked_by n Combinational = false
 is_clocked_by n Mixed = false
 
-abbrev is_clock : Netlist → ℕ → Bool
+abbrev pub is_clock : Netlist → ℕ → Bool
 is_clock net n = list_any (λ p. is_clocked_by n p.kind) net.processes
+
+pub clock_is : (net : Netlist) (n : ℕ) → IsClock net n → is_clock net n ≡ true
+clock_is net n (q, (edge, (reset, e))) = go (cases_lt q (length net.processes))
+  where
+    go : (q < length net.processes) ⊎ (length net.processes ≤ q) → is_clock net n ≡ true
+    go (inl l) = any_true (λ p. is_clocked_by n p.kind) net.processes (process net q) (Contains-get_or net.processes q no_process l) (ap (is_clocked_by n) e ∙ eq-eqb n n refl)
+    go (inr l) = let h : Combinational ≡ Clocked n edge reset = sym (ap (λ (x : Process). x.kind) (get_or_past net.processes q no_process l)) ∙ e in cc
 
 abbrev is_plain : ProcessKind → Bool
 is_plain Combinational = true
@@ -63,11 +70,17 @@ kind_fits net number p (Clocked clock edge reset) =
 kind_fits net number p Mixed = false
 
 abbrev pub is_accepted : Netlist → (number : ℕ → ℕ) → Bool
-is_accepted net number = all_below (λ n. nat_le (length (sources_of net n)) 1) (length net.sources) && all_below (λ p. kind_fits net number p (process net p).kind) (length net.processes)
+is_accepted net number = not net.wide && (all_below (λ n. nat_le (length (sources_of net n)) 1) (length net.sources) && all_below (λ p. kind_fits net number p (process net p).kind) (length net.processes))
 
 module _ (net : Netlist) (number : ℕ → ℕ) (T : is_accepted net number ≡ true) where
+  narrow_and : (not net.wide ≡ true) × (all_below (λ n. nat_le (length (sources_of net n)) 1) (length net.sources) && all_below (λ p. kind_fits net number p (process net p).kind) (length net.processes) ≡ true)
+  narrow_and = and_parts (not net.wide) (all_below (λ n. nat_le (length (sources_of net n)) 1) (length net.sources) && all_below (λ p. kind_fits net number p (process net p).kind) (length net.processes)) T
+
   halves : (all_below (λ n. nat_le (length (sources_of net n)) 1) (length net.sources) ≡ true) × (all_below (λ p. kind_fits net number p (process net p).kind) (length net.processes) ≡ true)
-  halves = and_parts (all_below (λ n. nat_le (length (sources_of net n)) 1) (length net.sources)) (all_below (λ p. kind_fits net number p (process net p).kind) (length net.processes)) T
+  halves = and_parts (all_below (λ n. nat_le (length (sources_of net n)) 1) (length net.sources)) (all_below (λ p. kind_fits net number p (process net p).kind) (length net.processes)) narrow_and.1
+
+  is_narrow : net.wide ≡ false
+  is_narrow = not-true net.wide narrow_and.0
 
   -- what stands past the processes is combinational
   kind_at : (p : ℕ) (k : ProcessKind) → (process net p).kind ≡ k → (k ≡ Combinational → ⊥) → kind_fits net number p k ≡ true
@@ -96,13 +109,6 @@ module _ (net : Netlist) (number : ℕ → ℕ) (T : is_accepted net number ≡ 
       let (f, g) = and_parts (nat_le 1 (number p)) (all_below (λ q. not (is_fed net p q) || nat_lt (number p) (number q)) (length net.processes)) e in
       (a, d, f, g)
 
-  clock_is : (n : ℕ) → IsClock net n → is_clock net n ≡ true
-  clock_is n (q, (edge, (reset, e))) = go (cases_lt q (length net.processes))
-    where
-      go : (q < length net.processes) ⊎ (length net.processes ≤ q) → is_clock net n ≡ true
-      go (inl l) = any_true (λ p. is_clocked_by n p.kind) net.processes (process net q) (Contains-get_or net.processes q no_process l) (ap (is_clocked_by n) e ∙ eq-eqb n n refl)
-      go (inr l) = let h : Combinational ≡ Clocked n edge reset = sym (ap (λ (x : Process). x.kind) (get_or_past net.processes q no_process l)) ∙ e in cc
-
   reset_is : (p : ℕ) (k : ProcessKind) → (process net p).kind ≡ k → (reset : Reset) → kind_reset k ≡ Some reset → (is_in (process net p).wakes reset.net ≡ true) × (not (is_clock net reset.net) ≡ true)
   reset_is p Combinational e reset h = cc
   reset_is p Mixed e reset h = cc
@@ -129,20 +135,22 @@ module _ (net : Netlist) (number : ℕ → ℕ) (T : is_accepted net number ≡ 
 
   pub accepted_by : ((p variable place : ℕ) → (process net p).stores variable place ≡ true → ⊥) → IsAccepted net
   accepted_by forgets (TwoDrivers n x y) (more, e) = let l = one_source n in let k : length (sources_of net n) ≡ suc (suc (length more)) = ap length e in omega arith
-  accepted_by forgets (MixedProcess p) e = let h = kind_at p Mixed e (λ k. cc) in cc
+  accepted_by forgets (MixedProcess p) (inl e) = let h = kind_at p Mixed e (λ k. cc) in cc
+  accepted_by forgets (MixedProcess p) (inr unsteady) = let h = is_narrow in let w = unsteady.is_wide in cc
   accepted_by forgets (ClockNotInput p n) ((edge, (reset, e)), none) = none (at_clock p n edge reset e).0
   accepted_by forgets (EdgeNotSensitive p n) (inl (edge, (reset, e)), none) = none (in_contains (process net p).wakes n (at_clock p n edge reset e).1)
   accepted_by forgets (EdgeNotSensitive p n) (inr (reset, has, e), none) = none (subst (λ (m : ℕ). Contains (process net p).wakes m) e (in_contains (process net p).wakes reset.net (reset_is p (process net p).kind refl reset has).0))
   accepted_by forgets (ClockAsData p n) (is, inl (clock, (edge, (reset, e)), reads)) =
       let a = contained (λ m. not (is_clock net m)) (process net p).acting_reads n (at_clock p clock edge reset e).2 reads in
       let b = not-true (is_clock net n) a in
-      let c = clock_is n is in
+      let c = clock_is net n is in
       cc
   accepted_by forgets (ClockAsData p n) (is, inr (reset, has, e)) =
       let b = not-true (is_clock net reset.net) (reset_is p (process net p).kind refl reset has).1 in
-      let c = subst (λ (m : ℕ). is_clock net m ≡ true) (sym e) (clock_is n is) in
+      let c = subst (λ (m : ℕ). is_clock net m ≡ true) (sym e) (clock_is net n is) in
       cc
   accepted_by forgets (MissingSensitivity p n) (c, reads, none) = none (in_contains (process net p).wakes n (contained (is_in (process net p).wakes) (process net p).reads n (at_plain p c).0 reads))
   accepted_by forgets (Latch p n) (c, drives, e) = let h = contained (process net p).assigns (process net p).drives n (at_plain p c).1 drives in cc
-  accepted_by forgets (Loop ps) loop = no_loop net number (record { from_one = λ p c. leb-true 1 (number p) (at_plain p c).2; along = along }) ps loop
+  accepted_by forgets (Loop ps) (narrow, loop) = no_circle (Feeds net) (IsCombinational net) number along ps loop
+  accepted_by forgets (NetLoop ns) (wide, loop) = let h = is_narrow in cc
   accepted_by forgets (StoredVariable p variable place) h = forgets p variable place h

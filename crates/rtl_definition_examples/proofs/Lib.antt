@@ -1,6 +1,7 @@
 -- Proofs of the examples.
 pub mod Computing
 pub mod Deciding
+pub mod DecidingByNets
 pub mod Fitting
 pub mod Sound
 pub mod Bodies
@@ -12,6 +13,8 @@ pub mod Looking
 pub mod SimulationMistakes
 pub mod Variables
 pub mod Nets
+pub mod ByNets
+pub mod Resets
 pub mod Listing
 pub mod rules
 pub mod designs

@@ -1,5 +1,5 @@
 -- The lines of known designs.
-use Rattle.std.proofs.Common.{◌≡◌, ℕ, List, [], ◌∷◌, ◌++◌, refl, ap, ◌∙◌, length}
+use Rattle.std.proofs.Common.{◌≡◌, ℕ, List, [], ◌∷◌, ◌++◌, refl, ap, ◌∙◌, false}
 use Rattle.std.specs.Fmt.{digits}
 use Rattle.std.specs.Prelude.{Option, Some, None, codes, decimal, flat_map, slice_index, slice_index_or}
 use Rattle.rtl_model.specs.nets.FlatNetlist.{FlatNetlist, FlatProcess, flat_sources}
@@ -9,9 +9,10 @@ use Rattle.rtl_net.specs.declared.process.Process.{Process}
 use Rattle.rtl_net.specs.Nets.{flat, process_view}
 use Rattle.rtl_net.specs.Names.{net_name, name_of_process, generates_prefix}
 use Rattle.rtl_body_facts.specs.Reading.{is_in}
+use Rattle.rtl_check.specs.declared.judging.Judgement.TheVariants.{ByProcesses}
 use Rattle.rtl_check.specs.declared.reporting.Report.{Report}
 use Rattle.rtlsim_listing.specs.NetText.{net_text, lines, counts_text, start_text, sources_text}
-use Rattle.rtlsim_listing.specs.CheckText.{report_text, bounds_text, greatest_level, level_line}
+use Rattle.rtlsim_listing.specs.CheckText.{report_text, bounds_text, check_text}
 use Rattle.rtl_definition_examples.specs.Listing.{IsUnlabelled, IsBare, top, cnt, CounterIsListed, CounterIsReported, LoopIsListed, LevelIsListed, AreListed, LinesAreAsSaid}
 
 -- the name of a process without a label
@@ -26,6 +27,7 @@ module _ (counting showing : Process) (c : IsBare counting example.counting) (s 
     start = example.counter.start;
     inputs = example.counter.inputs;
     idle = example.counter.idle;
+    wide = false;
     processes = p ∷ q ∷ [];
   }
 
@@ -64,10 +66,10 @@ module _ (counting showing : Process) (c : IsBare counting example.counting) (s 
   report_by q = bounds_text 1 2 ++ ([] ++ ((codes "level " ++ decimal 1 ++ codes " " ++ q ++ [] ++ codes "\n") ++ []))
 
   report_of : (levels from : List (Option ℕ)) → (bound : ℕ) → List ℕ
-  report_of levels from bound = bounds_text (greatest_level levels) bound ++ lines (level_line (cnt counting showing) levels from) (length levels)
+  report_of levels from bound = report_text (cnt counting showing) (record { by_nets = false; levels = levels; from = from; bound = bound })
 
   pub reported : (r : Report) → r.levels.items ≡ None ∷ Some 1 ∷ [] → r.from.items ≡ None ∷ None ∷ [] → r.bound ≡ 2
-      → report_text (cnt counting showing) r ≡ codes "yes\nlevels 1\nbound 2\nlevel 1 cnt.#1\n"
+      → check_text (cnt counting showing) (ByProcesses r) ≡ codes "yes\nlevels 1\nbound 2\nlevel 1 cnt.#1\n"
   unfolding report_by report_of digits
   reported r levels from bound =
       ap (λ ls. report_of ls r.from.items r.bound) levels ∙ ap (λ fs. report_of (None ∷ Some 1 ∷ []) fs r.bound) from
@@ -79,6 +81,8 @@ module _ (counting showing : Process) (c : IsBare counting example.counting) (s 
     two_drivers = ap (λ q. codes "fault 1 TwoDrivers net " ++ codes "cnt.y(1)" ++ codes " by " ++ q ++ codes " and " ++ codes "idle" ++ codes "\n") second;
     mixed = ap (λ p. codes "fault 2 Mixed " ++ p ++ codes "\n") first;
     clock = ap (λ p. codes "fault 3 ClockNotInput " ++ p ++ codes " net " ++ codes "cnt.q(1)" ++ codes "\n") first;
+    nets = refl;
+    from_net = refl;
     no_source = refl;
     sources = refl;
     literal = refl;

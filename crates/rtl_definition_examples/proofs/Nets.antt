@@ -39,7 +39,7 @@ faults_of_nets = record {
   in_order = refl;
   first_two = (_, refl);
   idle_last = (_, refl);
-  loop = (ring_feeds.0, (ring_feeds.1, ring_feeds.2));
+  loop = (refl, (ring_feeds.0, (ring_feeds.1, ring_feeds.2)));
   other_way = λ h. ring_not h.0;
   reset_is_clock = ((1, (Rising, (None, refl))), inr (_, refl, refl));
 }
@@ -166,7 +166,7 @@ resets_of_nets = record {
   takes_two = (rc_0, settled_0);
   one_counted = (2, rc_2, settled_2, refl);
   not_sensitive = (inr (_, refl, refl), not_awake);
-  reads_signal = refl;
+  reads_signal = inl refl;
 }
   where
     not_awake : Contains {X = ℕ} (0 ∷ []) 1 → ⊥

@@ -8,7 +8,7 @@ use Rattle.rtl_model.specs.basics.Lists.{is_empty}
 use Rattle.rtl_model.specs.bodies.Stored.{stores_element}
 use Rattle.rtl_model.specs.bodies.Types.{ElementType, nine_valued, enumeration, limit_of, IsByte, HasType}
 use Rattle.rtl_model.specs.nets.FlatNetlist as flat
-use Rattle.rtl_model.specs.nets.FlatNetlist.{FlatDriver, FlatVariable, FlatProcess, FlatNetlist, targets, starts, element_starts, scope_of, flat_sources}
+use Rattle.rtl_model.specs.nets.FlatNetlist.{FlatDriver, FlatVariable, FlatProcess, FlatNetlist, starts, element_starts, scope_of, flat_sources}
 use Rattle.rtl_model.specs.nets.FlatNetlist.{DriverInRange, VariableInRange, ProcessInRange, IsInRange}
 use Rattle.rtl_model.specs.nets.CoreNetlist.{core_netlist, core_resolve, core_process, element_number, raised_by, stores_one}
 use Rattle.rtl_model.specs.nets.Wiring.{IsConnected}
@@ -17,7 +17,8 @@ use Rattle.rtl_model.specs.simulation.Netlist as c
 use Rattle.rtl_model.specs.simulation.Netlist.{Source}
 use Rattle.rtl_model.specs.simulation.Cycle.{source_value}
 use Rattle.rtl_model.proofs.basics.Lists.{Contains-none, Contains-first, is_nil}
-use Rattle.rtl_model.proofs.nets.Connected.{source_below}
+use Rattle.rtl_model.specs.simulation.Elaborated.{IsElaborated}
+use Rattle.rtl_model.proofs.nets.Connected.{connected_is_elaborated, source_below}
 use Rattle.rtl_model.proofs.nets.Processes.{process-core_net}
 use Rattle.rtl_definition_examples.proofs.Deciding.{all_below, below, all_in, contained, is_accepted, accepted_by}
 use Rattle.rtl_definition_examples.proofs.Fitting.{all_of, same_type, passes, has_type, is_of_type, is_wide, is_width, body_fits, of_body}
@@ -205,8 +206,8 @@ number_below (v ∷ vs) (suc which) place e h = go (element_number vs which plac
         let k : length v.starts + d ≡ e = cc in
         omega (arith, length-append v.starts (element_starts vs))
 
-forgets_all : (inputs : List ℕ) (p : FlatProcess) → forgets p ≡ true → (which place : ℕ) → (core_process inputs p).stores which place ≡ true → ⊥
-forgets_all inputs p h which place s = go (element_number p.variables which place) refl s
+forgets_all : (wide : Bool) (inputs : List ℕ) (p : FlatProcess) → forgets p ≡ true → (which place : ℕ) → (core_process wide inputs p).stores which place ≡ true → ⊥
+forgets_all wide inputs p h which place s = go (element_number p.variables which place) refl s
   where
     go : (o : Option ℕ) → element_number p.variables which place ≡ o → stores_one p.body o ≡ true → ⊥
     go None e t = absurd cc
@@ -214,12 +215,21 @@ forgets_all inputs p h which place s = go (element_number p.variables which plac
 
 -- ---- a sound netlist, given a numbering of its processes that rises
 
+abbrev pub fits : FlatNetlist → Bool
+fits net = is_in_range net && is_connected net
+
+-- accepted or not
+pub elaborated_by : (net : FlatNetlist) → fits net ≡ true → IsElaborated (core_netlist net)
+elaborated_by net h =
+    let (d, e) = and_parts (is_in_range net) (is_connected net) h in
+    connected_is_elaborated net (in_range net d) (connected_by net (in_range net d) e)
+
 abbrev is_sound : FlatNetlist → (number : ℕ → ℕ) → Bool
-is_sound net number = (is_in_range net && is_connected net) && (is_accepted (core_netlist net) number && all_in forgets net.processes)
+is_sound net number = fits net && (is_accepted (core_netlist net) number && all_in forgets net.processes)
 
 pub sound_by : (net : FlatNetlist) (number : ℕ → ℕ) → is_sound net number ≡ true → IsSound net
 sound_by net number h =
-    let (a, b) = and_parts (is_in_range net && is_connected net) _ h in
+    let (a, b) = and_parts (fits net) _ h in
     let (d, e) = and_parts (is_in_range net) (is_connected net) a in
     let (f, g) = and_parts (is_accepted (core_netlist net) number) (all_in forgets net.processes) b in
     record {
@@ -229,7 +239,7 @@ sound_by net number h =
     }
   where
     forgets_each : all_in forgets net.processes ≡ true → (p which place : ℕ) → (c.process (core_netlist net) p).stores which place ≡ true → ⊥
-    forgets_each g p which place = rw (process-core_net net p) (λ s. forgets_all net.inputs (flat.process_at net p) (forgetting g p) which place s)
+    forgets_each g p which place = rw (process-core_net net p) (λ s. forgets_all net.wide net.inputs (flat.process_at net p) (forgetting g p) which place s)
       where
         forgetting : all_in forgets net.processes ≡ true → (p : ℕ) → forgets (flat.process_at net p) ≡ true
         forgetting g p = go (cases_lt p (length net.processes))

@@ -127,6 +127,7 @@ report b = record {
   levels_are = levels_are b;
   from_combinational = λ p c. rw (combinational_is b p c) (level_one b);
   rest = record {
+    by_processes = λ (wide, judged). cc;
     bound_is = bounds b;
     each_from = refl;
     from_clocked = λ p clock edge is. rw (clocked_is b p clock edge is).0 refl;

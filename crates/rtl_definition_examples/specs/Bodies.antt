@@ -73,7 +73,7 @@ rising_clk = rising 0
 -- the kind of a process with one driver
 abbrev pub kind_of : Stmts → ProcessKind
 kind_of body =
-    (core_process (0 ∷ 1 ∷ [])
+    (core_process false (0 ∷ 1 ∷ [])
     (record { drivers = record { net = 5; start = 0 } ∷ []; wakes = []; variables = []; body = body })).kind
 
 pub record KindsOfBodies : Type 0 where
@@ -106,7 +106,7 @@ pub record KindsOfBodies : Type 0 where
 
 -- a reset that holds at this value, with these entries
 abbrev pub reset_at : (value : ℕ) → List (Option ℕ) → Option Reset
-reset_at value entries = Some (record { net = 1; value = value; entries = entries })
+reset_at value entries = Some (record { net = 1; value = value; entries = entries; gates = true })
 
 pub record KindsOfResets : Type 0 where
   -- `if rst = '1' then q <= '0'; elsif rising_edge(clk) then q <= d; end if;`

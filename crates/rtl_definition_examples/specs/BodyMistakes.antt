@@ -41,6 +41,7 @@ latch = record {
   start = 0 ∷ 0 ∷ 0 ∷ [];
   inputs = 0 ∷ 1 ∷ [];
   idle = [] ∷ [] ∷ [] ∷ [];
+  wide = false;
   processes = record {
     drivers = record { net = 2; start = 0 } ∷ [];
     wakes = 0 ∷ 1 ∷ [];

@@ -1,6 +1,6 @@
 -- Flat netlists of std_logic signals whose processes have one driver each. The values are those of std_logic by place:
 -- 0 is 'U', 1 is 'X', 2 is '0' and 3 is '1'.
-use Rattle.std.specs.Prelude.{◌≡◌, ℕ, List, [], ◌∷◌, map}
+use Rattle.std.specs.Prelude.{◌≡◌, ℕ, List, [], ◌∷◌, map, false}
 use Rattle.rtl_model.specs.bodies.Body.{Stmts}
 use Rattle.rtl_model.specs.bodies.Types.{nine_valued}
 use Rattle.rtl_model.specs.nets.FlatNetlist.{FlatProcess, FlatNetlist}
@@ -20,6 +20,7 @@ circuit inputs start processes = record {
   start = start;
   inputs = inputs;
   idle = map (λ n. []) start;
+  wide = false;
   processes = processes;
 }
 

@@ -4,7 +4,7 @@
 --     y <= std_logic_vector(q);
 --
 -- The nets are clk, y(1), y(0), q(1) and q(0), and q starts at "00".
-use Rattle.std.specs.Prelude.{ℕ, [], ◌∷◌, slice_index}
+use Rattle.std.specs.Prelude.{ℕ, [], ◌∷◌, slice_index, false}
 use Rattle.vhdl_values.specs.declared.scalar.Nine.TheVariants.{Zero, One}
 use Rattle.rtl_model.specs.bodies.Body.{plus, Expr, constant, binary, elements, assign, Stmts, done, step}
 use Rattle.rtl_model.specs.bodies.Types.{nine_valued}
@@ -44,6 +44,7 @@ counter = record {
   start = 0 ∷ 0 ∷ 0 ∷ 2 ∷ 2 ∷ [];
   inputs = 0 ∷ [];
   idle = [] ∷ [] ∷ [] ∷ [] ∷ [] ∷ [];
+  wide = false;
   processes = counting ∷ showing ∷ [];
 }
 

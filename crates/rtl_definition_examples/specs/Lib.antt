@@ -9,6 +9,8 @@ pub mod Looking
 pub mod SimulationMistakes
 pub mod Variables
 pub mod Nets
+pub mod ByNets
+pub mod Resets
 pub mod Listing
 -- Small trees and designs on which the definitions are tried. In order of reading:
 pub mod rules

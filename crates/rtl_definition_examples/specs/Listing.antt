@@ -3,14 +3,15 @@ use Rattle.std.specs.Prelude.{◌≡◌, ℕ, true, false, List, [], ◌∷◌, 
 use Rattle.rtl_model.specs.nets.FlatNetlist.{FlatProcess}
 use Rattle.rtl_model.specs.bodies.Types.{nine_valued, enumeration}
 use Rattle.rtl_model.specs.simulation.Netlist.{Driver, Idle}
-use Rattle.rtl_model.specs.simulation.Accepted.{TwoDrivers, MixedProcess, ClockNotInput, Loop}
+use Rattle.rtl_model.specs.simulation.Accepted.{TwoDrivers, MixedProcess, ClockNotInput, Loop, NetLoop}
 use Rattle.rtl_definition_examples.specs.Counter as example
 use Rattle.rtl_net.specs.declared.process.Process.{Process}
 use Rattle.rtl_net.specs.declared.signal.SignalKind.TheVariants.{One, Vector}
 use Rattle.rtl_net.specs.Nets.{NetlistView, ScopeView, process_view}
+use Rattle.rtl_check.specs.declared.judging.Judgement.TheVariants.{ByProcesses}
 use Rattle.rtl_check.specs.declared.reporting.Report.{Report}
 use Rattle.rtlsim_listing.specs.NetText.{net_text, start_text, driven_text}
-use Rattle.rtlsim_listing.specs.CheckText.{report_text, level_of, line_of}
+use Rattle.rtlsim_listing.specs.CheckText.{check_text, from_text, level_of, line_of}
 
 -- a process of the top with no label, in these generates
 pub record IsUnlabelled (p : Process) (generates : List ℕ) : Type 0 where
@@ -32,6 +33,7 @@ cnt counting showing = record {
   types = nine_valued ∷ nine_valued ∷ nine_valued ∷ nine_valued ∷ nine_valued ∷ [];
   starts = 0 ∷ 0 ∷ 0 ∷ 2 ∷ 2 ∷ [];
   idle = [] ∷ [] ∷ [] ∷ [] ∷ [] ∷ [];
+  wide = false;
   inputs = 0 ∷ [];
   processes = counting ∷ showing ∷ [];
   scopes = top (codes "cnt");
@@ -52,7 +54,7 @@ abbrev pub CounterIsReported : Type 0
 CounterIsReported =
     (counting showing : Process) (report : Report) → IsBare counting example.counting → IsBare showing example.showing
     → report.levels.items ≡ None ∷ Some 1 ∷ [] → report.from.items ≡ None ∷ None ∷ [] → report.bound ≡ 2
-    → report_text (cnt counting showing) report ≡ codes "yes\nlevels 1\nbound 2\nlevel 1 cnt.#1\n"
+    → check_text (cnt counting showing) (ByProcesses report) ≡ codes "yes\nlevels 1\nbound 2\nlevel 1 cnt.#1\n"
 
 -- ---- other designs
 
@@ -62,6 +64,7 @@ of_processes name processes = record {
   types = [];
   starts = [];
   idle = [];
+  wide = false;
   inputs = [];
   processes = processes;
   scopes = top name;
@@ -79,15 +82,18 @@ LoopIsListed =
 abbrev pub LevelIsListed : Type 0
 LevelIsListed =
     (p q : Process) → IsUnlabelled p [] → IsUnlabelled q (codes "g(0)")
-    → level_of (of_processes (codes "add4") (p ∷ q ∷ [])) 1 2 (Some 0) ≡ codes "level 2 add4.g(0).#1 from add4.#0\n"
+    → (let net = of_processes (codes "add4") (p ∷ q ∷ []) in level_of net 1 2 (from_text net false (Some 0)))
+    ≡ codes "level 2 add4.g(0).#1 from add4.#0\n"
 
--- Faults of the counter, had it these; a net without a source, one with two drivers and an idle port, and what an
--- enumeration starts with.
+-- Faults of the counter, had it these; what a level by nets comes from; a net without a source, one with two drivers
+-- and an idle port, and what an enumeration starts with.
 pub record AreListed (net : NetlistView) : Type 0 where
   pub two_drivers : line_of net (TwoDrivers 1 (Driver 1 0) (Idle 0))
       ≡ codes "fault 1 TwoDrivers net cnt.y(1) by cnt.#1 and idle\n"
   pub mixed : line_of net (MixedProcess 0) ≡ codes "fault 2 Mixed cnt.#0\n"
   pub clock : line_of net (ClockNotInput 0 3) ≡ codes "fault 3 ClockNotInput cnt.#0 net cnt.q(1)\n"
+  pub nets : line_of net (NetLoop (3 ∷ 4 ∷ [])) ≡ codes "fault 8 Loop nets cnt.q(1) cnt.q(0)\n"
+  pub from_net : from_text net true (Some 3) ≡ codes " from cnt.q(1)"
   pub no_source : driven_text [] ≡ codes "none"
   pub sources : driven_text (Driver 2 0 ∷ Driver 10 1 ∷ Idle 0 ∷ []) ≡ codes "2 10 idle"
   pub literal : start_text (enumeration 12) 11 ≡ codes "11"

@@ -1,5 +1,5 @@
 -- Netlists with faults, reports and races whose names and orders are known.
-use Rattle.std.specs.Prelude.{◌≡◌, ℕ, Bool, true, ◌==◌, List, [], ◌∷◌, slice_index, Option, Some, None, if◌then◌else◌}
+use Rattle.std.specs.Prelude.{◌≡◌, ℕ, Bool, true, ◌==◌, List, [], ◌∷◌, slice_index, Option, Some, None, if◌then◌else◌, false}
 use Rattle.vhdl_values.specs.declared.scalar.Nine.TheVariants.{Zero, One}
 use Rattle.vhdl_values.specs.declared.kinds.Logic.TheVariants.{And}
 use Rattle.rtl_model.specs.basics.Valuations.{clocked_entry}
@@ -34,6 +34,7 @@ shared = record {
   start = 0 ∷ [];
   inputs = [];
   idle = (4 ∷ []) ∷ [];
+  wide = false;
   processes =
       record { drivers = driver 0 0 ∷ driver 0 0 ∷ []; wakes = []; variables = []; body = done }
       ∷ record { drivers = driver 0 0 ∷ []; wakes = []; variables = []; body = done } ∷ [];
@@ -46,6 +47,7 @@ half_idle = record {
   start = 0 ∷ [];
   inputs = [];
   idle = (4 ∷ []) ∷ [];
+  wide = false;
   processes = record { drivers = driver 0 0 ∷ []; wakes = []; variables = []; body = done } ∷ [];
 }
 
@@ -102,6 +104,7 @@ wakes_on_idle = record {
   start = 0 ∷ 0 ∷ 4 ∷ 0 ∷ [];
   inputs = 0 ∷ 1 ∷ [];
   idle = [] ∷ [] ∷ (4 ∷ []) ∷ [] ∷ [];
+  wide = false;
   processes = drives_one 3 0 (0 ∷ 1 ∷ 2 ∷ []) (if_elsif (is_at 1 One) low rising_clk load) ∷ [];
 }
 
@@ -129,6 +132,7 @@ resetting wakes of_reset = record {
   start = 0 ∷ 0 ∷ 0 ∷ 0 ∷ 0 ∷ 0 ∷ [];
   inputs = 0 ∷ 1 ∷ [];
   idle = [] ∷ [] ∷ [] ∷ [] ∷ [] ∷ [] ∷ [];
+  wide = false;
   processes =
       record { drivers = driver 4 0 ∷ driver 5 0 ∷ []; wakes = wakes; variables = []; body = counts of_reset }
       ∷ record {
@@ -173,7 +177,8 @@ pub record EdgeWouldWin : Type 0 where
 -- wrong: a register's first value without its reset
 pub record ResetWouldBeLeftOut : Type 0 where
   pub simulated : SettlesAs (core_netlist (toggling true)) (one_edge true) 0 (2 ∷ 3 ∷ 2 ∷ 3 ∷ [])
-  pub right : register_first (core_netlist (toggling true)) 0 0 (one_edge true 0) ≡ 2
+  pub right : register_first (core_netlist (toggling true)) 0 0 (one_edge true 0)
+      (2 ∷ 3 ∷ 2 ∷ 3 ∷ []) ≡ 2
   pub wrong : slice_index (core_netlist (toggling true)).start 2 ≡ 0
 
 -- A reset's branch that reads d has one entry where d is '1' and another where it is '0', so it has none to be given
@@ -190,6 +195,7 @@ states = record {
   start = 0 ∷ 0 ∷ 0 ∷ 0 ∷ [];
   inputs = 0 ∷ [];
   idle = [] ∷ [] ∷ [] ∷ [] ∷ [];
+  wide = false;
   processes =
       drives_one 1 0 (0 ∷ []) (if_only rising_clk (step (case_of (position_of 1) (
       alternative ((0 ∷ []) ∷ []) (step (assign (0 ∷ []) (position 2)) done) (

@@ -11,12 +11,12 @@ use Rattle.rtl_model.specs.nets.FlatNetlist.{FlatNetlist}
 use Rattle.rtl_model.specs.nets.CoreNetlist.{core_netlist}
 use Rattle.rtl_model.specs.nets.Laws.{IsSound}
 use Rattle.rtl_model.specs.simulation.Netlist.{Netlist, Source, Driver, Idle, Edge, Rising, Falling}
-use Rattle.rtl_model.specs.simulation.Netlist.{process, sources_of, target, reset_of, reset_entry, resets, HasPlace, IsCombinational}
+use Rattle.rtl_model.specs.simulation.Netlist.{process, sources_of, target, reset_of, reset_entry, HasPlace, IsCombinational}
 use Rattle.rtl_model.specs.simulation.Cycle.{State, IsToRun, all_driver_values, net_values, none_pending, over, after_run, after_update, start_state, is_quiet}
 use Rattle.rtl_model.specs.simulation.Moments.{Takes}
 use Rattle.rtl_model.specs.simulation.Levels.{AreLevels, ChainTo, bound}
 use Rattle.rtl_model.specs.simulation.Races.{IsRace, IsRaceAt}
-use Rattle.rtl_model.specs.simulation.Machine.{entry_or, register_entry, register_next}
+use Rattle.rtl_model.specs.simulation.Machine.{entry_or, is_reset, register_entry, register_next}
 use Rattle.rtl_definition_examples.specs.Bodies.{one_signal, assigned, is_at, if_only, rising_clk}
 use Rattle.rtl_definition_examples.specs.Circuits.{circuit, drives_one, SettlesAs}
 use Rattle.rtl_definition_examples.specs.Toggling.{toggling, one_edge}
@@ -151,24 +151,27 @@ enable_drops (suc (suc zero)) n = if n == 2 then 3 else 2
 enable_drops (suc (suc (suc m))) n = if n == 1 then 2 else 3
 
 -- wrong: without an entry the starting value
-abbrev pub register_or_start : Netlist → (p place clock : ℕ) → Edge → (v : List ℕ) → (inputs : ℕ → ℕ) → ℕ
-register_or_start net p place clock tested v inputs =
-    entry_or (register_entry net p place clock tested v inputs) (slice_index net.start (target net p place))
+abbrev pub register_or_start : Netlist → (p place clock : ℕ) → Edge
+    → (v : List ℕ) → (inputs : ℕ → ℕ) → (w : List ℕ) → ℕ
+register_or_start net p place clock tested v inputs w =
+    entry_or (register_entry net p place clock tested v inputs w) (slice_index net.start (target net p place))
 
 -- the simulation keeps '1', and the machine would have '0'
 pub record RegisterWouldFallBack : Type 0 where
   pub fit : IsSound enabled
   pub earlier : SettlesAs (core_netlist enabled) enable_drops 2 (2 ∷ 2 ∷ 3 ∷ 3 ∷ [])
   pub simulated : SettlesAs (core_netlist enabled) enable_drops 3 (3 ∷ 2 ∷ 3 ∷ 3 ∷ [])
-  pub right : register_next (core_netlist enabled) 0 0 0 Rising (2 ∷ 2 ∷ 3 ∷ 3 ∷ []) (enable_drops 3) ≡ 3
-  pub wrong : register_or_start (core_netlist enabled) 0 0 0 Rising (2 ∷ 2 ∷ 3 ∷ 3 ∷ []) (enable_drops 3) ≡ 2
+  pub right : register_next (core_netlist enabled) 0 0 0 Rising (2 ∷ 2 ∷ 3 ∷ 3 ∷ []) (enable_drops 3)
+      (3 ∷ 2 ∷ 3 ∷ 3 ∷ []) ≡ 3
+  pub wrong : register_or_start (core_netlist enabled) 0 0 0 Rising (2 ∷ 2 ∷ 3 ∷ 3 ∷ []) (enable_drops 3)
+      (3 ∷ 2 ∷ 3 ∷ 3 ∷ []) ≡ 2
 
 -- ---- a register takes its value from after the edge
 
 -- wrong: the branch looks at the new valuation w
 abbrev pub register_from_after : Netlist → (p place clock : ℕ) → Edge → (v w : List ℕ) → (inputs : ℕ → ℕ) → ℕ
 register_from_after net p place clock tested v w inputs =
-    entry_or (clocked_entry (resets (reset_of net p) inputs) (net.edge tested (slice_index v clock) (inputs clock))
+    entry_or (clocked_entry (is_reset net p v inputs w) (net.edge tested (slice_index v clock) (inputs clock))
     (reset_entry (reset_of net p) place)
     (slice_index_or ((process net p).acting_effect w) place None)) (slice_index v (target net p place))
 
@@ -177,7 +180,8 @@ pub record RegisterWouldRunAhead : Type 0 where
   pub fit : IsSound shift
   pub earlier : SettlesAs (core_netlist shift) shift_edge 0 (2 ∷ 3 ∷ 2 ∷ 2 ∷ [])
   pub simulated : SettlesAs (core_netlist shift) shift_edge 1 (3 ∷ 3 ∷ 3 ∷ 2 ∷ [])
-  pub right : register_next (core_netlist shift) 1 0 0 Rising (2 ∷ 3 ∷ 2 ∷ 2 ∷ []) (shift_edge 1) ≡ 2
+  pub right : register_next (core_netlist shift) 1 0 0 Rising (2 ∷ 3 ∷ 2 ∷ 2 ∷ []) (shift_edge 1)
+      (3 ∷ 3 ∷ 3 ∷ 2 ∷ []) ≡ 2
   pub wrong : register_from_after (core_netlist shift) 1 0 0 Rising
       (2 ∷ 3 ∷ 2 ∷ 2 ∷ []) (3 ∷ 3 ∷ 3 ∷ 2 ∷ []) (shift_edge 1) ≡ 3
 
@@ -203,4 +207,5 @@ pub record RaceWouldPass : Type 0 where
   pub wrong : IsRisingRace (core_netlist falls) (both_change 0) (both_change 1) → ⊥
   pub earlier : SettlesAs (core_netlist falls) both_change 0 (3 ∷ 2 ∷ 2 ∷ [])
   pub simulated : SettlesAs (core_netlist falls) both_change 1 (2 ∷ 3 ∷ 3 ∷ [])
-  pub machine : register_next (core_netlist falls) 0 0 0 Falling (3 ∷ 2 ∷ 2 ∷ []) (both_change 1) ≡ 2
+  pub machine : register_next (core_netlist falls) 0 0 0 Falling (3 ∷ 2 ∷ 2 ∷ []) (both_change 1)
+      (2 ∷ 3 ∷ 3 ∷ []) ≡ 2

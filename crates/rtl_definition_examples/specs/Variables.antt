@@ -33,6 +33,7 @@ of_process variables body = record {
   start = 0 ∷ 0 ∷ 0 ∷ 0 ∷ 0 ∷ [];
   inputs = 0 ∷ 1 ∷ 2 ∷ 3 ∷ [];
   idle = [] ∷ [] ∷ [] ∷ [] ∷ [] ∷ [];
+  wide = false;
   processes = record {
     drivers = record { net = 4; start = 0 } ∷ [];
     wakes = 0 ∷ 1 ∷ 2 ∷ 3 ∷ [];

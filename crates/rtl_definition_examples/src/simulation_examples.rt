@@ -6,6 +6,8 @@ ghost use Rattle.rtl_definition_examples.specs.Rows.{OscillatorSettles, SiblingW
 ghost use Rattle.rtl_definition_examples.specs.SimulationMistakes.{OrderWouldCount, ActivityWouldGoOn, BoundWouldBreak, LevelsWouldMiss};
 ghost use Rattle.rtl_definition_examples.specs.SimulationMistakes.{RegisterWouldFallBack, RegisterWouldRunAhead, RaceWouldPass};
 ghost use Rattle.rtl_definition_examples.specs.Nets.{FaultsOfNets, OrderOfFaults, OrderOfClocks, ReportsOfNets, ResetsOfNets};
+ghost use Rattle.rtl_definition_examples.specs.ByNets.{LevelsOfRipple, LevelsOfResets, LoopsOfNets};
+ghost use Rattle.rtl_definition_examples.specs.Resets.{CopiesAsResets, RegistersAsResets, InputsAsResets, RegistersOfResets};
 ghost use Rattle.rtl_definition_examples.specs.Nets.{EdgeWouldWin, ResetWouldBeLeftOut, ResetWouldRead, StatesOfNets, RacesOfNets};
 
 /// A toggling register, with an asynchronous reset and without, has all that the laws ask for, and
@@ -48,6 +50,25 @@ pub fn faults_of_nets()
 pub fn reports_of_nets()
     ensures clocks { OrderOfClocks }
     ensures nets { ReportsOfNets }
+{}
+
+/// Levels by nets go by sensitivities for processes, and of registers those that a reset made
+/// inside assigns are above it; a loop of nets has a direction; and without a loop of processes
+/// nothing is judged by nets.
+pub fn levels_by_nets_come_out()
+    ensures ripple { LevelsOfRipple }
+    ensures resets { LevelsOfResets }
+    ensures loops { LoopsOfNets }
+{}
+
+/// Which nets may be resets that processes drive: a copy of a register, a register that no reset
+/// assigns or that inputs reset, and not one that another register resets, nor what a clock is in.
+/// And what the registers do that they reset, in front of the edge and behind it.
+pub fn inner_resets_come_out()
+    ensures copies { CopiesAsResets }
+    ensures registers { RegistersAsResets }
+    ensures inputs { InputsAsResets }
+    ensures next { RegistersOfResets }
 {}
 
 /// A counter with a reset, and its faults where it isn't sensitive to the reset or the reset's

@@ -8,6 +8,7 @@ pub mod Looking
 pub mod LooksRead
 pub mod EdgeTests
 pub mod Clocking
+pub mod Copying
 pub mod Widths
 pub mod There
 pub mod Ranges

@@ -6,3 +6,4 @@ pub mod Sources
 pub mod Connected
 pub mod SourcesInRange
 pub mod Headline
+pub mod Widened

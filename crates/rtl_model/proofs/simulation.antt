@@ -7,11 +7,14 @@ pub mod Decisions
 pub mod Faultless
 pub mod Loops
 pub mod Numbered
+pub mod NetLevels
 pub mod Levels
 pub mod Solution
 pub mod Report
 pub mod Runs
 pub mod Held
+pub mod Keeping
+pub mod CalmDecided
 pub mod Starting
 pub mod Stepping
 pub mod Settling
@@ -22,5 +25,6 @@ pub mod Greatest
 pub mod Shown
 pub mod Consistent
 pub mod Past
+pub mod InputResets
 pub mod RaceNames
 pub mod FaultLists

@@ -13,4 +13,5 @@ pub mod Kinds
 pub mod Types
 pub mod Fits
 pub mod Looks
+pub mod Copies
 pub mod Laws

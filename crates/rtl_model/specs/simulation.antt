@@ -4,10 +4,12 @@ pub mod Netlist
 pub mod Cycle
 pub mod Moments
 pub mod Elaborated
+pub mod Calm
 pub mod Accepted
 pub mod Faults
 pub mod Levels
 pub mod Report
+pub mod NetLevels
 pub mod Races
 pub mod Machine
 pub mod Range

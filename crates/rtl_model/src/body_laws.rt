@@ -1,7 +1,7 @@
 //! The laws of bodies, over `specs/bodies`.
 
 ghost use Rattle.rtl_model.specs.bodies.Laws.{EachRunAssigns, LooksAtReads, NothingIsKept, EachLooks, LooksAreRead};
-ghost use Rattle.rtl_model.specs.bodies.Laws.{CaseTakesABranch, EachLaterReplaces, SequencesAddUp, EachKindIsAsSaid, FollowsItsEdge, LeavesTell, ResetsReadNothing};
+ghost use Rattle.rtl_model.specs.bodies.Laws.{CaseTakesABranch, EachCopyPasses, EachLaterReplaces, SequencesAddUp, EachKindIsAsSaid, FollowsItsEdge, LeavesTell, ResetsReadNothing};
 ghost use Rattle.rtl_model.specs.bodies.Laws.{HasItsWidth, EachPartIsSafe, EachReadIsThere, EntriesKeepTypes};
 
 /// What a body assigns on every syntactic path has an entry on every run.
@@ -64,6 +64,11 @@ pub fn kinds_are_as_said()
 /// its branch does, and else nothing at all.
 pub fn follows_its_edge()
     ensures { FollowsItsEdge }
+{}
+
+/// A copying body passes on the element that it copies.
+pub fn copies_pass()
+    ensures { EachCopyPasses }
 {}
 
 /// A reset's branch reads no net.

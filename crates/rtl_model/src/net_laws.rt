@@ -1,7 +1,7 @@
 //! What flat netlists are to the laws of simulation, over `specs/nets`.
 
 ghost use Rattle.rtl_model.specs.nets.Laws.{EachHasValues, EachHasBodies, EachKindIsOfBody, EachForgets, InRangeIsSafe, EachKeepsRange};
-ghost use Rattle.rtl_model.specs.nets.Laws.{EachIsElaborated, EachSourceKeepsRange, EachStateIsInRange, EachSimulatesTheMachine, EachHasOneSolution};
+ghost use Rattle.rtl_model.specs.nets.Laws.{EachIsElaborated, EachSourceKeepsRange, EachStateIsInRange, EachSimulatesTheMachine, EachHasOneSolution, WideAcceptsAll};
 
 /// Resolution, edges and bodies of each flat netlist have what the laws of simulation ask of them.
 pub fn bodies_have_what_is_asked()
@@ -54,6 +54,11 @@ pub fn states_are_in_range()
 /// race, in the valuation of the synchronous machine's run.
 pub fn simulates_the_machine()
     ensures { EachSimulatesTheMachine }
+{}
+
+/// What is accepted is accepted in the wider language, and judged by processes there.
+pub fn wide_accepts_all()
+    ensures { WideAcceptsAll }
 {}
 
 /// For given inputs and registers one valuation solves a sound netlist, and no other.

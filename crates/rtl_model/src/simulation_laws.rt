@@ -1,10 +1,10 @@
 //! The laws of simulation (`specs/simulation/Laws.antt`), each the contract of a function that does
 //! nothing.
 
-ghost use Rattle.rtl_model.specs.simulation.Laws.{EachChangeIsMade, EachClockShowsRaces, EachDependsOnPast};
+ghost use Rattle.rtl_model.specs.simulation.Laws.{AcceptedByProcesses, CalmIsDecided, EachCalmNetKeeps, EachChangeIsMade, EachClockShowsRaces, EachDependsOnPast, InputsResetAsSaid};
 ghost use Rattle.rtl_model.specs.simulation.Laws.{EachEndsAtLast, EachFaultIsListed, EachInputHolds, EachMomentComes};
 ghost use Rattle.rtl_model.specs.simulation.Laws.{EachRunShows, EachStaysConsistent, EachTakesInputsAlone, EveryOrderIsOne};
-ghost use Rattle.rtl_model.specs.simulation.Laws.{IsTheMachine, LevelsAreShown, LevelsExist};
+ghost use Rattle.rtl_model.specs.simulation.Laws.{IsTheMachine, LevelsAreShown, LevelsByNetsExist, LevelsByNetsRise, LevelsExist, NetLevelsAreShown, OneBound, OneNetReport};
 ghost use Rattle.rtl_model.specs.simulation.Laws.{OneGreatestCount, OneMachineRun, OneReport, OneSolution, OrderIsFree, ReportsAreShown, ReportsLeadDown};
 ghost use Rattle.rtl_model.specs.simulation.Laws.{RunsInRange, SettlesInBound, SettlesOrNot, SolutionsInRange, StatesInRange};
 
@@ -25,9 +25,30 @@ pub fn levels_exist()
     ensures { LevelsExist }
 {}
 
+/// Without a loop of nets each net has a level, and each process that may assign in a delta cycle.
+pub fn levels_by_nets_exist()
+    ensures { LevelsByNetsExist }
+{}
+
+/// A netlist has no more than one report by nets.
+pub fn one_net_report()
+    ensures { OneNetReport }
+{}
+
+/// What has no fault but perhaps a loop, and isn't judged by nets, is accepted where no processes are
+/// a loop.
+pub fn accepted_by_processes()
+    ensures { AcceptedByProcesses }
+{}
+
 /// An accepted netlist has no more than one report.
 pub fn one_report()
     ensures { OneReport }
+{}
+
+/// An accepted netlist has no more than one bound, however it is judged.
+pub fn one_bound()
+    ensures { OneBound }
 {}
 
 /// For given inputs and registers one valuation solves an accepted netlist, and no other.
@@ -69,6 +90,22 @@ pub fn one_greatest_count()
     ensures { OneGreatestCount }
 {}
 
+/// Whether a net is calm can be decided.
+pub fn calm_is_decided()
+    ensures { CalmIsDecided }
+{}
+
+/// A calm net that has one of its values in a moment has one of them after the moment's first
+/// cycle, or in what the moment settles in, where no moment so far has a race.
+pub fn calm_nets_keep()
+    ensures { EachCalmNetKeeps }
+{}
+
+/// The machine reads a reset that is an input and stands before its edge in the new inputs alone.
+pub fn inputs_reset_as_said()
+    ensures { InputsResetAsSaid }
+{}
+
 /// What an accepted netlist has settled in at a moment is the valuation of the machine's run,
 /// whatever the orders, where no moment so far has a race.
 pub fn is_the_machine()
@@ -86,6 +123,17 @@ pub fn states_in_range()
 /// loop.
 pub fn levels_are_shown()
     ensures { LevelsAreShown }
+{}
+
+/// Numbers of nets are those of the longest chains just where they rise along each look, each above
+/// 1 being one more than that of a net looked at; and then there is no loop of nets.
+pub fn net_levels_are_shown()
+    ensures { NetLevelsAreShown }
+{}
+
+/// Levels by nets are such numbers.
+pub fn levels_by_nets_rise()
+    ensures { LevelsByNetsRise }
 {}
 
 /// What is a report is shown by local facts, which speak of no chain, and what they show is a

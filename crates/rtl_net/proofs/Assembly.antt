@@ -1,5 +1,5 @@
 -- The netlist of given parts keeps its tables.
-use Rattle.std.proofs.Common.{◌≡◌, ℕ, ◌<◌, List, [], ◌++◌, length, map, slice_index_or, Vec, Global, Some, sym, ap, ◌∙◌, arith, subst}
+use Rattle.std.proofs.Common.{◌≡◌, ℕ, ◌<◌, true, false, List, [], ◌++◌, length, map, slice_index_or, Vec, Global, Some, sym, ap, ◌∙◌, arith, subst}
 use Rattle.std.proofs.lemmas.List.{length-map, get_or-map, ext_get_or}
 use Rattle.std.proofs.lemmas.List.FromFn.{length-map-range_with_len, get_or-map-range_with_len}
 use Rattle.smallvec.specs.SmallVec.{SmallVec}
@@ -65,6 +65,7 @@ module _ (parts : Parts) (sources : Vec (SmallVec Source) Global) (owners : Vec 
     processes = parts.processes;
     scopes = parts.scopes;
     signals = parts.signals;
+    wide = false;
   }
 
   abbrev pub HasSources : Type 0
@@ -116,3 +117,38 @@ module _ (parts : Parts) (sources : Vec (SmallVec Source) Global) (owners : Vec 
         sources = sources-table e h ∙ ap (λ v. tabled (length parts.kinds.items) (flat_sources (flat v))) (sym view);
         owners = owners-table f is_net g ∙ ap (λ v. tabled (length parts.kinds.items) (element_of v)) (sym view);
       }
+
+-- ---- whatever language it was read by
+
+pub widened-net : (net : NetlistView) → IsNet net → IsNet (record net { wide = true })
+widened-net net is = record {
+  in_range = record {
+    types_fit = is.in_range.types_fit;
+    each_starts = is.in_range.each_starts;
+    each_has_idle = is.in_range.each_has_idle;
+    starts = is.in_range.starts;
+    idle = is.in_range.idle;
+    inputs_rise = is.in_range.inputs_rise;
+    inputs = is.in_range.inputs;
+    processes = is.in_range.processes;
+  };
+  connected = record {
+    inputs_have_no_source = is.connected.inputs_have_no_source;
+    nets_start = is.connected.nets_start;
+    shared_are_resolved = is.connected.shared_are_resolved;
+  };
+  nets_limit = is.nets_limit;
+  processes_limit = is.processes_limit;
+  scopes_limit = is.scopes_limit;
+  reads = is.reads;
+  processes = is.processes;
+  scopes = is.scopes;
+  signals = is.signals;
+  signals_in_order = is.signals_in_order;
+  ports = is.ports;
+  inputs = is.inputs;
+  declared = is.declared;
+}
+
+pub widened-kept : (n : Inside) → IsKept n → IsKept (record n { wide = true })
+widened-kept n kept = record { net = widened-net (net_of n) kept.net; sources = kept.sources; owners = kept.owners }

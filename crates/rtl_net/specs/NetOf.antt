@@ -28,6 +28,7 @@ net_of n = record {
   processes = n.processes.items;
   scopes = map scope_view n.scopes.items;
   signals = map signal_view n.signals.items;
+  wide = n.wide;
 }
 
 -- n things, the k-th of them f k

@@ -49,6 +49,8 @@ pub record NetlistView : Type 0 where
   pub processes : List Process
   pub scopes : List ScopeView
   pub signals : List SignalView
+  -- whether it was read by the wider language
+  pub wide : Bool
 
 -- ---- its parts
 
@@ -105,4 +107,5 @@ flat net = record {
   inputs = net.inputs;
   idle = net.idle;
   processes = map process_view net.processes;
+  wide = net.wide;
 }

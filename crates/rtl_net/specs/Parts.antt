@@ -1,5 +1,5 @@
 -- The netlist of given parts.
-use Rattle.std.specs.Prelude.{ℕ, ◌<◌, ◌==◌, if◌then◌else◌, All, List, [], ◌∷◌, length, map}
+use Rattle.std.specs.Prelude.{ℕ, false, ◌<◌, ◌==◌, if◌then◌else◌, All, List, [], ◌∷◌, length, map}
 use Rattle.std.specs.List.{range_with_len}
 use Rattle.rtl_net.specs.declared.building.IdlePort.{IdlePort}
 use Rattle.rtl_net.specs.declared.building.Parts.{Parts}
@@ -10,6 +10,7 @@ abbrev pub idle_at : List IdlePort → (net : ℕ) → List ℕ
 idle_at [] n = []
 idle_at (port ∷ ports) n = if port.net == n then port.start ∷ idle_at ports n else idle_at ports n
 
+-- elaboration knows no language: what it gives is read by the narrow one until it's said otherwise
 abbrev pub assembled : Parts → NetlistView
 assembled parts = record {
   types = map type_of parts.kinds.items;
@@ -19,6 +20,7 @@ assembled parts = record {
   processes = parts.processes.items;
   scopes = map scope_view parts.scopes.items;
   signals = map signal_view parts.signals.items;
+  wide = false;
 }
 
 -- each idle port is one of a net that is there

@@ -62,6 +62,7 @@ impl Net {
             processes: parts.processes,
             scopes: parts.scopes,
             signals: parts.signals,
+            wide: false,
         })
     }
 }

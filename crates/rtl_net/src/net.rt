@@ -1,6 +1,6 @@
 //! The netlist of a design: its nets with their types and sources, and the names of its parts.
 
-ghost use Rattle.std.specs.Prelude.{◌≡◌, ◌<◌, length, map, slice_get, slice_index, Some};
+ghost use Rattle.std.specs.Prelude.{◌≡◌, ◌<◌, true, length, map, slice_get, slice_index, Some};
 ghost use Rattle.rtl_model.specs.nets.FlatNetlist.{flat_sources};
 ghost use Rattle.rtl_net.specs.Nets.{flat, type_of, source_view, scope_view, signal_view};
 ghost use Rattle.rtl_net.specs.Elaborated.{IsNet};
@@ -60,12 +60,13 @@ pub struct Net {
     pub(crate) processes: Vec<Process>,
     pub(crate) scopes: Vec<Scope>,
     pub(crate) signals: Vec<Signal>,
+    pub(crate) wide: bool,
 }
 
 /// Written out, so that a crate that lets a netlist go proves nothing of what is in it.
 impl Drop for Net {
     fn drop(self) {
-        take_apart!(self: { kinds, starts, sources, owners, inputs, processes, scopes, signals });
+        take_apart!(self: { kinds, starts, sources, owners, inputs, processes, scopes, signals, wide });
     }
 }
 
@@ -138,6 +139,22 @@ impl Net {
         ensures { result.now ≡ self.now.processes }
     {
         self.processes.as_slice()
+    }
+
+    /// Whether it was read by the wider language.
+    pub fn is_wide(&self) -> bool
+        ensures { result ≡ self.now.wide }
+    {
+        self.wide
+    }
+
+    /// The netlist as one that was read by the wider language.
+    pub fn widened(self) -> Net
+        ensures { result ≡ record self { wide = true } }
+    {
+        let mut net = self;
+        net.wide = true;
+        net
     }
 
     /// The scopes: the top first, and then the instances in order of the text.

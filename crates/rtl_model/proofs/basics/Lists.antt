@@ -38,6 +38,11 @@ get_or-map_within f [] k d e l = absurd (omega arith)
 get_or-map_within f (x ∷ xs) zero d e l = refl
 get_or-map_within f (x ∷ xs) (suc k) d e l = get_or-map_within f xs k d e (omega arith)
 
+pub get_or_default : {X : Type 0} (xs : List X) (k : ℕ) (d e : X) → k < length xs → get_or xs k d ≡ get_or xs k e
+get_or_default [] k d e l = absurd (omega arith)
+get_or_default (x ∷ xs) zero d e l = refl
+get_or_default (x ∷ xs) (suc k) d e l = get_or_default xs k d e (omega arith)
+
 -- ---- tests of a list
 
 pub any_at : {X : Type 0} (f : X → Bool) (xs : List X) → list_any f xs ≡ true → (x : X) × Contains xs x × (f x ≡ true)

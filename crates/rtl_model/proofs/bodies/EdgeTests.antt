@@ -1,7 +1,7 @@
 -- Edge tests and reset tests are as they are said, and are met where their net has the edge, or the value.
-use Rattle.std.proofs.Common.{◌≡◌, ℕ, suc, ◌<◌, Bool, true, false, not, ◌&&◌, ◌==◌, List, [], ◌∷◌, slice_index}
-use Rattle.std.proofs.Common.{Option, Some, refl, sym, ap, ◌∙◌, arith}
-use Rattle.std.proofs.lemmas.Bool.{eqb-true, eq-eqb, ne_eqb}
+use Rattle.std.proofs.Common.{◌≡◌, ℕ, suc, ◌<◌, Bool, true, false, not, ◌&&◌, ◌||◌, ◌==◌, List, [], ◌∷◌, slice_index}
+use Rattle.std.proofs.Common.{Option, Some, refl, sym, ap, ◌∙◌, subst, arith, ◌⊎◌, inl, inr, Contains}
+use Rattle.std.proofs.lemmas.Bool.{eqb-true, eq-eqb, ne_eqb, or_cases}
 use Rattle.vhdl_values.specs.declared.scalar.Nine.{Nine}
 use Rattle.vhdl_values.specs.declared.scalar.Nine.TheVariants.{Zero, One}
 use Rattle.vhdl_values.specs.declared.kinds.Logic.TheVariants.{And}
@@ -68,10 +68,21 @@ edge_test_event t clock edge (falling_call p q) = ap test_events p
 edge_test_event t clock edge (event_and_level v p q) = ap test_events p
 edge_test_event t clock edge (level_and_event v p q) = ap test_events p
 
-pub is_reset_test : (inputs : List ℕ) (t : Test) (r : ResetTest) → reset_test inputs t ≡ Some r → IsResetTest inputs t r.net r.value
-is_reset_test inputs (level plain net v) r h = go (is_in inputs net) (edge_to v) refl refl h
+-- ---- reset tests
+
+or_from : (a b : Bool) → (a ≡ true) ⊎ (b ≡ true) → a || b ≡ true
+or_from true b h = refl
+or_from false b (inl h) = absurd cc
+or_from false b (inr h) = h
+
+pub is_reset_test : (wide : Bool) (inputs : List ℕ) (t : Test) (r : ResetTest) → reset_test wide inputs t ≡ Some r → IsResetTest wide inputs t r.net r.value
+is_reset_test wide inputs (level plain net v) r h = go (wide || is_in inputs net) (edge_to v) refl refl h
   where
-    go : (input : Bool) (o : Option Edge) → is_in inputs net ≡ input → edge_to v ≡ o → reset_of_level input net v o ≡ Some r → IsResetTest inputs (level plain net v) r.net r.value
+    may : (wide ≡ true) ⊎ (is_in inputs net ≡ true) → (wide ≡ true) ⊎ Contains inputs net
+    may (inl w) = inl w
+    may (inr i) = inr (in_contains inputs net i)
+
+    go : (input : Bool) (o : Option Edge) → wide || is_in inputs net ≡ input → edge_to v ≡ o → reset_of_level input net v o ≡ Some r → IsResetTest wide inputs (level plain net v) r.net r.value
     go true (Some edge) a b g =
         let k : record { net = net; value = code_of v } ≡ r = cc in
         let n : net ≡ r.net = ap (λ (x : ResetTest). x.net) k in
@@ -81,15 +92,19 @@ is_reset_test inputs (level plain net v) r h = go (is_in inputs net) (edge_to v)
           is = ap (λ (m : ℕ). level plain m v) n;
           one_or_zero = (edge, b);
           value_is = sym (ap (λ (x : ResetTest). x.value) k);
-          is_input = in_contains inputs r.net (ap (is_in inputs) (sym n) ∙ a);
+          may_reset = subst (λ (m : ℕ). (wide ≡ true) ⊎ Contains inputs m) n (may (or_cases wide (is_in inputs net) a));
         }
     go input o a b g = absurd cc
-is_reset_test inputs t r h = absurd cc
+is_reset_test wide inputs t r h = absurd cc
 
-pub has_reset_test : (inputs : List ℕ) (t : Test) (net value : ℕ) → IsResetTest inputs t net value → reset_test inputs t ≡ Some (record { net = net; value = value })
-has_reset_test inputs t net value h = ap (reset_test inputs) h.is ∙ found (contains_in inputs net h.is_input) h.one_or_zero
+pub has_reset_test : (wide : Bool) (inputs : List ℕ) (t : Test) (net value : ℕ) → IsResetTest wide inputs t net value → reset_test wide inputs t ≡ Some (record { net = net; value = value })
+has_reset_test wide inputs t net value h = ap (reset_test wide inputs) h.is ∙ found (or_from wide (is_in inputs net) (may h.may_reset)) h.one_or_zero
   where
-    found : is_in inputs net ≡ true → ((edge : Edge) × (edge_to h.v ≡ Some edge)) → reset_of_level (is_in inputs net) net h.v (edge_to h.v) ≡ Some (record { net = net; value = value })
+    may : (wide ≡ true) ⊎ Contains inputs net → (wide ≡ true) ⊎ (is_in inputs net ≡ true)
+    may (inl w) = inl w
+    may (inr c) = inr (contains_in inputs net c)
+
+    found : wide || is_in inputs net ≡ true → ((edge : Edge) × (edge_to h.v ≡ Some edge)) → reset_of_level (wide || is_in inputs net) net h.v (edge_to h.v) ≡ Some (record { net = net; value = value })
     found a (edge, b) = rw (a, b) (ap (λ (x : ℕ). Some (record { net = net; value = x })) (sym h.value_is))
 
 -- ---- '0' and '1' are what only their own numbers stand for
@@ -116,8 +131,8 @@ exact Zero edge h = exact_zero
 exact One edge h = exact_one
 exact v edge h = absurd cc
 
-pub reset_meets : (inputs : List ℕ) (t : Test) (net value : ℕ) (seen : Seen) → IsResetTest inputs t net value → is_met seen t ≡ (slice_index seen.now net == value)
-reset_meets inputs t net value seen h =
+pub reset_meets : (wide : Bool) (inputs : List ℕ) (t : Test) (net value : ℕ) (seen : Seen) → IsResetTest wide inputs t net value → is_met seen t ≡ (slice_index seen.now net == value)
+reset_meets wide inputs t net value seen h =
     ap (is_met seen) h.is
     ∙ exact h.v h.one_or_zero.0 h.one_or_zero.1 (slice_index seen.now net)
     ∙ ap (λ (x : ℕ). slice_index seen.now net == x) (sym h.value_is)

@@ -301,6 +301,10 @@ module _ (a b : Seen) where
         (body_touches a s round looks d) (body_touches b s round looks d') (alternatives_touch a alts value round looks d) (alternatives_touch b alts value' round looks d')
         (body_known s round looks d d' K) (alternatives_known alts value value' round looks d d' e K)
 
+-- a run leaves as many variables as it began with
+pub as_many_after : (seen : Seen) (s : Stmts) → length (variables_after seen s) ≡ length seen.variables
+as_many_after seen s = (body_touches seen seen seen s [] first_looks (record { entered = no_entries; variables = seen.variables })).as_many
+
 pub each_looks : EachLooks
 each_looks body place a b l h =
     sym (or_else-none (effect a body place)) ∙ known.at (driver place) (record { at = h }) ∙ or_else-none (effect b body place)

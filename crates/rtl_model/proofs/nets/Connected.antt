@@ -1,5 +1,5 @@
 -- A netlist that is in range and connected has all that the laws of simulation ask.
-use Rattle.std.proofs.Common.{◌≡◌, ℕ, ◌<◌, List, [], ◌∷◌, length, get_or, map, slice_index, slice_index_or, ◌≤◌, ◌⊎◌, inl, inr, refl, sym, ap, ◌∙◌, subst, arith, Contains}
+use Rattle.std.proofs.Common.{◌≡◌, ℕ, ◌<◌, Bool, List, [], ◌∷◌, length, get_or, map, slice_index, slice_index_or, ◌≤◌, ◌⊎◌, inl, inr, refl, sym, ap, ◌∙◌, subst, arith, Contains}
 use Rattle.std.proofs.lemmas.List.{length-map, get_or-map, get_or_past}
 use Rattle.std.proofs.lemmas.Bool.{cases_lt}
 use Rattle.std.proofs.lemmas.Option.{slice_get_within}
@@ -18,9 +18,9 @@ use Rattle.rtl_model.proofs.nets.Values.{has_values}
 use Rattle.rtl_model.proofs.nets.InRange.{has_process, process_in_range}
 use Rattle.rtl_model.proofs.nets.Sources.{sources-core_net, source_there, source_is_driver, driver_is_source, source_is_idle}
 
-core_starts : (inputs : List ℕ) (ps : List FlatProcess) → map (λ (p : c.Process). p.starts) (map (core_process inputs) ps) ≡ map starts ps
-core_starts inputs [] = refl
-core_starts inputs (p ∷ ps) = ap (λ (rest : List (List ℕ)). starts p ∷ rest) (core_starts inputs ps)
+core_starts : (wide : Bool) (inputs : List ℕ) (ps : List FlatProcess) → map (λ (p : c.Process). p.starts) (map (core_process wide inputs) ps) ≡ map starts ps
+core_starts wide inputs [] = refl
+core_starts wide inputs (p ∷ ps) = ap (λ (rest : List (List ℕ)). starts p ∷ rest) (core_starts wide inputs ps)
 
 as_many : (p : FlatProcess) → length (starts p) ≡ length (targets p)
 as_many p = length-map p.drivers (λ (d : FlatDriver). d.start) ∙ sym (length-map p.drivers (λ (d : FlatDriver). d.net))
@@ -76,11 +76,11 @@ module _ (net : FlatNetlist) (in_range : IsInRange net) (connected : IsConnected
   of_starts p = rw (process-core_net net p) (as_many (flat.process_at net p))
 
   nets_start : (n : ℕ) (source : c.Source) → Contains (c.sources_of (core_netlist net) n) source
-      → slice_index net.start n ≡ core_resolve (map (source_value (map (λ (p : c.Process). p.starts) (map (core_process net.inputs) net.processes))) (c.sources_of (core_netlist net) n))
+      → slice_index net.start n ≡ core_resolve (map (source_value (map (λ (p : c.Process). p.starts) (map (core_process net.wide net.inputs) net.processes))) (c.sources_of (core_netlist net) n))
   nets_start n source h =
       let e = sources-core_net net n (source_there net n source h) in
       connected.nets_start n source (subst (λ (xs : List c.Source). Contains xs source) e h)
-      ∙ (λ i. core_resolve (map (source_value (sym (core_starts net.inputs net.processes) i)) (sym e i)))
+      ∙ (λ i. core_resolve (map (source_value (sym (core_starts net.wide net.inputs net.processes) i)) (sym e i)))
 
   is_wired : IsWired (core_netlist net)
   is_wired = record {

@@ -14,7 +14,7 @@ use Rattle.rtl_model.specs.nets.CoreNetlist.{core_netlist, element_number, raise
 use Rattle.rtl_model.specs.nets.Laws.{EachForgets, EachStateIsInRange, SettlesAsMachine, EachSimulatesTheMachine, EachHasOneSolution}
 use Rattle.rtl_model.specs.simulation.Cycle.{State}
 use Rattle.rtl_model.specs.simulation.Moments.{Begun}
-use Rattle.rtl_model.specs.simulation.Levels.{IsBound}
+use Rattle.rtl_model.specs.simulation.NetLevels.{IsBound}
 use Rattle.rtl_model.proofs.bodies.LooksRead.{looks_at_reads}
 use Rattle.rtl_model.proofs.nets.InRange.{keeps_range}
 use Rattle.rtl_model.proofs.nets.Connected.{connected_is_elaborated}
@@ -44,7 +44,7 @@ has_place (v ∷ vs) e l = go (cases_lt e (length v.starts)) (λ k m. has_place 
         record { variable = suc there.variable; place = there.place; number = ap (raised_by (length v.starts)) there.number ∙ ap (λ (x : ℕ). Some x) (omega arith) }
 
 pub each_forgets : EachForgets
-each_forgets inputs p none before now values l =
+each_forgets wide inputs p none before now values l =
     λ i. map (λ k. same k i) (range_with_len 0 (length p.drivers))
   where
     stored : (e : ℕ) → stores_element e p.body ≡ true → slice_index values e ≡ slice_index (element_starts p.variables) e

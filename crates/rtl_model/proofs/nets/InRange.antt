@@ -1,11 +1,11 @@
 -- The bodies of a netlist in range assign values of their targets' types, and read nothing that isn't there.
-use Rattle.std.proofs.Common.{◌≡◌, ℕ, zero, suc, ◌+◌, ◌<◌, ◌≤◌, List, [], ◌∷◌, ◌++◌, length, get_or, map, replicate, slice_index, Option, Some, None}
+use Rattle.std.proofs.Common.{◌≡◌, ℕ, zero, suc, ◌+◌, ◌<◌, ◌≤◌, Bool, List, [], ◌∷◌, ◌++◌, length, get_or, map, replicate, slice_index, Option, Some, None}
 use Rattle.std.proofs.Common.{refl, sym, ap, ◌∙◌, subst, arith, ◌⊎◌, inl, inr, All, length-append}
 use Rattle.std.proofs.lemmas.List.{length-map, length-replicate, get_or_past}
 use Rattle.std.proofs.lemmas.Option.{slice_get_within, get_or_from_slice_get}
 use Rattle.std.proofs.lemmas.Bool.{cases_lt}
 use Rattle.rtl_model.specs.bodies.Body.{Stmts}
-use Rattle.rtl_model.specs.bodies.Kinds.{ResetPart, Clocking, clocking, IsClockedAlone, IsClockedWithReset}
+use Rattle.rtl_model.specs.bodies.Kinds.{ResetPart, Clocking, clocking, IsClocked}
 use Rattle.rtl_model.specs.bodies.Laws.{SeesTypes}
 use Rattle.rtl_model.specs.bodies.Types.{ElementType, enumeration, limit_of, HasType, KeepsTypes}
 use Rattle.rtl_model.specs.bodies.Fits.{Fits}
@@ -58,26 +58,30 @@ starts_keep (v ∷ vs) h n t e =
 
 -- ---- parts of a body that fits
 
-branch_fits : (inputs : List ℕ) (types : List ElementType) (p : FlatProcess) → Fits (scope_of types p) p.body → Fits (scope_of types p) (acting_branch (clocking inputs p.body))
-branch_fits inputs types p h = go (clocking inputs p.body) refl
+branch_fits : (wide : Bool) (inputs : List ℕ) (types : List ElementType) (p : FlatProcess) → Fits (scope_of types p) p.body → Fits (scope_of types p) (acting_branch (clocking wide inputs p.body))
+branch_fits wide inputs types p h = go (clocking wide inputs p.body) refl
   where
-    part : (k : Clocking) → IsClockedAlone p.body k ⊎ IsClockedWithReset inputs p.body k → Fits (scope_of types p) k.branch
+    part : (k : Clocking) → IsClocked wide inputs p.body k → Fits (scope_of types p) k.branch
     part k (inl x) = (subst (λ (s : Stmts). Fits (scope_of types p) s) x.is h).0.1
-    part k (inr x) = (subst (λ (s : Stmts). Fits (scope_of types p) s) x.is h).0.2.1
+    part k (inr (inl x)) = (subst (λ (s : Stmts). Fits (scope_of types p) s) x.is h).0.2.1
+    part k (inr (inr x)) = (subst (λ (s : Stmts). Fits (scope_of types p) s) x.is h).0.1
 
-    go : (o : Option Clocking) → clocking inputs p.body ≡ o → Fits (scope_of types p) (acting_branch o)
+    go : (o : Option Clocking) → clocking wide inputs p.body ≡ o → Fits (scope_of types p) (acting_branch o)
     go None e = tt
-    go (Some k) e = part k (clocked_is inputs p.body k e)
+    go (Some k) e = part k (clocked_is wide inputs p.body k e)
 
-reset_fits : (inputs : List ℕ) (types : List ElementType) (p : FlatProcess) (k : Clocking) (x : ResetPart) → clocking inputs p.body ≡ Some k → k.reset ≡ Some x
+reset_fits : (wide : Bool) (inputs : List ℕ) (types : List ElementType) (p : FlatProcess) (k : Clocking) (x : ResetPart) → clocking wide inputs p.body ≡ Some k → k.reset ≡ Some x
     → Fits (scope_of types p) p.body → Fits (scope_of types p) x.branch
-reset_fits inputs types p k x e r h = part (clocked_is inputs p.body k e)
+reset_fits wide inputs types p k x e r h = part (clocked_is wide inputs p.body k e)
   where
-    part : IsClockedAlone p.body k ⊎ IsClockedWithReset inputs p.body k → Fits (scope_of types p) x.branch
+    part : IsClocked wide inputs p.body k → Fits (scope_of types p) x.branch
     part (inl y) = let f = y.no_reset in absurd cc
-    part (inr y) =
+    part (inr (inl y)) =
         let same : y.reset ≡ x = (let f = y.reset_is in cc) in
         subst (λ (z : ResetPart). Fits (scope_of types p) z.branch) same (subst (λ (s : Stmts). Fits (scope_of types p) s) y.is h).0.1
+    part (inr (inr y)) =
+        let same : y.reset ≡ x = (let f = y.reset_is in cc) in
+        subst (λ (z : ResetPart). Fits (scope_of types p) z.branch) same (subst (λ (s : Stmts). Fits (scope_of types p) s) y.is h).1.0.1
 
 module _ (net : FlatNetlist) (in_range : IsInRange net) where
   pub process_in_range : (p : ℕ) → p < length net.processes → ProcessInRange net.types (flat.process_at net p)
@@ -138,13 +142,13 @@ module _ (net : FlatNetlist) (in_range : IsInRange net) where
       rw (process-core_net net p)
       (λ l h.
       let there = has_process p place l in
-      entry_below p place x (acting_branch (clocking net.inputs (flat.process_at net p).body)) now now there (branch_fits net.inputs net.types (flat.process_at net p) (process_in_range p there).body) (keeps_types now is) l h)
+      entry_below p place x (acting_branch (clocking net.wide net.inputs (flat.process_at net p).body)) now now there (branch_fits net.wide net.inputs net.types (flat.process_at net p) (process_in_range p there).body) (keeps_types now is) l h)
 
   -- a reset's branch reads nothing, so its entries are those in the starting valuation
   of_reset : (p place x : ℕ) → c.HasPlace (core_netlist net) p place → c.reset_entry (c.reset_of (core_netlist net) p) place ≡ Some x → x < limit (core_netlist net) (c.target (core_netlist net) p place)
-  of_reset p place x = rw (process-core_net net p) (λ l h. go l (clocking net.inputs (flat.process_at net p).body) _ refl h)
+  of_reset p place x = rw (process-core_net net p) (λ l h. go l (clocking net.wide net.inputs (flat.process_at net p).body) _ refl h)
     where
-      go : place < length (targets (flat.process_at net p)) → (o : Option Clocking) (ns : List ℕ) → clocking net.inputs (flat.process_at net p).body ≡ o
+      go : place < length (targets (flat.process_at net p)) → (o : Option Clocking) (ns : List ℕ) → clocking net.wide net.inputs (flat.process_at net p).body ≡ o
           → c.reset_entry (c.kind_reset (core_kind (flat.process_at net p) o ns)) place ≡ Some x
           → x < slice_index (map limit_of net.types) (slice_index (targets (flat.process_at net p)) place)
       go l None [] e h = absurd cc
@@ -157,8 +161,8 @@ module _ (net : FlatNetlist) (in_range : IsInRange net) where
           of_part (Some y) r g =
               let there = has_process p place l in
               let q = flat.process_at net p in
-              let fits = reset_fits net.inputs net.types q k y e r (process_in_range p there).body in
-              entry_below p place x y.branch [] net.start there fits (keeps_types net.start start_is_valuation) l (ap (λ (row : List (Option ℕ)). get_or row place None) (reset_anywhere net.inputs q k y e r [] net.start) ∙ g)
+              let fits = reset_fits net.wide net.inputs net.types q k y e r (process_in_range p there).body in
+              entry_below p place x y.branch [] net.start there fits (keeps_types net.start start_is_valuation) l (ap (λ (row : List (Option ℕ)). get_or row place None) (reset_anywhere net.wide net.inputs q k y e r [] net.start) ∙ g)
 
   pub keeps_range : KeepsRange (core_netlist net)
   keeps_range = record {

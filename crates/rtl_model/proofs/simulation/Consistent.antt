@@ -75,7 +75,7 @@ each_stays_consistent net wired = record {
 
 -- ---- inputs
 
-same_inputs : (net : Netlist) (inputs other : ℕ → ℕ) (old : List ℕ) → ((n : ℕ) → IsInput net n → inputs n ≡ other n) → with_inputs net inputs old ≡ with_inputs net other old
+pub same_inputs : (net : Netlist) (inputs other : ℕ → ℕ) (old : List ℕ) → ((n : ℕ) → IsInput net n → inputs n ≡ other n) → with_inputs net inputs old ≡ with_inputs net other old
 same_inputs net inputs other old h = λ i. map (λ n. at n (list_any (λ m. m == n) net.inputs) (λ e. h n e) i) (range_with_len 0 (length net.start))
   where
     at : (n : ℕ) (b : Bool) → (b ≡ true → inputs n ≡ other n) → (if b then inputs n else slice_index old n) ≡ (if b then other n else slice_index old n)
@@ -94,7 +94,7 @@ takes_inputs_alone net inputs other h = record {
     of_now : State → List ℕ → State
     of_now s now = record { before = s.now; now = now; drivers = s.drivers; pending = s.pending; waiting = resumed_processes net s.now now }
 
-given_at : (net : Netlist) → IsWired net → (inputs : ℕ → ℕ) (old : List ℕ) (n : ℕ) → IsInput net n → get_or (with_inputs net inputs old) n 0 ≡ inputs n
+pub given_at : (net : Netlist) → IsWired net → (inputs : ℕ → ℕ) (old : List ℕ) (n : ℕ) → IsInput net n → get_or (with_inputs net inputs old) n 0 ≡ inputs n
 given_at net wired inputs old n is =
     get_or-table (length net.start) (λ m. if list_any (λ k. k == m) net.inputs then inputs m else get_or old m 0) n (wired.inputs_are_nets n is) ∙ cond-true _ _ _ is
 

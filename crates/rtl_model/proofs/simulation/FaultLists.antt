@@ -1,20 +1,21 @@
 -- A netlist has one list of faults, unless it has loops alone; and one at all only where it isn't accepted.
-use Rattle.std.proofs.Common.{◌≡◌, ℕ, Bool, true, false, List, [], ◌∷◌, refl, subst, arith, ◌⊎◌, inl, inr, IsTrue}
+use Rattle.std.proofs.Common.{◌≡◌, ℕ, Bool, true, false, List, [], ◌∷◌, refl, arith, ◌⊎◌, inl, inr, IsTrue}
 use Rattle.std.proofs.lemmas.Bool.{false_from_ne_true}
 use Rattle.rtl_model.specs.simulation.Netlist.{Netlist, process}
-use Rattle.rtl_model.specs.simulation.Accepted.{Fault, TwoDrivers, MixedProcess, ClockNotInput, EdgeNotSensitive, ClockAsData, MissingSensitivity, Latch, Loop, StoredVariable, IsFault, IsAccepted, HasNoLoop}
+use Rattle.rtl_model.specs.simulation.Accepted.{Fault, TwoDrivers, MixedProcess, ClockNotInput, EdgeNotSensitive, ClockAsData, MissingSensitivity, Latch, Loop, NetLoop, StoredVariable, IsFault, IsAccepted, HasNoLoop, HasNoNetLoop, LooksAt}
 use Rattle.rtl_model.specs.simulation.Faults.{fault_key, is_no_loop, is_of_stored, AreFaultsOf, AreFaultsButLoops, AreStored, IsOneLoop, AreFaults}
-use Rattle.rtl_model.specs.simulation.Laws.{EachFaultIsListed}
+use Rattle.rtl_model.specs.simulation.Laws.{AcceptedByProcesses, EachFaultIsListed}
 use Rattle.rtl_model.proofs.basics.Lists.{Contains-none, Contains-first}
+use Rattle.rtl_model.specs.simulation.NetLevels.{IsDerived}
 use Rattle.rtl_model.proofs.basics.Rising.{same_elements}
+use Rattle.rtl_model.proofs.basics.Chains.{no_circle}
+use Rattle.rtl_model.proofs.simulation.Faultless.{faultless_by}
+use Rattle.rtl_model.proofs.simulation.Levels.{by_levels, outer_resets}
+use Rattle.rtl_model.proofs.simulation.Loops.{levels_exist}
+use Rattle.rtl_model.proofs.simulation.Numbered.{Numbered, rises_along}
 
 one_of : (net : Netlist) (among : Fault → Bool) (faults other : List Fault) → AreFaultsOf net among faults → AreFaultsOf net among other → faults ≡ other
 one_of net among faults other a b = same_elements fault_key faults other a.rise b.rise (λ f c. (b.are f).1 ((a.are f).0 c)) (λ f c. (a.are f).1 ((b.are f).0 c))
-
--- no fault but loops, or a loop
-loop_or_not : (f : Fault) → (is_no_loop f ≡ true) ⊎ ((processes : List ℕ) × (f ≡ Loop processes))
-loop_or_not (Loop ps) = inr (ps, refl)
-loop_or_not _ = inl refl
 
 module _ (net : Netlist) where
   none_listed : (among : Fault → Bool) → ((f : Fault) → IsFault net f → IsTrue (among f) → ⊥) → AreFaultsOf net among []
@@ -32,14 +33,12 @@ module _ (net : Netlist) where
   none_if_accepted : (faults : List Fault) → AreFaults net faults → IsAccepted net → ⊥
   none_if_accepted [] (inl (a, some)) accepted = some refl
   none_if_accepted (f ∷ faults) (inl (a, some)) accepted = accepted f ((a.are f).0 (Contains-first f faults)).0
-  none_if_accepted faults (inr loop) accepted = accepted (Loop loop.processes) loop.loop
+  none_if_accepted faults (inr loop) accepted = accepted loop.loop loop.has
 
-  accepted_from : AreFaultsButLoops net [] × HasNoLoop net → IsAccepted net
-  accepted_from (none, no_loop) f is = go (loop_or_not f)
-    where
-      go : (is_no_loop f ≡ true) ⊎ ((processes : List ℕ) × (f ≡ Loop processes)) → ⊥
-      go (inl t) = nothing_is is_no_loop none f is t
-      go (inr (ps, e)) = no_loop ps (subst (λ (g : Fault). IsFault net g) e is)
+  accepted_from : AreFaultsButLoops net [] × (net.wide ≡ false → HasNoLoop net) × (IsTrue net.wide → HasNoNetLoop net) → IsAccepted net
+  accepted_from (none, narrow, wide) (Loop ps) is = narrow is.0 ps is.1
+  accepted_from (none, narrow, wide) (NetLoop ns) is = wide is.0 ns is.1
+  accepted_from (none, narrow, wide) f is = nothing_is is_no_loop none f is refl
 
   stores_nothing : AreStored net [] → (p variable place : ℕ) → (process net p).stores variable place ≡ false
   stores_nothing none p variable place = false_from_ne_true _ (λ t. nothing_is is_of_stored none (StoredVariable p variable place) t refl)
@@ -57,12 +56,21 @@ module _ (net : Netlist) where
       go (MissingSensitivity p n) is t = cc
       go (Latch p n) is t = cc
       go (Loop ps) is t = cc
+      go (NetLoop ns) is t = cc
 
 pub each_fault_is_listed : EachFaultIsListed
 each_fault_is_listed net = record {
   one_of = one_of net;
   one_list = one_list net;
   none_if_accepted = none_if_accepted net;
-  accepted_is = (λ accepted. (none_listed net is_no_loop (λ f is t. accepted f is), λ ps loop. accepted (Loop ps) loop), accepted_from net);
+  accepted_is = (λ accepted. (none_listed net is_no_loop (λ f is t. accepted f is), λ narrow ps loop. accepted (Loop ps) (narrow, loop), λ wide ns loop. accepted (NetLoop ns) (wide, loop)), accepted_from net);
   stores_none = (stores_nothing net, none_stored net);
 }
+
+pub accepted_by_processes : AcceptedByProcesses
+accepted_by_processes net E none no_loop by_processes = accepted_from net (none, λ narrow. no_loop, λ wide. no_circle (λ m n. LooksAt net n m) (IsDerived net) numbers.of_net (rises_along net numbers))
+  where
+    numbers : Numbered net
+    numbers =
+        let (levels, greatest, V) = levels_exist net no_loop in
+        by_levels net E (faultless_by net (nothing_is net is_no_loop none)) (outer_resets net E by_processes) levels greatest V

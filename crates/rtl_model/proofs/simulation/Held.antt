@@ -1,23 +1,35 @@
 -- What holds at the end of every cycle, and that a delta cycle keeps it and leaves fewer numbers with transactions.
-use Rattle.std.proofs.Common.{◌==◌, ◌≡◌, ℕ, zero, suc, ◌+◌, ◌<◌, ◌≤◌, Bool, true, false, List, [], ◌∷◌, length, get_or, map, Option, Some, None, refl, sym, ap, ◌∙◌, arith, ◌⊎◌, inl, inr, subst, IsSome, Contains}
+use Rattle.std.proofs.Common.{◌==◌, ◌≡◌, ℕ, zero, suc, ◌+◌, ◌<◌, ◌≤◌, Bool, true, false, List, [], ◌∷◌, length, get_or, map, Option, Some, None, refl, sym, ap, ◌∙◌, arith, ◌⊎◌, inl, inr, subst, IsSome, Contains, ◌&&◌, not}
 use Rattle.std.specs.List.{list_any}
 use Rattle.std.proofs.lemmas.List.{length-map, get_or_past}
 use Rattle.std.proofs.lemmas.List.FromFn.{length-map-range_with_len}
 use Rattle.std.proofs.lemmas.Bool.{cases_lt, cases_Bool, cond-true, cond-false}
 use Rattle.rtl_model.proofs.basics.Lists.{Contains-none, any_at, Contains-first, none_contained, only_source}
-use Rattle.rtl_model.specs.basics.Valuations.{AgreeOn, clocked_entry, has_event}
-use Rattle.rtl_model.proofs.simulation.Faultless.{kinds, kinds_below}
+use Rattle.rtl_model.specs.basics.Valuations.{AgreeOn, clocked_entry, entry_where, has_event}
+use Rattle.rtl_model.proofs.bodies.Sequences.{or_else-none}
+use Rattle.rtl_model.proofs.simulation.Faultless.{kinds, kinds_below, place_in_range, undriven_input}
 use Rattle.rtl_model.proofs.simulation.Numbered.{CanAssign, Numbered, assigned, sole, driven_or_not}
-use Rattle.rtl_model.specs.simulation.Netlist.{Driver, Edge, HasPlace, Idle, IsClockedBy, IsCombinational, IsInput, Netlist, process, Process, Reset, reset_entry, reset_of, resets, Source, sources_of, target}
+use Rattle.rtl_model.specs.simulation.Netlist.{Driver, Edge, HasPlace, Idle, IsClockedBy, IsCombinational, IsInput, Netlist, process, Process, Reset, reset_entry, reset_of, resets, holds_back, Source, sources_of, target, IsDriven}
 use Rattle.rtl_model.specs.simulation.Cycle.{is_quiet, net_value, resumed_processes, source_value, State, after_update}
-use Rattle.rtl_model.specs.simulation.Machine.{entry_or, IsDriven}
+use Rattle.rtl_model.specs.simulation.Machine.{entry_or}
 use Rattle.rtl_model.proofs.simulation.Order.{finished, waits, row_after, get_or-rows}
 use Rattle.rtl_model.proofs.simulation.Solution.{get_or-table, length-table}
 use Rattle.rtl_model.proofs.simulation.Rows.{transaction, value, out, driven_all_at, length-driven, driven_at, over_none, none_pending_at, quiet_from, resumed_at, event_differs, no_event_same}
 use Rattle.rtl_model.proofs.simulation.Deltas.{after_delta, after}
 
--- r is what the driver of each register has from the next update on
-pub record Holds (net : Netlist) (inputs : ℕ → ℕ) (r : ℕ → ℕ → ℕ) (s : State) : Type 0 where
+-- v is the nets' valuation after s, or after some delta cycles
+abbrev pub IsSeen : Netlist → State → List ℕ → Type 0
+IsSeen net s v = (k : ℕ) × (v ≡ (after net k s).now)
+
+-- p's reset has held, in a valuation that was seen, and its entry lies over what the register had
+pub record IsLaidOver (net : Netlist) (r : ℕ → ℕ → ℕ) (Seen : List ℕ → Type 0) (s : State) (p place : ℕ) : Type 0 where
+  pub valuation : List ℕ
+  pub seen : Seen valuation
+  pub held : resets (reset_of net p) (λ n. get_or valuation n 0) ≡ true
+  pub laid : out s p place ≡ entry_or (reset_entry (reset_of net p) place) (r p place)
+
+-- r is what the driver of each register had after a moment's first cycle, and Seen holds of the nets' valuations since then
+pub record Holds (net : Netlist) (inputs : ℕ → ℕ) (r : ℕ → ℕ → ℕ) (Seen : List ℕ → Type 0) (s : State) : Type 0 where
   pub now_length : length s.now ≡ length net.start
   pub pend_length : length s.pending ≡ length net.processes
   pub row_lengths : (p : ℕ) → length (get_or s.drivers p []) ≡ length (process net p).drives
@@ -25,9 +37,10 @@ pub record Holds (net : Netlist) (inputs : ℕ → ℕ) (r : ℕ → ℕ → ℕ
   pub on_others : (n : ℕ) → n < length net.start → (IsInput net n → ⊥) → (IsDriven net n → ⊥) → get_or s.now n 0 ≡ get_or net.start n 0
   pub on_driven : (p place : ℕ) → HasPlace net p place → get_or s.now (target net p place) 0 ≡ value s p place
   pub on_combinational : (p place : ℕ) → IsCombinational net p → HasPlace net p place → get_or ((process net p).effect s.now s.now) place None ≡ Some (out s p place)
-  pub on_clocked : (p place clock : ℕ) (edge : Edge) → IsClockedBy net p clock edge → HasPlace net p place → out s p place ≡ r p place
-  -- where a reset holds, its branch has been laid over the registers
-  pub reset_kept : (p place clock : ℕ) (edge : Edge) → IsClockedBy net p clock edge → HasPlace net p place → resets (reset_of net p) inputs ≡ true → entry_or (reset_entry (reset_of net p) place) (r p place) ≡ r p place
+  -- what a register's driver has from the next update on
+  pub on_clocked : (p place clock : ℕ) (edge : Edge) → IsClockedBy net p clock edge → HasPlace net p place → (out s p place ≡ r p place) ⊎ IsLaidOver net r Seen s p place
+  -- where a reset holds, its entry lies over that
+  pub reset_kept : (p place clock : ℕ) (edge : Edge) → IsClockedBy net p clock edge → HasPlace net p place → resets (reset_of net p) (λ n. get_or s.now n 0) ≡ true → entry_or (reset_entry (reset_of net p) place) (out s p place) ≡ out s p place
 
 -- a cycle whose Runs are still to come: nothing is pending
 pub record IsFresh (net : Netlist) (u : State) : Type 0 where
@@ -39,21 +52,24 @@ pub record IsAbove (net : Netlist) (L : Numbered net) (d b : ℕ) (s : State) : 
   pub runs : (p place : ℕ) → p < length net.processes → IsSome (transaction s p place) → d + 1 ≤ L.of_process p + b
   pub changes : (p place : ℕ) → HasPlace net p place → (d + 1 ≤ L.of_net (target net p place) + b) ⊎ (out s p place ≡ value s p place)
 
--- the cases of a clocked process's entry
-pub entry_none : (reset edge : Bool) (a b : Option ℕ) → reset ≡ false → edge ≡ false → clocked_entry reset edge a b ≡ None
-entry_none reset edge a b re e = rw (re, e) refl
+-- what a clocked process assigns where its edge doesn't hold: its reset's entry
+pub no_edge_entry : (holds edge open' : Bool) (a b : Option ℕ) → edge ≡ false → clocked_entry holds (edge && open') a b ≡ entry_where holds a
+no_edge_entry holds edge open' a b e = rw e (or_else-none (entry_where holds a))
 
-pub entry_of_reset : (reset edge : Bool) (a b : Option ℕ) → reset ≡ true → clocked_entry reset edge a b ≡ a
-entry_of_reset reset edge a b re = rw re refl
+pub entry_twice : (o : Option ℕ) (x : ℕ) → entry_or o (entry_or o x) ≡ entry_or o x
+entry_twice (Some v) x = refl
+entry_twice None x = refl
 
-pub entry_of_branch : (reset edge : Bool) (a b : Option ℕ) → reset ≡ false → edge ≡ true → clocked_entry reset edge a b ≡ b
-entry_of_branch reset edge a b re e = rw (re, e) refl
+-- a reset that holds lies over its branch
+pub over_branch : (a : Option ℕ) (acts : Bool) (b : Option ℕ) (x : ℕ) → entry_or a (entry_or (clocked_entry true acts a b) x) ≡ entry_or (clocked_entry true acts a b) x
+over_branch (Some v) acts b x = refl
+over_branch None acts b x = refl
 
 some_is : (o t : Option ℕ) (v : ℕ) → IsSome o → t ≡ o → o ≡ Some (entry_or t v)
 some_is (Some x) t v h e = rw e refl
 some_is None t v h e = cc
 
-none_or_some : (o : Option ℕ) → (o ≡ None) ⊎ IsSome o
+pub none_or_some : (o : Option ℕ) → (o ≡ None) ⊎ IsSome o
 none_or_some None = inl refl
 none_or_some (Some v) = inr refl
 
@@ -92,33 +108,27 @@ who_ran net u p place f s = (go (cases_lt p (length u.pending)), at (cases_Bool 
 
 module _ (net : Netlist) (L : Numbered net) where
   pub input_not_driven : (n : ℕ) → IsInput net n → IsDriven net n → ⊥
-  input_not_driven n is (p, place, h, t) = Contains-none (Driver p place) (subst (λ (xs : List Source). Contains xs (Driver p place)) (L.elaborated.wiring.inputs_have_no_source n is) (subst (λ (m : ℕ). Contains (sources_of net m) (Driver p place)) t (L.elaborated.wiring.drivers_are_sources p place h)))
+  input_not_driven = undriven_input net L.elaborated.wiring
 
   -- what a clocked process has after its run
   pub clocked_awake : (u : State) (p place clock : ℕ) (edge : Edge) → IsFresh net u → IsClockedBy net p clock edge → p < length net.processes → waits u p ≡ true
-      → transaction (finished net u) p place ≡ clocked_entry (resets (reset_of net p) (λ n. get_or u.now n 0)) (net.edge edge (get_or u.before clock 0) (get_or u.now clock 0)) (reset_entry (reset_of net p) place) (get_or ((process net p).acting_effect u.now) place None)
+      → transaction (finished net u) p place
+      ≡ clocked_entry (resets (reset_of net p) (λ n. get_or u.now n 0)) (net.edge edge (get_or u.before clock 0) (get_or u.now clock 0) && not (holds_back (reset_of net p) (λ n. get_or u.now n 0))) (reset_entry (reset_of net p) place) (get_or ((process net p).acting_effect u.now) place None)
   clocked_awake u p place clock edge f is l w = ran_awake net u p place f l w ∙ L.elaborated.bodies.clocked_acts p clock place edge u.before u.now is
 
-  -- a clocked process whose clock has no event assigns nothing, unless its reset holds
-  pub clocked_ran : (u : State) (p place clock : ℕ) (edge : Edge) → IsFresh net u → IsClockedBy net p clock edge → resets (reset_of net p) (λ n. get_or u.now n 0) ≡ false → net.edge edge (get_or u.before clock 0) (get_or u.now clock 0) ≡ false → transaction (finished net u) p place ≡ None
-  clocked_ran u p place clock edge f is re e = go (none_or_some (transaction (finished net u) p place))
-    where
-      go : (transaction (finished net u) p place ≡ None) ⊎ IsSome (transaction (finished net u) p place) → transaction (finished net u) p place ≡ None
-      go (inl h) = h
-      go (inr h) =
-          let (l, w) = who_ran net u p place f h in
-          clocked_awake u p place clock edge f is l w ∙ entry_none _ _ _ _ re e
+  -- without its edge: its reset's entry
+  pub reset_awake : (u : State) (p place clock : ℕ) (edge : Edge) → IsFresh net u → IsClockedBy net p clock edge → p < length net.processes → waits u p ≡ true → net.edge edge (get_or u.before clock 0) (get_or u.now clock 0) ≡ false
+      → transaction (finished net u) p place ≡ entry_where (resets (reset_of net p) (λ n. get_or u.now n 0)) (reset_entry (reset_of net p) place)
+  reset_awake u p place clock edge f is l w e = clocked_awake u p place clock edge f is l w
+      ∙ no_edge_entry (resets (reset_of net p) (λ n. get_or u.now n 0)) (net.edge edge (get_or u.before clock 0) (get_or u.now clock 0)) (not (holds_back (reset_of net p) (λ n. get_or u.now n 0))) (reset_entry (reset_of net p) place) (get_or ((process net p).acting_effect u.now) place None) e
 
-  pub reset_ran : (u : State) (p place clock : ℕ) (edge : Edge) → IsFresh net u → IsClockedBy net p clock edge → p < length net.processes → waits u p ≡ true → resets (reset_of net p) (λ n. get_or u.now n 0) ≡ true → transaction (finished net u) p place ≡ reset_entry (reset_of net p) place
-  reset_ran u p place clock edge f is l w re = clocked_awake u p place clock edge f is l w ∙ entry_of_reset _ _ _ _ re
-
-  -- a reset reads an input
-  pub reset_now : (p : ℕ) (v w : ℕ → ℕ) → ((n : ℕ) → IsInput net n → v n ≡ w n) → resets (reset_of net p) v ≡ resets (reset_of net p) w
-  reset_now p v w h = go (reset_of net p) refl
+  -- a reset that wakes no process holds as before
+  pub reset_asleep : (before now : List ℕ) (p : ℕ) → list_any (has_event before now) (process net p).wakes ≡ false → resets (reset_of net p) (λ n. get_or now n 0) ≡ resets (reset_of net p) (λ n. get_or before n 0)
+  reset_asleep before now p w = go (reset_of net p) refl
     where
-      go : (o : Option Reset) → reset_of net p ≡ o → resets o v ≡ resets o w
+      go : (o : Option Reset) → reset_of net p ≡ o → resets o (λ n. get_or now n 0) ≡ resets o (λ n. get_or before n 0)
       go None e = refl
-      go (Some r) e = ap (λ (x : ℕ). x == r.value) (h r.net (L.elaborated.bodies.reset_is_input p r e))
+      go (Some x) e = ap (λ (v : ℕ). v == x.value) (sym (no_event_same before now x.net (none_contained (has_event before now) (process net p).wakes x.net w (L.faultless.reset_wakes p x e))))
 
   pub no_edge_same : (before now : List ℕ) (clock : ℕ) (edge : Edge) → get_or before clock 0 ≡ get_or now clock 0 → net.edge edge (get_or before clock 0) (get_or now clock 0) ≡ false
   no_edge_same before now clock edge e = rw e (L.elaborated.values.edges_differ edge (get_or now clock 0))
@@ -147,7 +157,7 @@ module _ (net : Netlist) (L : Numbered net) where
           L.elaborated.bodies.entry_looks p place u.now u.now u.before u.before c h (λ n k. sym (agree n (L.elaborated.bodies.looks_are_read p place n k))) ∙ was
           ∙ ap (λ (o : Option ℕ). Some (entry_or o (value u p place))) (sym (ran_asleep net u p place f w))
 
-  module _ (inputs : ℕ → ℕ) (r : ℕ → ℕ → ℕ) (s : State) (H : Holds net inputs r s) where
+  module _ (inputs : ℕ → ℕ) (r : ℕ → ℕ → ℕ) (Seen : List ℕ → Type 0) (s : State) (H : Holds net inputs r Seen s) where
     pub updated_fresh : IsFresh net (after_update net s)
     updated_fresh = record { rows = length-map s.pending _ ∙ H.pend_length; none = none_pending_at s.pending }
 
@@ -186,44 +196,77 @@ module _ (net : Netlist) (L : Numbered net) where
             let k = H.now_length in
             get_or_past (after_update net s).now n 0 (rw length-table l) ∙ sym (get_or_past s.now n 0 (omega arith))
 
-    reset_after : (p : ℕ) → resets (reset_of net p) (λ n. get_or (after_update net s).now n 0) ≡ resets (reset_of net p) inputs
-    reset_after p = reset_now p (λ n. get_or (after_update net s).now n 0) inputs (λ n is. updated_rest n (input_not_driven n is) ∙ H.on_inputs n is)
-
     no_edge_then : (p clock : ℕ) (edge : Edge) → IsClockedBy net p clock edge → net.edge edge (get_or s.now clock 0) (get_or (after_update net s).now clock 0) ≡ false
     no_edge_then p clock edge is = no_edge_same s.now (after_update net s).now clock edge (sym (updated_rest clock (input_not_driven clock (L.faultless.clock_is_input p clock edge is))))
 
-    -- who has a transaction then is in reset
-    delta_resets : (p place clock : ℕ) (edge : Edge) → IsClockedBy net p clock edge → IsSome (transaction (after_delta net s) p place) → resets (reset_of net p) inputs ≡ true
-    delta_resets p place clock edge is some = go (cases_Bool (resets (reset_of net p) inputs))
-      where
-        go : (resets (reset_of net p) inputs ≡ true) ⊎ (resets (reset_of net p) inputs ≡ false) → resets (reset_of net p) inputs ≡ true
-        go (inl t) = t
-        go (inr t) = let none = clocked_ran (after_update net s) p place clock edge updated_fresh is (reset_after p ∙ t) (no_edge_then p clock edge is) in cc
+    -- whether p's reset holds in the next delta cycle
+    abbrev resets_then : ℕ → Bool
+    resets_then p = resets (reset_of net p) (λ n. get_or (after_update net s).now n 0)
 
-    -- a clocked process makes no event after a delta cycle
-    delta_same : (p place clock : ℕ) (edge : Edge) → IsClockedBy net p clock edge → HasPlace net p place → entry_or (transaction (after_delta net s) p place) (out s p place) ≡ out s p place
-    delta_same p place clock edge is h = go (none_or_some (transaction (after_delta net s) p place))
+    -- what a clocked process assigns then: nothing, or its reset's entry, where the reset holds
+    delta_entry : (p place clock : ℕ) (edge : Edge) → IsClockedBy net p clock edge → (transaction (after_delta net s) p place ≡ None) ⊎ ((resets_then p ≡ true) × (transaction (after_delta net s) p place ≡ reset_entry (reset_of net p) place))
+    delta_entry p place clock edge is = go (none_or_some (transaction (after_delta net s) p place)) (cases_Bool (resets_then p))
       where
-        go : (transaction (after_delta net s) p place ≡ None) ⊎ IsSome (transaction (after_delta net s) p place) → entry_or (transaction (after_delta net s) p place) (out s p place) ≡ out s p place
-        go (inl e) = ap (λ (o : Option ℕ). entry_or o (out s p place)) e
-        go (inr some) =
+        go : (transaction (after_delta net s) p place ≡ None) ⊎ IsSome (transaction (after_delta net s) p place) → (resets_then p ≡ true) ⊎ (resets_then p ≡ false)
+            → (transaction (after_delta net s) p place ≡ None) ⊎ ((resets_then p ≡ true) × (transaction (after_delta net s) p place ≡ reset_entry (reset_of net p) place))
+        go (inl none) holds = inl none
+        go (inr some) (inl holds) =
             let (l, w) = who_ran net (after_update net s) p place updated_fresh some in
-            let t = delta_resets p place clock edge is some in
-            let ran = reset_ran (after_update net s) p place clock edge updated_fresh is l w (reset_after p ∙ t) in
-            let was = H.on_clocked p place clock edge is h in
-            ap (λ (o : Option ℕ). entry_or o (out s p place)) ran ∙ ap (entry_or (reset_entry (reset_of net p) place)) was ∙ H.reset_kept p place clock edge is h t ∙ sym was
+            inr (holds, reset_awake (after_update net s) p place clock edge updated_fresh is l w (no_edge_then p clock edge is) ∙ ap (λ (b : Bool). entry_where b (reset_entry (reset_of net p) place)) holds)
+        go (inr some) (inr holds) =
+            let (l, w) = who_ran net (after_update net s) p place updated_fresh some in
+            inl (reset_awake (after_update net s) p place clock edge updated_fresh is l w (no_edge_then p clock edge is) ∙ ap (λ (b : Bool). entry_where b (reset_entry (reset_of net p) place)) holds)
 
-    pub delta_holds : Holds net inputs r (after_delta net s)
-    delta_holds = record {
+    -- what its driver has after it
+    delta_out : (p place : ℕ) (o : Option ℕ) → HasPlace net p place → transaction (after_delta net s) p place ≡ o → out (after_delta net s) p place ≡ entry_or o (out s p place)
+    delta_out p place o h t = (λ i. entry_or (t i) (updated_value p place h i))
+
+    delta_clocked : Seen (after_delta net s).now → (p place clock : ℕ) (edge : Edge) → IsClockedBy net p clock edge → HasPlace net p place → (out (after_delta net s) p place ≡ r p place) ⊎ IsLaidOver net r Seen (after_delta net s) p place
+    delta_clocked seen p place clock edge is h = go (delta_entry p place clock edge is) (H.on_clocked p place clock edge is h)
+      where
+        over : resets_then p ≡ true → transaction (after_delta net s) p place ≡ reset_entry (reset_of net p) place → (x : ℕ) → out s p place ≡ x
+            → entry_or (reset_entry (reset_of net p) place) x ≡ entry_or (reset_entry (reset_of net p) place) (r p place) → IsLaidOver net r Seen (after_delta net s) p place
+        over holds t x e same = record {
+          valuation = (after_delta net s).now;
+          seen = seen;
+          held = holds;
+          laid = delta_out p place (reset_entry (reset_of net p) place) h t ∙ ap (entry_or (reset_entry (reset_of net p) place)) e ∙ same;
+        }
+
+        go : (transaction (after_delta net s) p place ≡ None) ⊎ ((resets_then p ≡ true) × (transaction (after_delta net s) p place ≡ reset_entry (reset_of net p) place))
+            → (out s p place ≡ r p place) ⊎ IsLaidOver net r Seen s p place → (out (after_delta net s) p place ≡ r p place) ⊎ IsLaidOver net r Seen (after_delta net s) p place
+        go (inl none) (inl e) = inl (delta_out p place None h none ∙ e)
+        go (inl none) (inr o) = inr (record { valuation = o.valuation; seen = o.seen; held = o.held; laid = delta_out p place None h none ∙ o.laid })
+        go (inr (holds, t)) (inl e) = inr (over holds t (r p place) e refl)
+        go (inr (holds, t)) (inr o) = inr (over holds t (entry_or (reset_entry (reset_of net p) place) (r p place)) o.laid (entry_twice (reset_entry (reset_of net p) place) (r p place)))
+
+    delta_kept : (p place clock : ℕ) (edge : Edge) → IsClockedBy net p clock edge → HasPlace net p place → resets_then p ≡ true → entry_or (reset_entry (reset_of net p) place) (out (after_delta net s) p place) ≡ out (after_delta net s) p place
+    delta_kept p place clock edge is h holds = go (cases_Bool (waits (after_update net s) p))
+      where
+        go : (waits (after_update net s) p ≡ true) ⊎ (waits (after_update net s) p ≡ false) → entry_or (reset_entry (reset_of net p) place) (out (after_delta net s) p place) ≡ out (after_delta net s) p place
+        go (inl w) =
+            let t = reset_awake (after_update net s) p place clock edge updated_fresh is (place_in_range net p place h) w (no_edge_then p clock edge is) ∙ ap (λ (b : Bool). entry_where b (reset_entry (reset_of net p) place)) holds in
+            let e = delta_out p place (reset_entry (reset_of net p) place) h t in
+            ap (entry_or (reset_entry (reset_of net p) place)) e ∙ entry_twice (reset_entry (reset_of net p) place) (out s p place) ∙ sym e
+        go (inr w) =
+            let e = delta_out p place None h (ran_asleep net (after_update net s) p place updated_fresh w) in
+            let held = sym (reset_asleep s.now (after_update net s).now p (sym (resumed_at net s.now (after_update net s).now p) ∙ w)) ∙ holds in
+            ap (entry_or (reset_entry (reset_of net p) place)) e ∙ H.reset_kept p place clock edge is h held ∙ sym e
+
+    pub delta_combinational : (p place : ℕ) → IsCombinational net p → HasPlace net p place → get_or ((process net p).effect (after_delta net s).now (after_delta net s).now) place None ≡ Some (out (after_delta net s) p place)
+    delta_combinational p place c h = combinational_ran (after_update net s) p place updated_fresh refl c h (H.on_combinational p place c h ∙ ap (λ (x : ℕ). Some x) (sym (updated_value p place h)))
+
+    pub delta_holds : Seen (after_delta net s).now → Holds net inputs r Seen (after_delta net s)
+    delta_holds seen = record {
       now_length = length-table _ _;
       pend_length = length-map-range_with_len (row_after net (after_update net s)) 0 (length (after_update net s).pending) ∙ updated_fresh.rows;
       row_lengths = λ p. ap length (driven_all_at s.pending s.drivers p) ∙ length-driven (get_or s.pending p []) (get_or s.drivers p []) ∙ H.row_lengths p;
       on_inputs = λ n is. updated_rest n (input_not_driven n is) ∙ H.on_inputs n is;
       on_others = λ n l given free. updated_rest n free ∙ H.on_others n l given free;
       on_driven = updated_driven;
-      on_combinational = λ p place c h. combinational_ran (after_update net s) p place updated_fresh refl c h (H.on_combinational p place c h ∙ ap (λ (x : ℕ). Some x) (sym (updated_value p place h)));
-      on_clocked = λ p place clock edge is h. ap (entry_or (transaction (after_delta net s) p place)) (updated_value p place h) ∙ delta_same p place clock edge is h ∙ H.on_clocked p place clock edge is h;
-      reset_kept = H.reset_kept;
+      on_combinational = delta_combinational;
+      on_clocked = delta_clocked seen;
+      reset_kept = delta_kept;
     }
 
     -- a combinational driver that looks at no net with an event has what it had
@@ -233,7 +276,7 @@ module _ (net : Netlist) (L : Numbered net) where
         let agree : AgreeOn ((process net p).looks place) s.now (after_update net s).now = λ n k. no_event_same s.now (after_update net s).now n (none_contained (has_event s.now (after_update net s).now) ((process net p).looks place) n e k) in
         let same = L.elaborated.bodies.entry_looks p place s.now s.now (after_update net s).now (after_update net s).now c h agree in
         let was = H.on_combinational p place c h in
-        let is : get_or ((process net p).effect (after_update net s).now (after_update net s).now) place None ≡ Some (out (after_delta net s) p place) = delta_holds.on_combinational p place c h in
+        let is : get_or ((process net p).effect (after_update net s).now (after_update net s).now) place None ≡ Some (out (after_delta net s) p place) = delta_combinational p place c h in
         let e : out (after_delta net s) p place ≡ out s p place = cc in
         e ∙ sym (updated_value p place h)
 
@@ -260,13 +303,17 @@ module _ (net : Netlist) (L : Numbered net) where
       can_assign : (p place : ℕ) → IsSome (transaction (after_delta net s) p place) → p < length net.processes → CanAssign net p
       can_assign p place some l = go (kinds_below net L.faultless p l)
         where
-          has : (o : Option Reset) → reset_of net p ≡ o → resets o inputs ≡ true → CanAssign net p
+          has : (o : Option Reset) → reset_of net p ≡ o → resets o (λ n. get_or (after_update net s).now n 0) ≡ true → CanAssign net p
           has None e t = absurd cc
           has (Some reset) e t = inr (reset, e)
 
+          of_entry : (transaction (after_delta net s) p place ≡ None) ⊎ ((resets_then p ≡ true) × (transaction (after_delta net s) p place ≡ reset_entry (reset_of net p) place)) → CanAssign net p
+          of_entry (inl none) = cc
+          of_entry (inr (holds, t)) = has (reset_of net p) refl holds
+
           go : IsCombinational net p ⊎ ((clock : ℕ) × (edge : Edge) × IsClockedBy net p clock edge) → CanAssign net p
           go (inl c) = inl c
-          go (inr (clock, edge, is)) = has (reset_of net p) refl (delta_resets p place clock edge is some)
+          go (inr (clock, edge, is)) = of_entry (delta_entry p place clock edge is)
 
       runs_above : (p place : ℕ) → p < length net.processes → IsSome (transaction (after_delta net s) p place) → suc d + 1 ≤ L.of_process p + b
       runs_above p place l some =
@@ -288,31 +335,53 @@ module _ (net : Netlist) (L : Numbered net) where
 
           go : IsCombinational net p ⊎ ((clock : ℕ) × (edge : Edge) × IsClockedBy net p clock edge) → (suc d + 1 ≤ L.of_net (target net p place) + b) ⊎ (out (after_delta net s) p place ≡ value (after_delta net s) p place)
           go (inl c) = moved c (cases_Bool (list_any (has_event s.now (after_update net s).now) ((process net p).looks place)))
-          go (inr (clock, edge, is)) = inr (ap (entry_or (transaction (after_delta net s) p place)) (updated_value p place h) ∙ delta_same p place clock edge is h ∙ sym (updated_value p place h))
+          go (inr (clock, edge, is)) = of_entry (delta_entry p place clock edge is)
+            where
+              -- a reset that holds only now has an event on its net
+              of_reset : transaction (after_delta net s) p place ≡ reset_entry (reset_of net p) place → (o : Option Reset) → reset_of net p ≡ o → resets o (λ n. get_or (after_update net s).now n 0) ≡ true
+                  → (resets o (λ n. get_or s.now n 0) ≡ true) ⊎ (resets o (λ n. get_or s.now n 0) ≡ false)
+                  → (suc d + 1 ≤ L.of_net (target net p place) + b) ⊎ (out (after_delta net s) p place ≡ value (after_delta net s) p place)
+              of_reset t None e holds was = absurd cc
+              of_reset t (Some reset) e holds (inl was) =
+                  let held : resets (reset_of net p) (λ n. get_or s.now n 0) ≡ true = ap (λ (x : Option Reset). resets x (λ n. get_or s.now n 0)) e ∙ was in
+                  inr (delta_out p place (reset_entry (reset_of net p) place) h t ∙ H.reset_kept p place clock edge is h held ∙ sym (updated_value p place h))
+              of_reset t (Some reset) e holds (inr was) = by_entry (none_or_some (reset_entry (reset_of net p) place))
+                where
+                  by_entry : (reset_entry (reset_of net p) place ≡ None) ⊎ IsSome (reset_entry (reset_of net p) place) → (suc d + 1 ≤ L.of_net (target net p place) + b) ⊎ (out (after_delta net s) p place ≡ value (after_delta net s) p place)
+                  by_entry (inl none) = inr (delta_out p place None h (t ∙ none) ∙ sym (updated_value p place h))
+                  by_entry (inr some) =
+                      let (driven, k) = event_above reset.net (λ same. let f : (get_or s.now reset.net 0 == reset.value) ≡ (get_or (after_update net s).now reset.net 0 == reset.value) = ap (λ (x : ℕ). x == reset.value) same in cc) in
+                      let rises = L.resets_rise p place reset.net (((reset, e, refl), driven), some) h in
+                      inl (omega arith)
+
+              of_entry : (transaction (after_delta net s) p place ≡ None) ⊎ ((resets_then p ≡ true) × (transaction (after_delta net s) p place ≡ reset_entry (reset_of net p) place))
+                  → (suc d + 1 ≤ L.of_net (target net p place) + b) ⊎ (out (after_delta net s) p place ≡ value (after_delta net s) p place)
+              of_entry (inl none) = inr (delta_out p place None h none ∙ sym (updated_value p place h))
+              of_entry (inr (holds, t)) = of_reset t (reset_of net p) refl holds (cases_Bool (resets (reset_of net p) (λ n. get_or s.now n 0)))
 
       pub delta_above : IsAbove net L (suc d) b (after_delta net s)
       delta_above = record { runs = runs_above; changes = changes_above }
 
-  module _ (inputs : ℕ → ℕ) (r : ℕ → ℕ → ℕ) where
-    pub after_holds : (k : ℕ) (s : State) → Holds net inputs r s → Holds net inputs r (after net k s)
-    after_holds zero s H = H
-    after_holds (suc k) s H = after_holds k (after_delta net s) (delta_holds inputs r s H)
+  module _ (inputs : ℕ → ℕ) (r : ℕ → ℕ → ℕ) (Seen : List ℕ → Type 0) where
+    pub after_holds : (k : ℕ) (s : State) → ((j : ℕ) → Seen (after net j s).now) → Holds net inputs r Seen s → Holds net inputs r Seen (after net k s)
+    after_holds zero s seen H = H
+    after_holds (suc k) s seen H = after_holds k (after_delta net s) (λ j. seen (suc j)) (delta_holds inputs r Seen s H (seen 1))
 
-    after_above : (k d b : ℕ) (s : State) → Holds net inputs r s → IsAbove net L d b s → IsAbove net L (d + k) b (after net k s)
-    after_above zero d b s H above = let e : d ≡ d + 0 = omega arith in subst (λ (i : ℕ). IsAbove net L i b s) e above
-    after_above (suc k) d b s H above =
-        let more = after_above k (suc d) b (after_delta net s) (delta_holds inputs r s H) (delta_above inputs r s H d b above) in
+    after_above : (k d b : ℕ) (s : State) → ((j : ℕ) → Seen (after net j s).now) → Holds net inputs r Seen s → IsAbove net L d b s → IsAbove net L (d + k) b (after net k s)
+    after_above zero d b s seen H above = let e : d ≡ d + 0 = omega arith in subst (λ (i : ℕ). IsAbove net L i b s) e above
+    after_above (suc k) d b s seen H above =
+        let more = after_above k (suc d) b (after_delta net s) (λ j. seen (suc j)) (delta_holds inputs r Seen s H (seen 1)) (delta_above inputs r Seen s H d b above) in
         let e : suc d + k ≡ d + suc k = omega arith in
         subst (λ (i : ℕ). IsAbove net L i b (after net k (after_delta net s))) e more
 
-    pub quiet_after : (b : ℕ) (s : State) → Holds net inputs r s → IsAbove net L 0 b s → is_quiet (after net (L.greatest + b) s) ≡ true
-    quiet_after b s H above = quiet_from (after net (L.greatest + b) s) (λ p place l some. late p place (in_range p l) some)
+    pub quiet_after : (b : ℕ) (s : State) → ((j : ℕ) → Seen (after net j s).now) → Holds net inputs r Seen s → IsAbove net L 0 b s → is_quiet (after net (L.greatest + b) s) ≡ true
+    quiet_after b s seen H above = quiet_from (after net (L.greatest + b) s) (λ p place l some. late p place (in_range p l) some)
       where
         last : IsAbove net L (0 + (L.greatest + b)) b (after net (L.greatest + b) s)
-        last = after_above (L.greatest + b) 0 b s H above
+        last = after_above (L.greatest + b) 0 b s seen H above
 
         in_range : (p : ℕ) → p < length (after net (L.greatest + b) s).pending → p < length net.processes
-        in_range p l = let k = (after_holds (L.greatest + b) s H).pend_length in omega arith
+        in_range p l = let k = (after_holds (L.greatest + b) s seen H).pend_length in omega arith
 
         late : (p place : ℕ) → p < length net.processes → IsSome (transaction (after net (L.greatest + b) s) p place) → ⊥
         late p place l some = let k = last.runs p place l some in let m = L.process_within p in omega arith

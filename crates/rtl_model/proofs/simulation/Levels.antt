@@ -1,19 +1,24 @@
--- Levels of processes, and the numbering that they give: a net's number is the level of the process that drives it.
-use Rattle.std.proofs.Common.{◌≡◌, ℕ, zero, suc, ◌+◌, ◌<◌, ◌≤◌, true, cond, List, [], ◌∷◌, length, get_or, Option, Some, None, refl, sym, ap, arith, ◌⊎◌, inl, inr, subst, Contains, ◌&&◌}
+-- Levels of processes, and the numbering that they give: a net's number is the level of the process that drives it. And
+-- the numbering of any netlist that is accepted.
+use Rattle.std.proofs.Common.{◌≡◌, ℕ, zero, suc, ◌+◌, ◌<◌, ◌≤◌, true, false, cond, List, [], ◌∷◌, length, get_or, Option, Some, None, refl, sym, ap, arith, ◌⊎◌, inl, inr, subst, Contains, ◌&&◌}
 use Rattle.std.specs.List.{list_any}
 use Rattle.std.specs.Option.{is_some}
 use Rattle.std.proofs.lemmas.List.{get_or_past}
 use Rattle.std.proofs.lemmas.List.Elements.{Contains-get_or}
-use Rattle.std.proofs.lemmas.Bool.{cases_lt, and_from, cond-true}
+use Rattle.std.proofs.lemmas.Bool.{cases_Bool, cases_lt, and_from, cond-true}
 use Rattle.rtl_model.proofs.basics.Lists.{Contains-first, any_true, only_source}
-use Rattle.rtl_model.specs.simulation.Netlist.{Clocked, Combinational, Driver, Edge, HasPlace, HasReset, Idle, IsClockedBy, IsCombinational, ProcessKind, kind_reset, Mixed, Netlist, no_process, Process, process, Reset, Source, sources_of, target}
+use Rattle.rtl_model.proofs.basics.Chains.{no_circle}
+use Rattle.rtl_model.specs.simulation.Netlist.{Clocked, Combinational, Driver, Edge, HasPlace, HasReset, Idle, IsClockedBy, IsCombinational, IsInput, ProcessKind, kind_reset, Mixed, Netlist, no_process, Process, process, Reset, Source, sources_of, target, IsDriven}
 use Rattle.rtl_model.specs.simulation.Elaborated.{IsElaborated}
-use Rattle.rtl_model.specs.simulation.Accepted.{Feeds, IsAccepted}
+use Rattle.rtl_model.specs.simulation.Calm.{follows_inputs}
+use Rattle.rtl_model.specs.simulation.Accepted.{ClockAsData, ClockNotInput, EdgeNotSensitive, Feeds, HasNoLoop, HasNoNetLoop, IsAccepted, IsByNets, IsInnerReset, Latch, LooksAt, Loop, MissingSensitivity, MixedProcess, NetLoop, StoredVariable, TwoDrivers}
 use Rattle.rtl_model.specs.simulation.Levels.{AreLevels, ChainTo, has_late_reset, IsLevel, is_driver}
-use Rattle.rtl_model.specs.simulation.Machine.{entry_or, IsDriven}
-use Rattle.rtl_model.proofs.simulation.Faultless.{Faultless, faultless, kinds, no_loop}
+use Rattle.rtl_model.specs.simulation.Machine.{entry_or}
+use Rattle.rtl_model.specs.simulation.NetLevels.{IsDerived}
+use Rattle.rtl_model.proofs.simulation.Faultless.{Faultless, faultless, kinds, undriven_input}
 use Rattle.rtl_model.proofs.simulation.Loops.{levels_exist}
-use Rattle.rtl_model.proofs.simulation.Numbered.{CanAssign, Numbered}
+use Rattle.rtl_model.proofs.simulation.Numbered.{CanAssign, Numbered, rises_along}
+use Rattle.rtl_model.proofs.simulation.NetLevels.{by_nets, levels_by_nets_exist}
 
 pub same_level : (net : Netlist) (p a b : ℕ) → IsLevel net p a → IsLevel net p b → a ≡ b
 same_level net p a b x y = let l = x.longest b y.reached in let k = y.longest a x.reached in omega arith
@@ -42,7 +47,23 @@ late_reset net E p n reset has (q, place, h, t) w =
     drives = any_true (λ m. list_any is_driver (sources_of net m)) (process net p).wakes n w
         (any_true is_driver (sources_of net n) (Driver q place) (subst (λ (m : ℕ). Contains (sources_of net m) (Driver q place)) t (E.wiring.drivers_are_sources q place h)) refl)
 
-module _ (net : Netlist) (E : IsElaborated net) (A : Faultless net) (levels : List (Option ℕ)) (greatest : ℕ) (V : AreLevels net levels greatest) where
+-- where the reading isn't wide, a reset is an input
+pub narrow_reset : (net : Netlist) → IsElaborated net → net.wide ≡ false → (p : ℕ) (reset : Reset) → HasReset net p reset → IsInput net reset.net
+narrow_reset net E narrow p reset has = go (E.bodies.resets_are_narrow p reset has)
+  where
+    go : (IsInput net reset.net × (reset.gates ≡ true)) ⊎ (net.wide ≡ true) → IsInput net reset.net
+    go (inl (input, gates)) = input
+    go (inr wide) = absurd cc
+
+-- what is judged by processes has no reset made inside
+pub outer_resets : (net : Netlist) → IsElaborated net → (IsByNets net → ⊥) → (p n : ℕ) → IsInnerReset net p n → ⊥
+outer_resets net E by_processes p n inner = go (cases_Bool net.wide) inner
+  where
+    go : (net.wide ≡ true) ⊎ (net.wide ≡ false) → IsInnerReset net p n → ⊥
+    go (inl wide) inner = by_processes (wide, inr (p, n, inner))
+    go (inr narrow) ((reset, has, at), driven) = undriven_input net E.wiring n (subst (λ (m : ℕ). IsInput net m) at (narrow_reset net E narrow p reset has)) driven
+
+module _ (net : Netlist) (E : IsElaborated net) (A : Faultless net) (outer : (p n : ℕ) → IsInnerReset net p n → ⊥) (levels : List (Option ℕ)) (greatest : ℕ) (V : AreLevels net levels greatest) where
   level_of : (p : ℕ) → IsCombinational net p → IsLevel net p (level_or levels p) × (level_or levels p ≤ greatest)
   level_of p c =
       let (level, e, is) = V.combinational p c in
@@ -56,7 +77,7 @@ module _ (net : Netlist) (E : IsElaborated net) (A : Faultless net) (levels : Li
   level_above_none : (p : ℕ) → IsCombinational net p → 1 ≤ level_or levels p
   level_above_none p c = (level_of p c).0.longest 1 c
 
-  level_rises : (p q : ℕ) → Feeds net p q → level_or levels p < level_or levels q
+  pub level_rises : (p q : ℕ) → Feeds net p q → level_or levels p < level_or levels q
   level_rises p q f = go (level_or levels p) refl
     where
       go : (n : ℕ) → level_or levels p ≡ n → level_or levels p < level_or levels q
@@ -150,6 +171,7 @@ module _ (net : Netlist) (E : IsElaborated net) (A : Faultless net) (levels : Li
     of_net = net_number;
     from_one = λ p place c h. rw (number_of_target p place h) (level_above_none p c);
     rises = λ p place n c h looks. rw (number_of_target p place h) (below_woken p n c (A.reads_wake p n c (E.bodies.looks_are_read p place n looks)));
+    resets_rise = λ p place n reset h. absurd (outer p n reset.0);
     of_process = process_number;
     process_from_one = λ p c. rw (number_of_combinational p c) (level_above_none p c);
     above = above;
@@ -162,7 +184,59 @@ module _ (net : Netlist) (E : IsElaborated net) (A : Faultless net) (levels : Li
   unfolding by_levels
   greatest_is = refl
 
-pub numbered : (net : Netlist) → IsElaborated net → IsAccepted net → Numbered net
-numbered net E A =
-    let (levels, greatest, V) = levels_exist net (no_loop net A) in
-    by_levels net E (faultless net A) levels greatest V
+-- ---- what is accepted has a numbering
+
+module _ (net : Netlist) (E : IsElaborated net) (A : IsAccepted net) where
+  module _ (narrow : net.wide ≡ false) where
+    pub by_processes : IsByNets net → ⊥
+    by_processes (wide, either) = cc
+
+    pub no_loop : HasNoLoop net
+    no_loop ps loop = A (Loop ps) (narrow, loop)
+
+    narrow_numbers : Numbered net
+    narrow_numbers = let (levels, greatest, V) = levels_exist net no_loop in by_levels net E (faultless net A) (outer_resets net E by_processes) levels greatest V
+
+  pub numbered : Numbered net
+  numbered = go (cases_Bool net.wide)
+    where
+      go : (net.wide ≡ true) ⊎ (net.wide ≡ false) → Numbered net
+      go (inl wide) =
+          let (levels, nets, greatest, V) = levels_by_nets_exist net E.wiring (λ ns loop. A (NetLoop ns) (wide, loop)) in
+          by_nets net E (faultless net A) levels nets greatest V
+      go (inr narrow) = narrow_numbers narrow
+
+-- ---- what is accepted is accepted in the wider language
+
+module _ (net : Netlist) (E : IsElaborated net) (narrow : net.wide ≡ false) (A : IsAccepted net) where
+  abbrev wider : Netlist
+  wider = record net { wide = true }
+
+  no_net_loop : HasNoNetLoop wider
+  no_net_loop = no_circle (λ m n. LooksAt wider n m) (IsDerived wider) (numbered net E A).of_net (λ m n l. rises_along net (numbered net E A) m n (record { driver = l.driver; place = l.place; drives = l.drives; net_is = l.net_is; looks = l.looks }))
+
+  no_wide_loop : HasNoLoop wider
+  no_wide_loop =
+      let (levels, greatest, V) = levels_exist net (no_loop net E A narrow) in
+      no_circle (Feeds wider) (IsCombinational wider) (level_or levels)
+      (λ p q f. level_rises net E (faultless net A) (outer_resets net E (by_processes net E A narrow)) levels greatest V p q (record { feeder = f.feeder; fed = f.fed; place = f.place; drives = f.drives; wakes = f.wakes }))
+
+  still_accepted : IsAccepted wider
+  still_accepted (Loop ps) (is, loop) = cc
+  still_accepted (NetLoop ns) (is, loop) = no_net_loop ns loop
+  still_accepted (TwoDrivers n first second) is = A (TwoDrivers n first second) is
+  still_accepted (MixedProcess p) (inl mixed) = A (MixedProcess p) (inl mixed)
+  still_accepted (MixedProcess p) (inr u) = u.not_calm (follows_inputs u.reset.net _ (inl (undriven_input net E.wiring u.reset.net (narrow_reset net E narrow p u.reset u.is_reset), u.no_clock)))
+  still_accepted (ClockNotInput p n) is = A (ClockNotInput p n) is
+  still_accepted (EdgeNotSensitive p n) is = A (EdgeNotSensitive p n) is
+  still_accepted (ClockAsData p n) is = A (ClockAsData p n) is
+  still_accepted (MissingSensitivity p n) is = A (MissingSensitivity p n) is
+  still_accepted (Latch p n) is = A (Latch p n) is
+  still_accepted (StoredVariable p variable place) is = A (StoredVariable p variable place) is
+
+  still_by_processes : IsByNets wider → ⊥
+  still_by_processes (is, inl (ps, loop)) = no_wide_loop ps loop
+  still_by_processes (is, inr (p, n, inner)) = outer_resets net E (by_processes net E A narrow) p n inner
+
+  pub wide_accepts : IsAccepted wider × (IsByNets wider → ⊥)
+  wide_accepts = (still_accepted, still_by_processes)

@@ -2,23 +2,25 @@
 -- nets and processes are numbered along what they look at.
 use Rattle.std.proofs.Common.{◌≡◌, ℕ, ◌<◌, ◌≤◌, List, [], ◌∷◌, get_or, None, refl, IsSome, ◌⊎◌, inl, inr, subst, sym, Contains}
 use Rattle.rtl_model.proofs.basics.Lists.{Contains-none, Contains-one, Contains-first, only_source}
-use Rattle.rtl_model.specs.simulation.Netlist.{Driver, HasPlace, HasReset, Idle, IsCombinational, Netlist, process, Reset, Source, sources_of, target}
+use Rattle.rtl_model.specs.simulation.Netlist.{Driver, HasPlace, HasReset, Idle, IsCombinational, Netlist, process, Reset, Source, sources_of, target, IsDriven}
 use Rattle.rtl_model.specs.simulation.Elaborated.{IsElaborated, IsOnlyPlace}
-use Rattle.rtl_model.specs.simulation.Machine.{IsDriven}
+use Rattle.rtl_model.specs.simulation.Accepted.{IsResetBy, LooksAt}
 use Rattle.rtl_model.proofs.simulation.Faultless.{Faultless}
 
 -- a process that can assign in a delta cycle
 abbrev pub CanAssign : Netlist → ℕ → Type 0
 CanAssign net p = IsCombinational net p ⊎ ((reset : Reset) × HasReset net p reset)
 
--- What a combinational process drives has a number above those of what the driver looks at, and what can assign in a
--- delta cycle one above those of the driven nets that it is sensitive to.
+-- What a combinational process drives has a number above those of what the driver looks at, a register one above that of
+-- its reset if that is made inside, and what can assign in a delta cycle one above those of the driven nets that it is
+-- sensitive to.
 pub record Numbered (net : Netlist) : Type 0 where
   pub elaborated : IsElaborated net
   pub faultless : Faultless net
   pub of_net : ℕ → ℕ
   pub from_one : (p place : ℕ) → IsCombinational net p → HasPlace net p place → 1 ≤ of_net (target net p place)
   pub rises : (p place n : ℕ) → IsCombinational net p → HasPlace net p place → Contains ((process net p).looks place) n → of_net n < of_net (target net p place)
+  pub resets_rise : (p place n : ℕ) → IsResetBy net p place n → HasPlace net p place → of_net n < of_net (target net p place)
   pub of_process : ℕ → ℕ
   pub process_from_one : (p : ℕ) → IsCombinational net p → 1 ≤ of_process p
   pub above : (p n : ℕ) → CanAssign net p → IsDriven net n → Contains (process net p).wakes n → of_net n < of_process p
@@ -29,6 +31,13 @@ pub record Numbered (net : Netlist) : Type 0 where
 module _ (net : Netlist) (L : Numbered net) where
   pub sole : (p place : ℕ) → HasPlace net p place → sources_of net (target net p place) ≡ Driver p place ∷ []
   sole p place h = only_source _ _ (L.faultless.one_source (target net p place)) (L.elaborated.wiring.drivers_are_sources p place h)
+
+  pub rises_along : (m n : ℕ) → LooksAt net n m → L.of_net m < L.of_net n
+  rises_along m n l = subst (λ (k : ℕ). L.of_net m < L.of_net k) l.net_is (go l.looks)
+    where
+      go : (IsCombinational net l.driver × Contains ((process net l.driver).looks l.place) m) ⊎ IsResetBy net l.driver l.place m → L.of_net m < L.of_net (target net l.driver l.place)
+      go (inl (c, looks)) = L.rises l.driver l.place m c l.drives looks
+      go (inr reset) = L.resets_rise l.driver l.place m reset l.drives
 
   -- no other place of the process has the net
   only_place : (p place : ℕ) → HasPlace net p place → IsOnlyPlace net p place

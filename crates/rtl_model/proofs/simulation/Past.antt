@@ -1,16 +1,16 @@
 -- What happens up to a moment depends on the moments up to it alone; and past the last time nothing changes.
-use Rattle.std.proofs.Common.{◌≡◌, ℕ, zero, suc, pred, min, ◌<◌, ◌≤◌, Bool, false, List, length, slice_index, slice_index_or, Option, Some, None, refl, sym, ap, ◌∙◌, subst, arith, ◌⊎◌, inl, inr, ◌==◌}
+use Rattle.std.proofs.Common.{◌≡◌, ℕ, zero, suc, pred, min, ◌<◌, ◌≤◌, not, ◌&&◌, ◌||◌, List, length, slice_index, slice_index_or, None, sym, ap, ◌∙◌, subst, arith, ◌⊎◌, inl, inr}
 use Rattle.std.proofs.lemmas.Bool.{cases_lt}
-use Rattle.rtl_model.specs.basics.Valuations.{clocked_entry}
-use Rattle.rtl_model.specs.simulation.Netlist.{Netlist, Edge, Reset, IsInput, IsClockedBy, process, target, reset_of, reset_entry, resets}
-use Rattle.rtl_model.specs.simulation.Cycle.{State}
+use Rattle.rtl_model.specs.basics.Valuations.{clocked_entry, entry_where}
+use Rattle.rtl_model.specs.simulation.Netlist.{Netlist, Edge, IsInput, IsClockedBy, process, target, reset_of, reset_entry, resets, holds_back}
+use Rattle.rtl_model.specs.simulation.Cycle.{State, with_inputs}
 use Rattle.rtl_model.specs.simulation.Moments.{HasRun, Begun, at_moments}
 use Rattle.rtl_model.specs.simulation.Elaborated.{IsElaborated}
 use Rattle.rtl_model.specs.simulation.Races.{IsRaceAt, HasNoRace}
 use Rattle.rtl_model.specs.simulation.Machine.{entry_or, Solves, register_next, IsFirst, IsStep}
 use Rattle.rtl_model.specs.simulation.Range.{AreInputs}
 use Rattle.rtl_model.specs.simulation.Laws.{AgreeUpTo, EachDependsOnPast, EachEndsAtLast}
-use Rattle.rtl_model.proofs.simulation.Consistent.{takes_inputs_alone}
+use Rattle.rtl_model.proofs.simulation.Consistent.{same_inputs, takes_inputs_alone}
 use Rattle.rtl_model.proofs.simulation.Faultless.{Faultless, faultless}
 use Rattle.rtl_model.proofs.simulation.Levels.{numbered}
 use Rattle.rtl_model.proofs.simulation.Runs.{Machine, Machine-run, run_is}
@@ -28,13 +28,6 @@ begins net stimulus other (suc m) agree s (earlier, k, quiet, begun, to, run) = 
 )
 
 module _ (net : Netlist) (E : IsElaborated net) (A : Faultless net) (inputs other : ℕ → ℕ) (agree : (n : ℕ) → IsInput net n → inputs n ≡ other n) where
-  same_reset : (p : ℕ) → resets (reset_of net p) inputs ≡ resets (reset_of net p) other
-  same_reset p = go (reset_of net p) refl
-    where
-      go : (o : Option Reset) → reset_of net p ≡ o → resets o inputs ≡ resets o other
-      go None e = refl
-      go (Some r) e = ap (λ (v : ℕ). v == r.value) (agree r.net (E.bodies.reset_is_input p r e))
-
   solves_other : (r : ℕ → ℕ) (v : List ℕ) → Solves net inputs r v → Solves net other r v
   solves_other r v s = record {
     each_net = s.each_net;
@@ -48,7 +41,7 @@ module _ (net : Netlist) (E : IsElaborated net) (A : Faultless net) (inputs othe
   first_other v f = record {
     registers = f.registers;
     next = λ p place clock edge is h. f.next p place clock edge is h
-        ∙ ap (λ (b : Bool). entry_or (clocked_entry b false (reset_entry (reset_of net p) place) None) (slice_index net.start (target net p place))) (same_reset p);
+        ∙ ap (λ (u : List ℕ). entry_or (entry_where (resets (reset_of net p) (slice_index u) || resets (reset_of net p) (slice_index v)) (reset_entry (reset_of net p) place)) (slice_index net.start (target net p place))) (same_inputs net inputs other net.start agree);
     solves = solves_other f.registers v f.solves;
   }
 
@@ -59,8 +52,13 @@ module _ (net : Netlist) (E : IsElaborated net) (A : Faultless net) (inputs othe
     solves = solves_other f.registers w f.solves;
   }
     where
-      same : (p place clock : ℕ) (edge : Edge) → IsClockedBy net p clock edge → register_next net p place clock edge v inputs ≡ register_next net p place clock edge v other
-      same p place clock edge is = λ i. entry_or (clocked_entry (same_reset p i) (net.edge edge (slice_index v clock) (agree clock (A.clock_is_input p clock edge is) i)) (reset_entry (reset_of net p) place) (slice_index_or ((process net p).acting_effect v) place None)) (slice_index v (target net p place))
+      alike : with_inputs net inputs v ≡ with_inputs net other v
+      alike = same_inputs net inputs other v agree
+
+      same : (p place clock : ℕ) (edge : Edge) → IsClockedBy net p clock edge → register_next net p place clock edge v inputs w ≡ register_next net p place clock edge v other w
+      same p place clock edge is = λ i. entry_or
+          (clocked_entry (resets (reset_of net p) (slice_index (alike i)) || resets (reset_of net p) (slice_index w)) (net.edge edge (slice_index v clock) (agree clock (A.clock_is_input p clock edge is) i) && not (holds_back (reset_of net p) (slice_index (alike i)))) (reset_entry (reset_of net p) place) (slice_index_or ((process net p).acting_effect v) place None))
+          (slice_index v (target net p place))
 
 machine_other : (net : Netlist) (E : IsElaborated net) (A : Faultless net) (stimulus other : ℕ → ℕ → ℕ) (m : ℕ) → AgreeUpTo net stimulus other m → (v : List ℕ) → Machine net stimulus m v → Machine net other m v
 machine_other net E A stimulus other zero agree v f = first_other net E A (stimulus 0) (other 0) (λ n is. agree 0 n (omega arith) is) v f

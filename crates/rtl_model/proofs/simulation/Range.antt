@@ -3,7 +3,7 @@ use Rattle.std.proofs.Common.{◌≡◌, ℕ, zero, suc, ◌<◌, Bool, true, fa
 use Rattle.std.specs.List.{list_any}
 use Rattle.std.proofs.lemmas.Bool.{cases_Bool, cond-true, cond-false}
 use Rattle.rtl_model.proofs.basics.Lists.{Contains-first}
-use Rattle.rtl_model.specs.basics.Valuations.{clocked_entry}
+use Rattle.rtl_model.specs.basics.Valuations.{or_else, entry_where}
 use Rattle.rtl_model.specs.simulation.Netlist.{Clocked, Combinational, Driver, HasPlace, Idle, ProcessKind, Mixed, Netlist, process, Source, sources_of, target}
 use Rattle.rtl_model.specs.simulation.Machine.{entry_or, IsMachineRun, Solves}
 use Rattle.rtl_model.specs.simulation.Range.{AreInputs, AreRegisters, IsValuation, KeepsRange, limit}
@@ -11,7 +11,7 @@ use Rattle.rtl_model.specs.simulation.Laws.{RunsInRange, SolutionsInRange}
 use Rattle.rtl_model.proofs.simulation.Faultless.{place_in_range}
 use Rattle.rtl_model.proofs.simulation.Levels.{numbered}
 use Rattle.rtl_model.proofs.simulation.Numbered.{Numbered, assigned}
-use Rattle.rtl_model.proofs.simulation.Solution.{length-table, by_kind, evaluated, evaluations, evaluate_at, solution_is, solution_solves, one_solves}
+use Rattle.rtl_model.proofs.simulation.Solution.{length-table, by_kind, evaluated, evaluations, RegistersRise, evaluate_at, solution_is, solution_solves, one_solves}
 
 -- every entry is below a limit
 abbrev pub EntryBelow : ℕ → Option ℕ → Type 0
@@ -24,10 +24,13 @@ entry_or_below most old (Some x) e l = e x refl
 pub none_below : (most : ℕ) → EntryBelow most None
 none_below most x e = cc
 
-pub clocked_below : (most : ℕ) (reset edge : Bool) (a b : Option ℕ) → EntryBelow most a → EntryBelow most b → EntryBelow most (clocked_entry reset edge a b)
-clocked_below most true edge a b ha hb x e = ha x e
-clocked_below most false true a b ha hb x e = hb x e
-clocked_below most false false a b ha hb x e = cc
+pub where_below : (most : ℕ) (holds : Bool) (o : Option ℕ) → EntryBelow most o → EntryBelow most (entry_where holds o)
+where_below most true o h = h
+where_below most false o h = none_below most
+
+pub or_below : (most : ℕ) (a b : Option ℕ) → EntryBelow most a → EntryBelow most b → EntryBelow most (or_else a b)
+or_below most (Some v) b ha hb x e = ha x e
+or_below most None b ha hb x e = hb x e
 
 some_below : (most : ℕ) (o : Option ℕ) → EntryBelow most o → IsSome o → entry_or o 0 < most
 some_below most None e h = cc
@@ -35,7 +38,13 @@ some_below most (Some x) e h = e x refl
 
 module _ (net : Netlist) (L : Numbered net) (K : KeepsRange net) where
   module _ (inputs registers : ℕ → ℕ) (I : AreInputs net inputs) (R : AreRegisters net registers) where
-    value_in_range : (v : List ℕ) → IsValuation net v → (n : ℕ) → n < length net.start → (xs : List Source) → sources_of net n ≡ xs → evaluated net inputs registers v n xs < limit net n
+    abbrev fixed : List ℕ → ℕ → ℕ
+    fixed v = registers
+
+    rise : RegistersRise net L fixed
+    rise p place clock edge v w is h below = refl
+
+    value_in_range : (v : List ℕ) → IsValuation net v → (n : ℕ) → n < length net.start → (xs : List Source) → sources_of net n ≡ xs → evaluated net inputs fixed v n xs < limit net n
     value_in_range v is n l [] e = go (cases_Bool (list_any (λ m. m == n) net.inputs))
       where
         go : (list_any (λ m. m == n) net.inputs ≡ true) ⊎ (list_any (λ m. m == n) net.inputs ≡ false) → (if list_any (λ m. m == n) net.inputs then inputs n else get_or net.start n 0) < limit net n
@@ -53,35 +62,35 @@ module _ (net : Netlist) (L : Numbered net) (K : KeepsRange net) where
         go h t (Clocked clock edge reset) k = subst (λ (m : ℕ). registers m < limit net m) t (R p place clock edge (reset, k) h)
         go h t Mixed k = absurd (L.faultless.not_mixed p k)
 
-    evaluations_in_range : (d : ℕ) → IsValuation net (evaluations net inputs registers d)
+    evaluations_in_range : (d : ℕ) → IsValuation net (evaluations net inputs fixed d)
     evaluations_in_range zero = K.starts_in_range
     evaluations_in_range (suc d) =
         let below = evaluations_in_range d in
-        let v = evaluations net inputs registers d in
+        let v = evaluations net inputs fixed d in
         record {
           each_net = length-table (length net.start) _;
-          in_range = λ n l. rw (evaluate_at net L inputs registers v n l) (value_in_range v below n l (sources_of net n) refl);
+          in_range = λ n l. rw (evaluate_at net L inputs fixed rise v n l) (value_in_range v below n l (sources_of net n) refl);
         }
 
     pub solves_in_range : (v : List ℕ) → Solves net inputs registers v → IsValuation net v
     solves_in_range v s =
         subst (λ (w : List ℕ). IsValuation net w)
-        (one_solves net L inputs registers _ v (solution_solves net L inputs registers) s)
-        (rw (solution_is net L inputs registers) (evaluations_in_range (suc L.greatest)))
+        (one_solves net L inputs fixed rise _ v (solution_solves net L inputs fixed rise) s)
+        (rw (solution_is net L inputs fixed rise) (evaluations_in_range (suc (suc L.greatest))))
 
   module _ (stimulus : ℕ → ℕ → ℕ) (I : (m : ℕ) → AreInputs net (stimulus m)) (v : ℕ → List ℕ) (run : IsMachineRun net stimulus v) where
     run_in_range : (m : ℕ) → IsValuation net (v m)
     run_in_range zero =
         solves_in_range (stimulus 0) run.first.registers (I 0)
         (λ p place clock edge is h. rw (run.first.next p place clock edge is h)
-        (entry_or_below _ _ _ (clocked_below _ _ _ _ _ (λ x e. K.reset_in_range p place x h e) (none_below _)) (K.starts_in_range.in_range _ (L.elaborated.wiring.targets_are_nets p place h))))
+        (entry_or_below _ _ _ (where_below _ _ _ (λ x e. K.reset_in_range p place x h e)) (K.starts_in_range.in_range _ (L.elaborated.wiring.targets_are_nets p place h))))
         (v 0) run.first.solves
     run_in_range (suc m) =
         let before = run_in_range m in
         let step = run.step m in
         solves_in_range (stimulus (suc m)) step.registers (I (suc m))
         (λ p place clock edge is h. rw (step.next p place clock edge is h)
-        (entry_or_below _ _ _ (clocked_below _ _ _ _ _ (λ x e. K.reset_in_range p place x h e) (λ x e. K.branch_in_range p place clock x edge (v m) is before h e)) (before.in_range _ (L.elaborated.wiring.targets_are_nets p place h))))
+        (entry_or_below _ _ _ (or_below _ _ _ (where_below _ _ _ (λ x e. K.reset_in_range p place x h e)) (where_below _ _ _ (λ x e. K.branch_in_range p place clock x edge (v m) is before h e))) (before.in_range _ (L.elaborated.wiring.targets_are_nets p place h))))
         (v (suc m)) step.solves
 
 pub solutions_in_range : SolutionsInRange

@@ -1,30 +1,20 @@
 -- A report shows its levels by local facts.
-use Rattle.std.proofs.Common.{◌≡◌, ℕ, zero, suc, ◌<◌, ◌≤◌, List, [], ◌∷◌, get_or, Option, Some, None, refl, sym, ap, ◌∙◌, subst, arith}
+use Rattle.std.proofs.Common.{◌≡◌, ℕ, zero, suc, ◌<◌, ◌≤◌, List, get_or, Option, Some, None, refl, sym, ap, ◌∙◌, subst, arith}
 use Rattle.rtl_model.specs.simulation.Netlist.{Edge, IsCombinational, Netlist}
-use Rattle.rtl_model.specs.simulation.Accepted.{Feeds, IsFedRound, IsLoop}
+use Rattle.rtl_model.specs.simulation.Accepted.{Feeds}
 use Rattle.rtl_model.specs.simulation.Levels.{ChainTo, IsLevel, Rises, ShowLevels}
 use Rattle.rtl_model.specs.simulation.Report.{IsFrom, IsReport, LeadsDown, ShowReport}
 use Rattle.rtl_model.specs.simulation.Laws.{LevelsAreShown, ReportsAreShown, ReportsLeadDown}
+use Rattle.rtl_model.proofs.basics.Chains.{chain_below, no_circle}
 use Rattle.rtl_model.proofs.simulation.Levels.{same_level}
-
-module _ (net : Netlist) (f : ℕ → ℕ) (R : Rises net f) where
-  chain_below : (n q : ℕ) → ChainTo net q n → n ≤ f q
-  chain_below zero q c = omega arith
-  chain_below (suc zero) q c = R.from_one q c
-  chain_below (suc (suc n)) q (p, c, feeds) = let a = chain_below (suc n) p c in let b = R.along p q feeds in omega arith
-
-  round_rises : (first p : ℕ) (more : List ℕ) → IsFedRound net first (p ∷ more) → f first < f p
-  round_rises first p [] feeds = R.along first p feeds
-  round_rises first p (q ∷ more) (feeds, round) = let a = R.along q p feeds in let b = round_rises first q more round in omega arith
-
-  pub no_loop : (ps : List ℕ) → IsLoop net ps → ⊥
-  no_loop [] h = h
-  no_loop (p ∷ more) h = let a = round_rises p p more h in omega arith
 
 module _ (net : Netlist) (levels from : List (Option ℕ)) (S : ShowLevels net levels from) where
   chain_of : (below q : ℕ) → IsCombinational net q → get_or levels q None ≡ Some (suc below) → ChainTo net q (suc below)
   chain_of zero q c e = c
   chain_of (suc below) q c e = let (p, is, feeds, l) = S.from_below q below c e in (p, chain_of below p feeds.feeder l, feeds)
+
+  below_number : (f : ℕ → ℕ) → Rises net f → (n q : ℕ) → ChainTo net q n → n ≤ f q
+  below_number f R = chain_below (Feeds net) (IsCombinational net) f R.along R.from_one
 
   number : Option ℕ → ℕ
   number None = 1
@@ -43,10 +33,10 @@ module _ (net : Netlist) (levels from : List (Option ℕ)) (S : ShowLevels net l
       let (below, d) = S.each p c in
       let same : level ≡ suc below = cc in
       let chain = chain_of below p c d in
-      rw same (record { reached = chain; longest = λ n h. rw d at (chain_below net (λ q. number (get_or levels q None)) rises n p h) }, λ f R. chain_below net f R (suc below) p chain)
+      rw same (record { reached = chain; longest = λ n h. rw d at (below_number (λ q. number (get_or levels q None)) rises n p h) }, λ f R. below_number f R (suc below) p chain)
 
 pub levels_are_shown : LevelsAreShown
-levels_are_shown net levels from S = (is_level net levels from S, no_loop net _ (rises net levels from S))
+levels_are_shown net levels from S = (is_level net levels from S, no_circle (Feeds net) (IsCombinational net) _ (rises net levels from S).along)
 
 -- a report's levels and from satisfy the local facts
 module _ (net : Netlist) (levels from : List (Option ℕ)) (clocks : List (ℕ × Edge)) (most : ℕ) (R : IsReport net levels from clocks most) where

@@ -1,28 +1,32 @@
 -- Each moment settles within the bound, in the machine's valuation.
-use Rattle.std.proofs.Common.{◌≡◌, ℕ, zero, suc, ◌+◌, ◌<◌, ◌≤◌, true, false, cond, List, [], ◌∷◌, length, get_or, Option, Some, None, refl, sym, ap, ◌∙◌, arith, ◌⊎◌, inl, inr, subst, IsSome, IsTrue, Contains, ◌&&◌}
+use Rattle.std.proofs.Common.{◌≡◌, ℕ, zero, suc, ◌+◌, ◌≤◌, Bool, true, false, not, ◌||◌, cond, List, get_or, Option, Some, None, refl, sym, ap, ◌∙◌, arith, ◌⊎◌, inl, inr, subst, IsSome, IsTrue, Contains, ◌&&◌}
 use Rattle.std.specs.List.{list_any}
 use Rattle.std.specs.Option.{is_some}
 use Rattle.std.proofs.lemmas.Bool.{cases_eq, cases_Bool, cond-true, cond-false, and_parts}
-use Rattle.rtl_model.proofs.basics.Lists.{any_at, none_at}
+use Rattle.rtl_model.proofs.basics.Lists.{any_at, get_or_default, none_at}
 use Rattle.rtl_model.proofs.simulation.Faultless.{faultless, kinds, kinds_below}
 use Rattle.rtl_model.proofs.simulation.Orders.{one_number}
-use Rattle.rtl_model.specs.simulation.Netlist.{Edge, HasPlace, IsClockedBy, IsCombinational, IsInput, kind_reset, Netlist, no_process, process, Process, Reset, sources_of, target}
+use Rattle.rtl_model.specs.simulation.Netlist.{Edge, HasPlace, IsClockedBy, IsCombinational, IsInput, kind_reset, Netlist, no_process, process, Process, Reset, reset_entry, reset_of, resets, holds_back, sources_of, target}
 use Rattle.rtl_model.specs.simulation.Cycle.{after_inputs, is_quiet, start_state, State}
-use Rattle.rtl_model.specs.simulation.Moments.{Begun, HasNoneToRun, HasSettled, SettlesIn, SettlesTo}
-use Rattle.rtl_model.specs.simulation.Accepted.{IsClock}
+use Rattle.rtl_model.specs.simulation.Moments.{Begun, HasDeltas, HasNoneToRun, HasSettled, SettlesIn, SettlesTo}
+use Rattle.rtl_model.specs.simulation.Accepted.{IsAccepted, IsClock}
 use Rattle.rtl_model.specs.simulation.Levels.{has_clocked, has_late_reset, is_clocked, is_driver}
 use Rattle.rtl_model.specs.simulation.Races.{HasNoRace}
-use Rattle.rtl_model.specs.simulation.Machine.{entry_or, Solves}
-use Rattle.rtl_model.specs.simulation.Laws.{EachMomentComes, HasNoReset, IsTheMachine, SettlesInBound}
+use Rattle.rtl_model.specs.simulation.Machine.{entry_or, IsFirst, IsStep, Solves}
+use Rattle.rtl_model.specs.simulation.Laws.{EachCalmNetKeeps, EachMomentComes, HasNoReset, IsTheMachine, SettlesInBound}
 use Rattle.rtl_model.proofs.simulation.Order.{finished, HasRun-finished, HasRun-done}
-use Rattle.rtl_model.proofs.simulation.Levels.{by_levels, extra, greatest_is, numbered}
+use Rattle.rtl_model.proofs.simulation.Levels.{by_levels, extra, greatest_is, numbered, outer_resets}
+use Rattle.rtl_model.proofs.simulation.NetLevels.{by_nets, greatest_by_nets}
+use Rattle.rtl_model.specs.simulation.NetLevels.{ByProcesses, ByNets}
 use Rattle.rtl_model.proofs.simulation.Rows.{transaction, value, out, quiet_at}
-use Rattle.rtl_model.proofs.simulation.Deltas.{HasDeltas-after, settles_within, runs_exist}
+use Rattle.rtl_model.proofs.simulation.Deltas.{after, HasDeltas-after, settles_within, runs_exist}
 use Rattle.rtl_model.proofs.simulation.Numbered.{Numbered}
 use Rattle.rtl_model.proofs.simulation.Runs.{Machine, Machine-run}
-use Rattle.rtl_model.proofs.simulation.Held.{Holds, IsAbove, after_holds, quiet_after}
-use Rattle.rtl_model.proofs.simulation.Starting.{first, start_holds, start_register, start_asleep}
-use Rattle.rtl_model.proofs.simulation.Stepping.{next_holds, next_register}
+use Rattle.rtl_model.proofs.simulation.Held.{Holds, IsAbove, IsSeen, after_holds, no_edge_entry, quiet_after}
+use Rattle.rtl_model.specs.simulation.Calm.{IsCalm}
+use Rattle.rtl_model.proofs.simulation.Keeping.{Begins, calm_keeps, register_settled}
+use Rattle.rtl_model.proofs.simulation.Starting.{first, start_holds, start_begins, start_asleep}
+use Rattle.rtl_model.proofs.simulation.Stepping.{next_holds, next_begins}
 
 -- how many cycles later than the levels say a moment after 0 may settle
 abbrev pub late : Netlist → ℕ
@@ -43,11 +47,6 @@ late_clocked net p clock edge is = go (cases_Bool (has_clocked net))
 
 process_of : (net : Netlist) (x : Process) → Contains net.processes x → (p : ℕ) × (process net p ≡ x)
 process_of net x (p, l, e) = (p, get_or_default net.processes p no_process x l ∙ e)
-  where
-    get_or_default : {X : Type 0} (xs : List X) (k : ℕ) (d e : X) → k < length xs → get_or xs k d ≡ get_or xs k e
-    get_or_default [] k d e l = absurd (omega arith)
-    get_or_default (x ∷ xs) zero d e l = refl
-    get_or_default (x ∷ xs) (suc k) d e l = get_or_default xs k d e (omega arith)
 
 no_late_reset : (net : Netlist) → HasNoReset net → has_late_reset net ≡ true → ⊥
 no_late_reset net none t =
@@ -84,15 +83,15 @@ module _ (net : Netlist) (L : Numbered net) where
       changes p place h (inr (clock, edge, is)) = inr (ap (λ (o : Option ℕ). entry_or o (value (first net L inputs) p place)) (start_asleep net L inputs none p place clock edge is))
 
   -- what is quiet solves
-  module _ (inputs : ℕ → ℕ) (r : ℕ → ℕ → ℕ) (t : State) (H : Holds net inputs r t) (Q : is_quiet t ≡ true) where
+  module _ (inputs : ℕ → ℕ) (r : ℕ → ℕ → ℕ) (Seen : List ℕ → Type 0) (t : State) (H : Holds net inputs r Seen t) (Q : is_quiet t ≡ true) where
     now_out : (p place : ℕ) → HasPlace net p place → get_or t.now (target net p place) 0 ≡ out t p place
     now_out p place h = H.on_driven p place h ∙ ap (λ (o : Option ℕ). entry_or o (value t p place)) (sym (quiet_at t Q p place))
 
-    quiet_solves : (registers : ℕ → ℕ) → ((p place clock : ℕ) (edge : Edge) → IsClockedBy net p clock edge → HasPlace net p place → r p place ≡ registers (target net p place)) → Solves net inputs registers t.now
-    quiet_solves registers same = record {
+    pub quiet_solves : Solves net inputs (λ n. get_or t.now n 0) t.now
+    quiet_solves = record {
       each_net = H.now_length;
       on_inputs = H.on_inputs;
-      on_registers = λ p place clock edge is h. now_out p place h ∙ H.on_clocked p place clock edge is h ∙ same p place clock edge is h;
+      on_registers = λ p place clock edge is h. refl;
       on_others = H.on_others;
       on_combinational = λ p place c h. H.on_combinational p place c h ∙ ap (λ (x : ℕ). Some x) (sym (now_out p place h));
     }
@@ -101,35 +100,30 @@ module _ (net : Netlist) (L : Numbered net) where
     -- what holds after the first cycle of a moment, whatever the orders before
     record AtMoment (m : ℕ) (s : State) : Type 0 where
       r : ℕ → ℕ → ℕ
-      holds : Holds net (stimulus m) r s
+      holds : Holds net (stimulus m) r (IsSeen net s) s
       above : IsAbove net L 0 (late net) s
 
     -- what has settled
     settled_quiet : (s t : State) (k : ℕ) → SettlesTo net s k t → is_quiet t ≡ true
     settled_quiet s t k (set, deltas) = set.settled t deltas
 
-    settled_holds : (m : ℕ) (s t : State) (k : ℕ) (a : AtMoment m s) → SettlesTo net s k t → Holds net (stimulus m) a.r t
-    settled_holds m s t k a to = subst (λ (u : State). Holds net (stimulus m) a.r u) (sym (HasDeltas-after net k s t to.1)) (after_holds net L (stimulus m) a.r k s a.holds)
+    settled_holds : (m : ℕ) (s t : State) (k : ℕ) (a : AtMoment m s) → SettlesTo net s k t → Holds net (stimulus m) a.r (IsSeen net s) t
+    settled_holds m s t k a to = subst (λ (u : State). Holds net (stimulus m) a.r (IsSeen net s) u) (sym (HasDeltas-after net k s t to.1)) (after_holds net L (stimulus m) a.r (IsSeen net s) k s (λ j. (j, refl)) a.holds)
 
     at_moment : (m : ℕ) (s : State) → Begun net stimulus m s → AtMoment m s
     at_moment zero s run =
         let e = HasRun-finished net (start_state net (stimulus 0)) s run in
-        record {
-          r = λ p place. out (finished net (start_state net (stimulus 0))) p place;
-          holds = subst (λ (u : State). Holds net (stimulus 0) (λ p place. out (finished net (start_state net (stimulus 0))) p place) u) (sym e) (start_holds net L (stimulus 0));
-          above = above_start s;
-        }
+        subst (λ (u : State). AtMoment 0 u) (sym e) (record { r = λ p place. out (finished net (start_state net (stimulus 0))) p place; holds = start_holds net L (stimulus 0); above = above_start _ })
     at_moment (suc m) s (earlier, k, quiet, begun, to, run) =
         let a = at_moment m earlier begun in
         let H = settled_holds m earlier quiet k a to in
         let Q = settled_quiet earlier quiet k to in
         let e = HasRun-finished net (after_inputs net (stimulus (suc m)) quiet) s run in
-        let r = λ (p : ℕ) (place : ℕ). out (finished net (after_inputs net (stimulus (suc m)) quiet)) p place in
-        record {
-          r = r;
-          holds = subst (λ (u : State). Holds net (stimulus (suc m)) r u) (sym e) (next_holds net L (stimulus m) (stimulus (suc m)) a.r quiet H Q);
-          above = above_start s;
-        }
+        subst (λ (u : State). AtMoment (suc m) u) (sym e) (record {
+          r = λ p place. out (finished net (after_inputs net (stimulus (suc m)) quiet)) p place;
+          holds = next_holds net L (stimulus m) (stimulus (suc m)) a.r (IsSeen net earlier) quiet H Q;
+          above = above_start _;
+        })
 
     begun_done : (m : ℕ) (s : State) → Begun net stimulus m s → HasNoneToRun s
     begun_done zero s run = HasRun-done net _ s run
@@ -138,15 +132,14 @@ module _ (net : Netlist) (L : Numbered net) where
     settles : (m : ℕ) (s : State) → Begun net stimulus m s → (k : ℕ) × SettlesIn net s k × (k ≤ L.greatest + late net)
     settles m s begun =
         let a = at_moment m s begun in
-        settles_within net s (L.greatest + late net) (begun_done m s begun) (quiet_after net L (stimulus m) a.r (late net) s a.holds a.above)
+        settles_within net s (L.greatest + late net) (begun_done m s begun) (quiet_after net L (stimulus m) a.r (IsSeen net s) (late net) s (λ j. (j, refl)) a.holds a.above)
 
     settles_first : HasNoReset net → (s : State) → Begun net stimulus 0 s → (k : ℕ) × SettlesIn net s k × (k ≤ L.greatest + 0)
-    unfolding at_moment
     settles_first none s run =
         let a = at_moment 0 s run in
         let e = HasRun-finished net (start_state net (stimulus 0)) s run in
         let above = subst (λ (u : State). IsAbove net L 0 0 u) (sym e) (above_first (stimulus 0) none) in
-        settles_within net s (L.greatest + 0) (HasRun-done net _ s run) (quiet_after net L (stimulus 0) a.r 0 s a.holds above)
+        settles_within net s (L.greatest + 0) (HasRun-done net _ s run) (quiet_after net L (stimulus 0) a.r (IsSeen net s) 0 s (λ j. (j, refl)) a.holds above)
 
     settles_both : (m : ℕ) (s : State) → Begun net stimulus m s → (k : ℕ) × SettlesIn net s k × (k ≤ L.greatest + late net) × (m ≡ 0 → HasNoReset net → k ≤ L.greatest)
     settles_both zero s run =
@@ -154,41 +147,93 @@ module _ (net : Netlist) (L : Numbered net) where
         (k, set, l, λ e none. let (j, first, l') = settles_first none s run in let same = one_number net s k j set first in omega arith)
     settles_both (suc m) s begun = let (k, set, l) = settles (suc m) s begun in (k, set, l, λ e none. absurd (omega arith))
 
-    machine : (m : ℕ) → HasNoRace net stimulus m → (s t : State) (k : ℕ) → Begun net stimulus m s → SettlesTo net s k t → Machine net stimulus m t.now
-    unfolding at_moment
-    machine zero none s t k run to =
-        let a = at_moment 0 s run in
-        let G = settled_holds 0 s t k a to in
-        let P = settled_quiet s t k to in
-        let same = λ (p : ℕ) (place : ℕ) (clock : ℕ) (edge : Edge) (is : IsClockedBy net p clock edge) (h : HasPlace net p place). sym (now_out (stimulus 0) a.r t G P p place h ∙ G.on_clocked p place clock edge is h) in
-        record {
-          registers = λ n. get_or t.now n 0;
-          next = λ p place clock edge is h. sym (same p place clock edge is h) ∙ start_register net L (stimulus 0) p place clock edge is h;
-          solves = quiet_solves (stimulus 0) a.r t G P (λ n. get_or t.now n 0) same;
-        }
-    machine (suc m) none s t k (earlier, j, quiet, begun, before, run) to =
-        let a = at_moment m earlier begun in
-        let H = settled_holds m earlier quiet j a before in
-        let Q = settled_quiet earlier quiet j before in
-        let b = at_moment (suc m) s (earlier, j, quiet, begun, before, run) in
-        let G = settled_holds (suc m) s t k b to in
-        let P = settled_quiet s t k to in
-        let same = λ (p : ℕ) (place : ℕ) (clock : ℕ) (edge : Edge) (is : IsClockedBy net p clock edge) (h : HasPlace net p place). sym (now_out (stimulus (suc m)) b.r t G P p place h ∙ G.on_clocked p place clock edge is h) in (
-          quiet.now,
-          machine m (λ i l. none i (omega arith)) earlier quiet j begun before,
-          record {
-            registers = λ n. get_or t.now n 0;
-            next = λ p place clock edge is h. sym (same p place clock edge is h) ∙ next_register net L (stimulus m) (stimulus (suc m)) a.r quiet H Q no_race p place clock edge is h;
-            solves = quiet_solves (stimulus (suc m)) b.r t G P (λ n. get_or t.now n 0) same;
-          },
-        )
+    -- ---- without races
+
+    no_race : (m : ℕ) → HasNoRace net stimulus (suc m) → (p clock : ℕ) (edge : Edge) → IsClockedBy net p clock edge → IsTrue (net.edge edge (stimulus m clock) (stimulus (suc m) clock)) → (n : ℕ) → IsInput net n → (IsClock net n → ⊥) → stimulus m n ≡ stimulus (suc m) n
+    no_race m none p clock edge is e n input data' = go (cases_eq (stimulus m n) (stimulus (suc m) n))
       where
-        no_race : (p clock : ℕ) (edge : Edge) → IsClockedBy net p clock edge → IsTrue (net.edge edge (stimulus m clock) (stimulus (suc m) clock)) → (n : ℕ) → IsInput net n → (IsClock net n → ⊥) → stimulus m n ≡ stimulus (suc m) n
-        no_race p clock edge is e n input data' = go (cases_eq (stimulus m n) (stimulus (suc m) n))
-          where
-            go : (stimulus m n ≡ stimulus (suc m) n) ⊎ (stimulus m n ≡ stimulus (suc m) n → ⊥) → stimulus m n ≡ stimulus (suc m) n
-            go (inl h) = h
-            go (inr h) = absurd (none (suc m) (omega arith) (record { process = p; clock = clock; edge = edge; clocked = is; active = e; input = n; is_input = input; no_clock = data'; changes = h }))
+        go : (stimulus m n ≡ stimulus (suc m) n) ⊎ (stimulus m n ≡ stimulus (suc m) n → ⊥) → stimulus m n ≡ stimulus (suc m) n
+        go (inl h) = h
+        go (inr h) = absurd (none (suc m) (omega arith) (record { process = p; clock = clock; edge = edge; clocked = is; active = e; input = n; is_input = input; no_clock = data'; changes = h }))
+
+    -- a moment, as it begins
+    record Moment (m : ℕ) (s : State) : Type 0 where
+      r : ℕ → ℕ → ℕ
+      old : List ℕ
+      edge_comes : ℕ → Edge → Bool
+      begins : Begins net edge_comes r old s
+      holds : Holds net (stimulus m) r (IsSeen net s) s
+
+    moment : (m : ℕ) → HasNoRace net stimulus m → (s : State) → Begun net stimulus m s → Moment m s
+    moment zero none s run = subst (λ (u : State). Moment 0 u) (sym (HasRun-finished net (start_state net (stimulus 0)) s run)) (record {
+      r = λ p place. out (finished net (start_state net (stimulus 0))) p place;
+      old = net.start;
+      edge_comes = λ clock edge. false;
+      begins = start_begins net L (stimulus 0);
+      holds = start_holds net L (stimulus 0);
+    })
+    moment (suc m) none s (earlier, k, quiet, begun, to, run) =
+        let a = at_moment m earlier begun in
+        let H = settled_holds m earlier quiet k a to in
+        let Q = settled_quiet earlier quiet k to in
+        subst (λ (u : State). Moment (suc m) u) (sym (HasRun-finished net (after_inputs net (stimulus (suc m)) quiet) s run)) (record {
+          r = λ p place. out (finished net (after_inputs net (stimulus (suc m)) quiet)) p place;
+          old = quiet.now;
+          edge_comes = λ clock edge. net.edge edge (get_or quiet.now clock 0) (stimulus (suc m) clock);
+          begins = next_begins net L (stimulus m) (stimulus (suc m)) a.r (IsSeen net earlier) quiet H Q (no_race m none);
+          holds = next_holds net L (stimulus m) (stimulus (suc m)) a.r (IsSeen net earlier) quiet H Q;
+        })
+
+    module _ (A : IsAccepted net) where
+      calm_net_keeps : (m : ℕ) → HasNoRace net stimulus m → (s mid t : State) (j k : ℕ) → Begun net stimulus m s → HasDeltas net j s mid → SettlesTo net s k t → (n : ℕ) (these : ℕ → Bool) → IsCalm net n these → these (get_or mid.now n 0) ≡ true
+          → (these (get_or s.now n 0) ≡ true) ⊎ (these (get_or t.now n 0) ≡ true)
+      calm_net_keeps m none s mid t j k begun deltas to n these calm h =
+          let M = moment m none s begun in
+          let e = HasDeltas-after net k s t to.1 in
+          subst (λ (u : State). (these (get_or s.now n 0) ≡ true) ⊎ (these (get_or u.now n 0) ≡ true)) (sym e)
+          (calm_keeps net L A (stimulus m) M.edge_comes M.r M.old s M.begins M.holds k (subst (λ (u : State). is_quiet u ≡ true) e (settled_quiet s t k to)) n these calm j (subst (λ (u : State). these (get_or u.now n 0) ≡ true) (HasDeltas-after net j s mid deltas) h))
+
+      -- what settles at the start, and later
+      first_settles : (k : ℕ) (t : State) → SettlesTo net (finished net (start_state net (stimulus 0))) k t → IsFirst net (stimulus 0) t.now
+      first_settles k t to =
+          let s = finished net (start_state net (stimulus 0)) in
+          let r = λ (p : ℕ) (place : ℕ). out s p place in
+          let H = start_holds net L (stimulus 0) in
+          let e = HasDeltas-after net k s t to.1 in
+          let Q = subst (λ (u : State). is_quiet u ≡ true) e (settled_quiet s t k to) in
+          subst (λ (u : State). IsFirst net (stimulus 0) u.now) (sym e) (record {
+            registers = λ n. get_or (after net k s).now n 0;
+            next = λ p place clock edge is h. register_settled net L A (stimulus 0) (λ clock edge. false) r net.start s (start_begins net L (stimulus 0)) H k Q p place clock edge is h
+                ∙ ap (λ (o : Option ℕ). entry_or o (get_or net.start (target net p place) 0))
+                (no_edge_entry (resets (reset_of net p) (λ n. get_or s.now n 0) || resets (reset_of net p) (λ n. get_or (after net k s).now n 0)) false (not (holds_back (reset_of net p) (λ n. get_or s.now n 0))) (reset_entry (reset_of net p) place) (get_or ((process net p).acting_effect net.start) place None) refl);
+            solves = quiet_solves (stimulus 0) r (IsSeen net s) (after net k s) (after_holds net L (stimulus 0) r (IsSeen net s) k s (λ j. (j, refl)) H) Q;
+          })
+
+      step_settles : (m : ℕ) → HasNoRace net stimulus (suc m) → (earlier quiet : State) (j : ℕ) (begun : Begun net stimulus m earlier) → SettlesTo net earlier j quiet
+          → (k : ℕ) (t : State) → SettlesTo net (finished net (after_inputs net (stimulus (suc m)) quiet)) k t → IsStep net quiet.now (stimulus (suc m)) t.now
+      step_settles m none earlier quiet j begun before k t to =
+          let a = at_moment m earlier begun in
+          let was = settled_holds m earlier quiet j a before in
+          let P = settled_quiet earlier quiet j before in
+          let s = finished net (after_inputs net (stimulus (suc m)) quiet) in
+          let r = λ (p : ℕ) (place : ℕ). out s p place in
+          let H = next_holds net L (stimulus m) (stimulus (suc m)) a.r (IsSeen net earlier) quiet was P in
+          let e = HasDeltas-after net k s t to.1 in
+          let Q = subst (λ (u : State). is_quiet u ≡ true) e (settled_quiet s t k to) in
+          subst (λ (u : State). IsStep net quiet.now (stimulus (suc m)) u.now) (sym e) (record {
+            registers = λ n. get_or (after net k s).now n 0;
+            next = λ p place clock edge is h.
+                register_settled net L A (stimulus (suc m)) (λ clock edge. net.edge edge (get_or quiet.now clock 0) (stimulus (suc m) clock)) r quiet.now s (next_begins net L (stimulus m) (stimulus (suc m)) a.r (IsSeen net earlier) quiet was P (no_race m none)) H k Q p place clock edge is h;
+            solves = quiet_solves (stimulus (suc m)) r (IsSeen net s) (after net k s) (after_holds net L (stimulus (suc m)) r (IsSeen net s) k s (λ j. (j, refl)) H) Q;
+          })
+
+      machine : (m : ℕ) → HasNoRace net stimulus m → (s t : State) (k : ℕ) → Begun net stimulus m s → SettlesTo net s k t → Machine net stimulus m t.now
+      machine zero none s t k run to = first_settles k t (subst (λ (u : State). SettlesTo net u k t) (HasRun-finished net (start_state net (stimulus 0)) s run) to)
+      machine (suc m) none s t k (earlier, j, quiet, begun, before, run) to = (
+        quiet.now,
+        machine m (λ i l. none i (omega arith)) earlier quiet j begun before,
+        step_settles m none earlier quiet j begun before k t (subst (λ (u : State). SettlesTo net u k t) (HasRun-finished net (after_inputs net (stimulus (suc m)) quiet) s run) to),
+      )
 
     comes : (m : ℕ) → (s : State) × Begun net stimulus m s
     comes zero = let (order, runs) = runs_exist net (start_state net (stimulus 0)) in (finished net (start_state net (stimulus 0)), (order, runs))
@@ -214,16 +259,23 @@ none_extra net none = go (cases_Bool (has_late_reset net))
     go (inr f) = cond-false _ _ _ f
 
 pub settles_in_bound : SettlesInBound
-settles_in_bound net greatest most E A V stimulus m s begun =
-    let (k, set, l, first) = settles_both net (by_levels net E (faultless net A) V.levels greatest V.are_levels) stimulus m s begun in
-    let is = V.is in
-    let g = greatest_is net E (faultless net A) V.levels greatest V.are_levels in
+settles_in_bound net greatest most E A (ByProcesses levels judged V is) stimulus m s begun =
+    let outer = outer_resets net E judged in
+    let (k, set, l, first) = settles_both net (by_levels net E (faultless net A) outer levels greatest V) stimulus m s begun in
+    let g = greatest_is net E (faultless net A) outer levels greatest V in
     (k, set, omega arith, λ e none. let at = first e none in let zero = none_extra net none in omega arith)
+settles_in_bound net greatest most E A (ByNets levels nets judged V is) stimulus m s begun =
+    let (k, set, l, first) = settles_both net (by_nets net E (faultless net A) levels nets greatest V) stimulus m s begun in
+    let g = greatest_by_nets net E (faultless net A) levels nets greatest V in
+    (k, set, omega arith, λ e none. let at = first e none in omega arith)
 
 pub is_the_machine : IsTheMachine
 is_the_machine net E A stimulus m none k t (s, begun, to) v run =
     let L = numbered net E A in
-    Machine-run net L stimulus v run m t.now (machine net L stimulus m none s t k begun to)
+    Machine-run net L stimulus v run m t.now (machine net L stimulus A m none s t k begun to)
 
 pub each_moment_comes : EachMomentComes
 each_moment_comes net E A stimulus m = has_settled net (numbered net E A) stimulus m
+
+pub each_calm_net_keeps : EachCalmNetKeeps
+each_calm_net_keeps net E A stimulus m none s mid t j k begun deltas to n these calm h = calm_net_keeps net (numbered net E A) stimulus A m none s mid t j k begun deltas to n these calm h

@@ -6,7 +6,7 @@ use Rattle.rtl_model.specs.simulation.Cycle.{State, is_quiet}
 use Rattle.rtl_model.specs.simulation.Moments.{Delta, Deltas, HasDeltas, HasNoneToRun, SettlesIn, IsUnsettled}
 use Rattle.rtl_model.specs.simulation.Laws.{IsBusyBefore, EachRunShows, HasSettledWithin, SettlesOrNot}
 use Rattle.rtl_model.proofs.simulation.Deltas.{after, HasDeltas-after, deltas_exist, settles_within}
-use Rattle.rtl_model.proofs.simulation.Decisions.{search_below}
+use Rattle.rtl_model.proofs.basics.Search.{search_below}
 
 last_delta : (net : Netlist) (orders : List (List ℕ)) (order : List ℕ) (s t u : State) → Deltas net orders s t → Delta net order t u → Deltas net (orders ++ (order ∷ [])) s u
 last_delta net [] order s t u e d = (u, subst (λ (x : State). Delta net order x u) e d, refl)

@@ -5,11 +5,10 @@ use Rattle.std.proofs.lemmas.List.{ext_get_or, get_or_past}
 use Rattle.std.proofs.lemmas.List.FromFn.{length-map-range_with_len, get_or-map-range_with_len}
 use Rattle.std.proofs.lemmas.Bool.{cases_lt, cases_Bool, cond-true, cond-false, false_from_ne_true}
 use Rattle.rtl_model.proofs.basics.Lists.{Contains-first}
-use Rattle.rtl_model.specs.basics.Valuations.{AgreeOn}
 use Rattle.rtl_model.proofs.simulation.Faultless.{kinds}
-use Rattle.rtl_model.specs.simulation.Netlist.{Clocked, Combinational, Driver, Edge, HasPlace, Idle, IsClockedBy, IsCombinational, IsInput, ProcessKind, Mixed, Netlist, process, Source, sources_of, table, target}
+use Rattle.rtl_model.specs.simulation.Netlist.{Clocked, Combinational, Driver, Edge, HasPlace, Idle, IsClockedBy, IsCombinational, IsInput, ProcessKind, Mixed, Netlist, process, Source, sources_of, table, target, IsDriven}
 use Rattle.rtl_model.specs.simulation.Cycle.{after_inputs}
-use Rattle.rtl_model.specs.simulation.Machine.{entry_or, IsDriven, Solves}
+use Rattle.rtl_model.specs.simulation.Machine.{entry_or, Solves}
 use Rattle.rtl_model.specs.simulation.Laws.{OneSolution}
 use Rattle.rtl_model.proofs.simulation.Numbered.{Numbered, assigned, sole, driven_or_not}
 use Rattle.rtl_model.proofs.simulation.Levels.{numbered}
@@ -24,9 +23,9 @@ some_entry : (o : Option ℕ) → IsSome o → o ≡ Some (entry_or o 0)
 some_entry (Some v) h = refl
 some_entry None h = cc
 
--- two valuations agree on driven nets of at most this number, and on what no process drives
-pub record AgreeTo (net : Netlist) (N : Numbered net) (d : ℕ) (v w : List ℕ) : Type 0 where
-  pub on_driven : (p place : ℕ) → HasPlace net p place → N.of_net (target net p place) ≤ d → get_or v (target net p place) 0 ≡ get_or w (target net p place) 0
+-- two valuations agree on driven nets below this number, and on what no process drives
+pub record AgreeBelow (net : Netlist) (N : Numbered net) (d : ℕ) (v w : List ℕ) : Type 0 where
+  pub on_driven : (p place : ℕ) → HasPlace net p place → N.of_net (target net p place) < d → get_or v (target net p place) 0 ≡ get_or w (target net p place) 0
   pub on_rest : (n : ℕ) → (IsDriven net n → ⊥) → get_or v n 0 ≡ get_or w n 0
 
 -- a value for net n, from the values of v: what its one source, its given value or its start says
@@ -35,43 +34,49 @@ by_kind Combinational x r = x
 by_kind (Clocked clock edge reset) x r = r
 by_kind Mixed x r = 0
 
-abbrev pub evaluated : Netlist → (ℕ → ℕ) → (ℕ → ℕ) → List ℕ → ℕ → List Source → ℕ
+abbrev pub evaluated : Netlist → (ℕ → ℕ) → (List ℕ → ℕ → ℕ) → List ℕ → ℕ → List Source → ℕ
 evaluated net inputs registers v n [] = if list_any (λ m. m == n) net.inputs then inputs n else get_or net.start n 0
 evaluated net inputs registers v n (Idle value ∷ more) = get_or net.start n 0
 evaluated net inputs registers v n (Driver p place ∷ more) =
-    by_kind (process net p).kind (entry_or (get_or ((process net p).effect v v) place None) 0) (registers n)
+    by_kind (process net p).kind (entry_or (get_or ((process net p).effect v v) place None) 0) (registers v n)
 
-abbrev pub evaluate : Netlist → (ℕ → ℕ) → (ℕ → ℕ) → List ℕ → List ℕ
+abbrev pub evaluate : Netlist → (ℕ → ℕ) → (List ℕ → ℕ → ℕ) → List ℕ → List ℕ
 evaluate net inputs registers v = table (length net.start) (λ n. evaluated net inputs registers v n (sources_of net n))
 
-abbrev pub evaluations : Netlist → (ℕ → ℕ) → (ℕ → ℕ) → ℕ → List ℕ
+abbrev pub evaluations : Netlist → (ℕ → ℕ) → (List ℕ → ℕ → ℕ) → ℕ → List ℕ
 evaluations net inputs registers zero = net.start
 evaluations net inputs registers (suc d) = evaluate net inputs registers (evaluations net inputs registers d)
 
+-- What registers have in a valuation depends on driven nets of lower numbers alone.
+abbrev pub RegistersRise : (net : Netlist) → Numbered net → (List ℕ → ℕ → ℕ) → Type 0
+RegistersRise net N registers =
+    (p place clock : ℕ) (edge : Edge) (v w : List ℕ) → IsClockedBy net p clock edge → HasPlace net p place → AgreeBelow net N (N.of_net (target net p place)) v w
+    → registers v (target net p place) ≡ registers w (target net p place)
+
 module _ (net : Netlist) (L : Numbered net) where
-  looks_agree : (d p place : ℕ) (v w : List ℕ) → AgreeTo net L d v w → IsCombinational net p → HasPlace net p place → L.of_net (target net p place) ≤ suc d → AgreeOn ((process net p).looks place) v w
-  looks_agree d p place v w a c h l n looks = go (driven_or_not net L n)
+  lower : (d e : ℕ) (v w : List ℕ) → e ≤ d → AgreeBelow net L d v w → AgreeBelow net L e v w
+  lower d e v w l a = record { on_driven = λ p place h k. a.on_driven p place h (omega arith); on_rest = a.on_rest }
+
+  -- valuations that agree on driven nets below a net's number agree on any net with a lower one
+  pub agree_at : (d n : ℕ) (v w : List ℕ) → AgreeBelow net L d v w → (IsDriven net n → L.of_net n < d) → get_or v n 0 ≡ get_or w n 0
+  agree_at d n v w a rises = go (driven_or_not net L n)
     where
       go : IsDriven net n ⊎ (IsDriven net n → ⊥) → get_or v n 0 ≡ get_or w n 0
-      go (inl (q, qp, k, t)) =
-          let rises = L.rises p place n c h looks in
-          let e : L.of_net (target net q qp) ≡ L.of_net n = ap L.of_net t in
-          subst (λ (m : ℕ). get_or v m 0 ≡ get_or w m 0) t (a.on_driven q qp k (omega arith))
+      go (inl (q, place, h, t)) =
+          let l = rises (q, place, h, t) in
+          let e : L.of_net (target net q place) ≡ L.of_net n = ap L.of_net t in
+          subst (λ (m : ℕ). get_or v m 0 ≡ get_or w m 0) t (a.on_driven q place h (omega arith))
       go (inr free) = a.on_rest n free
 
-  entries_agree : (d p place : ℕ) (v w : List ℕ) → AgreeTo net L d v w → IsCombinational net p → HasPlace net p place → L.of_net (target net p place) ≤ suc d
+  entries_agree : (p place : ℕ) (v w : List ℕ) → AgreeBelow net L (L.of_net (target net p place)) v w → IsCombinational net p → HasPlace net p place
       → get_or ((process net p).effect v v) place None ≡ get_or ((process net p).effect w w) place None
-  entries_agree d p place v w a c h l = L.elaborated.bodies.entry_looks p place v v w w c h (looks_agree d p place v w a c h l)
+  entries_agree p place v w a c h = L.elaborated.bodies.entry_looks p place v v w w c h (λ n looks. agree_at (L.of_net (target net p place)) n v w a (λ driven. L.rises p place n c h looks))
 
-  same_values : (v w : List ℕ) → length v ≡ length w → AgreeTo net L L.greatest v w → v ≡ w
-  same_values v w e a = ext_get_or 0 v w e (λ n l. go n (driven_or_not net L n))
-    where
-      go : (n : ℕ) → IsDriven net n ⊎ (IsDriven net n → ⊥) → get_or v n 0 ≡ get_or w n 0
-      go n (inl (q, place, h, t)) = subst (λ (m : ℕ). get_or v m 0 ≡ get_or w m 0) t (a.on_driven q place h (L.net_within (target net q place)))
-      go n (inr free) = a.on_rest n free
+  same_values : (v w : List ℕ) → length v ≡ length w → AgreeBelow net L (suc L.greatest) v w → v ≡ w
+  same_values v w e a = ext_get_or 0 v w e (λ n l. agree_at (suc L.greatest) n v w a (λ driven. let k = L.net_within n in omega arith))
 
-  module _ (inputs registers : ℕ → ℕ) where
-    rest_agrees : (v w : List ℕ) → Solves net inputs registers v → Solves net inputs registers w → (n : ℕ) → (IsDriven net n → ⊥) → get_or v n 0 ≡ get_or w n 0
+  module _ (inputs : ℕ → ℕ) (registers : List ℕ → ℕ → ℕ) (rise : RegistersRise net L registers) where
+    rest_agrees : (v w : List ℕ) → Solves net inputs (registers v) v → Solves net inputs (registers w) w → (n : ℕ) → (IsDriven net n → ⊥) → get_or v n 0 ≡ get_or w n 0
     rest_agrees v w s t n free = go (cases_lt n (length net.start)) (cases_Bool (list_any (λ m. m == n) net.inputs))
       where
         go : (n < length net.start) ⊎ (length net.start ≤ n) → (list_any (λ m. m == n) net.inputs ≡ true) ⊎ (list_any (λ m. m == n) net.inputs ≡ false) → get_or v n 0 ≡ get_or w n 0
@@ -83,33 +88,29 @@ module _ (net : Netlist) (L : Numbered net) where
             get_or_past v n 0 (omega arith) ∙ sym (get_or_past w n 0 (omega arith))
 
     -- two solutions agree, number by number
-    solutions_agree : (d : ℕ) (v w : List ℕ) → Solves net inputs registers v → Solves net inputs registers w → AgreeTo net L d v w
-    solutions_agree zero v w s t = record { on_driven = λ p place h l. go p place h l (kinds net L.faultless p place h); on_rest = rest_agrees v w s t }
+    solutions_agree : (d : ℕ) (v w : List ℕ) → Solves net inputs (registers v) v → Solves net inputs (registers w) w → AgreeBelow net L d v w
+    solutions_agree zero v w s t = record { on_driven = λ p place h l. absurd (omega arith); on_rest = rest_agrees v w s t }
+    solutions_agree (suc d) v w s t = let below = solutions_agree d v w s t in record { on_driven = λ p place h l. go p place h (lower d _ v w (omega arith) below) (kinds net L.faultless p place h); on_rest = rest_agrees v w s t }
       where
-        go : (p place : ℕ) → HasPlace net p place → L.of_net (target net p place) ≤ 0 → IsCombinational net p ⊎ ((clock : ℕ) × (edge : Edge) × IsClockedBy net p clock edge) → get_or v (target net p place) 0 ≡ get_or w (target net p place) 0
-        go p place h l (inl c) = let k = L.from_one p place c h in absurd (omega arith)
-        go p place h l (inr (clock, edge, is)) = s.on_registers p place clock edge is h ∙ sym (t.on_registers p place clock edge is h)
-    solutions_agree (suc d) v w s t = let below = solutions_agree d v w s t in record { on_driven = λ p place h l. go below p place h l (kinds net L.faultless p place h); on_rest = rest_agrees v w s t }
-      where
-        go : AgreeTo net L d v w → (p place : ℕ) → HasPlace net p place → L.of_net (target net p place) ≤ suc d → IsCombinational net p ⊎ ((clock : ℕ) × (edge : Edge) × IsClockedBy net p clock edge) → get_or v (target net p place) 0 ≡ get_or w (target net p place) 0
-        go below p place h l (inl c) =
+        go : (p place : ℕ) → HasPlace net p place → AgreeBelow net L (L.of_net (target net p place)) v w → IsCombinational net p ⊎ ((clock : ℕ) × (edge : Edge) × IsClockedBy net p clock edge) → get_or v (target net p place) 0 ≡ get_or w (target net p place) 0
+        go p place h below (inl c) =
             let a = s.on_combinational p place c h in
             let b = t.on_combinational p place c h in
-            let e = entries_agree d p place v w below c h l in
+            let e = entries_agree p place v w below c h in
             cc
-        go below p place h l (inr (clock, edge, is)) = s.on_registers p place clock edge is h ∙ sym (t.on_registers p place clock edge is h)
+        go p place h below (inr (clock, edge, is)) = s.on_registers p place clock edge is h ∙ rise p place clock edge v w is h below ∙ sym (t.on_registers p place clock edge is h)
 
     pub evaluate_at : (v : List ℕ) (n : ℕ) → n < length net.start → get_or (evaluate net inputs registers v) n 0 ≡ evaluated net inputs registers v n (sources_of net n)
     evaluate_at v n l = get_or-table (length net.start) (λ m. evaluated net inputs registers v m (sources_of net m)) n l
 
-    evaluate_target : (v : List ℕ) (p place : ℕ) → HasPlace net p place → get_or (evaluate net inputs registers v) (target net p place) 0 ≡ by_kind (process net p).kind (entry_or (get_or ((process net p).effect v v) place None) 0) (registers (target net p place))
+    evaluate_target : (v : List ℕ) (p place : ℕ) → HasPlace net p place → get_or (evaluate net inputs registers v) (target net p place) 0 ≡ by_kind (process net p).kind (entry_or (get_or ((process net p).effect v v) place None) 0) (registers v (target net p place))
     evaluate_target v p place h = evaluate_at v (target net p place) (L.elaborated.wiring.targets_are_nets p place h) ∙ ap (λ (xs : List Source). evaluated net inputs registers v (target net p place) xs) (sole net L p place h)
 
-    evaluate_register : (v : List ℕ) (p place clock : ℕ) (edge : Edge) → HasPlace net p place → IsClockedBy net p clock edge → get_or (evaluate net inputs registers v) (target net p place) 0 ≡ registers (target net p place)
-    evaluate_register v p place clock edge h is = evaluate_target v p place h ∙ ap (λ (k : ProcessKind). by_kind k (entry_or (get_or ((process net p).effect v v) place None) 0) (registers (target net p place))) is.1
+    evaluate_register : (v : List ℕ) (p place clock : ℕ) (edge : Edge) → HasPlace net p place → IsClockedBy net p clock edge → get_or (evaluate net inputs registers v) (target net p place) 0 ≡ registers v (target net p place)
+    evaluate_register v p place clock edge h is = evaluate_target v p place h ∙ ap (λ (k : ProcessKind). by_kind k (entry_or (get_or ((process net p).effect v v) place None) 0) (registers v (target net p place))) is.1
 
     evaluate_combinational : (v : List ℕ) (p place : ℕ) → HasPlace net p place → IsCombinational net p → get_or (evaluate net inputs registers v) (target net p place) 0 ≡ entry_or (get_or ((process net p).effect v v) place None) 0
-    evaluate_combinational v p place h is = evaluate_target v p place h ∙ ap (λ (k : ProcessKind). by_kind k (entry_or (get_or ((process net p).effect v v) place None) 0) (registers (target net p place))) is.1
+    evaluate_combinational v p place h is = evaluate_target v p place h ∙ ap (λ (k : ProcessKind). by_kind k (entry_or (get_or ((process net p).effect v v) place None) 0) (registers v (target net p place))) is.1
 
     -- what no process drives is the same after every evaluation
     evaluate_rest : (v w : List ℕ) (n : ℕ) → (IsDriven net n → ⊥) → get_or (evaluate net inputs registers v) n 0 ≡ get_or (evaluate net inputs registers w) n 0
@@ -123,22 +124,19 @@ module _ (net : Netlist) (L : Numbered net) where
             absurd (free (p, place, f.0, f.1))
         go (inr l) xs e = get_or_past (evaluate net inputs registers v) n 0 (rw length-table l) ∙ sym (get_or_past (evaluate net inputs registers w) n 0 (rw length-table l))
 
-    -- an evaluation more changes nothing up to its number
-    evaluations_agree : (d : ℕ) → AgreeTo net L d (evaluations net inputs registers (suc d)) (evaluations net inputs registers (suc (suc d)))
-    evaluations_agree zero = record { on_driven = λ p place h l. go p place h l (kinds net L.faultless p place h); on_rest = evaluate_rest _ _ }
+    -- an evaluation more changes nothing below its number
+    evaluations_agree : (d : ℕ) → AgreeBelow net L d (evaluations net inputs registers (suc d)) (evaluations net inputs registers (suc (suc d)))
+    evaluations_agree zero = record { on_driven = λ p place h l. absurd (omega arith); on_rest = evaluate_rest _ _ }
+    evaluations_agree (suc d) = let below = evaluations_agree d in record { on_driven = λ p place h l. go p place h (lower d _ _ _ (omega arith) below) (kinds net L.faultless p place h); on_rest = evaluate_rest _ _ }
       where
-        go : (p place : ℕ) → HasPlace net p place → L.of_net (target net p place) ≤ 0 → IsCombinational net p ⊎ ((clock : ℕ) × (edge : Edge) × IsClockedBy net p clock edge) → get_or (evaluations net inputs registers 1) (target net p place) 0 ≡ get_or (evaluations net inputs registers 2) (target net p place) 0
-        go p place h l (inl c) = let k = L.from_one p place c h in absurd (omega arith)
-        go p place h l (inr (clock, edge, is)) = evaluate_register _ p place clock edge h is ∙ sym (evaluate_register _ p place clock edge h is)
-    evaluations_agree (suc d) = let below = evaluations_agree d in record { on_driven = λ p place h l. go below p place h l (kinds net L.faultless p place h); on_rest = evaluate_rest _ _ }
-      where
-        go : AgreeTo net L d (evaluations net inputs registers (suc d)) (evaluations net inputs registers (suc (suc d))) → (p place : ℕ) → HasPlace net p place → L.of_net (target net p place) ≤ suc d → IsCombinational net p ⊎ ((clock : ℕ) × (edge : Edge) × IsClockedBy net p clock edge) → get_or (evaluations net inputs registers (suc (suc d))) (target net p place) 0 ≡ get_or (evaluations net inputs registers (suc (suc (suc d)))) (target net p place) 0
-        go below p place h l (inl c) =
-            let e = entries_agree d p place _ _ below c h l in
+        go : (p place : ℕ) → HasPlace net p place → AgreeBelow net L (L.of_net (target net p place)) (evaluations net inputs registers (suc d)) (evaluations net inputs registers (suc (suc d))) → IsCombinational net p ⊎ ((clock : ℕ) × (edge : Edge) × IsClockedBy net p clock edge)
+            → get_or (evaluations net inputs registers (suc (suc d))) (target net p place) 0 ≡ get_or (evaluations net inputs registers (suc (suc (suc d)))) (target net p place) 0
+        go p place h below (inl c) =
+            let e = entries_agree p place _ _ below c h in
             evaluate_combinational _ p place h c ∙ ap (λ (o : Option ℕ). entry_or o 0) e ∙ sym (evaluate_combinational _ p place h c)
-        go below p place h l (inr (clock, edge, is)) = evaluate_register _ p place clock edge h is ∙ sym (evaluate_register _ p place clock edge h is)
+        go p place h below (inr (clock, edge, is)) = evaluate_register _ p place clock edge h is ∙ rise p place clock edge _ _ is h below ∙ sym (evaluate_register _ p place clock edge h is)
 
-    fixed_solves : (v : List ℕ) → v ≡ evaluate net inputs registers v → Solves net inputs registers v
+    fixed_solves : (v : List ℕ) → v ≡ evaluate net inputs registers v → Solves net inputs (registers v) v
     fixed_solves v e = record {
       each_net = ap length e ∙ length-table _ _;
       on_inputs = λ n is. at n ∙ evaluate_at v n (L.elaborated.wiring.inputs_are_nets n is) ∙ ap (λ (xs : List Source). evaluated net inputs registers v n xs) (L.elaborated.wiring.inputs_have_no_source n is) ∙ cond-true _ _ _ is;
@@ -159,23 +157,22 @@ module _ (net : Netlist) (L : Numbered net) where
 
     -- the evaluation after the greatest number
     pub solution : List ℕ
-    solution = evaluations net inputs registers (suc L.greatest)
+    solution = evaluations net inputs registers (suc (suc L.greatest))
 
-    pub solution_is : solution ≡ evaluations net inputs registers (suc L.greatest)
+    pub solution_is : solution ≡ evaluations net inputs registers (suc (suc L.greatest))
     unfolding solution
     solution_is = refl
 
-    pub solution_solves : Solves net inputs registers solution
+    pub solution_solves : Solves net inputs (registers solution) solution
     unfolding solution
-    solution_solves = fixed_solves solution (same_values solution _ (length-table _ _ ∙ sym (length-table _ _)) (evaluations_agree L.greatest))
+    solution_solves = fixed_solves solution (same_values solution _ (length-table _ _ ∙ sym (length-table _ _)) (evaluations_agree (suc L.greatest)))
 
-    pub one_solves : (v w : List ℕ) → Solves net inputs registers v → Solves net inputs registers w → v ≡ w
-    one_solves v w s t = same_values v w (s.each_net ∙ sym t.each_net) (solutions_agree L.greatest v w s t)
+    pub one_solves : (v w : List ℕ) → Solves net inputs (registers v) v → Solves net inputs (registers w) w → v ≡ w
+    one_solves v w s t = same_values v w (s.each_net ∙ sym t.each_net) (solutions_agree (suc L.greatest) v w s t)
 
 -- the solution for given inputs and registers
-pub solution_exists : (net : Netlist) → Numbered net → (inputs registers : ℕ → ℕ) → (v : List ℕ) × Solves net inputs registers v × ((w : List ℕ) → Solves net inputs registers w → w ≡ v)
-solution_exists net L inputs registers =
-    (solution net L inputs registers, solution_solves net L inputs registers, λ w t. one_solves net L inputs registers _ _ t (solution_solves net L inputs registers))
-
 pub one_solution : OneSolution
-one_solution net E A = solution_exists net (numbered net E A)
+one_solution net E A inputs registers =
+    let L = numbered net E A in
+    let rise : RegistersRise net L (λ v. registers) = λ p place clock edge v w is h below. refl in
+    (solution net L inputs (λ v. registers) rise, solution_solves net L inputs (λ v. registers) rise, λ w t. one_solves net L inputs (λ v. registers) rise _ _ t (solution_solves net L inputs (λ v. registers) rise))

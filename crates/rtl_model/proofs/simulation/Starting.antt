@@ -1,13 +1,13 @@
 -- What holds after the run of initialization.
-use Rattle.std.proofs.Common.{◌≡◌, ℕ, ◌<◌, ◌≤◌, true, false, List, [], length, get_or, map, Option, Some, None, refl, sym, ap, ◌∙◌, arith, ◌⊎◌, inl, inr, ◌==◌, if◌then◌else◌}
+use Rattle.std.proofs.Common.{◌≡◌, ℕ, ◌<◌, ◌≤◌, Bool, true, false, not, List, [], length, get_or, map, Option, Some, None, refl, sym, ap, ◌∙◌, arith, ◌⊎◌, inl, inr, ◌==◌, if◌then◌else◌, IsSome}
 use Rattle.std.specs.List.{list_any}
 use Rattle.std.proofs.lemmas.List.{length-map, get_or_past}
 use Rattle.std.proofs.lemmas.List.FromFn.{length-map-range_with_len}
-use Rattle.std.proofs.lemmas.Bool.{cases_lt, cases_Bool, false_from_ne_true, cond-true, cond-false}
+use Rattle.std.proofs.lemmas.Bool.{cases_lt, false_from_ne_true, cond-true, cond-false}
 use Rattle.rtl_model.proofs.basics.Lists.{get_or-map_within}
-use Rattle.rtl_model.specs.basics.Valuations.{clocked_entry}
+use Rattle.rtl_model.specs.basics.Valuations.{entry_where}
 use Rattle.rtl_model.proofs.simulation.Numbered.{Numbered, sole}
-use Rattle.rtl_model.specs.simulation.Netlist.{Driver, Edge, HasPlace, IsClockedBy, IsInput, Netlist, no_process, process, Process, Reset, reset_entry, reset_of, resets, Source, target}
+use Rattle.rtl_model.specs.simulation.Netlist.{Driver, Edge, HasPlace, IsClockedBy, IsInput, Netlist, no_process, process, Process, Reset, reset_entry, reset_of, resets, holds_back, Source, target}
 use Rattle.rtl_model.specs.simulation.Cycle.{after_inputs, source_value, start_state, State, with_inputs}
 use Rattle.rtl_model.specs.simulation.Elaborated.{IsElaborated}
 use Rattle.rtl_model.specs.simulation.Machine.{entry_or}
@@ -16,11 +16,8 @@ use Rattle.rtl_model.proofs.simulation.Order.{finished, waits, row_after}
 use Rattle.rtl_model.proofs.simulation.Faultless.{place_in_range}
 use Rattle.rtl_model.proofs.simulation.Solution.{get_or-table, length-table}
 use Rattle.rtl_model.proofs.simulation.Rows.{transaction, value, out, get_or-map, no_entries}
-use Rattle.rtl_model.proofs.simulation.Held.{entry_none, entry_of_reset, reset_ran, reset_now, Holds, IsFresh, input_not_driven, clocked_ran, no_edge_same, combinational_awake}
-
-pub entry_twice : (o : Option ℕ) (x : ℕ) → entry_or o (entry_or o x) ≡ entry_or o x
-entry_twice (Some v) x = refl
-entry_twice None x = refl
+use Rattle.rtl_model.proofs.simulation.Keeping.{Begins}
+use Rattle.rtl_model.proofs.simulation.Held.{entry_twice, no_edge_entry, reset_awake, Holds, IsSeen, IsFresh, input_not_driven, none_or_some, no_edge_same, combinational_awake, who_ran}
 
 pub inputs_at : (net : Netlist) (E : IsElaborated net) (inputs : ℕ → ℕ) (old : List ℕ) (n : ℕ) → IsInput net n → get_or (with_inputs net inputs old) n 0 ≡ inputs n
 inputs_at net E inputs old n is =
@@ -60,45 +57,60 @@ module _ (net : Netlist) (L : Numbered net) where
         ∙ ap (λ (xs : List Source). net.resolve (map (source_value first.drivers) xs)) (sole net L p place h)
         ∙ L.elaborated.values.one_resolves _
 
-    start_reset : (p : ℕ) → resets (reset_of net p) (λ n. get_or first.now n 0) ≡ resets (reset_of net p) inputs
-    start_reset p = reset_now net L p (λ n. get_or first.now n 0) inputs (λ n is. inputs_at net L.elaborated inputs net.start n is)
+    -- whether a reset holds then, and what a register is assigned
+    abbrev pub resets_first : ℕ → Bool
+    resets_first p = resets (reset_of net p) (λ n. get_or first.now n 0)
 
-    -- what a register is assigned then
-    abbrev pub first_entry : (p place : ℕ) → Option ℕ
-    first_entry p place = clocked_entry (resets (reset_of net p) inputs) false (reset_entry (reset_of net p) place) None
+    start_entry : (p place clock : ℕ) (edge : Edge) → IsClockedBy net p clock edge → p < length net.processes → transaction (finished net first) p place ≡ entry_where (resets_first p) (reset_entry (reset_of net p) place)
+    start_entry p place clock edge is l = reset_awake net L first p place clock edge start_fresh is l (start_waits p l) (no_edge_same net L first.before first.now clock edge refl)
 
     pub start_register : (p place clock : ℕ) (edge : Edge) → IsClockedBy net p clock edge → HasPlace net p place
-        → out (finished net first) p place ≡ entry_or (first_entry p place) (get_or net.start (target net p place) 0)
-    start_register p place clock edge is h = whole (cases_Bool (resets (reset_of net p) inputs)) ∙ ap (entry_or (first_entry p place)) (sym (start_value p place h))
-      where
-        l : p < length net.processes
-        l = place_in_range net p place h
+        → out (finished net first) p place ≡ entry_or (entry_where (resets_first p) (reset_entry (reset_of net p) place)) (get_or net.start (target net p place) 0)
+    start_register p place clock edge is h = (λ i. entry_or (start_entry p place clock edge is (place_in_range net p place h) i) (sym (start_value p place h) i))
 
-        whole : (resets (reset_of net p) inputs ≡ true) ⊎ (resets (reset_of net p) inputs ≡ false)
-            → out (finished net first) p place ≡ entry_or (first_entry p place) (value first p place)
-        whole (inl t) = ap (λ (o : Option ℕ). entry_or o (value first p place)) (reset_ran net L first p place clock edge start_fresh is l (start_waits p l) (start_reset p ∙ t) ∙ sym (entry_of_reset _ false (reset_entry (reset_of net p) place) None t))
-        whole (inr t) = ap (λ (o : Option ℕ). entry_or o (value first p place)) (clocked_ran net L first p place clock edge start_fresh is (start_reset p ∙ t) (no_edge_same net L first.before first.now clock edge refl) ∙ sym (entry_none _ false (reset_entry (reset_of net p) place) None t refl))
+    start_kept : (p place clock : ℕ) (edge : Edge) → IsClockedBy net p clock edge → HasPlace net p place → resets_first p ≡ true
+        → entry_or (reset_entry (reset_of net p) place) (out (finished net first) p place) ≡ out (finished net first) p place
+    start_kept p place clock edge is h t =
+        let e = start_register p place clock edge is h ∙ ap (λ (b : Bool). entry_or (entry_where b (reset_entry (reset_of net p) place)) (get_or net.start (target net p place) 0)) t in
+        ap (entry_or (reset_entry (reset_of net p) place)) e ∙ entry_twice (reset_entry (reset_of net p) place) (get_or net.start (target net p place) 0) ∙ sym e
 
-    pub start_holds : Holds net inputs (λ p place. out (finished net first) p place) (finished net first)
+    pub start_driven : (p place : ℕ) → HasPlace net p place → get_or first.now (target net p place) 0 ≡ get_or net.start (target net p place) 0
+    start_driven p place h = others_at net inputs net.start (target net p place) refl (target_no_input p place h)
+
+    pub start_holds : Holds net inputs (λ p place. out (finished net first) p place) (IsSeen net (finished net first)) (finished net first)
     start_holds = record {
       now_length = length-table _ _;
       pend_length = length-map-range_with_len (row_after net first) 0 (length first.pending) ∙ start_fresh.rows;
       row_lengths = λ p. ap length (start_row p) ∙ L.elaborated.wiring.each_driver_starts p;
       on_inputs = λ n is. inputs_at net L.elaborated inputs net.start n is;
       on_others = λ n l after_inputs free. others_at net inputs net.start n refl after_inputs;
-      on_driven = λ p place h. others_at net inputs net.start (target net p place) refl (target_no_input p place h) ∙ start_value p place h;
+      on_driven = λ p place h. start_driven p place h ∙ start_value p place h;
       on_combinational = λ p place c h. combinational_awake net L first p place start_fresh c h (start_waits p c.0);
-      on_clocked = λ p place clock edge is h. refl;
-      reset_kept = λ p place clock edge is h t.
-          let e = start_register p place clock edge is h ∙ ap (λ (o : Option ℕ). entry_or o (get_or net.start (target net p place) 0)) (entry_of_reset _ false (reset_entry (reset_of net p) place) None t) in
-          ap (entry_or (reset_entry (reset_of net p) place)) e ∙ entry_twice (reset_entry (reset_of net p) place) (get_or net.start (target net p place) 0) ∙ sym e;
+      on_clocked = λ p place clock edge is h. inl refl;
+      reset_kept = start_kept;
+    }
+
+    pub start_begins : Begins net (λ clock edge. false) (λ p place. out (finished net first) p place) net.start (finished net first)
+    start_begins = record {
+      first_out = λ p place. refl;
+      driven = start_driven;
+      registers = λ p place clock edge is h. start_register p place clock edge is h
+          ∙ ap (λ (o : Option ℕ). entry_or o (get_or net.start (target net p place) 0))
+          (sym (no_edge_entry (resets_first p) false (not (holds_back (reset_of net p) (λ n. get_or first.now n 0))) (reset_entry (reset_of net p) place) (get_or ((process net p).acting_effect net.start) place None) refl));
+      steady = λ p clock edge is comes. absurd cc;
+      settled = inr (refl, λ clock edge. refl);
     }
 
     -- without a reset clocked processes do nothing at the start
     pub start_asleep : HasNoReset net → (p place clock : ℕ) (edge : Edge) → IsClockedBy net p clock edge → transaction (finished net first) p place ≡ None
-    start_asleep none p place clock edge is =
-        clocked_ran net L first p place clock edge start_fresh is (go (reset_of net p) refl) (no_edge_same net L first.before first.now clock edge refl)
+    start_asleep none p place clock edge is = go (none_or_some (transaction (finished net first) p place))
       where
-        go : (o : Option Reset) → reset_of net p ≡ o → resets (reset_of net p) (λ n. get_or first.now n 0) ≡ false
-        go None e = ap (λ (o : Option Reset). resets o (λ n. get_or first.now n 0)) e
-        go (Some r) e = absurd (none p r e)
+        never : (o : Option Reset) → reset_of net p ≡ o → resets o (λ n. get_or first.now n 0) ≡ false
+        never None e = refl
+        never (Some r) e = absurd (none p r e)
+
+        go : (transaction (finished net first) p place ≡ None) ⊎ IsSome (transaction (finished net first) p place) → transaction (finished net first) p place ≡ None
+        go (inl h) = h
+        go (inr h) =
+            let (l, w) = who_ran net first p place start_fresh h in
+            start_entry p place clock edge is l ∙ ap (λ (b : Bool). entry_where b (reset_entry (reset_of net p) place)) (never (reset_of net p) refl)

@@ -15,9 +15,13 @@ abbrev pub or_else : Option ℕ → Option ℕ → Option ℕ
 or_else None o = o
 or_else (Some v) o = Some v
 
--- What a clocked process has for a driver: its reset's entry where the reset holds, else its branch's where its edge
--- does, else none.
-abbrev pub clocked_entry : (reset_holds edge_holds : Bool) → (of_reset of_branch : Option ℕ) → Option ℕ
-clocked_entry true edge_holds of_reset of_branch = of_reset
-clocked_entry false true of_reset of_branch = of_branch
-clocked_entry false false of_reset of_branch = None
+-- an entry, under a condition
+abbrev pub entry_where : Bool → Option ℕ → Option ℕ
+entry_where true entry = entry
+entry_where false entry = None
+
+-- What a clocked process has for a driver: its reset's entry where the reset holds, and where there is none its
+-- branch's where the branch runs.
+abbrev pub clocked_entry : (reset_holds branch_runs : Bool) → (of_reset of_branch : Option ℕ) → Option ℕ
+clocked_entry reset_holds branch_runs of_reset of_branch =
+    or_else (entry_where reset_holds of_reset) (entry_where branch_runs of_branch)

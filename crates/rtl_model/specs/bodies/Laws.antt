@@ -14,8 +14,8 @@ use Rattle.rtl_model.specs.bodies.Reads.{value_reads, reads, events}
 use Rattle.rtl_model.specs.bodies.Assigns.{of_drivers, is_element, Target, must_assign}
 use Rattle.rtl_model.specs.bodies.Stored.{value_looks_at, test_looks_at, stores_element}
 use Rattle.rtl_model.specs.bodies.Leaves.{value_leaves, test_leaves, leaves, read_of, event_of, leaf_looks_at}
-use Rattle.rtl_model.specs.bodies.Kinds.{edge_test, IsEdgeTest, reset_test, IsResetTest, ResetPart, Clocking, IsClockedAlone}
-use Rattle.rtl_model.specs.bodies.Kinds.{IsClockedWithReset, clocking}
+use Rattle.rtl_model.specs.bodies.Kinds.{edge_test, IsEdgeTest, reset_test, IsResetTest, ResetPart, Clocking, IsClocked, clocking}
+use Rattle.rtl_model.specs.bodies.Copies.{CopyPart, passed_on, copying}
 use Rattle.rtl_model.specs.bodies.Types.{ElementType, limit_of, HasType, KeepsTypes}
 use Rattle.rtl_model.specs.bodies.Looks.{Sight, net_now, net_before, element_kept, seen_at, Looks, body_looks, looks_of}
 use Rattle.rtl_model.specs.bodies.Fits.{Scope, width, IsWidth, FitsExpr, FitsAs, FitsTest, FitsStmt, Fits}
@@ -74,6 +74,12 @@ pub record TakesBranch (seen : Seen) (value : List ℕ) (alts : Alternatives) : 
 abbrev pub CaseTakesABranch : Type 0
 CaseTakesABranch = (seen : Seen) (value : List ℕ) (alts : Alternatives) → TakesBranch seen value alts
 
+-- A copying body has its net's element at its place, passed on, whatever the other values.
+abbrev pub EachCopyPasses : Type 0
+EachCopyPasses =
+    (body : Stmts) (copy : CopyPart) (seen : Seen) → copying body ≡ Some copy
+    → effect seen body copy.place ≡ Some (passed_on copy.inverted (slice_index seen.now copy.net))
+
 -- ---- sequences
 
 -- What a sequence assigns is what its later part assigns, which sees the variables as its earlier part left them, and
@@ -116,41 +122,47 @@ pub record LeavesTell : Type 0 where
 
 -- Tests are edge tests and reset tests, and bodies clocked, just where they are as said; and what is clocked has
 -- an event.
-pub record KindsAreAsSaid (inputs : List ℕ) : Type 0 where
+pub record KindsAreAsSaid (wide : Bool) (inputs : List ℕ) : Type 0 where
   pub edge_tests : (t : Test) (clock : ℕ) (edge : Edge)
       → edge_test t ≡ Some (record { clock = clock; edge = edge }) ↔ IsEdgeTest t clock edge
   pub reset_tests : (t : Test) (net value : ℕ)
-      → reset_test inputs t ≡ Some (record { net = net; value = value }) ↔ IsResetTest inputs t net value
-  pub clocked : (body : Stmts) (c : Clocking)
-      → clocking inputs body ≡ Some c ↔ (IsClockedAlone body c ⊎ IsClockedWithReset inputs body c)
-  pub has_event : (body : Stmts) (c : Clocking) → clocking inputs body ≡ Some c → events body ≡ [] → ⊥
+      → reset_test wide inputs t ≡ Some (record { net = net; value = value }) ↔ IsResetTest wide inputs t net value
+  pub clocked : (body : Stmts) (c : Clocking) → clocking wide inputs body ≡ Some c ↔ IsClocked wide inputs body c
+  pub has_event : (body : Stmts) (c : Clocking) → clocking wide inputs body ≡ Some c → events body ≡ [] → ⊥
 
 abbrev pub EachKindIsAsSaid : Type 0
-EachKindIsAsSaid = (inputs : List ℕ) → KindsAreAsSaid inputs
+EachKindIsAsSaid = (wide : Bool) (inputs : List ℕ) → KindsAreAsSaid wide inputs
 
--- whether the reset of a clocked body holds, and the entry of its branch
+-- whether the reset of a clocked body holds, whether it then keeps the branch under the edge from running, and the
+-- entry of its own branch
 abbrev pub reset_holds : Seen → Option ResetPart → Bool
 reset_holds seen None = false
 reset_holds seen (Some reset) = slice_index seen.now reset.test.net == reset.test.value
+
+abbrev pub reset_holds_back : Seen → Option ResetPart → Bool
+reset_holds_back seen None = false
+reset_holds_back seen (Some reset) = reset.gates && reset_holds seen (Some reset)
 
 abbrev pub entry_of_reset : Seen → Option ResetPart → (place : ℕ) → Option ℕ
 entry_of_reset seen None place = None
 entry_of_reset seen (Some reset) place = effect seen reset.branch place
 
--- A clocked body does what its reset's branch does where its reset holds, else at its edge what its branch does, and
--- else nothing at all.
+-- A clocked body does what its reset's branch does where its reset holds, and else at its edge, unless the reset gates
+-- it, what its branch does, and else nothing at all.
 abbrev pub FollowsItsEdge : Type 0
 FollowsItsEdge =
-    (inputs : List ℕ) (body : Stmts) (c : Clocking) → clocking inputs body ≡ Some c → (seen : Seen) (place : ℕ)
+    (wide : Bool) (inputs : List ℕ) (body : Stmts) (c : Clocking) → clocking wide inputs body ≡ Some c
+    → (seen : Seen) (place : ℕ)
     → effect seen body place
-    ≡ clocked_entry (reset_holds seen c.reset) (edge_at seen c.test.edge c.test.clock)
+    ≡ clocked_entry (reset_holds seen c.reset)
+    (edge_at seen c.test.edge c.test.clock && not (reset_holds_back seen c.reset))
     (entry_of_reset seen c.reset place) (effect seen c.branch place)
 
 -- A reset's branch reads no net.
 abbrev pub ResetsReadNothing : Type 0
 ResetsReadNothing =
-    (inputs : List ℕ) (body : Stmts) (c : Clocking) (reset : ResetPart)
-    → clocking inputs body ≡ Some c → c.reset ≡ Some reset
+    (wide : Bool) (inputs : List ℕ) (body : Stmts) (c : Clocking) (reset : ResetPart)
+    → clocking wide inputs body ≡ Some c → c.reset ≡ Some reset
     → (reads reset.branch ≡ []) × (events reset.branch ≡ [])
 
 -- ---- bodies that fit

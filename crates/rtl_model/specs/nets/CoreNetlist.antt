@@ -13,9 +13,10 @@ use Rattle.rtl_model.specs.bodies.Looks.{looked_nets}
 use Rattle.rtl_model.specs.bodies.Assigns.{of_drivers, must_assign}
 use Rattle.rtl_model.specs.bodies.Stored.{stores_element}
 use Rattle.rtl_model.specs.bodies.Kinds.{ResetPart, Clocking, clocking}
+use Rattle.rtl_model.specs.bodies.Copies.{CopyPart, copying, passed_on}
 use Rattle.rtl_model.specs.bodies.Types.{limit_of}
 use Rattle.rtl_model.specs.nets.FlatNetlist.{FlatNetlist, FlatProcess, FlatVariable, targets, starts, element_starts, flat_sources}
-use Rattle.rtl_model.specs.simulation.Netlist.{Netlist, Process, ProcessKind, Combinational, Clocked, Mixed, Reset, Edge}
+use Rattle.rtl_model.specs.simulation.Netlist.{Netlist, Process, ProcessKind, Combinational, Clocked, Mixed, Reset, Copy, Edge}
 
 -- ---- processes
 
@@ -30,7 +31,12 @@ part_effect p part before now = effect_of (length p.drivers) part (seen_from p b
 -- a reset's branch reads no net, so its entries are the same in all valuations
 abbrev pub core_reset : FlatProcess → Option ResetPart → Option Reset
 core_reset p None = None
-core_reset p (Some r) = Some (record { net = r.test.net; value = r.test.value; entries = part_effect p r.branch [] [] })
+core_reset p (Some r) = Some (record {
+  net = r.test.net;
+  value = r.test.value;
+  entries = part_effect p r.branch [] [];
+  gates = r.gates;
+})
 
 -- clocked; else combinational, where no edge test and no `'event` stands in the body; else mixed
 abbrev pub core_kind : FlatProcess → Option Clocking → (events : List ℕ) → ProcessKind
@@ -42,6 +48,12 @@ core_kind p None (n ∷ ns) = Mixed
 abbrev pub acting_branch : Option Clocking → Stmts
 acting_branch (Some c) = c.branch
 acting_branch None = done
+
+-- what the driver at a place copies
+abbrev pub copied_at : Option CopyPart → (place : ℕ) → Option Copy
+copied_at None place = None
+copied_at (Some c) place =
+    if c.place == place then Some (record { net = c.net; passed = passed_on c.inverted }) else None
 
 -- whether the driver at this place is one of this net
 abbrev pub drives_net : (targets : List ℕ) → (net place : ℕ) → Bool
@@ -62,22 +74,25 @@ abbrev pub stores_one : Stmts → Option ℕ → Bool
 stores_one body None = false
 stores_one body (Some e) = stores_element e body
 
-abbrev pub core_process : (inputs : List ℕ) → FlatProcess → Process
-core_process inputs p =
-    let clocked = clocking inputs p.body in
-    record {
-      drives = targets p;
-      starts = starts p;
-      wakes = p.wakes;
-      reads = reads p.body;
-      acting_reads = reads (acting_branch clocked);
-      looks = looked_nets p.body;
-      kind = core_kind p clocked (events p.body);
-      effect = part_effect p p.body;
-      acting_effect = λ now. part_effect p (acting_branch clocked) now now;
-      assigns = λ net. must_assign (of_drivers (drives_net (targets p) net)) p.body;
-      stores = λ variable place. stores_one p.body (element_number p.variables variable place);
-    }
+-- of a process that is clocked so, if at all
+abbrev pub process_of : FlatProcess → Option Clocking → Process
+process_of p clocked = record {
+  drives = targets p;
+  starts = starts p;
+  wakes = p.wakes;
+  reads = reads p.body;
+  acting_reads = reads (acting_branch clocked);
+  looks = looked_nets p.body;
+  copies = copied_at (copying p.body);
+  kind = core_kind p clocked (events p.body);
+  effect = part_effect p p.body;
+  acting_effect = λ now. part_effect p (acting_branch clocked) now now;
+  assigns = λ net. must_assign (of_drivers (drives_net (targets p) net)) p.body;
+  stores = λ variable place. stores_one p.body (element_number p.variables variable place);
+}
+
+abbrev pub core_process : (wide : Bool) → (inputs : List ℕ) → FlatProcess → Process
+core_process wide inputs p = process_of p (clocking wide inputs p.body)
 
 -- ---- the netlist
 
@@ -95,7 +110,8 @@ core_netlist net = record {
   start = net.start;
   limits = map limit_of net.types;
   sources = map (flat_sources net) (range_with_len 0 (length net.types));
-  processes = map (core_process net.inputs) net.processes;
+  processes = map (core_process net.wide net.inputs) net.processes;
   resolve = core_resolve;
   edge = core_edges;
+  wide = net.wide;
 }

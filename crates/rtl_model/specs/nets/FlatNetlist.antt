@@ -1,6 +1,6 @@
 -- A flat netlist: what a design is after elaboration (IEEE 1076-2008, 14.2 to 14.4), as plain data. Nets, processes and
 -- the drivers of a process are numbered from 0 by their places in these lists.
-use Rattle.std.specs.Prelude.{◌≡◌, ℕ, suc, ◌<◌, ◌==◌, if◌then◌else◌, All, List, [], ◌∷◌, ◌++◌, length, map, replicate, slice_index_or}
+use Rattle.std.specs.Prelude.{◌≡◌, ℕ, suc, ◌<◌, Bool, ◌==◌, if◌then◌else◌, All, List, [], ◌∷◌, ◌++◌, length, map, replicate, slice_index_or}
 use Rattle.std.specs.List.Sorted.{IsStrictlyIncreasing}
 use Rattle.rtl_model.specs.bodies.Body.{Stmts, done}
 use Rattle.rtl_model.specs.bodies.Types.{ElementType, nine_valued, enumeration, limit_of, IsByte, HasType, KeepsTypes}
@@ -36,6 +36,8 @@ pub record FlatNetlist : Type 0 where
   -- of each net, the values that its idle out ports hold for ever
   pub idle : List (List ℕ)
   pub processes : List FlatProcess
+  -- whether it was read by the wider language
+  pub wide : Bool
 
 -- what stands at a number that no process has
 abbrev pub no_flat_process : FlatProcess

@@ -1,7 +1,7 @@
 -- What the laws of simulation ask of a netlist, of each flat one: of its values and bodies always, of its wiring where
 -- it is connected. So whoever makes a flat netlist owes facts about its wiring alone; and then the laws hold of it as
 -- they stand.
-use Rattle.std.specs.Prelude.{◌≡◌, ◌≢◌, ◌↔◌, ℕ, ◌<◌, ◌≤◌, false, All, List, [], length, Option, Some, None, IsTrue}
+use Rattle.std.specs.Prelude.{◌≡◌, ◌≢◌, ◌↔◌, ℕ, ◌<◌, ◌≤◌, Bool, true, false, All, List, [], length, Option, Some, None, IsTrue}
 use Rattle.rtl_model.specs.bodies.Effect.{effect_of}
 use Rattle.rtl_model.specs.bodies.Reads.{reads, events}
 use Rattle.rtl_model.specs.bodies.Stored.{stores_element}
@@ -13,8 +13,8 @@ use Rattle.rtl_model.specs.simulation.Netlist.{Edge, Reset, Combinational, Clock
 use Rattle.rtl_model.specs.simulation.Cycle.{State}
 use Rattle.rtl_model.specs.simulation.Moments.{HasDeltas, Begun, SettlesIn, HasSettled}
 use Rattle.rtl_model.specs.simulation.Elaborated.{HasValues, HasBodies, IsElaborated}
-use Rattle.rtl_model.specs.simulation.Accepted.{IsAccepted}
-use Rattle.rtl_model.specs.simulation.Levels.{IsBound}
+use Rattle.rtl_model.specs.simulation.Accepted.{IsAccepted, IsByNets}
+use Rattle.rtl_model.specs.simulation.NetLevels.{IsBound}
 use Rattle.rtl_model.specs.simulation.Races.{HasNoRace}
 use Rattle.rtl_model.specs.simulation.Machine.{Solves, IsMachineRun}
 use Rattle.rtl_model.specs.simulation.Range.{KeepsRange, SourcesKeepRange, StateInRange, AreInputs}
@@ -30,24 +30,25 @@ EachHasBodies = (net : FlatNetlist) → HasBodies (core_netlist net)
 
 -- A process is combinational where no edge test and no `'event` stands in its body, clocked where the body is one of a
 -- clocked process, and else mixed.
-pub record KindIsOfBody (inputs : List ℕ) (p : FlatProcess) : Type 0 where
-  pub combinational : (core_process inputs p).kind ≡ Combinational ↔ (events p.body ≡ [])
+pub record KindIsOfBody (wide : Bool) (inputs : List ℕ) (p : FlatProcess) : Type 0 where
+  pub combinational : (core_process wide inputs p).kind ≡ Combinational ↔ (events p.body ≡ [])
   pub clocked : ((clock : ℕ) × (edge : Edge) × (reset : Option Reset)
-      × ((core_process inputs p).kind ≡ Clocked clock edge reset))
-      ↔ ((c : Clocking) × (clocking inputs p.body ≡ Some c))
-  pub mixed : (core_process inputs p).kind ≡ Mixed ↔ ((clocking inputs p.body ≡ None) × (events p.body ≢ []))
+      × ((core_process wide inputs p).kind ≡ Clocked clock edge reset))
+      ↔ ((c : Clocking) × (clocking wide inputs p.body ≡ Some c))
+  pub mixed : (core_process wide inputs p).kind ≡ Mixed ↔ ((clocking wide inputs p.body ≡ None) × (events p.body ≢ []))
 
 abbrev pub EachKindIsOfBody : Type 0
-EachKindIsOfBody = (inputs : List ℕ) (p : FlatProcess) → KindIsOfBody inputs p
+EachKindIsOfBody = (wide : Bool) (inputs : List ℕ) (p : FlatProcess) → KindIsOfBody wide inputs p
 
 -- Where a process stores no element of a variable, its effect is the same whatever values its variables had before the
 -- run.
 abbrev pub EachForgets : Type 0
 EachForgets =
-    (inputs : List ℕ) (p : FlatProcess) → ((variable place : ℕ) → (core_process inputs p).stores variable place ≡ false)
+    (wide : Bool) (inputs : List ℕ) (p : FlatProcess)
+    → ((variable place : ℕ) → (core_process wide inputs p).stores variable place ≡ false)
     → (before now values : List ℕ) → length values ≡ length (element_starts p.variables)
     → effect_of (length p.drivers) p.body (record { before = before; now = now; variables = values })
-    ≡ (core_process inputs p).effect before now
+    ≡ (core_process wide inputs p).effect before now
 
 -- ---- of those in range and connected
 
@@ -76,6 +77,12 @@ EachStateIsInRange =
     (net : FlatNetlist) → IsInRange net → IsConnected net
     → (stimulus : ℕ → ℕ → ℕ) → ((m : ℕ) → AreInputs (core_netlist net) (stimulus m))
     → (m k : ℕ) (t : State) → HasSettled (core_netlist net) stimulus m k t → StateInRange (core_netlist net) t
+
+-- What is accepted is accepted in the wider language, and judged by processes there.
+abbrev pub WideAcceptsAll : Type 0
+WideAcceptsAll =
+    (net : FlatNetlist) → IsInRange net → IsConnected net → net.wide ≡ false → IsAccepted (core_netlist net)
+    → IsAccepted (core_netlist (record net { wide = true })) × (IsByNets (core_netlist (record net { wide = true })) → ⊥)
 
 -- ---- of those that are accepted besides
 

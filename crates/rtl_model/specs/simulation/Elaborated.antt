@@ -1,9 +1,9 @@
 -- What holds of every netlist that was elaborated: of its wiring, of the nine values' resolution and edges, and of
 -- its bodies.
-use Rattle.std.specs.Prelude.{◌≡◌, ℕ, ◌<◌, false, List, [], ◌∷◌, length, slice_index, slice_index_or, map, None, IsSome, IsTrue, Contains}
+use Rattle.std.specs.Prelude.{◌≡◌, ◌⊎◌, ℕ, ◌<◌, false, not, ◌&&◌, List, [], ◌∷◌, length, slice_index, slice_index_or, map, Some, None, IsSome, IsTrue, Contains}
 use Rattle.rtl_model.specs.basics.Valuations.{AgreeOn, clocked_entry}
-use Rattle.rtl_model.specs.simulation.Netlist.{Netlist, Source, Driver, Reset, Edge, process, sources_of, target}
-use Rattle.rtl_model.specs.simulation.Netlist.{HasPlace, HasReset, IsInput, IsCombinational, IsClockedBy, reset_of, reset_entry, resets}
+use Rattle.rtl_model.specs.simulation.Netlist.{Netlist, Source, Driver, Reset, Copy, Edge, process, sources_of, target}
+use Rattle.rtl_model.specs.simulation.Netlist.{HasPlace, HasReset, IsInput, IsCombinational, IsClockedBy, reset_of, reset_entry, resets, holds_back}
 use Rattle.rtl_model.specs.simulation.Cycle.{source_value, starting_drivers}
 
 -- drivers, sources and starting values fit together (14.7.2, 14.7.3.2)
@@ -47,14 +47,22 @@ pub record HasBodies (net : Netlist) : Type 0 where
   pub branch_reads : (p clock : ℕ) (edge : Edge) (v w : List ℕ)
       → IsClockedBy net p clock edge → AgreeOn (process net p).acting_reads v w
       → (process net p).acting_effect v ≡ (process net p).acting_effect w
-  -- and a clocked body acts by its reset where that holds, else by its branch at its edge, and else not at all
+  -- a clocked body does what its reset's branch does where its reset holds, else at its edge, unless the reset gates
+  -- it, what its branch does, and else nothing;
   pub clocked_acts : (p clock place : ℕ) (edge : Edge) (before now : List ℕ) → IsClockedBy net p clock edge
       → slice_index_or ((process net p).effect before now) place None
       ≡ clocked_entry (resets (reset_of net p) (slice_index now))
-      (net.edge edge (slice_index before clock) (slice_index now clock))
+      (net.edge edge (slice_index before clock) (slice_index now clock)
+      && not (holds_back (reset_of net p) (slice_index now)))
       (reset_entry (reset_of net p) place) (slice_index_or ((process net p).acting_effect now) place None)
-  -- a body with a test of another net in a reset's place is mixed
-  pub reset_is_input : (p : ℕ) (reset : Reset) → HasReset net p reset → IsInput net reset.net
+  -- a body with a test of another net in a reset's place is mixed, and so is one with a reset behind the edge, unless
+  -- the reading is wide;
+  pub resets_are_narrow : (p : ℕ) (reset : Reset) → HasReset net p reset
+      → (IsInput net reset.net × IsTrue reset.gates) ⊎ IsTrue net.wide
+  -- and a copy has its net's value, passed on
+  pub copies_pass : (p place : ℕ) (copy : Copy) (before now : List ℕ) → HasPlace net p place
+      → (process net p).copies place ≡ Some copy
+      → slice_index_or ((process net p).effect before now) place None ≡ Some (copy.passed (slice_index now copy.net))
 
 pub record IsElaborated (net : Netlist) : Type 0 where
   pub wiring : IsWired net

@@ -3,7 +3,7 @@ use Rattle.std.specs.Prelude.{◌≡◌, ◌≢◌, ℕ, ◌⊎◌, ◌↔◌, B
 use Rattle.rtl_model.specs.basics.Lists.{RisesBy}
 use Rattle.rtl_model.specs.simulation.Netlist.{Netlist}
 use Rattle.rtl_model.specs.simulation.Accepted.{Fault, TwoDrivers, MixedProcess, ClockNotInput, EdgeNotSensitive, ClockAsData}
-use Rattle.rtl_model.specs.simulation.Accepted.{MissingSensitivity, Latch, Loop, StoredVariable, IsFault, IsLoop}
+use Rattle.rtl_model.specs.simulation.Accepted.{MissingSensitivity, Latch, Loop, NetLoop, StoredVariable, IsFault}
 
 abbrev pub fault_number : Fault → ℕ
 fault_number (TwoDrivers net first second) = 1
@@ -14,6 +14,7 @@ fault_number (ClockAsData process net) = 5
 fault_number (MissingSensitivity process net) = 6
 fault_number (Latch process net) = 7
 fault_number (Loop processes) = 8
+fault_number (NetLoop nets) = 8
 fault_number (StoredVariable process variable place) = 9
 
 -- what faults of one number are ordered by: the net of the first fault; process and net; process, variable and place
@@ -26,6 +27,7 @@ fault_place (ClockAsData process net) = process ∷ net ∷ []
 fault_place (MissingSensitivity process net) = process ∷ net ∷ []
 fault_place (Latch process net) = process ∷ net ∷ []
 fault_place (Loop processes) = processes
+fault_place (NetLoop nets) = nets
 fault_place (StoredVariable process variable place) = process ∷ variable ∷ place ∷ []
 
 abbrev pub fault_key : Fault → List ℕ
@@ -51,9 +53,10 @@ AreStored net = AreFaultsOf net is_of_stored
 
 -- a loop is looked for only where there is no other fault
 pub record IsOneLoop (net : Netlist) (faults : List Fault) : Type 0 where
-  pub processes : List ℕ
-  pub is : faults ≡ Loop processes ∷ []
-  pub loop : IsLoop net processes
+  pub loop : Fault
+  pub is : faults ≡ loop ∷ []
+  pub is_loop : fault_number loop ≡ 8
+  pub has : IsFault net loop
   pub no_other : AreFaultsButLoops net []
 
 -- what a checker lists of a netlist that isn't accepted

@@ -1,16 +1,19 @@
 -- The laws of simulation, over the definitions beside this file.
-use Rattle.std.specs.Prelude.{◌≡◌, ◌↔◌, ◌⊎◌, ℕ, suc, pred, ◌<◌, ◌≤◌, Bool, false, List}
+use Rattle.std.specs.Prelude.{◌≡◌, ◌↔◌, ◌⊎◌, ℕ, suc, pred, ◌<◌, ◌≤◌, Bool, false, if◌then◌else◌, List}
 use Rattle.std.specs.Prelude.{[], ◌∷◌, ◌++◌, length, map, Option, Some, None, slice_index, slice_index_or, Contains, IsTrue}
-use Rattle.rtl_model.specs.simulation.Netlist.{Netlist, Source, Driver, Edge, Reset, process, sources_of, HasReset, IsInput, IsCombinational}
+use Rattle.rtl_model.specs.simulation.Netlist.{Netlist, Source, Driver, Edge, Reset, process, sources_of, target}
+use Rattle.rtl_model.specs.simulation.Netlist.{reset_of, reset_entry, resets, HasReset, IsInput, IsCombinational}
 use Rattle.rtl_model.specs.simulation.Cycle.{State, start_state, after_update, after_inputs, after_run, is_quiet, source_value, with_changes}
 use Rattle.rtl_model.specs.simulation.Moments.{HasNoneToRun, HasRun, HasDeltas, Delta, Begun, SettlesIn, SettlesTo, IsUnsettled, HasSettled, IsMost, at_moments}
 use Rattle.rtl_model.specs.simulation.Elaborated.{IsElaborated, IsWired}
-use Rattle.rtl_model.specs.simulation.Accepted.{Fault, IsAccepted, HasNoLoop}
+use Rattle.rtl_model.specs.simulation.Accepted.{Fault, IsAccepted, HasNoLoop, HasNoNetLoop, IsByNets}
 use Rattle.rtl_model.specs.simulation.Faults.{AreFaultsOf, AreFaultsButLoops, AreStored, IsOneLoop, AreFaults}
-use Rattle.rtl_model.specs.simulation.Levels.{AreLevels, IsBound, IsLevel, ShowLevels, Rises}
+use Rattle.rtl_model.specs.simulation.Levels.{AreLevels, IsLevel, ShowLevels, Rises}
+use Rattle.rtl_model.specs.simulation.NetLevels.{AreLevelsByNets, IsBound, IsNetLevel, IsNetReport, ShowNetLevels}
 use Rattle.rtl_model.specs.simulation.Report.{AreClocks, IsReport, LeadsDown, ShowReport}
 use Rattle.rtl_model.specs.simulation.Races.{IsRace, HasNoRace, IsRaceOf, IsFirstRace}
-use Rattle.rtl_model.specs.simulation.Machine.{Solves, IsMachineRun}
+use Rattle.rtl_model.specs.simulation.Machine.{Solves, entry_or, register_first, register_next, IsMachineRun}
+use Rattle.rtl_model.specs.simulation.Calm.{IsCalm}
 use Rattle.rtl_model.specs.simulation.Range.{IsValuation, KeepsRange, SourcesKeepRange, StateInRange, AreInputs, AreRegisters}
 
 -- ---- of every netlist
@@ -155,7 +158,8 @@ pub record FaultsAreListed (net : Netlist) : Type 0 where
   pub one_list : (faults other : List Fault) → AreFaults net faults → AreFaults net other
       → (faults ≡ other) ⊎ (IsOneLoop net faults × IsOneLoop net other)
   pub none_if_accepted : (faults : List Fault) → AreFaults net faults → IsAccepted net → ⊥
-  pub accepted_is : IsAccepted net ↔ (AreFaultsButLoops net [] × HasNoLoop net)
+  pub accepted_is : IsAccepted net
+      ↔ (AreFaultsButLoops net [] × (net.wide ≡ false → HasNoLoop net) × (IsTrue net.wide → HasNoNetLoop net))
   pub stores_none : AreStored net [] ↔ ((p variable place : ℕ) → (process net p).stores variable place ≡ false)
 
 abbrev pub EachFaultIsListed : Type 0
@@ -182,6 +186,12 @@ abbrev pub LevelsExist : Type 0
 LevelsExist =
     (net : Netlist) → HasNoLoop net → (levels : List (Option ℕ)) × (greatest : ℕ) × AreLevels net levels greatest
 
+-- without a loop of nets each net has a level, and each process that may assign in a delta cycle
+abbrev pub LevelsByNetsExist : Type 0
+LevelsByNetsExist =
+    (net : Netlist) → IsWired net → HasNoNetLoop net
+    → (levels : List (Option ℕ)) × (nets : List ℕ) × (greatest : ℕ) × AreLevelsByNets net levels nets greatest
+
 -- What shows levels gives each process its level, no rising numbering is lower anywhere, and there is no loop.
 abbrev pub LevelsAreShown : Type 0
 LevelsAreShown =
@@ -189,6 +199,19 @@ LevelsAreShown =
     → ((p level : ℕ) → IsCombinational net p → slice_index_or levels p None ≡ Some level
     → IsLevel net p level × ((number : ℕ → ℕ) → Rises net number → level ≤ number p))
     × HasNoLoop net
+
+-- Levels of nets are what local facts show, and then there is no loop of nets.
+abbrev pub NetLevelsAreShown : Type 0
+NetLevelsAreShown =
+    (net : Netlist) (nets : List ℕ)
+    → (((n : ℕ) → IsNetLevel net n (slice_index nets n)) ↔ ShowNetLevels net nets)
+    × (ShowNetLevels net nets → HasNoNetLoop net)
+
+-- levels by nets satisfy them, so that they rise along each look
+abbrev pub LevelsByNetsRise : Type 0
+LevelsByNetsRise =
+    (net : Netlist) (levels : List (Option ℕ)) (nets : List ℕ) (greatest : ℕ) → IsWired net
+    → AreLevelsByNets net levels nets greatest → ShowNetLevels net nets
 
 -- What is a report is shown by local facts, and what they show is a report.
 abbrev pub ReportsAreShown : Type 0
@@ -204,6 +227,20 @@ ReportsLeadDown =
     → IsReport net levels from clocks most
     → (q level : ℕ) → IsCombinational net q → slice_index_or levels q None ≡ Some level → LeadsDown net from q level
 
+-- a netlist has no more than one report by nets
+abbrev pub OneNetReport : Type 0
+OneNetReport =
+    (net : Netlist) (levels levels' from from' : List (Option ℕ)) (nets nets' : List ℕ) (looks looks' : List (Option ℕ))
+    (clocks clocks' : List (ℕ × Edge)) (most most' : ℕ)
+    → IsNetReport net levels from nets looks clocks most → IsNetReport net levels' from' nets' looks' clocks' most'
+    → (levels ≡ levels') × (from ≡ from') × (nets ≡ nets') × (looks ≡ looks') × (clocks ≡ clocks')
+    × (most ≡ most')
+
+-- what has no fault but perhaps a loop, and isn't judged by nets, is accepted where no processes are a loop
+abbrev pub AcceptedByProcesses : Type 0
+AcceptedByProcesses =
+    (net : Netlist) → IsElaborated net → AreFaultsButLoops net [] → HasNoLoop net → (IsByNets net → ⊥) → IsAccepted net
+
 -- ---- of an accepted netlist
 
 -- an accepted netlist has no more than one report
@@ -214,6 +251,12 @@ OneReport =
     → IsReport net levels from clocks most → IsReport net levels' from' clocks' most'
     → (levels ≡ levels') × (from ≡ from') × (clocks ≡ clocks')
     × (most ≡ most')
+
+-- and no more than one bound
+abbrev pub OneBound : Type 0
+OneBound =
+    (net : Netlist) (greatest greatest' most most' : ℕ) → IsAccepted net
+    → IsBound net greatest most → IsBound net greatest' most' → (greatest ≡ greatest') × (most ≡ most')
 
 -- for given inputs and registers one valuation solves, and no other
 abbrev pub OneSolution : Type 0
@@ -233,6 +276,29 @@ abbrev pub OneMachineRun : Type 0
 OneMachineRun =
     (net : Netlist) → IsElaborated net → IsAccepted net → (stimulus : ℕ → ℕ → ℕ)
     → (v : ℕ → List ℕ) × IsMachineRun net stimulus v × ((w : ℕ → List ℕ) → IsMachineRun net stimulus w → w ≡ v)
+
+-- p's reset, if it has one, is an input and stands before the edge
+abbrev pub HasInputReset : Netlist → (p : ℕ) → Type 0
+HasInputReset net p = (reset : Reset) → HasReset net p reset → IsInput net reset.net × IsTrue reset.gates
+
+-- Then the machine reads it in the new inputs alone. A register has its reset's entry where the reset holds in them, if
+-- there is one; else, where the reset doesn't hold, its branch's at its edge; and else what it had.
+pub record ResetsByInputs (net : Netlist) (p place : ℕ) (inputs : ℕ → ℕ) (w : List ℕ) : Type 0 where
+  pub first : register_first net p place inputs w
+      ≡ (if resets (reset_of net p) inputs
+      then entry_or (reset_entry (reset_of net p) place) (slice_index net.start (target net p place))
+      else slice_index net.start (target net p place))
+  pub next : (clock : ℕ) (edge : Edge) (v : List ℕ) → register_next net p place clock edge v inputs w
+      ≡ (if resets (reset_of net p) inputs
+      then entry_or (reset_entry (reset_of net p) place) (slice_index v (target net p place))
+      else if net.edge edge (slice_index v clock) (inputs clock)
+      then entry_or (slice_index_or ((process net p).acting_effect v) place None) (slice_index v (target net p place))
+      else slice_index v (target net p place))
+
+abbrev pub InputsResetAsSaid : Type 0
+InputsResetAsSaid =
+    (net : Netlist) (p place : ℕ) → IsWired net → HasInputReset net p → (inputs : ℕ → ℕ) (w : List ℕ)
+    → ((n : ℕ) → IsInput net n → slice_index w n ≡ inputs n) → ResetsByInputs net p place inputs w
 
 -- its valuations are in range where the stimulus is
 abbrev pub RunsInRange : Type 0
@@ -266,6 +332,21 @@ OneGreatestCount =
     → (stimulus : ℕ → ℕ → ℕ) (last : ℕ)
     → (count : ℕ) × IsMost net stimulus last count × (count ≤ most)
     × ((other : ℕ) → IsMost net stimulus last other → other ≡ count)
+
+-- Whether a net is calm can be decided.
+abbrev pub CalmIsDecided : Type 0
+CalmIsDecided =
+    (net : Netlist) → IsElaborated net → (n : ℕ) (these : ℕ → Bool)
+    → IsCalm net n these ⊎ (IsCalm net n these → ⊥)
+
+-- Where no moment up to m has a race: what a calm net has after some delta cycles of m, being one of its values, it has
+-- one of after m's first cycle, or in what m settles in.
+abbrev pub EachCalmNetKeeps : Type 0
+EachCalmNetKeeps =
+    (net : Netlist) → IsElaborated net → IsAccepted net → (stimulus : ℕ → ℕ → ℕ) (m : ℕ) → HasNoRace net stimulus m
+    → (s mid t : State) (j k : ℕ) → Begun net stimulus m s → HasDeltas net j s mid → SettlesTo net s k t
+    → (n : ℕ) (these : ℕ → Bool) → IsCalm net n these → IsTrue (these (slice_index mid.now n))
+    → IsTrue (these (slice_index s.now n)) ⊎ IsTrue (these (slice_index t.now n))
 
 -- Where no moment up to m has a race, what has settled at m is the valuation of the machine's run.
 abbrev pub IsTheMachine : Type 0

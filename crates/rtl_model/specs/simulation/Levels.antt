@@ -1,16 +1,15 @@
 -- Levels of combinational processes, and the bound on delta cycles.
-use Rattle.std.specs.Prelude.{◌≡◌, ◌≢◌, ℕ, suc, zero, ◌+◌, ◌<◌, ◌≤◌, Bool, true, false, ◌&&◌, List, length, slice_index_or, Option, Some, None, if◌then◌else◌}
+use Rattle.std.specs.Prelude.{◌≡◌, ◌≢◌, ℕ, suc, ◌+◌, ◌<◌, ◌≤◌, Bool, true, false, ◌&&◌, List, length, slice_index_or, Option, Some, None, if◌then◌else◌}
 use Rattle.std.specs.List.{list_any}
 use Rattle.std.specs.Option.{is_some}
+use Rattle.rtl_model.specs.basics.Chains.{Chain}
 use Rattle.rtl_model.specs.simulation.Netlist.{Netlist, Source, Driver, Idle, ProcessKind, Combinational}
 use Rattle.rtl_model.specs.simulation.Netlist.{Clocked, Mixed, Edge, kind_reset, sources_of, IsCombinational, IsClockedBy}
 use Rattle.rtl_model.specs.simulation.Accepted.{Feeds}
 
 -- a chain of this many combinational processes, each but the first fed by the one before, ends with q
 abbrev pub ChainTo : Netlist → (q : ℕ) → (many : ℕ) → Type 0
-ChainTo net q zero = ⊥
-ChainTo net q (suc zero) = IsCombinational net q
-ChainTo net q (suc (suc n)) = (p : ℕ) × ChainTo net p (suc n) × Feeds net p q
+ChainTo net q many = Chain (Feeds net) (IsCombinational net) q many
 
 -- the level of p: the length of the longest chain that ends with it
 pub record IsLevel (net : Netlist) (p level : ℕ) : Type 0 where
@@ -46,17 +45,11 @@ has_late_reset net =
     list_any
     (λ p. is_some (kind_reset p.kind) && list_any (λ n. list_any is_driver (sources_of net n)) p.wakes) net.processes
 
--- The bound on a moment's delta cycles: the greatest level; one more where a process is clocked, since registers change
--- in the first delta cycle; and one more where a process with a reset may be resumed in a delta cycle, since while its
--- reset holds each run makes its drivers active.
+-- The bound on a moment's delta cycles, where resets are inputs: the greatest level; one more where a process is clocked,
+-- since registers change in the first delta cycle; and one more where a process with a reset may be resumed in a delta
+-- cycle, since while its reset holds each run makes its drivers active.
 abbrev pub bound : Netlist → (greatest : ℕ) → ℕ
 bound net greatest = greatest + (if has_clocked net then 1 else 0) + (if has_late_reset net then 1 else 0)
-
--- greatest is the greatest level, and most the bound that it gives
-pub record IsBound (net : Netlist) (greatest most : ℕ) : Type 0 where
-  pub levels : List (Option ℕ)
-  pub are_levels : AreLevels net levels greatest
-  pub is : most ≡ bound net greatest
 
 -- ---- what shows levels
 

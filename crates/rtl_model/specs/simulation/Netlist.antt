@@ -1,18 +1,25 @@
 -- What a netlist is to a simulation: its processes, where each net's value comes from, and how values are resolved and
 -- compared (IEEE 1076-2008, 14.7.2 and 14.7.3). Nets, processes and values are numbers: a net and a process by its
 -- place in the elaborated design, a value by its place in its type. A valuation is the list of all nets' values.
-use Rattle.std.specs.Prelude.{false, ◌≡◌, ℕ, ◌<◌, Bool, List, [], length, slice_index, slice_index_or, map, Option, Some, None, IsTrue, ◌==◌}
+use Rattle.std.specs.Prelude.{false, ◌≡◌, ℕ, ◌<◌, Bool, List, [], length, slice_index, slice_index_or, map, Option, Some, None, IsTrue, ◌==◌, ◌&&◌}
 use Rattle.std.specs.List.{list_any, range_with_len}
 -- the edge tests: `rising_edge`, `falling_edge`, and an event to exactly '1' or '0'
 pub use Rattle.vhdl_values.specs.declared.kinds.Edge.{Edge}
 pub use Rattle.vhdl_values.specs.declared.kinds.Edge.TheVariants.{Rising, Falling, To1, To0}
 
 -- An asynchronous reset: the test is that the net has just this value, and each driver that the reset's branch assigns
--- has its entry.
+-- has its entry. A reset that gates keeps the branch under the edge from running while it holds; one that doesn't
+-- stands behind that branch, and its entries replace the branch's.
 pub record Reset : Type 0 where
   pub net : ℕ
   pub value : ℕ
   pub entries : List (Option ℕ)
+  pub gates : Bool
+
+-- A copy of a net has, for each value of that net, what is passed on.
+pub record Copy : Type 0 where
+  pub net : ℕ
+  pub passed : ℕ → ℕ
 
 -- A clocked process acts at one edge of one net, its clock, and at its reset if it has one. What is neither clocked nor
 -- combinational is mixed. (Where no process has a reset, whatever is said of resets below says nothing.)
@@ -35,6 +42,8 @@ pub record Process : Type 0 where
   -- of those that it reads the nets that the driver at a place looks at: of a combinational process they alone decide
   -- its entry
   pub looks : (place : ℕ) → List ℕ
+  -- where the body is one assignment to the driver at a place, of one net's element or its `not`: what that copies
+  pub copies : (place : ℕ) → Option Copy
   pub kind : ProcessKind
   -- from the valuations before and now, at each driver's place the value that the body assigns, if it assigns one
   pub effect : (before now : List ℕ) → List (Option ℕ)
@@ -64,6 +73,9 @@ pub record Netlist : Type 0 where
   -- resolution, and the edge tests from an old to a new value
   pub resolve : List ℕ → ℕ
   pub edge : Edge → (old new : ℕ) → Bool
+  -- whether it was read by the wider language: then it may have loops of processes in which no net depends on itself,
+  -- and resets that processes drive
+  pub wide : Bool
 
 -- what stands at a number that no process has
 abbrev pub no_process : Process
@@ -74,6 +86,7 @@ no_process = record {
   reads = [];
   acting_reads = [];
   looks = λ place. [];
+  copies = λ place. None;
   kind = Combinational;
   effect = λ before now. [];
   acting_effect = λ now. [];
@@ -98,12 +111,24 @@ HasPlace net p place = place < length (process net p).drives
 abbrev pub target : Netlist → ℕ → ℕ → ℕ
 target net p place = slice_index (process net p).drives place
 
+-- some process drives n
+abbrev pub IsDriven : Netlist → ℕ → Type 0
+IsDriven net n = (p : ℕ) × (place : ℕ) × HasPlace net p place × (target net p place ≡ n)
+
 abbrev pub IsCombinational : Netlist → ℕ → Type 0
 IsCombinational net p = (p < length net.processes) × ((process net p).kind ≡ Combinational)
 
 -- process p is clocked by this edge of this net, with or without a reset
 abbrev pub IsClockedBy : Netlist → ℕ → ℕ → Edge → Type 0
 IsClockedBy net p clock edge = (reset : Option Reset) × ((process net p).kind ≡ Clocked clock edge reset)
+
+-- n is the clock of process p
+abbrev pub IsClockOf : Netlist → (p n : ℕ) → Type 0
+IsClockOf net p n = (edge : Edge) × IsClockedBy net p n edge
+
+-- some process is clocked by n
+abbrev pub IsClock : Netlist → ℕ → Type 0
+IsClock net n = (p : ℕ) × IsClockOf net p n
 
 -- the reset of a process, if it has one
 abbrev pub kind_reset : ProcessKind → Option Reset
@@ -121,6 +146,11 @@ HasReset net p reset = reset_of net p ≡ Some reset
 abbrev pub resets : Option Reset → (values : ℕ → ℕ) → Bool
 resets None values = false
 resets (Some reset) values = values reset.net == reset.value
+
+-- whether it then keeps the branch under the edge from running: it gates, and holds
+abbrev pub holds_back : Option Reset → (values : ℕ → ℕ) → Bool
+holds_back None values = false
+holds_back (Some reset) values = reset.gates && values reset.net == reset.value
 
 -- the entry that a reset's branch has for the driver at a place
 abbrev pub reset_entry : Option Reset → (place : ℕ) → Option ℕ

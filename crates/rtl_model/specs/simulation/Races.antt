@@ -4,7 +4,7 @@ use Rattle.rtl_model.specs.simulation.Netlist.{Netlist, Edge, IsInput, IsClocked
 use Rattle.rtl_model.specs.simulation.Accepted.{IsClock}
 
 -- From these values of the inputs to those, some clocked process has its edge, and some input that is no clock changes.
--- A reset is such an input too.
+-- A reset that is an input is such an input too.
 pub record IsRace (net : Netlist) (before now : ℕ → ℕ) : Type 0 where
   pub process : ℕ
   pub clock : ℕ

@@ -2,7 +2,7 @@
 use Rattle.std.specs.Prelude.{◌≡◌, ◌≢◌, ℕ, suc, zero, ◌<◌, ◌≤◌, ◌↔◌, List, [], ◌∷◌, length, slice_index_or, Option, Some, None, Contains}
 use Rattle.rtl_model.specs.basics.Lists.{RisesBy}
 use Rattle.rtl_model.specs.simulation.Netlist.{Netlist, Edge, Rising, Falling, To1, To0, IsCombinational, IsClockedBy}
-use Rattle.rtl_model.specs.simulation.Accepted.{Feeds}
+use Rattle.rtl_model.specs.simulation.Accepted.{Feeds, IsByNets}
 use Rattle.rtl_model.specs.simulation.Levels.{AreLevels, IsLevel, ShowLevels, bound}
 
 -- what from says of the combinational process q: nothing at level 1, else the lowest process of the level below that
@@ -28,9 +28,10 @@ pub record AreClocks (net : Netlist) (clocks : List (ℕ × Edge)) : Type 0 wher
   pub are : (n : ℕ) (edge : Edge) → Contains clocks (n, edge) ↔ ((p : ℕ) × IsClockedBy net p n edge)
   pub rise : RisesBy clock_key clocks
 
--- what a report says beside levels and their froms
+-- what a report says beside levels and their froms, of a netlist that is judged by processes
 pub record ReportRest (net : Netlist) (from : List (Option ℕ))
     (clocks : List (ℕ × Edge)) (most greatest : ℕ) : Type 0 where
+  pub by_processes : IsByNets net → ⊥
   pub bound_is : most ≡ bound net greatest
   pub each_from : length from ≡ length net.processes
   pub from_clocked : (p clock : ℕ) (edge : Edge) → IsClockedBy net p clock edge → slice_index_or from p None ≡ None
