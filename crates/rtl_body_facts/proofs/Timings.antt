@@ -16,6 +16,7 @@ use Rattle.rtl_net.proofs.Rows.{view_combined, view_if}
 use Rattle.rtl_model.specs.basics.Lists.{is_empty}
 use Rattle.rtl_model.specs.bodies.Body as bodies
 use Rattle.rtl_model.specs.bodies.Reads.{events}
+use Rattle.rtl_model.specs.bodies.Leaves.{leaves}
 use Rattle.rtl_model.specs.bodies.Kinds as k
 use Rattle.rtl_body_facts.specs.declared.kinds.EdgeTest.{EdgeTest}
 use Rattle.rtl_body_facts.specs.declared.kinds.Clocking.{Clocking}
@@ -107,15 +108,15 @@ module _ (x : Test) (first : _) (rest : Vec TestLink Global) (is : x ≡ vt.Comb
 
 -- ---- resets
 
-pub reset_is : (inputs : List ℕ) (t : bodies.Test) → option_map reset_net (k.reset_test inputs t) ≡ atom_reset inputs (atom_of t)
-reset_is inputs (bodies.level plain net v) = refl
-reset_is inputs _ = refl
+pub reset_is : (wide : Bool) (inputs : List ℕ) (t : bodies.Test) → option_map reset_net (k.reset_test wide inputs t) ≡ atom_reset wide inputs (atom_of t)
+reset_is wide inputs (bodies.level plain net v) = refl
+reset_is wide inputs _ = refl
 
 -- ---- bodies
 
-pub alone_is : (inputs : List ℕ) (t : bodies.Test) (s : bodies.Stmts)
-    → clocked_branch (k.edge_test t) s None ≡ option_map clocking_view (k.clocking inputs (bodies.step (bodies.if_of (bodies.branch t s bodies.no_else)) bodies.done))
-alone_is inputs t s = go (k.edge_test t) (is_empty (events s)) refl
+pub alone_is : (wide : Bool) (inputs : List ℕ) (t : bodies.Test) (s : bodies.Stmts)
+    → clocked_branch (k.edge_test t) s None ≡ option_map clocking_view (k.clocking wide inputs (bodies.step (bodies.if_of (bodies.branch t s bodies.no_else)) bodies.done))
+alone_is wide inputs t s = go (k.edge_test t) (is_empty (events s)) refl
   where
     go : (e : Option k.EdgeTest) (b : Bool) → is_empty (events s) ≡ b → clocked_branch e s None ≡ option_map clocking_view (k.clocking_of true (is_empty (events s)) e s None)
     go None true h = rw h refl
@@ -156,8 +157,8 @@ module _ (xs : List Statement) (i : ℕ) where
 abbrev pub if_alone : List Branch → bodies.Stmts
 if_alone bs = bodies.step (bodies.if_of (branches_of bodies.no_else bs)) bodies.done
 
-abbrev pub clocked : List ℕ → bodies.Stmts → Option Clocking
-clocked inputs body = option_map clocking_view (k.clocking inputs body)
+abbrev pub clocked : Bool → List ℕ → bodies.Stmts → Option Clocking
+clocked wide inputs body = option_map clocking_view (k.clocking wide inputs body)
 
 abbrev pub branch_body : Branch → bodies.Stmts
 branch_body b = statements_of b.statements.items
@@ -165,15 +166,15 @@ branch_body b = statements_of b.statements.items
 abbrev pub branch_edge : Branch → Option k.EdgeTest
 branch_edge b = k.edge_test (test_view b.test)
 
-pub one_branch : (inputs : List ℕ) (bs : List Branch) (b : Branch) → length bs ≡ 1 → b ≡ get_or bs 0 b
-    → clocked_branch (branch_edge b) (branch_body b) None ≡ clocked inputs (if_alone bs)
-one_branch inputs bs b l e = alone_is inputs (test_view b.test) (branch_body b) ∙ ap (λ (xs : List Branch). clocked inputs (if_alone xs)) (sym (one_item bs b l e))
+pub one_branch : (wide : Bool) (inputs : List ℕ) (bs : List Branch) (b : Branch) → length bs ≡ 1 → b ≡ get_or bs 0 b
+    → clocked_branch (branch_edge b) (branch_body b) None ≡ clocked wide inputs (if_alone bs)
+one_branch wide inputs bs b l e = alone_is wide inputs (test_view b.test) (branch_body b) ∙ ap (λ (xs : List Branch). clocked wide inputs (if_alone xs)) (sym (one_item bs b l e))
 
-pub many_branches : (inputs : List ℕ) (bs : List Branch) → (length bs ≡ 1 → ⊥) → (length bs ≡ 2 → ⊥) → None ≡ clocked inputs (if_alone bs)
-many_branches inputs [] o t = refl
-many_branches inputs (b ∷ []) o t = absurd (o refl)
-many_branches inputs (b ∷ d ∷ []) o t = absurd (t refl)
-many_branches inputs (b ∷ d ∷ e ∷ bs) o t = refl
+pub many_branches : (wide : Bool) (inputs : List ℕ) (bs : List Branch) → (length bs ≡ 1 → ⊥) → (length bs ≡ 2 → ⊥) → None ≡ clocked wide inputs (if_alone bs)
+many_branches wide inputs [] o t = refl
+many_branches wide inputs (b ∷ []) o t = absurd (o refl)
+many_branches wide inputs (b ∷ d ∷ []) o t = absurd (t refl)
+many_branches wide inputs (b ∷ d ∷ e ∷ bs) o t = refl
 
 two_items : {X : Type 0} (xs : List X) (x y : X) → length xs ≡ 2 → x ≡ get_or xs 0 x → y ≡ get_or xs 1 y → xs ≡ x ∷ y ∷ []
 two_items [] x y l e f = absurd (omega arith)
@@ -181,82 +182,191 @@ two_items (a ∷ []) x y l e f = absurd (omega arith)
 two_items (a ∷ b ∷ []) x y l e f = ap (λ z. z ∷ b ∷ []) (sym e) ∙ ap (λ z. x ∷ z ∷ []) (sym f)
 two_items (a ∷ b ∷ d ∷ xs) x y l e f = absurd (omega arith)
 
-no_reset : (o : Option k.ResetTest) (constants ne : Bool) (e : Option k.EdgeTest) (s t : bodies.Stmts)
-    → option_map reset_net o ≡ None → None ≡ option_map clocking_view (k.with_reset o constants ne e s t)
-no_reset None constants ne e s t h = refl
-no_reset (Some r) constants ne e s t h = absurd cc
+no_reset : (gates : Bool) (o : Option k.ResetTest) (constants ne : Bool) (e : Option k.EdgeTest) (s t : bodies.Stmts)
+    → option_map reset_net o ≡ None → None ≡ option_map clocking_view (k.with_reset gates o constants ne e s t)
+no_reset gates None constants ne e s t h = refl
+no_reset gates (Some r) constants ne e s t h = absurd cc
 
-no_constants : (o : Option k.ResetTest) (ne : Bool) (e : Option k.EdgeTest) (s t : bodies.Stmts)
-    → None ≡ option_map clocking_view (k.with_reset o false ne e s t)
-no_constants None ne e s t = refl
-no_constants (Some r) ne e s t = refl
+no_constants : (gates : Bool) (o : Option k.ResetTest) (ne : Bool) (e : Option k.EdgeTest) (s t : bodies.Stmts)
+    → None ≡ option_map clocking_view (k.with_reset gates o false ne e s t)
+no_constants gates None ne e s t = refl
+no_constants gates (Some r) ne e s t = refl
 
-with_both : (o : Option k.ResetTest) (n : ℕ) (e : Option k.EdgeTest) (s t : bodies.Stmts) → option_map reset_net o ≡ Some n
-    → clocked_branch e t (Some n) ≡ option_map clocking_view (k.with_reset o true (is_empty (events t)) e s t)
-with_both None n e s t h = absurd cc
-with_both (Some r) n e s t h = go e (is_empty (events t)) refl
+with_both : (gates : Bool) (o : Option k.ResetTest) (n : ℕ) (e : Option k.EdgeTest) (s t : bodies.Stmts) → option_map reset_net o ≡ Some n
+    → clocked_branch e t (Some n) ≡ option_map clocking_view (k.with_reset gates o true (is_empty (events t)) e s t)
+with_both gates None n e s t h = absurd cc
+with_both gates (Some r) n e s t h = go e (is_empty (events t)) refl
   where
     go : (e : Option k.EdgeTest) (b : Bool) → is_empty (events t) ≡ b
-        → clocked_branch e t (Some n) ≡ option_map clocking_view (k.clocking_of true (is_empty (events t)) e t (Some (record { test = r; branch = s })))
+        → clocked_branch e t (Some n) ≡ option_map clocking_view (k.clocking_of true (is_empty (events t)) e t (Some (record { test = r; branch = s; gates = gates })))
     go None true f = rw f refl
     go None false f = rw f refl
     go (Some e) true f = rw f (rw (← h) refl)
     go (Some e) false f = rw f refl
 
-module _ (inputs : List ℕ) (bs : List Branch) (b d : Branch) (two : length bs ≡ 2) (first : b ≡ get_or bs 0 b) (second : d ≡ get_or bs 1 d) where
-  spelled : clocked inputs (if_alone (b ∷ d ∷ [])) ≡ clocked inputs (if_alone bs)
-  spelled = ap (λ (xs : List Branch). clocked inputs (if_alone xs)) (sym (two_items bs b d two first second))
+module _ (wide : Bool) (inputs : List ℕ) (bs : List Branch) (b d : Branch) (two : length bs ≡ 2) (first : b ≡ get_or bs 0 b) (second : d ≡ get_or bs 1 d) where
+  spelled : clocked wide inputs (if_alone (b ∷ d ∷ [])) ≡ clocked wide inputs (if_alone bs)
+  spelled = ap (λ (xs : List Branch). clocked wide inputs (if_alone xs)) (sym (two_items bs b d two first second))
 
-  pub two_without_reset : atom_reset inputs (atom_of (test_view b.test)) ≡ None → None ≡ clocked inputs (if_alone bs)
+  pub two_without_reset : atom_reset wide inputs (atom_of (test_view b.test)) ≡ None → None ≡ clocked wide inputs (if_alone bs)
   two_without_reset h =
-      no_reset (k.reset_test inputs (test_view b.test)) (k.assigns_constants (branch_body b)) (is_empty (events (branch_body d))) (branch_edge d) (branch_body b) (branch_body d)
-      (reset_is inputs (test_view b.test) ∙ h) ∙ spelled
+      no_reset true (k.reset_test wide inputs (test_view b.test)) (k.assigns_constants (branch_body b)) (is_empty (events (branch_body d))) (branch_edge d) (branch_body b) (branch_body d)
+      (reset_is wide inputs (test_view b.test) ∙ h) ∙ spelled
 
-  pub two_without_constants : k.assigns_constants (branch_body b) ≡ false → None ≡ clocked inputs (if_alone bs)
+  pub two_without_constants : k.assigns_constants (branch_body b) ≡ false → None ≡ clocked wide inputs (if_alone bs)
   two_without_constants h =
-      no_constants (k.reset_test inputs (test_view b.test)) (is_empty (events (branch_body d))) (branch_edge d) (branch_body b) (branch_body d)
-      ∙ (ap (λ (x : Bool). option_map clocking_view (k.with_reset (k.reset_test inputs (test_view b.test)) x (is_empty (events (branch_body d))) (branch_edge d) (branch_body b) (branch_body d))) (sym h)
+      no_constants true (k.reset_test wide inputs (test_view b.test)) (is_empty (events (branch_body d))) (branch_edge d) (branch_body b) (branch_body d)
+      ∙ (ap (λ (x : Bool). option_map clocking_view (k.with_reset true (k.reset_test wide inputs (test_view b.test)) x (is_empty (events (branch_body d))) (branch_edge d) (branch_body b) (branch_body d))) (sym h)
       ∙ spelled)
 
-  pub two_with_reset : (n : ℕ) → atom_reset inputs (atom_of (test_view b.test)) ≡ Some n → k.assigns_constants (branch_body b) ≡ true
-      → clocked_branch (branch_edge d) (branch_body d) (Some n) ≡ clocked inputs (if_alone bs)
+  pub two_with_reset : (n : ℕ) → atom_reset wide inputs (atom_of (test_view b.test)) ≡ Some n → k.assigns_constants (branch_body b) ≡ true
+      → clocked_branch (branch_edge d) (branch_body d) (Some n) ≡ clocked wide inputs (if_alone bs)
   two_with_reset n h t =
-      with_both (k.reset_test inputs (test_view b.test)) n (branch_edge d) (branch_body b) (branch_body d) (reset_is inputs (test_view b.test) ∙ h)
-      ∙ (ap (λ (x : Bool). option_map clocking_view (k.with_reset (k.reset_test inputs (test_view b.test)) x (is_empty (events (branch_body d))) (branch_edge d) (branch_body b) (branch_body d))) (sym t)
+      with_both true (k.reset_test wide inputs (test_view b.test)) n (branch_edge d) (branch_body b) (branch_body d) (reset_is wide inputs (test_view b.test) ∙ h)
+      ∙ (ap (λ (x : Bool). option_map clocking_view (k.with_reset true (k.reset_test wide inputs (test_view b.test)) x (is_empty (events (branch_body d))) (branch_edge d) (branch_body b) (branch_body d))) (sym t)
       ∙ spelled)
 
 -- ---- bodies
 
-two_statements : (inputs : List ℕ) (s t : bodies.Stmt) (rest : bodies.Stmts) → k.clocking inputs (bodies.step s (bodies.step t rest)) ≡ None
-two_statements inputs (bodies.if_of (bodies.branch t s bodies.no_else)) u rest = refl
-two_statements inputs (bodies.if_of (bodies.branch r a (bodies.branch t s bodies.no_else))) u rest = refl
-two_statements inputs _ u rest = refl
+two_narrow : (inputs : List ℕ) (s t : bodies.Stmt) → k.clocking false inputs (bodies.step s (bodies.step t bodies.done)) ≡ None
+two_narrow inputs (bodies.if_of (bodies.branch t s bodies.no_else)) (bodies.if_of (bodies.branch r a bodies.no_else)) = refl
+two_narrow inputs (bodies.if_of (bodies.branch r a (bodies.branch t s bodies.no_else))) u = refl
+two_narrow inputs s t = refl
 
-pub not_one : (inputs : List ℕ) (body : List Statement) → (length body ≡ 1 → ⊥) → None ≡ clocked inputs (statements_of body)
-not_one inputs [] n = refl
-not_one inputs (x ∷ []) n = absurd (n refl)
-not_one inputs (x ∷ y ∷ ys) n = ap (option_map clocking_view) (sym (two_statements inputs (statement_view x) (statement_view y) (statements_of ys)))
+three : (wide : Bool) (inputs : List ℕ) (s t u : bodies.Stmt) (rest : bodies.Stmts) → k.clocking wide inputs (bodies.step s (bodies.step t (bodies.step u rest))) ≡ None
+three wide inputs (bodies.if_of (bodies.branch t s bodies.no_else)) (bodies.if_of (bodies.branch r a bodies.no_else)) u rest = refl
+three wide inputs (bodies.if_of (bodies.branch r a (bodies.branch t s bodies.no_else))) v u rest = refl
+three wide inputs s t u rest = refl
 
-if_else : (inputs : List ℕ) (last : bodies.Stmts) (bs : List Branch) → k.clocking inputs (bodies.step (bodies.if_of (branches_of (bodies.otherwise last) bs)) bodies.done) ≡ None
-if_else inputs last [] = refl
-if_else inputs last (b ∷ []) = refl
-if_else inputs last (b ∷ d ∷ []) = refl
-if_else inputs last (b ∷ d ∷ e ∷ bs) = refl
+pub not_one : (wide : Bool) (inputs : List ℕ) (body : List Statement) → (length body ≡ 2 → ⊥) → (length body ≡ 1 → ⊥) → None ≡ clocked wide inputs (statements_of body)
+not_one wide inputs [] two n = refl
+not_one wide inputs (x ∷ []) two n = absurd (n refl)
+not_one wide inputs (x ∷ y ∷ []) two n = absurd (two refl)
+not_one wide inputs (x ∷ y ∷ z ∷ zs) two n = ap (option_map clocking_view) (sym (three wide inputs (statement_view x) (statement_view y) (statement_view z) (statements_of zs)))
 
-module _ (inputs : List ℕ) (body : List Statement) (x : Statement) (one : length body ≡ 1) (only : x ≡ get_or body 0 x) where
-  single : clocked inputs (statements_of body) ≡ clocked inputs (bodies.step (statement_view x) bodies.done)
-  single = ap (λ (xs : List Statement). clocked inputs (statements_of xs)) (one_item body x one only)
+pub narrow_two : (wide : Bool) (inputs : List ℕ) (body : List Statement) → length body ≡ 2 → wide ≡ false → None ≡ clocked wide inputs (statements_of body)
+narrow_two wide inputs [] l e = absurd (omega arith)
+narrow_two wide inputs (x ∷ []) l e = absurd (omega arith)
+narrow_two wide inputs (x ∷ y ∷ []) l e = ap (option_map clocking_view) (sym (ap (λ (w : Bool). k.clocking w inputs (bodies.step (statement_view x) (bodies.step (statement_view y) bodies.done))) e ∙ two_narrow inputs (statement_view x) (statement_view y)))
+narrow_two wide inputs (x ∷ y ∷ z ∷ zs) l e = absurd (omega arith)
 
-  pub with_else : (at : ℕ) (branches : Vec Branch Global) (v : Vec Statement Global) → x ≡ vs.If at branches (Some v) → None ≡ clocked inputs (statements_of body)
+if_else : (wide : Bool) (inputs : List ℕ) (last : bodies.Stmts) (bs : List Branch) → k.clocking wide inputs (bodies.step (bodies.if_of (branches_of (bodies.otherwise last) bs)) bodies.done) ≡ None
+if_else wide inputs last [] = refl
+if_else wide inputs last (b ∷ []) = refl
+if_else wide inputs last (b ∷ d ∷ []) = refl
+if_else wide inputs last (b ∷ d ∷ e ∷ bs) = refl
+
+module _ (wide : Bool) (inputs : List ℕ) (body : List Statement) (x : Statement) (one : length body ≡ 1) (only : x ≡ get_or body 0 x) where
+  single : clocked wide inputs (statements_of body) ≡ clocked wide inputs (bodies.step (statement_view x) bodies.done)
+  single = ap (λ (xs : List Statement). clocked wide inputs (statements_of xs)) (one_item body x one only)
+
+  pub with_else : (at : ℕ) (branches : Vec Branch Global) (v : Vec Statement Global) → x ≡ vs.If at branches (Some v) → None ≡ clocked wide inputs (statements_of body)
   with_else at branches v is =
-      sym (single ∙ (ap (λ (y : Statement). clocked inputs (bodies.step (statement_view y) bodies.done)) is
-      ∙ (ap (λ (y : bodies.Stmt). clocked inputs (bodies.step y bodies.done)) (view_if at branches (Some v))
-      ∙ ap (option_map clocking_view) (if_else inputs (statements_of v.items) branches.items))))
+      sym (single ∙ (ap (λ (y : Statement). clocked wide inputs (bodies.step (statement_view y) bodies.done)) is
+      ∙ (ap (λ (y : bodies.Stmt). clocked wide inputs (bodies.step y bodies.done)) (view_if at branches (Some v))
+      ∙ ap (option_map clocking_view) (if_else wide inputs (statements_of v.items) branches.items))))
 
-  pub without_else : (at : ℕ) (branches : Vec Branch Global) → x ≡ vs.If at branches None → clocked inputs (if_alone branches.items) ≡ clocked inputs (statements_of body)
+  pub without_else : (at : ℕ) (branches : Vec Branch Global) → x ≡ vs.If at branches None → clocked wide inputs (if_alone branches.items) ≡ clocked wide inputs (statements_of body)
   without_else at branches is =
-      sym (single ∙ (ap (λ (y : Statement). clocked inputs (bodies.step (statement_view y) bodies.done)) is
-      ∙ ap (λ (y : bodies.Stmt). clocked inputs (bodies.step y bodies.done)) (view_if at branches None)))
+      sym (single ∙ (ap (λ (y : Statement). clocked wide inputs (bodies.step (statement_view y) bodies.done)) is
+      ∙ ap (λ (y : bodies.Stmt). clocked wide inputs (bodies.step y bodies.done)) (view_if at branches None)))
+
+-- ---- two ifs, where the reading is wide
+
+first_else : (inputs : List ℕ) (last : bodies.Stmts) (bs : List Branch) (t : bodies.Stmt) → k.clocking true inputs (bodies.step (bodies.if_of (branches_of (bodies.otherwise last) bs)) (bodies.step t bodies.done)) ≡ None
+first_else inputs last [] t = refl
+first_else inputs last (b ∷ []) t = refl
+first_else inputs last (b ∷ d ∷ []) t = refl
+first_else inputs last (b ∷ d ∷ e ∷ bs) t = refl
+
+second_else : (inputs : List ℕ) (bs ds : List Branch) (last : bodies.Stmts) → k.clocking true inputs (bodies.step (bodies.if_of (branches_of bodies.no_else bs)) (bodies.step (bodies.if_of (branches_of (bodies.otherwise last) ds)) bodies.done)) ≡ None
+second_else inputs [] ds last = refl
+second_else inputs (b ∷ []) [] last = refl
+second_else inputs (b ∷ []) (d ∷ []) last = refl
+second_else inputs (b ∷ []) (d ∷ e ∷ ds) last = refl
+second_else inputs (b ∷ c ∷ []) [] last = refl
+second_else inputs (b ∷ c ∷ []) (d ∷ ds) last = refl
+second_else inputs (b ∷ c ∷ e ∷ bs) ds last = refl
+
+first_many : (inputs : List ℕ) (bs : List Branch) (t : bodies.Stmt) → (length bs ≡ 1 → ⊥) → k.clocking true inputs (bodies.step (bodies.if_of (branches_of bodies.no_else bs)) (bodies.step t bodies.done)) ≡ None
+first_many inputs [] t n = refl
+first_many inputs (b ∷ []) t n = absurd (n refl)
+first_many inputs (b ∷ d ∷ []) t n = refl
+first_many inputs (b ∷ d ∷ e ∷ bs) t n = refl
+
+second_many : (inputs : List ℕ) (bs ds : List Branch) → (length ds ≡ 1 → ⊥) → k.clocking true inputs (bodies.step (bodies.if_of (branches_of bodies.no_else bs)) (bodies.step (bodies.if_of (branches_of bodies.no_else ds)) bodies.done)) ≡ None
+second_many inputs bs (d ∷ []) n = absurd (n refl)
+second_many inputs [] [] n = refl
+second_many inputs [] (d ∷ e ∷ ds) n = refl
+second_many inputs (b ∷ []) [] n = refl
+second_many inputs (b ∷ []) (d ∷ e ∷ ds) n = refl
+second_many inputs (b ∷ c ∷ []) [] n = refl
+second_many inputs (b ∷ c ∷ []) (d ∷ e ∷ ds) n = refl
+second_many inputs (b ∷ c ∷ x ∷ bs) [] n = refl
+second_many inputs (b ∷ c ∷ x ∷ bs) (d ∷ e ∷ ds) n = refl
+
+abbrev pub two_ifs : List Branch → List Branch → bodies.Stmts
+two_ifs bs ds = bodies.step (bodies.if_of (branches_of bodies.no_else bs)) (bodies.step (bodies.if_of (branches_of bodies.no_else ds)) bodies.done)
+
+pub two_many_first : (inputs : List ℕ) (bs ds : List Branch) → (length bs ≡ 1 → ⊥) → None ≡ clocked true inputs (two_ifs bs ds)
+two_many_first inputs bs ds n = ap (option_map clocking_view) (sym (first_many inputs bs (bodies.if_of (branches_of bodies.no_else ds)) n))
+
+pub two_many_second : (inputs : List ℕ) (bs ds : List Branch) → (length ds ≡ 1 → ⊥) → None ≡ clocked true inputs (two_ifs bs ds)
+two_many_second inputs bs ds n = ap (option_map clocking_view) (sym (second_many inputs bs ds n))
+
+module _ (inputs : List ℕ) (bs ds : List Branch) (b d : Branch) (one : length bs ≡ 1) (other : length ds ≡ 1) (first : b ≡ get_or bs 0 b) (second : d ≡ get_or ds 0 d) where
+  both_spelled : clocked true inputs (two_ifs (b ∷ []) (d ∷ [])) ≡ clocked true inputs (two_ifs bs ds)
+  both_spelled = (λ i. clocked true inputs (two_ifs (sym (one_item bs b one first) i) (sym (one_item ds d other second) i)))
+
+  abbrev plain : Bool
+  plain = is_empty (leaves (branch_body d)) && k.assigns_constants (branch_body d)
+
+  pub behind_without_reset : atom_reset true inputs (atom_of (test_view d.test)) ≡ None → None ≡ clocked true inputs (two_ifs bs ds)
+  behind_without_reset h =
+      no_reset false (k.reset_test true inputs (test_view d.test)) plain (is_empty (events (branch_body b))) (branch_edge b) (branch_body d) (branch_body b) (reset_is true inputs (test_view d.test) ∙ h) ∙ both_spelled
+
+  pub behind_without_constants : plain ≡ false → None ≡ clocked true inputs (two_ifs bs ds)
+  behind_without_constants h =
+      no_constants false (k.reset_test true inputs (test_view d.test)) (is_empty (events (branch_body b))) (branch_edge b) (branch_body d) (branch_body b)
+      ∙ (ap (λ (x : Bool). option_map clocking_view (k.with_reset false (k.reset_test true inputs (test_view d.test)) x (is_empty (events (branch_body b))) (branch_edge b) (branch_body d) (branch_body b))) (sym h)
+      ∙ both_spelled)
+
+  pub behind_with_reset : (n : ℕ) → atom_reset true inputs (atom_of (test_view d.test)) ≡ Some n → plain ≡ true
+      → clocked_branch (branch_edge b) (branch_body b) (Some n) ≡ clocked true inputs (two_ifs bs ds)
+  behind_with_reset n h t =
+      with_both false (k.reset_test true inputs (test_view d.test)) n (branch_edge b) (branch_body d) (branch_body b) (reset_is true inputs (test_view d.test) ∙ h)
+      ∙ (ap (λ (x : Bool). option_map clocking_view (k.with_reset false (k.reset_test true inputs (test_view d.test)) x (is_empty (events (branch_body b))) (branch_edge b) (branch_body d) (branch_body b))) (sym t)
+      ∙ both_spelled)
+
+module _ (inputs : List ℕ) (x : Statement) (t : bodies.Stmt) where
+  pub first_with_else : (at : ℕ) (branches : Vec Branch Global) (v : Vec Statement Global) → x ≡ vs.If at branches (Some v) → None ≡ clocked true inputs (bodies.step (statement_view x) (bodies.step t bodies.done))
+  first_with_else at branches v is =
+      sym (ap (λ (y : Statement). clocked true inputs (bodies.step (statement_view y) (bodies.step t bodies.done))) is
+      ∙ ap (λ (y : bodies.Stmt). clocked true inputs (bodies.step y (bodies.step t bodies.done))) (view_if at branches (Some v))
+      ∙ ap (option_map clocking_view) (first_else inputs (statements_of v.items) branches.items t))
+
+  pub first_without_else : (at : ℕ) (branches : Vec Branch Global) → x ≡ vs.If at branches None
+      → clocked true inputs (bodies.step (bodies.if_of (branches_of bodies.no_else branches.items)) (bodies.step t bodies.done)) ≡ clocked true inputs (bodies.step (statement_view x) (bodies.step t bodies.done))
+  first_without_else at branches is =
+      sym (ap (λ (y : Statement). clocked true inputs (bodies.step (statement_view y) (bodies.step t bodies.done))) is
+      ∙ ap (λ (y : bodies.Stmt). clocked true inputs (bodies.step y (bodies.step t bodies.done))) (view_if at branches None))
+
+module _ (inputs : List ℕ) (bs : List Branch) (x : Statement) where
+  pub second_with_else : (at : ℕ) (branches : Vec Branch Global) (v : Vec Statement Global) → x ≡ vs.If at branches (Some v) → None ≡ clocked true inputs (bodies.step (bodies.if_of (branches_of bodies.no_else bs)) (bodies.step (statement_view x) bodies.done))
+  second_with_else at branches v is =
+      sym (ap (λ (y : Statement). clocked true inputs (bodies.step (bodies.if_of (branches_of bodies.no_else bs)) (bodies.step (statement_view y) bodies.done))) is
+      ∙ ap (λ (y : bodies.Stmt). clocked true inputs (bodies.step (bodies.if_of (branches_of bodies.no_else bs)) (bodies.step y bodies.done))) (view_if at branches (Some v))
+      ∙ ap (option_map clocking_view) (second_else inputs bs branches.items (statements_of v.items)))
+
+  pub second_without_else : (at : ℕ) (branches : Vec Branch Global) → x ≡ vs.If at branches None → clocked true inputs (two_ifs bs branches.items) ≡ clocked true inputs (bodies.step (bodies.if_of (branches_of bodies.no_else bs)) (bodies.step (statement_view x) bodies.done))
+  second_without_else at branches is =
+      sym (ap (λ (y : Statement). clocked true inputs (bodies.step (bodies.if_of (branches_of bodies.no_else bs)) (bodies.step (statement_view y) bodies.done))) is
+      ∙ ap (λ (y : bodies.Stmt). clocked true inputs (bodies.step (bodies.if_of (branches_of bodies.no_else bs)) (bodies.step y bodies.done))) (view_if at branches None))
+
+-- of two statements
+pub pair_spelled : (inputs : List ℕ) (body : List Statement) (x y : Statement) → length body ≡ 2 → x ≡ get_or body 0 x → y ≡ get_or body 1 y
+    → clocked true inputs (bodies.step (statement_view x) (bodies.step (statement_view y) bodies.done)) ≡ clocked true inputs (statements_of body)
+pair_spelled inputs body x y l e f = ap (λ (xs : List Statement). clocked true inputs (statements_of xs)) (sym (two_items body x y l e f))
 
 -- ---- kinds
 

@@ -1,5 +1,5 @@
 -- What is sought in a body, by its leaves.
-use Rattle.std.specs.Prelude.{Bool}
+use Rattle.std.specs.Prelude.{Bool, true}
 use Rattle.rtl_model.specs.bodies.Leaves.{Leaf, read_of, event_of, leaf_looks_at}
 use Rattle.rtl_body_facts.specs.declared.search.Sought.{Sought}
 use Rattle.rtl_body_facts.specs.declared.search.Sought.TheVariants as s
@@ -11,3 +11,4 @@ seeks s.Event leaf = some (event_of leaf)
 seeks s.SomeNet leaf = some (read_of leaf)
 seeks (s.Net net) leaf = is_in net (read_of leaf)
 seeks (s.Element element) leaf = leaf_looks_at element leaf
+seeks s.Anything leaf = true

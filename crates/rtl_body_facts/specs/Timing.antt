@@ -1,5 +1,5 @@
 -- What the code keeps of clocked bodies, their edge tests and their resets.
-use Rattle.std.specs.Prelude.{ℕ, true, ◌==◌, if◌then◌else◌, List, [], ◌∷◌, Option, Some, None, option_map}
+use Rattle.std.specs.Prelude.{ℕ, Bool, true, ◌==◌, ◌||◌, if◌then◌else◌, List, [], ◌∷◌, Option, Some, None, option_map}
 use Rattle.rtl_model.specs.basics.Lists.{is_empty}
 use Rattle.rtl_model.specs.bodies.Body as bodies
 use Rattle.rtl_model.specs.bodies.Reads.{reads, events}
@@ -36,9 +36,10 @@ abbrev pub reset_net : k.ResetTest → ℕ
 reset_net r = r.net
 
 -- the net of a reset test
-abbrev pub atom_reset : (inputs : List ℕ) → Atom → Option ℕ
-atom_reset inputs (a.Level plain net v) = option_map reset_net (k.reset_of_level (is_in net inputs) net v (k.edge_to v))
-atom_reset inputs _ = None
+abbrev pub atom_reset : (wide : Bool) → (inputs : List ℕ) → Atom → Option ℕ
+atom_reset wide inputs (a.Level plain net v) =
+    option_map reset_net (k.reset_of_level (wide || is_in net inputs) net v (k.edge_to v))
+atom_reset wide inputs _ = None
 
 -- ---- bodies
 

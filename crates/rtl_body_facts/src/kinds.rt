@@ -2,13 +2,13 @@
 
 ghost use Rattle.std.specs.Prelude.{◌≡◌, ◌==◌, true, option_map};
 ghost use Rattle.std.specs.List.Sorted.{IsStrictlyIncreasing};
-ghost use Rattle.rtl_net.specs.Bodies.{test_view, statements_of, branches_of};
+ghost use Rattle.rtl_net.specs.Bodies.{test_view, statement_view, statements_of, branches_of};
 ghost use Rattle.rtl_model.specs.bodies.Body.{step, done, if_of, no_else};
 ghost use Rattle.rtl_model.specs.bodies.Reads.{events};
 ghost use Rattle.rtl_model.specs.bodies.Kinds as m;
 ghost use Rattle.rtl_body_facts.specs.Timing.{atom_of, edge_pair, edge_test_view, atom_reset, clocked_branch, clocking_view, kind_view};
 
-use crate::constants::assigns_constants;
+use crate::constants::{assigns_constants, assigns_plain_constants};
 use crate::rising::contains_rising;
 use crate::search::{body_has_event, body_reads};
 use rtl_net::{Branch, Statement, Test};
@@ -155,15 +155,16 @@ fn edge_of(test: &Test) -> Option<EdgeTest>
     }
 }
 
-/// The net of a reset test: an input that is tested for '1' or '0'.
-fn reset_of(inputs: &[usize], test: Atom) -> Option<usize>
+/// The net of a reset test: an input that is tested for '1' or '0', or any net where the reading
+/// is wide.
+fn reset_of(wide: bool, inputs: &[usize], test: Atom) -> Option<usize>
     requires { IsStrictlyIncreasing inputs.now }
-    ensures { result ≡ atom_reset inputs.now test }
+    ensures { result ≡ atom_reset wide inputs.now test }
 {
     match test {
         Atom::Level { net, value, .. } => {
             let _edge = edge_to(value)?;
-            if contains_rising(inputs, net) {
+            if wide || contains_rising(inputs, net) {
                 return Some(net);
             }
             None
@@ -190,10 +191,10 @@ fn edge_branch(branch: &Branch, reset: Option<usize>) -> Option<Clocking>
 }
 
 /// What a body is clocked by that is one if with these branches and no else.
-fn clocking_of_branches(inputs: &[usize], branches: &[Branch]) -> Option<Clocking>
+fn clocking_of_branches(wide: bool, inputs: &[usize], branches: &[Branch]) -> Option<Clocking>
     requires { IsStrictlyIncreasing inputs.now }
     ensures { result ≡ option_map clocking_view
-        (m.clocking inputs.now (step (if_of (branches_of no_else branches.now)) done)) }
+        (m.clocking wide inputs.now (step (if_of (branches_of no_else branches.now)) done)) }
 {
     if branches.len() == 1 {
         return edge_branch(&branches[0], None);
@@ -202,18 +203,83 @@ fn clocking_of_branches(inputs: &[usize], branches: &[Branch]) -> Option<Clockin
         return None;
     }
     let first = &branches[0];
-    let reset = reset_of(inputs, top_of(&first.test))?;
+    let reset = reset_of(wide, inputs, top_of(&first.test))?;
     if !assigns_constants(&first.statements) {
         return None;
     }
     edge_branch(&branches[1], Some(reset))
 }
 
-/// What a body is clocked by, if it is one of a clocked process.
-fn clocking_of(inputs: &[usize], body: &[Statement]) -> Option<Clocking>
+/// What a body is clocked by that is two ifs with these branches and no else, where the reading is
+/// wide: the second resets what the first assigns.
+fn clocking_of_two(inputs: &[usize], first: &[Branch], second: &[Branch]) -> Option<Clocking>
     requires { IsStrictlyIncreasing inputs.now }
-    ensures { result ≡ option_map clocking_view (m.clocking inputs.now (statements_of body.now)) }
+    ensures { result ≡ option_map clocking_view (m.clocking true inputs.now
+        (step (if_of (branches_of no_else first.now)) (step (if_of (branches_of no_else second.now)) done))) }
 {
+    if first.len() != 1 {
+        return None;
+    }
+    if second.len() != 1 {
+        return None;
+    }
+    let last = &second[0];
+    let reset = reset_of(true, inputs, top_of(&last.test))?;
+    if !assigns_plain_constants(&last.statements) {
+        return None;
+    }
+    edge_branch(&first[0], Some(reset))
+}
+
+/// The same of the first one's branches and the second statement.
+fn clocking_before(inputs: &[usize], first: &[Branch], second: &Statement) -> Option<Clocking>
+    requires { IsStrictlyIncreasing inputs.now }
+    ensures { result ≡ option_map clocking_view (m.clocking true inputs.now
+        (step (if_of (branches_of no_else first.now)) (step (statement_view second.now) done))) }
+{
+    match second {
+        Statement::If {
+            branches,
+            otherwise,
+            ..
+        } => match otherwise {
+            Some(_) => None,
+            None => clocking_of_two(inputs, first, branches),
+        },
+        _ => None,
+    }
+}
+
+/// The same of two statements.
+fn clocking_of_both(inputs: &[usize], first: &Statement, second: &Statement) -> Option<Clocking>
+    requires { IsStrictlyIncreasing inputs.now }
+    ensures { result ≡ option_map clocking_view (m.clocking true inputs.now
+        (step (statement_view first.now) (step (statement_view second.now) done))) }
+{
+    match first {
+        Statement::If {
+            branches,
+            otherwise,
+            ..
+        } => match otherwise {
+            Some(_) => None,
+            None => clocking_before(inputs, branches, second),
+        },
+        _ => None,
+    }
+}
+
+/// What a body is clocked by, if it is one of a clocked process.
+fn clocking_of(wide: bool, inputs: &[usize], body: &[Statement]) -> Option<Clocking>
+    requires { IsStrictlyIncreasing inputs.now }
+    ensures { result ≡ option_map clocking_view (m.clocking wide inputs.now (statements_of body.now)) }
+{
+    if body.len() == 2 {
+        if !wide {
+            return None;
+        }
+        return clocking_of_both(inputs, &body[0], &body[1]);
+    }
     if body.len() != 1 {
         return None;
     }
@@ -224,18 +290,19 @@ fn clocking_of(inputs: &[usize], body: &[Statement]) -> Option<Clocking>
             ..
         } => match otherwise {
             Some(_) => None,
-            None => clocking_of_branches(inputs, branches),
+            None => clocking_of_branches(wide, inputs, branches),
         },
         _ => None,
     }
 }
 
-/// The kind of a process with this body, where the inputs of the top rise.
-pub fn kind_of(inputs: &[usize], body: &[Statement]) -> ProcessKind
+/// The kind of a process with this body, where the inputs of the top rise, and the reading is wide
+/// or isn't.
+pub fn kind_of(wide: bool, inputs: &[usize], body: &[Statement]) -> ProcessKind
     requires { IsStrictlyIncreasing inputs.now }
-    ensures { result ≡ kind_view (m.clocking inputs.now (statements_of body.now)) (events (statements_of body.now)) }
+    ensures { result ≡ kind_view (m.clocking wide inputs.now (statements_of body.now)) (events (statements_of body.now)) }
 {
-    match clocking_of(inputs, body) {
+    match clocking_of(wide, inputs, body) {
         Some(clocking) => ProcessKind::Clocked(clocking),
         None => {
             if body_has_event(body) {

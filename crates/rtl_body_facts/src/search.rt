@@ -26,6 +26,8 @@ enum Sought {
     Net(usize),
     /// This element of a variable.
     Element(usize),
+    /// Whatever is looked at.
+    Anything,
 }
 
 /// Whether a leaf is what is sought.
@@ -40,6 +42,7 @@ fn is_sought(sought: Sought, leaf: Leaf<'_>) -> bool
         (Sought::Net(net), Leaf::Net(n) | Leaf::Event(n)) => n as usize == net,
         (Sought::Element(element), Leaf::Elements(elements)) => has_number(elements, element),
         (Sought::Element(element), Leaf::Element(e)) => e as usize == element,
+        (Sought::Anything, _) => true,
         _ => false,
     }
 }
@@ -103,6 +106,13 @@ pub fn body_reads(statements: &[Statement], net: usize) -> bool
     ensures { result ≡ is_in net (r.reads (statements_of statements.now)) }
 {
     in_body(statements, Sought::Net(net))
+}
+
+/// Whether a sequence looks at no net, no event and no element of a variable.
+pub fn looks_at_nothing(statements: &[Statement]) -> bool
+    ensures { result ≡ is_empty (leaves (statements_of statements.now)) }
+{
+    !in_body(statements, Sought::Anything)
 }
 
 /// Whether a value reads no signal.

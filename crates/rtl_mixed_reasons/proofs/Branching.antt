@@ -1,9 +1,8 @@
 -- Ifs of a body by their branches, and conditions by their chains.
-use Rattle.std.proofs.Common.{◌≡◌, ℕ, zero, suc, ◌+◌, ◌<◌, ◌≤◌, subst, Bool, true, false, ◌&&◌, ◌||◌, List, [], ◌∷◌, ◌++◌, length, get_or, take, drop, Option, Some, None, Vec, Global, refl, sym, ap, ◌∙◌, vec_len, ◌==◌, append-nil, arith}
+use Rattle.std.proofs.Common.{◌≡◌, ℕ, zero, suc, ◌+◌, ◌<◌, ◌≤◌, subst, Bool, true, false, ◌&&◌, ◌||◌, List, [], ◌∷◌, ◌++◌, length, get_or, take, drop, Option, Some, None, Vec, Global, refl, sym, ap, ◌∙◌, append-nil, arith}
 use Rattle.std.specs.Prelude.{is_some, is_none, nat_lt, if◌then◌else◌, option_map, option_and_then, flat_map}
 use Rattle.std.specs.Option.{option_or}
 use Rattle.std.proofs.lemmas.List.{take_more, length-map, get_or-map}
-use Rattle.std.proofs.lemmas.Bool.{eqb-true}
 use Rattle.std.specs.List.{list_any}
 use Rattle.rtl_model.specs.bodies.Body as bodies
 use Rattle.rtl_model.specs.bodies.Leaves.{Leaf, of_nets, of_event, of_elements, test_leaves, read_of, event_of}
@@ -18,7 +17,6 @@ use Rattle.rtl_net.specs.declared.body.Test.{Test}
 use Rattle.rtl_net.specs.declared.body.Test.TheVariants as vt
 use Rattle.rtl_net.proofs.Rows.{view_if}
 use Rattle.rtl_body_facts.specs.Reading.{some}
-use Rattle.rtl_body_facts.proofs.Timings.{combined_is}
 use Rattle.rtl_mixed_reasons.specs.Edges.{is_gated, has_two}
 use Rattle.rtl_mixed_reasons.specs.declared.edges.Events.{Events}
 use Rattle.rtl_mixed_reasons.specs.declared.reason.Reason.{Reason}
@@ -169,31 +167,10 @@ module _ (x : Statement) (at : ℕ) (branches : Vec Branch Global) (last : Optio
 
 -- ---- chains
 
--- a chain that goes on is no reset's test and no other single condition
-pub chain-is : {A : Type 0} (f : bodies.Test → A) (none : A) → ((op : _) (s t : bodies.Test) → f (bodies.combined op s t) ≡ none)
-    → (left : bodies.Test) (ls : List TestLink) (l : TestLink) → f (test_links_of left (l ∷ ls)) ≡ none
-chain-is f none all left [] l = all l.operator left (test_view l.operand)
-chain-is f none all left (k ∷ ks) l = chain-is f none all (bodies.combined l.operator left (test_view l.operand)) ks k
-
 -- the test at which a chain starts
 abbrev pub start_view : Test → bodies.Test
 start_view (vt.Combined' p first shape rest) = test_view first
 start_view t = test_view t
-
-no-link : (left : bodies.Test) (ls : List TestLink) → (length ls == 0) ≡ true → test_links_of left ls ≡ left
-no-link left [] e = refl
-no-link left (l ∷ ls) e = let k = eqb-true (length (l ∷ ls)) 0 e in absurd (omega arith)
-
-module _ (x : Test) (first : _) (rest : Vec TestLink Global) (is : x ≡ vt.Combined first rest) where
-  pub chain-alone : (vec_len rest == 0) ≡ true → test_view first.value ≡ test_view x
-  chain-alone e = sym (combined_is x first rest is ∙ no-link (test_view first.value) rest.items (sym (ap (λ (n : ℕ). n == 0) rest.ok.0) ∙ e))
-
-  pub no-reset : (vec_len rest == 0) ≡ false → None ≡ reset_net (test_view x)
-  no-reset e = sym (ap reset_net (combined_is x first rest is) ∙ go (test_view first.value) rest.items (sym (ap (λ (n : ℕ). n == 0) rest.ok.0) ∙ e))
-    where
-      go : (left : bodies.Test) (ls : List TestLink) → (length ls == 0) ≡ false → reset_net (test_links_of left ls) ≡ None
-      go left [] e = absurd cc
-      go left (l ∷ ls) e = chain-is reset_net None (λ op s t. refl) left ls l
 
 links-append : (left : bodies.Test) (ls : List TestLink) (l : TestLink) → test_links_of left (ls ++ l ∷ []) ≡ bodies.combined l.operator (test_links_of left ls) (test_view l.operand)
 links-append left [] l = refl

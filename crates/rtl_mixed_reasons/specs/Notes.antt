@@ -29,6 +29,11 @@ note_of k.BesideToo = the.BESIDE_TOO
 note_of k.StandsBeside = the.STANDS_BESIDE
 note_of k.NoEdge = the.NO_EDGE
 note_of k.EdgeInside = the.EDGE_INSIDE
+note_of k.UnsteadyGate = the.UNSTEADY_GATE
+note_of k.UnsteadyClock = the.UNSTEADY_CLOCK
+note_of k.UnsteadyRegister = the.UNSTEADY_REGISTER
+note_of k.UnsteadyStart = the.UNSTEADY_START
+note_of k.UnsteadyCircle = the.UNSTEADY_CIRCLE
 
 -- the note is that one
 pub record IsNote (wanted : Note Text) (given : Note (Bor (List ℕ))) : Type 0 where
@@ -56,3 +61,8 @@ number_of k.BesideToo = 13
 number_of k.StandsBeside = 14
 number_of k.NoEdge = 15
 number_of k.EdgeInside = 16
+number_of k.UnsteadyGate = 17
+number_of k.UnsteadyClock = 18
+number_of k.UnsteadyRegister = 19
+number_of k.UnsteadyStart = 20
+number_of k.UnsteadyCircle = 21

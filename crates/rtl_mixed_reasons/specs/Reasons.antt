@@ -31,12 +31,16 @@ use Rattle.rtl_mixed_reasons.specs.declared.reason.ReasonKind.TheVariants.{Gated
 use Rattle.rtl_mixed_reasons.specs.declared.reason.ReasonKind.TheVariants.{ResetDriven, ResetNoInput, ResetReads, ResetComputes, NoResetTest}
 use Rattle.rtl_mixed_reasons.specs.declared.reason.ReasonKind.TheVariants.{SeveralResets, BehindEdge, Beside, BesideToo, StandsBeside, NoEdge, EdgeInside}
 
--- it names nothing, or a net
+-- it names nothing, a net, or two
 abbrev pub plain : ReasonKind → (at : ℕ) → Reason
-plain kind at = record { kind = kind; at = at; net = None; driver = None }
+plain kind at = record { kind = kind; at = at; net = None; driver = None; second = None }
 
 abbrev pub naming : ReasonKind → (at net : ℕ) → Reason
-naming kind at net = record { kind = kind; at = at; net = Some net; driver = None }
+naming kind at net = record { kind = kind; at = at; net = Some net; driver = None; second = None }
+
+abbrev pub naming_two : ReasonKind → (at net second : ℕ) → Reason
+naming_two kind at net second =
+    record { kind = kind; at = at; net = Some net; driver = None; second = Some second }
 
 -- ---- the ifs of a body
 
@@ -198,7 +202,8 @@ sole_reset p edge _ = None
 abbrev pub reset_behind : Process → (edge : ℕ → Bool) → Statement → Option Reason
 reset_behind p edge x = option_map (naming ResetBehind (at_of x)) (option_and_then (sole_reset p edge) (if_branches x))
 
--- ---- 4. The reset is no in port of the top: told with the first process that drives it, if one does
+-- ---- 4. The reset is no in port of the top, as it has to be where the netlist isn't wide: told with the first process
+-- that drives it, if one does
 
 abbrev pub driver_of : List Source → Option ℕ
 driver_of (Driver process place ∷ sources) = Some process
@@ -209,10 +214,12 @@ driven_by net n = if nat_lt n (length net.types) then driver_of (flat_sources (f
 
 abbrev pub made_by : (at reset : ℕ) → (driver : Option ℕ) → Reason
 made_by at reset None = naming ResetNoInput at reset
-made_by at reset (Some process) = record { kind = ResetDriven; at = at; net = Some reset; driver = Some process }
+made_by at reset (Some process) =
+    record { kind = ResetDriven; at = at; net = Some reset; driver = Some process; second = None }
 
 abbrev pub made_inside : NetlistView → (at : ℕ) → (reset : ℕ) → Option Reason
-made_inside net at reset = if is_in reset net.inputs then None else Some (made_by at reset (driven_by net reset))
+made_inside net at reset =
+    if net.wide || is_in reset net.inputs then None else Some (made_by at reset (driven_by net reset))
 
 -- ---- 5. The reset's branch has more than assignments of constants: what `computes` finds in it
 
@@ -321,12 +328,4 @@ reason_of_body net p = first_that_fits
 
 -- an edge or `'event` stands in its body, and it isn't a clocked process's
 abbrev pub is_mixed : NetlistView → Process → Bool
-is_mixed net p = is_none (clocking net.inputs (body_of p)) && some (events (body_of p))
-
-abbrev pub reason_at : NetlistView → Option Process → Option Reason
-reason_at net None = None
-reason_at net (Some p) = if is_mixed net p then reason_of_body net p else None
-
--- of a process that is neither clocked nor combinational; another has none
-abbrev pub reason_of : NetlistView → (process : ℕ) → Option Reason
-reason_of net process = reason_at net (slice_get net.processes process)
+is_mixed net p = is_none (clocking net.wide net.inputs (body_of p)) && some (events (body_of p))

@@ -13,7 +13,7 @@ use rtl_net::{Process, Statement};
 use std::alloc::{AllocError, Global};
 
 /// The byte at which an if or a case starts; of another statement the one that is given.
-fn at_or(given: u32, statement: &Statement) -> u32
+pub(crate) fn at_or(given: u32, statement: &Statement) -> u32
     ensures { result ≡ spec.at_or given statement.now }
 {
     match statement {

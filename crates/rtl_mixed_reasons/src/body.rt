@@ -5,19 +5,21 @@ ghost use Rattle.rtl_model.specs.bodies.Body.{no_else};
 ghost use Rattle.rtl_net.specs.Bodies.{statements_of, branches_of, otherwise_of};
 ghost use Rattle.rtl_body_facts.specs.Reading.{some};
 ghost use Rattle.rtl_mixed_reasons.specs.Reasons as spec;
+ghost use Rattle.rtl_mixed_reasons.specs.Unsteady.{reason_of};
 
 use crate::beside::beside_edge;
 use crate::ifs::{EdgeIf, first_edge, gated_if, second_edge};
 use crate::nets::nets_of;
 use crate::reason::{Reason, ReasonKind};
 use crate::resets::{computes, other_before, reset_behind, reset_of};
-use rtl_body_facts::{ProcessKind, body_has_event, contains_rising, kind_of};
+use crate::unsteady::{kind_in, unsteady};
+use rtl_body_facts::{ProcessKind, body_has_event, contains_rising};
 use rtl_net::{Branch, Net, Process, Source, Statement};
 use std::alloc::{AllocError, Global};
 use std::slice;
 
 /// The first process that drives a net.
-fn driven_by(net: &Net, number: usize) -> Option<usize>
+pub(crate) fn driven_by(net: &Net, number: usize) -> Option<usize>
     ensures { result ≡ spec.driven_by net.now number }
 {
     if number >= net.nets() {
@@ -39,16 +41,21 @@ fn made_by(at: u32, reset: usize, driver: Option<usize>) -> Reason
             at,
             net: Some(reset),
             driver: Some(process),
+            second: None,
         },
         None => Reason::naming(ReasonKind::ResetNoInput, at, reset),
     }
 }
 
-/// What is told of a reset that is no in port of the top.
+/// What is told of a reset that is no in port of the top, as it has to be where the netlist isn't
+/// wide.
 fn made_inside(net: &Net, at: u32, reset: usize) -> Option<Reason>
     ensures { result ≡ spec.made_inside net.now at reset }
 {
     net.is_elaborated();
+    if net.is_wide() {
+        return None;
+    }
     let inputs = net.inputs();
     if contains_rising(inputs, reset) {
         return None;
@@ -244,27 +251,28 @@ fn reason_of_body(alloc: Global, net: &Net, process: &Process) -> Result<Option<
 fn is_mixed(net: &Net, process: &Process) -> bool
     ensures { result ≡ spec.is_mixed net.now process.now }
 {
-    net.is_elaborated();
-    let inputs = net.inputs();
-    match kind_of(inputs, &process.body) {
+    match kind_in(net, process) {
         ProcessKind::Combinational => false,
         ProcessKind::Clocked(_) => false,
         ProcessKind::Mixed => true,
     }
 }
 
-/// Why a process is neither clocked nor combinational: the first reason that fits it; `None` where
-/// it is one of these, or isn't there. It takes time in proportion to its drivers and to its body
-/// times how deep it is nested, but for the logarithms of sorted lists, and memory for the nets
-/// that it assigns.
+/// Why a process is neither clocked nor combinational, or, of another in a wide netlist, what its
+/// reset is made of that may pulse within a moment: the first reason that fits. `None` where it
+/// isn't there, is combinational or has no reset, and where what drives the reset has a fault of
+/// its own. It is to be asked of a process that has a fault: it finds reasons, not whether a reset
+/// is calm. It takes time in proportion to its drivers and to its body times how deep it is nested,
+/// but for the logarithms of sorted lists, or to the copies that its reset is made by, and memory
+/// for the nets that it assigns.
 pub fn reason_of(alloc: Global, net: &Net, process: usize) -> Result<Option<Reason>, AllocError>
-    ensures { IfOk result (λ reason. reason ≡ spec.reason_of net.now process) }
+    ensures { IfOk result (λ reason. reason ≡ reason_of net.now process) }
 {
     let Some(process) = net.processes().get(process) else {
         return Ok(None);
     };
     if !is_mixed(net, process) {
-        return Ok(None);
+        return Ok(unsteady(net, process));
     }
     reason_of_body(alloc, net, process)
 }

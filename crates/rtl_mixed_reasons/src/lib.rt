@@ -14,6 +14,7 @@ mod nets;
 mod reads;
 mod reason;
 mod resets;
+mod unsteady;
 mod words;
 
 pub use body::reason_of;

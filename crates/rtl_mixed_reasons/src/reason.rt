@@ -4,7 +4,8 @@ ghost use Rattle.std.specs.Prelude.{◌≡◌};
 ghost use Rattle.rtl_mixed_reasons.specs.Notes.{number_of};
 ghost use Rattle.rtl_mixed_reasons.specs.Reasons as spec;
 
-/// What makes a process neither clocked nor combinational.
+/// What makes a process neither clocked nor combinational, or its reset one that may pulse within a
+/// moment.
 #[derive(Clone, Copy)]
 pub enum ReasonKind {
     /// In a condition of this if `and` joins an edge with something else that has no event.
@@ -44,9 +45,21 @@ pub enum ReasonKind {
     NoEdge,
     /// An edge or an event stands inside this statement.
     EdgeInside,
+    /// The reset may pulse: a process that reads the second net makes the net, which is the reset's
+    /// or one that it copies, as below.
+    UnsteadyGate,
+    /// It may, and a process that reads a clock makes the net.
+    UnsteadyClock,
+    /// It may, and the net is a register that the second net resets.
+    UnsteadyRegister,
+    /// It may: the net is copied, and starts with a value at which the reset holds, to leave it at
+    /// once.
+    UnsteadyStart,
+    /// It may, and the net depends on itself.
+    UnsteadyCircle,
 }
 
-/// Why a process is neither clocked nor combinational.
+/// Why a process is neither clocked nor combinational, or has a reset that may pulse.
 #[derive(Clone, Copy)]
 pub struct Reason {
     pub kind: ReasonKind,
@@ -57,6 +70,8 @@ pub struct Reason {
     pub net: Option<usize>,
     /// The process that it names.
     pub driver: Option<usize>,
+    /// The second net that it names. It names no process then.
+    pub second: Option<usize>,
 }
 
 impl Reason {
@@ -69,6 +84,7 @@ impl Reason {
             at,
             net: None,
             driver: None,
+            second: None,
         }
     }
 
@@ -81,6 +97,20 @@ impl Reason {
             at,
             net: Some(net),
             driver: None,
+            second: None,
+        }
+    }
+
+    /// One that names two nets.
+    pub(crate) fn naming_two(kind: ReasonKind, at: u32, net: usize, second: usize) -> Reason
+        ensures { result ≡ spec.naming_two kind at net second }
+    {
+        Reason {
+            kind,
+            at,
+            net: Some(net),
+            driver: None,
+            second: Some(second),
         }
     }
 }
@@ -107,6 +137,11 @@ impl ReasonKind {
             ReasonKind::StandsBeside => 14,
             ReasonKind::NoEdge => 15,
             ReasonKind::EdgeInside => 16,
+            ReasonKind::UnsteadyGate => 17,
+            ReasonKind::UnsteadyClock => 18,
+            ReasonKind::UnsteadyRegister => 19,
+            ReasonKind::UnsteadyStart => 20,
+            ReasonKind::UnsteadyCircle => 21,
         }
     }
 }

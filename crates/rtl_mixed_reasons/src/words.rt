@@ -5,7 +5,8 @@ ghost use Rattle.rtl_mixed_reasons.specs.Notes.{note_of, IsNote};
 use crate::reason::ReasonKind;
 
 /// What is said of a reason: the opening, the name of its net if it names one, the middle, the name
-/// of its process if it names one, and the closing. Definitions cite the constants of this type.
+/// of its process or second net if it names one, and the closing. Definitions cite the constants of
+/// this type.
 #[derive(Clone, Copy)]
 pub struct Note<T: Copy> {
     pub opening: T,
@@ -139,6 +140,41 @@ pub const EDGE_INSIDE: Note<&str> = Note {
     closing: "",
 };
 
+/// A reset made by a process that reads what a process drives.
+pub const UNSTEADY_GATE: Note<&str> = Note {
+    opening: "the reset may pulse within a moment: the process that makes ",
+    middle: " reads ",
+    closing: "; make that net of in ports alone, or give it a register of its own",
+};
+
+/// A reset made by a process that reads a clock.
+pub const UNSTEADY_CLOCK: Note<&str> = Note {
+    opening: "the reset may pulse within a moment: the process that makes ",
+    middle: " reads a clock; make that net of other in ports, or give it a register of its own",
+    closing: "",
+};
+
+/// A register that is reset itself, as the reset of another.
+pub const UNSTEADY_REGISTER: Note<&str> = Note {
+    opening: "the reset may pulse within a moment: the register ",
+    middle: " is itself reset, by ",
+    closing: "; reset both by one, or make that reset of in ports alone and start the register with its reset's value",
+};
+
+/// A reset that copies a net which leaves its starting value at once.
+pub const UNSTEADY_START: Note<&str> = Note {
+    opening: "the reset may pulse at the start: it copies ",
+    middle: ", which starts with a value at which it holds; start that net with the other",
+    closing: "",
+};
+
+/// A reset that copies itself.
+pub const UNSTEADY_CIRCLE: Note<&str> = Note {
+    opening: "the reset may pulse within a moment: ",
+    middle: " depends on itself",
+    closing: "",
+};
+
 impl ReasonKind {
     /// What is said of it.
     pub fn note(self) -> Note<&'static str>
@@ -163,6 +199,11 @@ impl ReasonKind {
             ReasonKind::StandsBeside => STANDS_BESIDE,
             ReasonKind::NoEdge => NO_EDGE,
             ReasonKind::EdgeInside => EDGE_INSIDE,
+            ReasonKind::UnsteadyGate => UNSTEADY_GATE,
+            ReasonKind::UnsteadyClock => UNSTEADY_CLOCK,
+            ReasonKind::UnsteadyRegister => UNSTEADY_REGISTER,
+            ReasonKind::UnsteadyStart => UNSTEADY_START,
+            ReasonKind::UnsteadyCircle => UNSTEADY_CIRCLE,
         }
     }
 }

@@ -142,10 +142,12 @@ stays_undefined p (Some s) n =
 -- doesn't assign, the clocks that it reads as data, and its registers without a reset that stay undefined.
 abbrev pub named : NetlistView → RemarkKind → Process → List ℕ
 named net NotReset p =
-    filter (leaves_out p (reset_branch (clocking net.inputs (body_of p)))) (range_with_len 0 (length net.types))
+    filter (leaves_out p (reset_branch (clocking net.wide net.inputs (body_of p))))
+    (range_with_len 0 (length net.types))
 named net ClockRead p = clocks_read net p
 named net NeverKnown p =
-    filter (stays_undefined p (edge_branch (clocking net.inputs (body_of p)))) (range_with_len 0 (length net.types))
+    filter (stays_undefined p (edge_branch (clocking net.wide net.inputs (body_of p))))
+    (range_with_len 0 (length net.types))
 named net _ p = []
 
 abbrev pub on_process : NetlistView → RemarkKind → (number : ℕ) → Process → List Remark

@@ -1,7 +1,7 @@
 -- What the code keeps of a netlist while it looks for remarks.
 use Rattle.std.specs.Prelude.{◌≡◌, ℕ, ◌<◌, Bool, true, false, not, ◌&&◌, ◌||◌, List, [], ◌∷◌, length, slice_index_or, is_some, option_map, Option, Some, None}
 use Rattle.std.specs.List.Sorted.{IsStrictlyIncreasing}
-use Rattle.rtl_model.specs.bodies.Body.{Expr, if_of, Stmts, done, step, branch}
+use Rattle.rtl_model.specs.bodies.Body.{Expr, Stmts}
 use Rattle.rtl_model.specs.bodies.Kinds.{Clocking}
 use Rattle.rtl_net.specs.Bodies.{operator_view, expr_view, test_view, statement_view, statements_of}
 use Rattle.rtl_net.specs.Nets.{NetlistView, SignalView}
@@ -52,11 +52,6 @@ has_reset c = option_map (λ (k : Clocking). is_some k.reset) c
 abbrev pub guarded : (reset : Bool) → Option Clocking → Option Stmts
 guarded true c = reset_branch c
 guarded false c = edge_branch c
-
--- the first branch of a body that is one if
-abbrev pub first_branch : Stmts → Option Stmts
-first_branch (step (if_of (branch t s bs)) done) = Some s
-first_branch _ = None
 
 -- ---- what is undefined while a net is
 

@@ -9,53 +9,36 @@ ghost use Rattle.rtl_remarks.specs.Tables as spec;
 
 use rtl_body_facts::{ProcessKind, kind_of};
 use rtl_net::{Process, Statement};
+use rtl_process_kinds::reset_branch;
 
 /// Whether a clocked process has a reset.
-fn has_reset(inputs: &[usize], process: &Process) -> Option<bool>
+fn has_reset(wide: bool, inputs: &[usize], process: &Process) -> Option<bool>
     requires { IsStrictlyIncreasing inputs.now }
-    ensures { result ≡ spec.has_reset (clocking inputs.now (body_of process.now)) }
+    ensures { result ≡ spec.has_reset (clocking wide inputs.now (body_of process.now)) }
 {
-    match kind_of(inputs, &process.body) {
+    match kind_of(wide, inputs, &process.body) {
         ProcessKind::Combinational => None,
         ProcessKind::Clocked(clocking) => Some(clocking.reset.is_some()),
         ProcessKind::Mixed => None,
     }
 }
 
-/// The statements of the first branch of a body that is one if.
-fn first_branch(body: &[Statement]) -> Option<&[Statement]>
-    ensures { option_map (λ statements. statements_of statements.now) result
-        ≡ spec.first_branch (statements_of body.now) }
-{
-    if body.len() != 1 {
-        return None;
-    }
-    match &body[0] {
-        Statement::If { branches, .. } => {
-            if branches.is_empty() {
-                return None;
-            }
-            Some(&branches[0].statements)
-        }
-        _ => None,
-    }
-}
-
 /// The branch that a clocked process runs while its reset holds, or at the edge, where it has none.
 pub(crate) fn guarded<'a>(
+    wide: bool,
     inputs: &[usize],
     process: &'a Process,
     reset: bool,
 ) -> Option<&'a [Statement]>
     requires { IsStrictlyIncreasing inputs.now }
     ensures { option_map (λ statements. statements_of statements.now) result
-        ≡ spec.guarded reset (clocking inputs.now (body_of process.now)) }
+        ≡ spec.guarded reset (clocking wide inputs.now (body_of process.now)) }
 {
-    let Some(has) = has_reset(inputs, process) else {
+    let Some(has) = has_reset(wide, inputs, process) else {
         return None;
     };
     if has != reset {
         return None;
     }
-    first_branch(&process.body)
+    Some(reset_branch(&process.body))
 }

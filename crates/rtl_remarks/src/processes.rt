@@ -45,11 +45,12 @@ fn named(
     ensures { IfOk result (λ nets. nets.items ≡ spec.named net.now kind process.now) }
 {
     net.is_elaborated();
+    let wide = net.is_wide();
     let inputs = net.inputs();
     match kind {
-        RemarkKind::NotReset => left_out(alloc, inputs, process),
+        RemarkKind::NotReset => left_out(alloc, wide, inputs, process),
         RemarkKind::ClockRead => clocks_read(alloc, net, &known.clocks, process),
-        RemarkKind::NeverKnown => stay_undefined(alloc, inputs, process),
+        RemarkKind::NeverKnown => stay_undefined(alloc, wide, inputs, process),
         _ => Ok(Vec::new(alloc)),
     }
 }

@@ -49,14 +49,15 @@ fn stay_in(
 /// The nets that a process drives and that stay undefined, rising.
 pub(crate) fn stay_undefined(
     alloc: Global,
+    wide: bool,
     inputs: &[usize],
     process: &Process,
 ) -> Result<Vec<usize>, NoMemory>
     requires { IsStrictlyIncreasing inputs.now }
     ensures { IfOk result (λ nets. AreThose (spec.stays_undefined process.now
-        (spec.edge_branch (clocking inputs.now (body_of process.now)))) nets.items) }
+        (spec.edge_branch (clocking wide inputs.now (body_of process.now)))) nets.items) }
 {
-    match guarded(inputs, process, false) {
+    match guarded(wide, inputs, process, false) {
         Some(branch) => stay_in(alloc, process, branch),
         None => Ok(Vec::new(alloc)),
     }

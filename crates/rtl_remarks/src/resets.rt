@@ -27,14 +27,15 @@ pub fn targets_of(alloc: Global, drives: &[Driver]) -> Result<Vec<usize>, NoMemo
 /// The nets that a process drives and the branch of its reset doesn't assign, rising.
 pub(crate) fn left_out(
     alloc: Global,
+    wide: bool,
     inputs: &[usize],
     process: &Process,
 ) -> Result<Vec<usize>, NoMemory>
     requires { IsStrictlyIncreasing inputs.now }
     ensures { IfOk result (λ nets. AreThose (spec.leaves_out process.now
-        (spec.reset_branch (clocking inputs.now (body_of process.now)))) nets.items) }
+        (spec.reset_branch (clocking wide inputs.now (body_of process.now)))) nets.items) }
 {
-    match guarded(inputs, process, true) {
+    match guarded(wide, inputs, process, true) {
         Some(branch) => {
             let assigned = assigned_nets(alloc, &process.drives, branch)?;
             let targets = targets_of(alloc, &process.drives)?;

@@ -9,10 +9,10 @@ use Rattle.rtl_body_facts.proofs.kinds.clocking_of_branches.Goals as goal
 
 pub returns-then-branches-eq1 : goal.returns-then-branches-eq1
 returns-then-branches-eq1 c =
-    c.edge_branch.ensures ∙ one_branch c.args.inputs.now c.args.branches.now c.index-branches-0.result c.if-branches-eq1.true c.index-branches-0.is
+    c.edge_branch.ensures ∙ one_branch c.args.wide c.args.inputs.now c.args.branches.now c.index-branches-0.result c.if-branches-eq1.true c.index-branches-0.is
 
 pub returns-then-branches-ne2 : goal.returns-then-branches-ne2
-returns-then-branches-ne2 c = many_branches c.args.inputs.now c.args.branches.now c.if-branches-eq1.false c.if-branches-ne2.true
+returns-then-branches-ne2 c = many_branches c.args.wide c.args.inputs.now c.args.branches.now c.if-branches-eq1.false c.if-branches-ne2.true
 
 pub returns-in_err-reset : goal.returns-in_err-reset
 returns-in_err-reset c =
@@ -21,8 +21,8 @@ returns-in_err-reset c =
     let two : length bs ≡ 2 = c.if-branches-ne2.false in
     let there : 1 < length bs = omega arith in
     let d = get_or bs 1 b in
-    c.from_residual.ensures ∙ two_without_reset c.args.inputs.now bs b d two c.index-branches-0-2.is (get_or_default bs 1 b d there)
-    (sym (c.reset_of.ensures ∙ ap (atom_reset c.args.inputs.now) c.top_of.ensures) ∙ c.in_err-reset.was)
+    c.from_residual.ensures ∙ two_without_reset c.args.wide c.args.inputs.now bs b d two c.index-branches-0-2.is (get_or_default bs 1 b d there)
+    (sym (c.reset_of.ensures ∙ ap (atom_reset c.args.wide c.args.inputs.now) c.top_of.ensures) ∙ c.in_err-reset.was)
 
 pub returns-then-not-assigns_constants : goal.returns-then-not-assigns_constants
 returns-then-not-assigns_constants c =
@@ -31,13 +31,13 @@ returns-then-not-assigns_constants c =
     let two : length bs ≡ 2 = c.if-branches-ne2.false in
     let there : 1 < length bs = omega arith in
     let d = get_or bs 1 b in
-    two_without_constants c.args.inputs.now bs b d two c.index-branches-0-2.is (get_or_default bs 1 b d there)
+    two_without_constants c.args.wide c.args.inputs.now bs b d two c.index-branches-0-2.is (get_or_default bs 1 b d there)
     (sym (c.assigns_constants.ensures ∙ ap (λ (xs : List Statement). m.assigns_constants (statements_of xs)) c.deref.ensures.value) ∙ c.if-not-assigns_constants.true)
 
 pub returns : goal.returns
 returns c =
     let bs = c.args.branches.now in
     let b = c.index-branches-0-2.result in
-    c.edge_branch-2.ensures ∙ two_with_reset c.args.inputs.now bs b c.index-branches-1.result c.if-branches-ne2.false c.index-branches-0-2.is c.index-branches-1.is
-    c.in_ok-reset.reset (sym (c.reset_of.ensures ∙ ap (atom_reset c.args.inputs.now) c.top_of.ensures) ∙ c.in_ok-reset.was)
+    c.edge_branch-2.ensures ∙ two_with_reset c.args.wide c.args.inputs.now bs b c.index-branches-1.result c.if-branches-ne2.false c.index-branches-0-2.is c.index-branches-1.is
+    c.in_ok-reset.reset (sym (c.reset_of.ensures ∙ ap (atom_reset c.args.wide c.args.inputs.now) c.top_of.ensures) ∙ c.in_ok-reset.was)
     (sym (c.assigns_constants.ensures ∙ ap (λ (xs : List Statement). m.assigns_constants (statements_of xs)) c.deref.ensures.value) ∙ c.if-not-assigns_constants.false)

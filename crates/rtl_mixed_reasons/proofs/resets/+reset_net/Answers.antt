@@ -1,14 +1,14 @@
-use Rattle.std.proofs.Common.{ap, sym, ◌∙◌}
+use Rattle.std.proofs.Common.{None, refl, ap, sym, ◌∙◌}
 use Rattle.rtl_net.specs.declared.body.Test.{Test}
 use Rattle.rtl_net.specs.Bodies.{test_view}
 use Rattle.rtl_mixed_reasons.specs.Reasons.{reset_net}
-use Rattle.rtl_mixed_reasons.proofs.Branching.{chain-alone, no-reset}
+use Rattle.rtl_process_kinds.proofs.BodyParts.{test_alone, test_chain}
 use Rattle.rtl_mixed_reasons.proofs.resets.+reset_net.Goals as goal
 
 pub returns-then-is_empty : goal.returns-then-is_empty
 returns-then-is_empty t c =
     let i = c.in-Combined in
-    c.reset_net.ensures ∙ (ap (λ (x : Test). reset_net (test_view x)) c.deref.ensures ∙ ap reset_net (chain-alone c.args.test.now i.first i.rest i.is (sym c.is_empty.ensures ∙ c.if-is_empty.true)))
+    c.reset_net.ensures ∙ (ap (λ (x : Test). reset_net (test_view x)) c.deref.ensures ∙ test_alone reset_net c.args.test.now i.first i.rest i.is (sym c.is_empty.ensures ∙ c.if-is_empty.true))
 
 pub returns-else-is_empty : goal.returns-else-is_empty
-returns-else-is_empty t c = let i = c.in-Combined in no-reset c.args.test.now i.first i.rest i.is (sym c.is_empty.ensures ∙ c.if-is_empty.false)
+returns-else-is_empty t c = let i = c.in-Combined in test_chain reset_net c.args.test.now i.first i.rest i.is None (λ o s t. refl) (sym c.is_empty.ensures ∙ c.if-is_empty.false)

@@ -1,4 +1,4 @@
-use Rattle.std.proofs.Common.{ℕ, List, ap, subst, sym, ◌∙◌}
+use Rattle.std.proofs.Common.{ℕ, Bool, List, ap, subst, sym, ◌∙◌}
 use Rattle.std.specs.List.Sorted.{IsStrictlyIncreasing}
 use Rattle.rtl_model.specs.bodies.Kinds.{clocking}
 use Rattle.rtl_net.specs.Nets.{body_of}
@@ -18,8 +18,9 @@ returns-in-NotReset c =
     let net = c.args.net.now in
     let p = c.args.process.now in
     if_ok _ _ c.left_out.result
-    (λ v h. (left_nets net.types p c.requires.in_range (reset_branch (clocking net.inputs (body_of p))) v.items
-    (subst (λ (ins : List ℕ). AreThose (leaves_out p (reset_branch (clocking ins (body_of p)))) v.items) c.inputs-inputs.ensures h))
+    (λ v h. (left_nets net.types p c.requires.in_range (reset_branch (clocking net.wide net.inputs (body_of p))) v.items
+    (subst (λ (w : Bool). AreThose (leaves_out p (reset_branch (clocking w net.inputs (body_of p)))) v.items) c.is_wide-wide.ensures
+    (subst (λ (ins : List ℕ). AreThose (leaves_out p (reset_branch (clocking c.is_wide-wide.result ins (body_of p)))) v.items) c.inputs-inputs.ensures h)))
     ∙ ap (λ k. named net k p) (sym c.in-NotReset.is))
     c.left_out.ensures
 
@@ -28,7 +29,8 @@ returns-in-NeverKnown c =
     let net = c.args.net.now in
     let p = c.args.process.now in
     if_ok _ _ c.stay_undefined.result
-    (λ v h. (stay_nets net.types p c.requires.in_range (edge_branch (clocking net.inputs (body_of p))) v.items
-    (subst (λ (ins : List ℕ). AreThose (stays_undefined p (edge_branch (clocking ins (body_of p)))) v.items) c.inputs-inputs.ensures h))
+    (λ v h. (stay_nets net.types p c.requires.in_range (edge_branch (clocking net.wide net.inputs (body_of p))) v.items
+    (subst (λ (w : Bool). AreThose (stays_undefined p (edge_branch (clocking w net.inputs (body_of p)))) v.items) c.is_wide-wide.ensures
+    (subst (λ (ins : List ℕ). AreThose (stays_undefined p (edge_branch (clocking c.is_wide-wide.result ins (body_of p)))) v.items) c.inputs-inputs.ensures h)))
     ∙ ap (λ k. named net k p) (sym c.in-NeverKnown.is))
     c.stay_undefined.ensures

@@ -12,7 +12,7 @@ returns-in_ok-targets-in-Some c =
     let p = c.args.process.now in
     if_ok _ _ c.chosen.result
     (λ v h.
-    left_are p (reset_branch (clocking c.args.inputs.now (body_of p))) c.in-Some.branch.now v.items (c.deref-in-Some-2).result.now (c.deref-in-Some-3).result.now
+    left_are p (reset_branch (clocking c.args.wide c.args.inputs.now (body_of p))) c.in-Some.branch.now v.items (c.deref-in-Some-2).result.now (c.deref-in-Some-3).result.now
     (c.in_ok-targets-in-Some).targets.items (c.in_ok-assigned-in-Some).assigned.items (c.deref-in-Some).result.now c.deref.result.now h (c.deref-in-Some-2).ensures.value
     (c.deref-in-Some-3).ensures.value (c.in_ok-targets-in-Some).ensures (c.in_ok-assigned-in-Some).ensures.are (c.deref-in-Some).ensures.value c.deref.ensures.value
     (sym (ap (option_map (λ s. statements_of s.now)) c.in-Some.is) ∙ c.guarded.ensures))

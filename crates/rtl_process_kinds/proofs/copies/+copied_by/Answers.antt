@@ -1,0 +1,15 @@
+use Rattle.std.proofs.Common.{None, refl, ap, sym, ◌∙◌}
+use Rattle.rtl_net.specs.declared.body.Expr.{Expr}
+use Rattle.rtl_net.specs.Bodies.{expr_view}
+use Rattle.rtl_process_kinds.specs.BodyViews.{copied_by}
+use Rattle.rtl_process_kinds.proofs.BodyParts.{expr_alone, expr_chain}
+use Rattle.rtl_process_kinds.proofs.copies.+copied_by.Goals as goal
+
+pub returns-then-is_empty : goal.returns-then-is_empty
+returns-then-is_empty t c =
+    let i = c.in-Chain in
+    c.copied_by.ensures ∙ ap (λ (x : Expr). copied_by (expr_view x)) c.deref-then-is_empty.ensures ∙ expr_alone copied_by c.args.expr.now i.first i.rest i.is (sym c.is_empty.ensures ∙ c.if-is_empty.true)
+
+pub returns-else-is_empty : goal.returns-else-is_empty
+returns-else-is_empty t c =
+    let i = c.in-Chain in expr_chain copied_by c.args.expr.now i.first i.rest i.is None (λ o s t. refl) (sym c.is_empty.ensures ∙ c.if-is_empty.false)
