@@ -1,51 +1,116 @@
--- The highest of some processes, one process more at a time.
-use Rattle.std.proofs.Common.{◌≡◌, ℕ, ◌<◌, ◌≤◌, ◌⊎◌, inl, inr, List, [], ◌∷◌, ◌++◌, Option, Some, None, refl, subst, arith, Contains}
-use Rattle.std.specs.Prelude.{IfSome, MatchOption}
+-- The highest of some rows, one row more at a time.
+use Rattle.std.proofs.Common.{◌≡◌, ◌≢◌, ℕ, zero, suc, ◌<◌, ◌≤◌, ◌⊎◌, inl, inr, List, [], ◌∷◌, ◌++◌, Option, Some, None, refl, sym, subst, ◌∙◌, arith, Contains}
+use Rattle.std.specs.Prelude.{IfSome, IsSome, IsSomeAnd, MatchOption}
+use Rattle.std.proofs.lemmas.Bool.{cases_eq, cases_lt}
 use Rattle.std.proofs.lemmas.List.Elements.{Contains-push, Contains-push_cases, Contains-append_left}
-use Rattle.rtl_check_levels.specs.Levels.{level_of, IsHighest, GivesWay}
+use Rattle.rtl_check_levels.specs.declared.counting.Counting.{Counting}
+use Rattle.rtl_check_levels.specs.declared.highest.Highest.{Highest}
+use Rattle.rtl_check_levels.specs.Levels.{level_of, seen_of, IsHighest, IsSeen, GivesWay, Higher}
+use Rattle.rtl_check_levels.proofs.Growing.{none_lacks}
 
--- what is known of each process
-abbrev Below : List (Option ℕ) → (level : ℕ) → Option ℕ → ℕ → Type 0
-Below levels level process p = (b : ℕ) × (level_of levels p ≡ Some b) × (b ≤ level) × (b ≡ level → IfSome process (λ f. f ≤ p))
+-- nothing that is seen is lower
+abbrev NoLower : (at seen : Option ℕ) → Type 0
+NoLower at seen = IfSome at (λ f. IfSome seen (λ s. f ≤ s))
 
-is_not_higher : (highest : ℕ) (at : Option ℕ) (p level : ℕ) → (GivesWay highest at p level → ⊥) → (level ≡ highest) → IfSome at (λ f. f ≤ p)
-is_not_higher highest None p level not_so e = tt
-is_not_higher highest (Some f) p level not_so e = let k : p < f → ⊥ = λ l. not_so (inr (e, l)) in omega (arith, k)
-
-pub highest_stays : (ps : List ℕ) (levels : List (Option ℕ)) (highest : ℕ) (at : Option ℕ) (x level : ℕ) → IsHighest ps levels highest at
-    → level_of levels x ≡ Some level → (GivesWay highest at x level → ⊥) → IsHighest (ps ++ x ∷ []) levels highest at
-highest_stays ps levels highest at x level h e not_so = record {
-  each = λ p c. old_or_new p (Contains-push_cases ps x p c);
-  met = met at h.met;
-}
+decided : (highest : ℕ) (at : Option ℕ) (row level : ℕ) → GivesWay highest at row level ⊎ (GivesWay highest at row level → ⊥)
+decided highest at row level = go (cases_lt highest level) (cases_eq level highest) at
   where
-    most : level ≤ highest
-    most = let k : highest < level → ⊥ = λ l. not_so (inl l) in omega (arith, k)
+    no_lower : (f : ℕ) → f ≤ row → level ≤ highest → GivesWay highest (Some f) row level → ⊥
+    no_lower f l m (inl up) = omega arith
+    no_lower f l m (inr (same, low)) = omega arith
 
-    old_or_new : (p : ℕ) → Contains ps p ⊎ (x ≡ p) → Below levels highest at p
-    old_or_new p (inl c) = h.each p c
-    old_or_new p (inr same) = subst (Below levels highest at) same (level, e, most, is_not_higher highest at x level not_so)
+    other_level : (at : Option ℕ) → level ≤ highest → (level ≡ highest → ⊥) → GivesWay highest at row level → ⊥
+    other_level at m ne (inl up) = omega arith
+    other_level at m ne (inr (same, low)) = ne same
 
-    met : (o : Option ℕ) → MatchOption o (highest ≡ 0) (λ f. Contains ps f × (level_of levels f ≡ Some highest))
-        → MatchOption o (highest ≡ 0) (λ f. Contains (ps ++ x ∷ []) f × (level_of levels f ≡ Some highest))
-    met None z = z
-    met (Some f) (c, l) = (Contains-append_left ps (x ∷ []) f c, l)
+    no_row : level ≤ highest → GivesWay highest None row level → ⊥
+    no_row m (inl up) = omega arith
+    no_row m (inr (same, low)) = low
 
-pub highest_goes : (ps : List ℕ) (levels : List (Option ℕ)) (highest : ℕ) (at : Option ℕ) (x level : ℕ) → IsHighest ps levels highest at
-    → level_of levels x ≡ Some level → GivesWay highest at x level → IsHighest (ps ++ x ∷ []) levels level (Some x)
-highest_goes ps levels highest at x level h e way = record {
-  each = λ p c. old_or_new p (Contains-push_cases ps x p c);
-  met = (Contains-push ps x, e);
-}
-  where
-    lowest : (p b : ℕ) → (b ≤ highest) → (o : Option ℕ) → (b ≡ highest → IfSome o (λ f. f ≤ p)) → GivesWay highest o x level → (b ≤ level) × (b ≡ level → x ≤ p)
-    lowest p b l o k (inl up) = (omega arith, λ e. omega arith)
-    lowest p b l None k (inr (same, not_so)) = absurd not_so
-    lowest p b l (Some f) k (inr (same, low)) = (omega arith, λ e. omega (arith, k (omega arith)))
+    by_row : (f : ℕ) → level ≤ highest → level ≡ highest → (row < f) ⊎ (f ≤ row) → GivesWay highest (Some f) row level ⊎ (GivesWay highest (Some f) row level → ⊥)
+    by_row f m e (inl l) = inl (inr (e, l))
+    by_row f m e (inr l) = inr (no_lower f l m)
 
-    old_or_new : (p : ℕ) → Contains ps p ⊎ (x ≡ p) → Below levels level (Some x) p
-    old_or_new p (inl c) = let (b, is, l, k) = h.each p c in let (m, n) = lowest p b l at k way in (b, is, m, n)
-    old_or_new p (inr same) = subst (Below levels level (Some x)) same (level, e, omega arith, λ _. omega arith)
+    go : (highest < level) ⊎ (level ≤ highest) → (level ≡ highest) ⊎ (level ≡ highest → ⊥) → (at : Option ℕ)
+        → GivesWay highest at row level ⊎ (GivesWay highest at row level → ⊥)
+    go (inl l) e at = inl (inl l)
+    go (inr l) (inr ne) at = inr (other_level at l ne)
+    go (inr l) (inl e) None = inr (no_row l)
+    go (inr l) (inl e) (Some f) = by_row f l e (cases_lt row f)
 
-pub nothing_is_highest : (levels : List (Option ℕ)) → IsHighest [] levels 0 None
-nothing_is_highest levels = record { each = λ p c. absurd (let l : c.0 < 0 = c.1 in omega arith); met = refl }
+not_lower : (highest : ℕ) (at : Option ℕ) (row level : ℕ) (seen : Option ℕ) → seen ≡ Some row → (GivesWay highest at row level → ⊥) → level ≡ highest → NoLower at seen
+not_lower highest None row level seen is not_so e = tt
+not_lower highest (Some f) row level seen is not_so e =
+    subst (λ (o : Option ℕ). IfSome o (λ s. f ≤ s)) (sym is) (let k : row < f → ⊥ = λ l. not_so (inr (e, l)) in omega (arith, k))
+
+unseen : (at seen : Option ℕ) → seen ≡ None → NoLower at seen
+unseen None seen e = tt
+unseen (Some f) seen e = subst (λ (o : Option ℕ). IfSome o (λ s. f ≤ s)) (sym e) tt
+
+further : (row f : ℕ) (seen : Option ℕ) → row < f → IfSome seen (λ s. f ≤ s) → IfSome seen (λ s. row ≤ s)
+further row f None l k = tt
+further row f (Some s) l k = omega arith
+
+module _ (counting : Counting) (ps : List ℕ) (levels from : List (Option ℕ)) where
+  -- what is known of each row
+  abbrev Below : (level : ℕ) → Option ℕ → ℕ → Type 0
+  Below level at p = (b : ℕ) × (level_of levels p ≡ Some b) × (b ≤ level) × (b ≡ level → NoLower at (seen_of counting from p))
+
+  stays : (highest : ℕ) (at : Option ℕ) (x level : ℕ) → IsHighest counting ps levels from highest at → level_of levels x ≡ Some level
+      → level ≤ highest → (level ≡ highest → NoLower at (seen_of counting from x)) → IsHighest counting (ps ++ x ∷ []) levels from highest at
+  stays highest at x level h e most low = record {
+    each = λ p c. old_or_new p (Contains-push_cases ps x p c);
+    met = met at h.met;
+  }
+    where
+      old_or_new : (p : ℕ) → Contains ps p ⊎ (x ≡ p) → Below highest at p
+      old_or_new p (inl c) = h.each p c
+      old_or_new p (inr same) = subst (Below highest at) same (level, e, most, low)
+
+      met : (o : Option ℕ) → MatchOption o (highest ≡ 0) (λ f. (highest ≢ 0) × ((p : ℕ) × Contains ps p × (level_of levels p ≡ Some highest) × (seen_of counting from p ≡ Some f)))
+          → MatchOption o (highest ≡ 0) (λ f. (highest ≢ 0) × ((p : ℕ) × Contains (ps ++ x ∷ []) p × (level_of levels p ≡ Some highest) × (seen_of counting from p ≡ Some f)))
+      met None z = z
+      met (Some f) (some, (p, c, l, s)) = (some, (p, Contains-append_left ps (x ∷ []) p c, l, s))
+
+  goes : (highest : ℕ) (at : Option ℕ) (x level row : ℕ) → IsHighest counting ps levels from highest at → level_of levels x ≡ Some level
+      → seen_of counting from x ≡ Some row → GivesWay highest at row level → IsHighest counting (ps ++ x ∷ []) levels from level (Some row)
+  goes highest at x level row h e seen way = record {
+    each = λ p c. old_or_new p (Contains-push_cases ps x p c);
+    met = (some at h.met way, (x, Contains-push ps x, e, seen));
+  }
+    where
+      some : (o : Option ℕ) → MatchOption o (highest ≡ 0) (λ f. (highest ≢ 0) × ((p : ℕ) × Contains ps p × (level_of levels p ≡ Some highest) × (seen_of counting from p ≡ Some f)))
+          → GivesWay highest o row level → level ≢ 0
+      some o m (inl up) z = omega arith
+      some None m (inr (same, not_so)) z = not_so
+      some (Some f) m (inr (same, low)) z = m.0 (sym same ∙ z)
+
+      lowest : (p b : ℕ) → b ≤ highest → (o : Option ℕ) → (b ≡ highest → NoLower o (seen_of counting from p)) → GivesWay highest o row level
+          → (b ≤ level) × (b ≡ level → IfSome (seen_of counting from p) (λ s. row ≤ s))
+      lowest p b l o k (inl up) = (omega arith, λ e. absurd (omega arith))
+      lowest p b l None k (inr (same, not_so)) = absurd not_so
+      lowest p b l (Some f) k (inr (same, low)) = (omega arith, λ e. further row f (seen_of counting from p) low (k (omega arith)))
+
+      old_or_new : (p : ℕ) → Contains ps p ⊎ (x ≡ p) → Below level (Some row) p
+      old_or_new p (inl c) = let (b, is, l, k) = h.each p c in let (m, n) = lowest p b l at k way in (b, is, m, n)
+      old_or_new p (inr same) =
+          subst (Below level (Some row)) same (level, e, omega arith, λ _. subst (λ (o : Option ℕ). IfSome o (λ s. row ≤ s)) (sym seen) (omega arith))
+
+  -- the higher of the highest so far and one row more
+  pub highest_more : (old new : Highest) (x level : ℕ) (seen : Option ℕ) → IsHighest counting ps levels from old.level old.row → level_of levels x ≡ Some level
+      → IsSeen counting from x level → seen ≡ seen_of counting from x → Higher old seen level new → IsHighest counting (ps ++ x ∷ []) levels from new.level new.row
+  highest_more old new x zero None h e can is same =
+      subst (λ (n : Highest). IsHighest counting (ps ++ x ∷ []) levels from n.level n.row) (sym same)
+      (stays old.level old.row x 0 h e (omega arith) (λ _. unseen old.row (seen_of counting from x) (sym is)))
+  highest_more old new x (suc level) None h e can is same = absurd (none_lacks (seen_of counting from x) (sym is) (can (λ z. omega arith)))
+  highest_more old new x level (Some row) h e can is (way, stay) = by (decided old.level old.row row level)
+    where
+      by : GivesWay old.level old.row row level ⊎ (GivesWay old.level old.row row level → ⊥) → IsHighest counting (ps ++ x ∷ []) levels from new.level new.row
+      by (inl w) = subst (λ (n : Highest). IsHighest counting (ps ++ x ∷ []) levels from n.level n.row) (sym (way w)) (goes old.level old.row x level row h e (sym is) w)
+      by (inr w) =
+          let most : level ≤ old.level = (let k : old.level < level → ⊥ = λ l. w (inl l) in omega (arith, k)) in
+          subst (λ (n : Highest). IsHighest counting (ps ++ x ∷ []) levels from n.level n.row) (sym (stay w))
+          (stays old.level old.row x level h e most (not_lower old.level old.row row level (seen_of counting from x) (sym is) w))
+
+pub nothing_is_highest : (counting : Counting) (levels from : List (Option ℕ)) → IsHighest counting [] levels from 0 None
+nothing_is_highest counting levels from = record { each = λ p c. absurd (let l : c.0 < 0 = c.1 in omega arith); met = refl }

@@ -1,7 +1,10 @@
--- Which processes feed which: a process feeds another that is sensitive to a net that it drives. A table has, for each
--- combinational process, those that feed it, in any order and perhaps several times, and nothing for any other process.
-use Rattle.std.specs.Prelude.{ℕ, List, [], Option, None, Some, IsSome, Contains, slice_index_or}
+-- Which rows of a table feed which. Of processes one feeds another that is sensitive to a net that it drives; of nets
+-- one feeds another that looks at it. A table has, for each row that is in it, those that feed it, in any order and
+-- perhaps several times, and nothing for any other.
+use Rattle.std.specs.Prelude.{ℕ, Bool, true, false, List, [], Option, None, Some, IsSome, Contains, slice_index_or}
 use Rattle.std.specs.Global.{Vec}
+use Rattle.rtl_check_levels.specs.declared.counting.Counting.{Counting}
+use Rattle.rtl_check_levels.specs.declared.counting.Counting.TheVariants.{Each, Marked}
 
 abbrev pub Table : Type 0
 Table = List (Option (Vec ℕ))
@@ -10,17 +13,22 @@ abbrev pub listed : Option (Vec ℕ) → List ℕ
 listed None = []
 listed (Some feeders) = feeders.items
 
--- those that feed process q
+-- those that feed row q
 abbrev pub feeders_of : Table → (q : ℕ) → List ℕ
 feeders_of table q = listed (slice_index_or table q None)
 
--- process q is one of the combinational ones
+-- row q is in the table: of processes the combinational ones are
 abbrev pub IsIn : Table → (q : ℕ) → Type 0
 IsIn table q = IsSome (slice_index_or table q None)
 
 abbrev pub Feeds : Table → (p q : ℕ) → Type 0
 Feeds table p q = Contains (feeders_of table q) p
 
--- all that feed are combinational themselves
+-- all that feed are in the table themselves
 abbrev pub IsClosed : Table → Type 0
 IsClosed table = (p q : ℕ) → Feeds table p q → IsIn table p
+
+-- whether row q counts as a level: each process does, and of nets and hubs those that are marked
+abbrev pub counts_in : Counting → (q : ℕ) → Bool
+counts_in Each q = true
+counts_in (Marked marks) q = slice_index_or marks.now q false

@@ -2,6 +2,7 @@
 use Rattle.std.specs.Prelude.{◌≡◌, ◌≢◌, ℕ, zero, suc, ◌+◌, ◌≤◌, ◌<◌, ◌⊎◌, ◌*◌, Bool, not, List, [], ◌∷◌, length, Option, None, Some, IsSome, Contains, count_by, slice_index, slice_index_or, All}
 use Rattle.std.specs.Option.{is_some}
 use Rattle.std.specs.Global.{Vec}
+use Rattle.rtl_check_levels.specs.declared.counting.Counting.{Counting}
 use Rattle.rtl_check_levels.specs.declared.finding.Finding.{Finding}
 use Rattle.rtl_check_levels.specs.Feeding.{Table, IsIn, Feeds, feeders_of}
 use Rattle.rtl_check_levels.specs.Levels.{level_of, StandsAbove}
@@ -13,30 +14,29 @@ is_open level = not (is_some level)
 abbrev pub open_count : List (Option ℕ) → ℕ
 open_count levels = count_by is_open levels
 
--- those that wait for process p
+-- those that wait for row p
 abbrev pub waiters : List (Vec ℕ) → (p : ℕ) → List ℕ
 waiters [] p = []
 waiters (v ∷ vs) zero = v.items
 waiters (v ∷ vs) (suc p) = waiters vs p
 
 -- Levels so far: those that there are, stand.
-pub record LevelsSoFar (table : Table) (levels from : List (Option ℕ)) (greatest : ℕ) : Type 0 where
-  pub each_process : length levels ≡ length table
+pub record LevelsSoFar (counting : Counting) (table : Table) (levels from : List (Option ℕ)) (greatest : ℕ) : Type 0 where
+  pub each_row : length levels ≡ length table
   pub each_from : length from ≡ length table
   pub unplaced : (q : ℕ) → level_of levels q ≡ None → slice_index_or from q None ≡ None
   pub inside : (q level : ℕ) → level_of levels q ≡ Some level → IsIn table q
-  pub stand : (q level : ℕ) → level_of levels q ≡ Some level
-      → StandsAbove table levels q level (slice_index_or from q None)
+  pub stand : (q level : ℕ) → level_of levels q ≡ Some level → StandsAbove counting table levels from q level
   pub none_above : (p level : ℕ) → level_of levels p ≡ Some level → level ≤ greatest
   pub met : greatest ≢ 0 → (p : ℕ) × (level_of levels p ≡ Some greatest)
-  -- so no level is above the number of processes
+  -- so no level is above the number of rows
   pub small : (p level : ℕ) → level_of levels p ≡ Some level → level + open_count levels ≤ length table
 
--- q waits for a process that feeds it
+-- q waits for a row that feeds it
 abbrev pub Waits : Table → List (Vec ℕ) → (q : ℕ) → Type 0
 Waits table waiting q = (p : ℕ) × Contains (waiters waiting p) q × Feeds table p q
 
--- Who waits: nobody for a process whose level is found and that isn't ready, and whoever waits is in the table.
+-- Who waits: nobody for a row whose level is found and that isn't ready, and whoever waits is in the table.
 pub record WaitingSoFar (table : Table) (levels : List (Option ℕ))
     (waiting : List (Vec ℕ)) (ready : List ℕ) (passed : List ℕ) : Type 0 where
   pub each_waiting : length waiting ≡ length table
@@ -50,8 +50,8 @@ pub record WaitingSoFar (table : Table) (levels : List (Option ℕ))
 -- ---- the steps
 
 -- the state so far
-pub record IsFinding (table : Table) (f : Finding) : Type 0 where
-  pub levels : LevelsSoFar table f.levels.items f.from.items f.greatest
+pub record IsFinding (counting : Counting) (table : Table) (f : Finding) : Type 0 where
+  pub levels : LevelsSoFar counting table f.levels.items f.from.items f.greatest
   pub waiting : WaitingSoFar table f.levels.items f.waiting.items f.ready.items f.passed.items
 
 -- what is left to do falls with each step
@@ -68,7 +68,7 @@ pub record Grows (old new : Finding) : Type 0 where
 abbrev pub IsRanked : Table → Finding → (q : ℕ) → Type 0
 IsRanked table f q = IsIn table q → level_of f.levels.items q ≡ None → Waits table f.waiting.items q
 
--- these are all that waited for a process that was ready
+-- these are all that waited for a row that was ready
 pub record AreReleased (old new : Finding) (released : List ℕ) : Type 0 where
   pub levels : new.levels ≡ old.levels
   pub less : length new.ready.items < length old.ready.items

@@ -14,13 +14,15 @@ pub record IsTableOf (n : Netlist) (table : Table) : Type 0 where
   pub combinational : (q : ℕ) → IsIn table q ↔ IsCombinational n q
   pub feeds : (p q : ℕ) → Feeds table p q ↔ net.Feeds n p q
 
--- The levels of a netlist's table are those of a report on it, and there is no loop.
+-- Where a netlist's table has levels there is no loop, and they are those of a report on it, if it is judged by
+-- processes.
 abbrev pub LevelsAreOfNets : Type 0
 LevelsAreOfNets =
-    (n : Netlist) (table : Table) (levels from : List (Option ℕ)) (greatest : ℕ) (clocks : List (ℕ × Edge))
-    → IsTableOf n table
-    → AreLevels table levels from greatest → AreClocks n clocks
-    → IsReport n levels from clocks (bound n greatest) × net.HasNoLoop n
+    (n : Netlist) (table : Table) (levels from : List (Option ℕ)) (greatest : ℕ)
+    → IsTableOf n table → AreLevels table levels from greatest
+    → net.HasNoLoop n
+    × ((clocks : List (ℕ × Edge)) → (net.IsByNets n → ⊥) → AreClocks n clocks
+    → IsReport n levels from clocks (bound n greatest))
 
 -- A loop of a netlist's table is a loop of the netlist.
 abbrev pub RoundsAreLoops : Type 0

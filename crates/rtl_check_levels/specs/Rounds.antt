@@ -1,4 +1,4 @@
--- Loops of processes that feed each other.
+-- Loops of rows that feed each other.
 use Rattle.std.specs.Prelude.{ℕ, ◌≢◌, ◌≤◌, ⊤, List, [], ◌∷◌, AllPairs, Contains, slice_index}
 use Rattle.rtl_check_levels.specs.Feeding.{Table, Feeds}
 
@@ -13,7 +13,7 @@ abbrev pub IsRound : Table → List ℕ → Type 0
 IsRound table [] = ⊥
 IsRound table (p ∷ more) = AreFed table (p ∷ more) p
 
--- A loop is listed once round, from its lowest: no process stands twice, and none is below the first.
+-- A loop is listed once round, from its lowest: no row stands twice, and none is below the first.
 pub record IsListedOnce (round : List ℕ) : Type 0 where
   pub once : AllPairs (λ p q. p ≢ q) round
   pub lowest : (p : ℕ) → Contains round p → slice_index round 0 ≤ p

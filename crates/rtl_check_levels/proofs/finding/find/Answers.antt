@@ -33,7 +33,7 @@ within (x ∷ xs) zero some = omega arith
 within (x ∷ xs) (suc q) some = let l = within xs q some in omega (arith, l)
 
 pub loop-q-init : goal.loop-q-init
-loop-q-init c = record { sound = c.in_ok-finding.ensures; placed = λ r l. absurd (omega (arith, l)) }
+loop-q-init c = record { sound = c.in_ok-finding.ensures c.args.counting; placed = λ r l. absurd (omega (arith, l)) }
 
 pub loop-waiters-init : goal.loop-waiters-init
 loop-waiters-init c =

@@ -4,13 +4,13 @@ use Rattle.rtl_check_levels.proofs.finding.find.Given as goal
 
 abbrev pub invariant-loop-q : goal.invariant-loop-q
 invariant-loop-q l = record {
-  sound : IsFinding l.table l.finding;
+  sound : IsFinding l.counting l.table l.finding;
   placed : (r : ℕ) → r < l.q → IsRanked l.table l.finding r;
 }
 
 abbrev pub invariant-loop-waiters : goal.invariant-loop-waiters
 invariant-loop-waiters l = record {
-  sound : IsFinding l.table l.finding;
+  sound : IsFinding l.counting l.table l.finding;
   placed : (r : ℕ) → IsRanked l.table l.finding r;
 }
 

@@ -2,24 +2,25 @@ use Rattle.std.proofs.Common.{◌≡◌, ℕ, zero, suc, ◌<◌, [], List, leng
 use Rattle.std.proofs.Math.ListN.{length-replicate}
 use Rattle.std.proofs.lemmas.List.{length_push}
 use Rattle.std.specs.Global.{Vec}
+use Rattle.rtl_check_levels.specs.declared.counting.Counting.{Counting}
 use Rattle.rtl_check_levels.specs.Feeding.{Table}
 use Rattle.rtl_check_levels.specs.Finding.{IsFinding, LevelsSoFar, WaitingSoFar, waiters}
 use Rattle.rtl_check_levels.proofs.Waiting.{pushed_empty}
 use Rattle.rtl_check_levels.proofs.finding.Finding.new.Goals as goal
 
-pub loop-process-init : goal.loop-process-init
-loop-process-init c = let e = c.new-waiting.ensures.items in record {
+pub loop-row-init : goal.loop-row-init
+loop-row-init c = let e = c.new-waiting.ensures.items in record {
   each = ap length e;
   none = λ p. subst (λ (ws : List (Vec ℕ)). waiters ws p ≡ []) (sym e) refl;
 }
 
-pub loop-process-preserved : goal.loop-process-preserved
-loop-process-preserved c =
+pub loop-row-preserved : goal.loop-row-preserved
+loop-row-preserved c =
     let i = c.in_ok-push.ensures.items in
-    let v = c.loop-process.invariant in
+    let v = c.loop-row.invariant in
     record {
-      each = ap length i ∙ (let e = length_push c.loop-process.waiting.items c.new.result in let f = v.each in omega arith);
-      none = λ p. subst (λ (ws : List (Vec ℕ)). waiters ws p ≡ []) (sym i) (pushed_empty c.loop-process.waiting.items c.new.result v.none c.new.ensures.items p);
+      each = ap length i ∙ (let e = length_push c.loop-row.waiting.items c.new.result in let f = v.each in omega arith);
+      none = λ p. subst (λ (ws : List (Vec ℕ)). waiters ws p ≡ []) (sym i) (pushed_empty c.loop-row.waiting.items c.new.result v.none c.new.ensures.items p);
     }
 
 apart : {o : Option ℕ} {a : ℕ} → o ≡ None → o ≡ Some a → ⊥
@@ -35,9 +36,9 @@ all_zero zero q = refl
 all_zero (suc n) zero = refl
 all_zero (suc n) (suc q) = all_zero n q
 
-no_levels : (table : Table) → LevelsSoFar table (replicate {A = Option ℕ} (length table) None) (replicate {A = Option ℕ} (length table) None) 0
-no_levels table = record {
-  each_process = length-replicate {A = Option ℕ} (length table) None;
+no_levels : (counting : Counting) (table : Table) → LevelsSoFar counting table (replicate {A = Option ℕ} (length table) None) (replicate {A = Option ℕ} (length table) None) 0
+no_levels counting table = record {
+  each_row = length-replicate {A = Option ℕ} (length table) None;
   each_from = length-replicate {A = Option ℕ} (length table) None;
   unplaced = λ q _. all_none {X = ℕ} (length table) q;
   inside = λ q level e. absurd (apart (all_none {X = ℕ} (length table) q) e);
@@ -62,21 +63,21 @@ none_wait table waiting e none = record {
     nothing : (x : ℕ) → Contains [] x → ⊥
     nothing x c = let l : c.0 < 0 = c.1 in omega arith
 
-made : (table : Table) (levels : Vec (Option ℕ)) (from : Vec (Option ℕ)) (waiting : Vec (Vec ℕ)) (passed ready : Vec ℕ)
+made : (counting : Counting) (table : Table) (levels : Vec (Option ℕ)) (from : Vec (Option ℕ)) (waiting : Vec (Vec ℕ)) (passed ready : Vec ℕ)
     → levels.items ≡ replicate {A = Option ℕ} (length table) None → from.items ≡ replicate {A = Option ℕ} (length table) None
     → length waiting.items ≡ length table → ((p : ℕ) → waiters waiting.items p ≡ []) → passed.items ≡ replicate {A = ℕ} (length table) 0 → ready.items ≡ []
-    → IsFinding table (record { levels = levels; from = from; greatest = 0; waiting = waiting; passed = passed; ready = ready })
-made table levels from waiting passed ready a b n none d e = record {
-  levels = subst (λ (xs : List (Option ℕ)). LevelsSoFar table xs from.items 0) (sym a) (subst (λ (ys : List (Option ℕ)). LevelsSoFar table (replicate {A = Option ℕ} (length table) None) ys 0) (sym b) (no_levels table));
+    → IsFinding counting table (record { levels = levels; from = from; greatest = 0; waiting = waiting; passed = passed; ready = ready })
+made counting table levels from waiting passed ready a b n none d e = record {
+  levels = subst (λ (xs : List (Option ℕ)). LevelsSoFar counting table xs from.items 0) (sym a) (subst (λ (ys : List (Option ℕ)). LevelsSoFar counting table (replicate {A = Option ℕ} (length table) None) ys 0) (sym b) (no_levels counting table));
   waiting = rw (a, d, e) (none_wait table waiting.items n none);
 }
 
 pub returns : goal.returns
-returns c =
+returns c counting =
     let table = c.args.table.now in
-    let v = c.loop-process.invariant in
-    let n : length c.loop-process.waiting.items ≡ length table = (let e = v.each in let f = c.loop-process-test.false in let g = c.loop-process.auto._process-index-end in omega arith) in
+    let v = c.loop-row.invariant in
+    let n : length c.loop-row.waiting.items ≡ length table = (let e = v.each in let f = c.loop-row-test.false in let g = c.loop-row.auto._row-index-end in omega arith) in
     let levels = c.in_ok-vec.ensures.items_if_clones_equal (search rules) in
     let from = c.in_ok-vec-2.ensures.items_if_clones_equal (search rules) in
     let passed = c.in_ok-vec-3.ensures.items_if_clones_equal (λ y e. e) in
-    made table c.in_ok-vec.field-0 c.in_ok-vec-2.field-0 c.loop-process.waiting c.in_ok-vec-3.field-0 c.new-2.result levels from n v.none passed c.new-2.ensures.items
+    made counting table c.in_ok-vec.field-0 c.in_ok-vec-2.field-0 c.loop-row.waiting c.in_ok-vec-3.field-0 c.new-2.result levels from n v.none passed c.new-2.ensures.items

@@ -13,7 +13,7 @@ first_open-at-requires-clause-there c k d l =
     let f = feeders_are table q c.index-table-q.result c.in-Some.feeders c.requires.there c.index-table-q.is c.in-Some.is in
     let e : feeders_of table q ≡ c.deref.result.now = f ∙ sym c.deref.ensures.value in
     let m = subst (λ (xs : List ℕ). All (λ p. p < length table) xs) e (there table q c.requires.closed) k d l in
-    let n = c.requires.sound.levels.each_process in
+    let n = c.requires.sound.levels.each_row in
     let o = ap length c.deref-2.ensures.value in
     omega arith
 
@@ -54,7 +54,7 @@ returns-clause-sound c =
     (subst (λ (ls : List (Option ℕ)). IsSome (level_of ls (get_or c.deref.result.now k 0))) w (c.first_open-at.ensures.passed k (subst (λ (n : ℕ). n ≤ k) old l) m))) in
     record {
       levels = c.requires.sound.levels;
-      waiting = later_sound table s q at p fs c.push.new.self c.index_mut-2.result.now c.requires.sound c.requires.closed c.requires.there f within c.index-3.ensures
+      waiting = later_sound table s q at p fs c.push.new.self c.index_mut-2.result.now c.requires.sound.waiting c.requires.closed c.requires.there f within c.index-3.ensures
           c.index_mut-2.ensures.value c.in_ok-push.ensures.items (subst (λ (x : ℕ). level_of s.levels.items x ≡ None) is_p open_at) has;
     }
 
@@ -65,7 +65,7 @@ returns-clause-grows c =
     let within : c.first_open-at.result < length c.in-Some.feeders.items = omega (arith, c.first_open-at.ensures.within, c.if-at-len.false, c.len.ensures, c.deref.ensures.len, c.in-Some.feeders.ok) in
     record {
       levels = λ p level h. h;
-      waits = later_waits table c.args.self.now c.args.q c.first_open-at.result c.index-3.result.now c.in-Some.feeders.items c.push.new.self c.index_mut-2.result.now c.requires.sound
+      waits = later_waits table c.args.self.now c.args.q c.first_open-at.result c.index-3.result.now c.in-Some.feeders.items c.push.new.self c.index_mut-2.result.now c.requires.sound.waiting
           c.requires.closed c.requires.there f within c.index-3.ensures c.index_mut-2.ensures.value c.in_ok-push.ensures.items;
       less = omega arith;
     }
@@ -75,5 +75,5 @@ returns-clause-placed c =
     let table = c.args.table.now in
     let f = feeders_are table c.args.q c.index-table-q.result c.in-Some.feeders c.requires.there c.index-table-q.is c.in-Some.is in
     let within : c.first_open-at.result < length c.in-Some.feeders.items = omega (arith, c.first_open-at.ensures.within, c.if-at-len.false, c.len.ensures, c.deref.ensures.len, c.in-Some.feeders.ok) in
-    λ _ _. waits_now table c.args.self.now c.args.q c.first_open-at.result c.index-3.result.now c.in-Some.feeders.items c.push.new.self c.index_mut-2.result.now c.requires.sound
+    λ _ _. waits_now table c.args.self.now c.args.q c.first_open-at.result c.index-3.result.now c.in-Some.feeders.items c.push.new.self c.index_mut-2.result.now c.requires.sound.waiting
     c.requires.closed c.requires.there f within c.index-3.ensures c.index_mut-2.ensures.value c.in_ok-push.ensures.items

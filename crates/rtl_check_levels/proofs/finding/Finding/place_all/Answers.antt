@@ -9,7 +9,7 @@ pub loop-q-preserved : goal.loop-q-preserved
 loop-q-preserved c =
     let v = c.loop-q.invariant in
     let e = c.in_ok-place.ensures in
-    let ps = c.args.processes.now in
+    let ps = c.args.rows.now in
     let i = c.loop-q.q-index in
     let table = c.args.table.now in
     record {
@@ -21,7 +21,7 @@ loop-q-preserved c =
 
 pub returns-clause-placed : goal.returns-clause-placed
 returns-clause-placed c =
-    let ps = c.args.processes.now in
+    let ps = c.args.rows.now in
     let i = c.loop-q.q-index in
     let l = c.loop-q-test.false in
     subst (λ (xs : List ℕ). All (IsRanked c.args.table.now c.loop-q.self) xs) (take_all i ps l) c.loop-q.invariant.placed

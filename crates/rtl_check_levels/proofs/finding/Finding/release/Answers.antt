@@ -35,7 +35,7 @@ returns-clause-released c =
     let p = c.in_ok-p.p in
     let l = s.waiting.ready_there p (subst (λ (r : List ℕ). Contains r p) (sym i) (Contains-push c.pop.new.self.items p)) in
     let e = s.waiting.each_waiting in
-    let f = s.levels.each_process in
+    let f = s.levels.each_row in
     let within : p < length waiting = omega arith in
     let is : c.replace.result.items ≡ waiters waiting p
     = ap (λ (v : Vec ℕ). v.items) c.replace.ensures.value ∙ sym (waiters_read waiting p c.index_mut.result.now within c.index_mut.ensures.value) in

@@ -1,0 +1,13 @@
+pub mod RowLevels
+pub mod ShownNets
+pub mod Circles
+pub mod Built
+pub mod Behind
+pub mod Acting
+pub mod Driving
+pub mod Resetting
+pub mod Adding
+pub mod Faults
+pub mod Whole
+pub mod Ladders
+pub mod Leveling

@@ -1,0 +1,4 @@
+pub mod Building
+pub mod Built
+pub mod Rows
+pub mod NetOrders

@@ -1,0 +1,10 @@
+pub mod Joining
+pub mod Elements
+pub mod Operands
+pub mod Decided
+pub mod Shifting
+pub mod Maps
+pub mod Parting
+pub mod Finishing
+pub mod Walking
+pub mod Branching

@@ -1,0 +1,1 @@
+use Rattle.rtl_looks.proofs.env.Env.put.Goals as goal

@@ -1,0 +1,1 @@
+use Rattle.rtl_looks.proofs.statements.leave.Goals as goal

@@ -1,0 +1,1 @@
+use Rattle.rtl_looks.proofs.table.Table.put.Goals as goal
