@@ -1,0 +1,11 @@
+pub mod Lists
+pub mod Walking
+pub mod AskedSets
+pub mod Deriving
+pub mod Calming
+pub mod Hubs
+pub mod Bodied
+pub mod Ranges
+pub mod Giving
+pub mod Judging
+pub mod Combining

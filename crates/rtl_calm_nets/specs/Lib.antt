@@ -1,0 +1,4 @@
+pub mod Reaching
+pub mod NetOrigins
+pub mod OutsideLooks
+pub mod CalmPlaces
