@@ -3,19 +3,13 @@ use Rattle.std.proofs.Common.{◌≡◌, ℕ, ◌<◌, Bool, true, false, ◌==�
 use Rattle.std.specs.List.{list_any}
 use Rattle.std.proofs.lemmas.Bool.{ne_eqb}
 use Rattle.std.proofs.lemmas.List.{get_or_default}
-use Rattle.rtl_model.specs.nets.FlatNetlist.{flat_sources}
 use Rattle.rtl_model.specs.simulation.Netlist as m
 use Rattle.rtl_model.specs.simulation.Netlist.{Netlist, Process, Reset, Source, process, no_process, sources_of}
 use Rattle.rtl_model.specs.simulation.Levels.{is_clocked, has_clocked, is_driver, has_late_reset}
 use Rattle.rtl_model.proofs.basics.Lists.{any_true, all_none, in_contains, contains_in, Contains-none, Contains-first}
-use Rattle.rtl_net.specs.declared.net.Source.{Source as Kept}
-use Rattle.rtl_net.specs.Nets.{NetlistView, flat, source_view}
-use Rattle.rtl_net.specs.Core.{core}
 use Rattle.rtl_check.specs.Views.{AreClockNets}
 use Rattle.rtl_check.specs.Bounds as b
 use Rattle.rtl_check.proofs.Processes.{clock_there}
-use Rattle.rtl_check.proofs.Firsts.{sources_there}
-use Rattle.rtl_check.proofs.Rows.{any_map}
 
 -- ---- clocked processes
 
@@ -41,12 +35,3 @@ some_clocked net (n ∷ ns) cs =
 
 pub none_late : (net : Netlist) → ((p : ℕ) → p < length net.processes → b.is_late net (process net p) ≡ false) → has_late_reset net ≡ false
 none_late net each = all_none (b.is_late net) net.processes no_process each
-
--- ---- drivers
-
-pub any_here : {X : Type 0} (f : X → Bool) (xs : List X) (i : ℕ) (d : X) → i < length xs → f (get_or xs i d) ≡ true → list_any f xs ≡ true
-any_here f xs i d l t = any_true f xs (get_or xs i d) (i, l, get_or_default xs i (get_or xs i d) d l) t
-
-pub driven_by : (net : NetlistView) (n : ℕ) (sources : List Kept) → n < length net.types → map source_view sources ≡ flat_sources (flat net) n
-    → list_any (λ (s : Kept). is_driver (source_view s)) sources ≡ b.is_driven (core net) n
-driven_by net n sources l e = sym (any_map is_driver source_view sources) ∙ ap (list_any is_driver) (e ∙ sym (sources_there net n l))

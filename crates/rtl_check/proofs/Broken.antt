@@ -25,9 +25,10 @@ use Rattle.rtl_body_facts.proofs.Members.{same_members}
 use Rattle.rtl_check.specs.declared.rule.Rule.{Rule}
 use Rattle.rtl_check.specs.declared.rule.Rule.TheVariants.{ClockNotInput, EdgeNotSensitive, ClockAsData, MissingSensitivity, Latch}
 use Rattle.rtl_net.specs.Core.{core}
-use Rattle.rtl_check.specs.Views.{reset_net, nets_tested, IsClocking, IsKind, AreClockNets}
+use Rattle.rtl_check.specs.Views.{AreClockNets}
+use Rattle.rtl_process_kinds.specs.KindViews.{reset_net, nets_tested, IsClocking, IsKind}
 use Rattle.rtl_check.specs.Rules.{fault_of, is_data, clocked_breaks, combinational_breaks, breaks}
-use Rattle.rtl_check.proofs.Processes.{many_processes, process_is}
+use Rattle.rtl_process_kinds.proofs.Processes.{many_processes, process_is}
 
 driven_is : (ds : List Driver) → map (λ (d : FlatDriver). d.net) (map driver_view ds) ≡ driven ds
 driven_is [] = refl
@@ -49,7 +50,7 @@ reset_back n o r reset e is at =
 
 module _ (net : NetlistView) (clocks : List ℕ) (cs : AreClockNets (core net) clocks) (p : ℕ) (x : Process) (there : p < length net.processes) (at : x ≡ get_or net.processes p x)
     (listed : ReadsOfBody x) where
-  is : process (core net) p ≡ core_process net.inputs (process_view x)
+  is : process (core net) p ≡ core_process net.wide net.inputs (process_view x)
   is = process_is net p x there at
 
   wakes_are : (process (core net) p).wakes ≡ x.wakes.items

@@ -13,7 +13,8 @@ use Rattle.rtl_body_facts.specs.declared.kinds.ProcessKind.{ProcessKind}
 use Rattle.rtl_body_facts.specs.declared.kinds.ProcessKind.TheVariants as k
 use Rattle.rtl_body_facts.specs.Reading.{is_in}
 use Rattle.rtl_body_facts.proofs.Anys.{or_none}
-use Rattle.rtl_check.specs.Views.{IsKind, AreKinds, AreClockNets}
+use Rattle.rtl_check.specs.Views.{AreClockNets}
+use Rattle.rtl_process_kinds.specs.KindViews.{IsKind, AreKinds}
 use Rattle.rtl_check.specs.Rules.{has_clock}
 use Rattle.rtl_check.proofs.Processes.{clock_there}
 

@@ -14,7 +14,8 @@ use Rattle.rtl_model.proofs.basics.Lists.{any_at, any_true, in_contains, Contain
 use Rattle.rtl_body_facts.specs.declared.kinds.ProcessKind.{ProcessKind}
 use Rattle.rtl_body_facts.specs.declared.kinds.ProcessKind.TheVariants as k
 use Rattle.rtl_body_facts.specs.Reading.{is_in}
-use Rattle.rtl_check.specs.Views.{IsKind, AreKinds, AreClockNets}
+use Rattle.rtl_check.specs.Views.{AreClockNets}
+use Rattle.rtl_process_kinds.specs.KindViews.{IsKind, AreKinds}
 use Rattle.rtl_check.specs.ClockEdges.{tests, AreEdgeNets, pair_if, tested_at, edges_at, pairs_of}
 use Rattle.rtl_check.proofs.Joined.{pairs_append}
 use Rattle.rtl_check.proofs.Processes.{clock_there}

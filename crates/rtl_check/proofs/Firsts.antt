@@ -1,5 +1,5 @@
 -- The faults of two drivers, and of mixed processes.
-use Rattle.std.proofs.Common.{◌≡◌, ℕ, ◌<◌, ◌≤◌, true, List, [], ◌∷◌, ◌++◌, length, get_or, map, refl, sym, ap, subst, ◌∙◌, arith, ◌⊎◌, inl, inr}
+use Rattle.std.proofs.Common.{◌≡◌, ℕ, ◌<◌, ◌≤◌, true, false, List, [], ◌∷◌, ◌++◌, length, get_or, map, refl, sym, ap, subst, ◌∙◌, arith, ◌⊎◌, inl, inr}
 use Rattle.std.specs.List.{range_with_len}
 use Rattle.std.proofs.lemmas.Bool.{cases_lt, eqb-true, eq-eqb}
 use Rattle.std.proofs.lemmas.List.{get_or_default}
@@ -7,16 +7,21 @@ use Rattle.std.proofs.lemmas.List.FromFn.{get_or-map-range_with_len, length-map-
 use Rattle.std.proofs.Math.ListN.{get_or-eq_default}
 use Rattle.rtl_model.specs.nets.FlatNetlist.{flat_sources}
 use Rattle.rtl_model.specs.simulation.Netlist as m
-use Rattle.rtl_model.specs.simulation.Netlist.{Netlist, ProcessKind, Mixed, process, sources_of}
+use Rattle.rtl_model.specs.simulation.Netlist.{Netlist, sources_of}
 use Rattle.rtl_model.specs.simulation.Accepted as f
 use Rattle.rtl_model.specs.simulation.Accepted.{Fault, IsFault}
 use Rattle.rtl_model.specs.simulation.Faults.{fault_number}
 use Rattle.rtl_net.specs.declared.net.Source.{Source}
 use Rattle.rtl_net.specs.Nets.{NetlistView, flat, source_view}
+use Rattle.rtl_body_facts.specs.declared.kinds.ProcessKind.{ProcessKind}
+use Rattle.rtl_body_facts.specs.declared.kinds.ProcessKind.TheVariants as k
+use Rattle.rtl_process_kinds.specs.KindViews.{IsKind}
+use Rattle.rtl_check.specs.Rules.{is_mixed}
 use Rattle.rtl_check.specs.declared.fault.CheckFault.{CheckFault}
 use Rattle.rtl_check.specs.declared.fault.CheckFault.TheVariants as c
 use Rattle.rtl_net.specs.Core.{core}
 use Rattle.rtl_check.specs.Listing.{first_named, one_place, AddsFaults}
+use Rattle.rtl_process_kinds.proofs.Sources.{sources_there}
 use Rattle.rtl_check.proofs.Joined.{adds_nothing, adds_one}
 
 -- ---- mixed processes
@@ -25,15 +30,24 @@ at_mixed : (p : ℕ) (x : Fault) → one_place 2 p x ≡ true → x ≡ f.MixedP
 at_mixed p (f.MixedProcess q) e = ap f.MixedProcess (eqb-true q p e)
 at_mixed p _ e = absurd cc
 
-pub not_mixed : (net : Netlist) (p : ℕ) (old : List CheckFault) → ((process net p).kind ≡ Mixed → ⊥) → AddsFaults net (one_place 2 p) old old
+pub mixed_is : (x : m.Process) (kind : ProcessKind) → IsKind x kind → is_mixed kind ≡ true → x.kind ≡ m.Mixed
+mixed_is x k.Mixed d t = d
+mixed_is x _ d t = absurd cc
+
+pub never_mixed : (x : m.Process) (kind : ProcessKind) → IsKind x kind → is_mixed kind ≡ false → x.kind ≡ m.Mixed → ⊥
+never_mixed x k.Combinational d t e = let h : m.Combinational ≡ m.Mixed = sym d ∙ e in cc
+never_mixed x (k.Clocked c) d t e = let h : m.Clocked c.clock c.edge d.reset ≡ m.Mixed = sym d.kind ∙ e in cc
+never_mixed x k.Mixed d t e = absurd cc
+
+pub is_of_mixed : (net : Netlist) (p : ℕ) (old new : List CheckFault) → IsFault net (f.MixedProcess p) → new ≡ old ++ c.Mixed p ∷ [] → AddsFaults net (one_place 2 p) old new
+is_of_mixed net p old new is grown = adds_one net (one_place 2 p) old new (c.Mixed p) grown is (eq-eqb p p refl) (λ x h e. at_mixed p x e)
+
+pub not_mixed : (net : Netlist) (p : ℕ) (old : List CheckFault) → (IsFault net (f.MixedProcess p) → ⊥) → AddsFaults net (one_place 2 p) old old
 not_mixed net p old odd = adds_nothing net (one_place 2 p) old (λ x is e. odd (subst (IsFault net) (at_mixed p x e) is))
 
 -- ---- two drivers
 
 module _ (net : NetlistView) where
-  pub sources_there : (n : ℕ) → n < length net.types → sources_of (core net) n ≡ flat_sources (flat net) n
-  sources_there n l = get_or-map-range_with_len (flat_sources (flat net)) 0 (length net.types) n n [] l (omega arith)
-
   sources_beyond : (n : ℕ) → length net.types ≤ n → sources_of (core net) n ≡ []
   sources_beyond n l = get_or-eq_default (map (flat_sources (flat net)) (range_with_len 0 (length net.types))) [] (rw (length-map-range_with_len (flat_sources (flat net)) 0 (length net.types)) l)
 
@@ -50,7 +64,7 @@ module _ (net : NetlistView) where
   at_driven _ _ e = absurd cc
 
   listed : (n : ℕ) (sources : List Source) → n < length net.types → map source_view sources ≡ flat_sources (flat net) n → sources_of (core net) n ≡ map source_view sources
-  listed n sources l e = sources_there n l ∙ sym e
+  listed n sources l e = sources_there net n l ∙ sym e
 
   few : (n : ℕ) (sources : List Source) → length sources < 2 → sources_of (core net) n ≡ map source_view sources → (s t : m.Source)
       → IsFault (core net) (f.TwoDrivers n s t) → ⊥

@@ -3,6 +3,7 @@ use Rattle.std.proofs.Common.{◌≡◌, ◌≢◌, ℕ, ◌+◌, ◌<◌, ◌�
 use Rattle.std.proofs.lemmas.Bool.{cases_lt, cases_eq, ne_eqb}
 use Rattle.std.proofs.lemmas.List.{get_or_past, get_or_default}
 use Rattle.rtl_model.specs.simulation.Netlist.{Netlist, Edge, Process, process, no_process}
+use Rattle.rtl_model.specs.simulation.Accepted.{IsByNets}
 use Rattle.rtl_model.specs.simulation.Levels.{bound, is_clocked, has_clocked}
 use Rattle.rtl_model.specs.simulation.Report.{AreClocks, ShowReport}
 use Rattle.rtl_model.proofs.basics.Lists.{any_true, all_none, Contains-none, Contains-first}
@@ -54,8 +55,8 @@ module _ (net : Netlist) (levels from : List (Option ℕ)) (clocks : List (ℕ �
       go (inl l) = g.none_above p level l e
       go (inr l) = let z : None ≡ Some level = sym (get_or_past levels p None l) ∙ e in absurd cc
 
-  pub shown : ShowFroms net levels from → AreClocks net clocks → most ≡ bound net greatest → ShowReport net levels from clocks most
-  shown S cs is = record {
+  pub shown : (IsByNets net → ⊥) → ShowFroms net levels from → AreClocks net clocks → most ≡ bound net greatest → ShowReport net levels from clocks most
+  shown other S cs is = record {
     greatest = greatest;
     shown = S.shown;
     each_process = S.each_process;
@@ -64,7 +65,7 @@ module _ (net : Netlist) (levels from : List (Option ℕ)) (clocks : List (ℕ �
     met = g.met;
     from_first = S.from_first;
     from_lowest = S.from_lowest;
-    rest = record { bound_is = is; each_from = S.each_from; from_clocked = λ p clock edge k. (S.clocked p clock edge k).1; clocks_are = cs };
+    rest = record { by_processes = other; bound_is = is; each_from = S.each_from; from_clocked = λ p clock edge k. (S.clocked p clock edge k).1; clocks_are = cs };
   }
 
   module _ (R : ShowReport net levels from clocks most) where

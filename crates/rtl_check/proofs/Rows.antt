@@ -20,45 +20,18 @@ use Rattle.rtl_body_facts.specs.declared.kinds.ProcessKind.{ProcessKind}
 use Rattle.rtl_body_facts.specs.declared.kinds.ProcessKind.TheVariants as k
 use Rattle.rtl_body_facts.specs.Reading.{is_in}
 use Rattle.rtl_net.specs.Core.{core}
-use Rattle.rtl_check.specs.Views.{IsKind, AreKinds}
-use Rattle.rtl_check.specs.Feeders.{combinational_kind, combinational_at, feeds_by, IsRow}
-use Rattle.rtl_check.proofs.Firsts.{sources_there}
-
-pub any_map : {X Y : Type 0} (g : Y → Bool) (h : X → Y) (xs : List X) → list_any g (map h xs) ≡ list_any (λ x. g (h x)) xs
-any_map g h [] = refl
-any_map g h (x ∷ xs) = ap (λ (b : Bool). g (h x) || b) (any_map g h xs)
-
-pub kind_there : (kinds : List ProcessKind) (p : ℕ) (d kind : ProcessKind) → p < length kinds → get_or kinds p d ≡ kind → combinational_kind kind ≡ combinational_at kinds p
-kind_there kinds p d kind l e = ap combinational_kind (sym e ∙ get_or_default kinds p d k.Mixed l)
-
-pub kind_past : (kinds : List ProcessKind) (p : ℕ) → length kinds ≤ p → false ≡ combinational_at kinds p
-kind_past kinds p l = sym (ap combinational_kind (get_or_past kinds p k.Mixed l))
+use Rattle.rtl_process_kinds.specs.KindViews.{IsKind, AreKinds}
+use Rattle.rtl_check.specs.Feeders.{feeds_by, IsRow}
+use Rattle.rtl_process_kinds.specs.KindViews.{combinational_kind, combinational_at}
+use Rattle.rtl_process_kinds.proofs.Combinational.{combinational_to, combinational_from, kind_past}
+use Rattle.rtl_process_kinds.proofs.Sources.{any_map, sources_there}
 
 module _ (net : Netlist) (kinds : List ProcessKind) (ks : AreKinds net kinds) where
-  by_kind : (p : ℕ) (kind : ProcessKind) → IsKind (process net p) kind → combinational_kind kind ≡ true → (process net p).kind ≡ m.Combinational
-  by_kind p k.Combinational d t = d
-  by_kind p _ d t = absurd cc
-
-  has_kind : (p : ℕ) (kind : ProcessKind) → IsKind (process net p) kind → (process net p).kind ≡ m.Combinational → combinational_kind kind ≡ true
-  has_kind p k.Combinational d e = refl
-  has_kind p (k.Clocked c) d e = let h : m.Clocked c.clock c.edge d.reset ≡ m.Combinational = sym d.kind ∙ e in absurd cc
-  has_kind p k.Mixed d e = let h : m.Mixed ≡ m.Combinational = sym d ∙ e in absurd cc
-
-  pub combinational_to : (p : ℕ) → combinational_at kinds p ≡ true → IsCombinational net p
-  combinational_to p t = go (cases_lt p (length kinds))
-    where
-      go : (p < length kinds) ⊎ (length kinds ≤ p) → IsCombinational net p
-      go (inl l) = let there : p < length net.processes = rw (← ks.each_process) l in (there, by_kind p (get_or kinds p k.Mixed) (ks.each p there) t)
-      go (inr l) = let h : false ≡ true = kind_past kinds p l ∙ t in absurd cc
-
-  pub combinational_from : (p : ℕ) → IsCombinational net p → combinational_at kinds p ≡ true
-  combinational_from p (l, e) = has_kind p (get_or kinds p k.Mixed) (ks.each p l) e
-
   feeder_of : (p : ℕ) (s : Source) → feeds_by kinds p s ≡ true → (place : ℕ) × (s ≡ Driver p place) × IsCombinational net p
   feeder_of p (Driver q place) t =
       let (a, b) = and_parts (combinational_at kinds q) (q == p) t in
       let e = eqb-true q p b in
-      (place, ap (λ (i : ℕ). Driver i place) e, subst (IsCombinational net) e (combinational_to q a))
+      (place, ap (λ (i : ℕ). Driver i place) e, subst (IsCombinational net) e (combinational_to net kinds ks q a))
   feeder_of p (Idle v) t = absurd cc
 
   pub feeds_to : (wired : IsWired net) (p q : ℕ) (sources : ℕ → List Source) → ((n : ℕ) → Contains (process net q).wakes n → sources n ≡ sources_of net n) → IsCombinational net q
@@ -76,7 +49,7 @@ module _ (net : Netlist) (kinds : List ProcessKind) (ks : AreKinds net kinds) wh
       let n = target net p h.place in
       let there = subst (λ (ss : List Source). Contains ss (Driver p h.place)) (sym (same n h.wakes)) (wired.drivers_are_sources p h.place h.drives) in
       any_true (λ n. list_any (feeds_by kinds p) (sources n)) (process net q).wakes n h.wakes
-      (any_true (feeds_by kinds p) (sources n) (Driver p h.place) there (and_from (combinational_at kinds p) (p == p) (combinational_from p h.feeder) (eq-eqb p p refl)))
+      (any_true (feeds_by kinds p) (sources n) (Driver p h.place) there (and_from (combinational_at kinds p) (p == p) (combinational_from net kinds ks p h.feeder) (eq-eqb p p refl)))
 
 -- ---- a row
 
@@ -132,11 +105,3 @@ table_is net table many rows = record {
         go : (q < length net.processes) ⊎ (length net.processes ≤ q) → IsRow net q (get_or table q None)
         go (inl l) = rows q l
         go (inr l) = subst (IsRow net q) (sym (get_or_past table q None (rw many l))) (λ c. let h = c.0 in omega arith)
-
--- what a process is sensitive to is there
-pub nets_of_wakes : (net : NetlistView) → IsNet net → (p : ℕ) (x : Process) → p < length net.processes → x ≡ get_or net.processes p x
-    → (k d : ℕ) → k < length x.wakes.items → get_or x.wakes.items k d < length net.types
-nets_of_wakes net elaborated p x there at k d l =
-    let same : get_or (map process_view net.processes) p (process_view x) ≡ process_view x = get_or-map_within process_view net.processes p x (process_view x) there ∙ ap process_view (sym at) in
-    let in_range : ProcessInRange net.types (get_or (map process_view net.processes) p (process_view x)) = elaborated.in_range.processes p (process_view x) (rw (length-map net.processes process_view) there) in
-    (subst (ProcessInRange net.types) same in_range).wakes k d l

@@ -21,10 +21,11 @@ use Rattle.rtl_check.specs.declared.fault.CheckFault.{CheckFault}
 use Rattle.rtl_check.specs.declared.rule.Rule.{Rule}
 use Rattle.rtl_check.specs.declared.rule.Rule.TheVariants.{ClockNotInput, EdgeNotSensitive, ClockAsData, MissingSensitivity, Latch}
 use Rattle.rtl_net.specs.Core.{core}
-use Rattle.rtl_check.specs.Views.{AreKinds, AreClockNets}
+use Rattle.rtl_check.specs.Views.{AreClockNets}
+use Rattle.rtl_process_kinds.specs.KindViews.{AreKinds}
 use Rattle.rtl_check.specs.Listing.{one_place, AddsFaults}
 use Rattle.rtl_check.specs.Rules.{fault_of, rule_number, breaks, Pushes}
-use Rattle.rtl_check.proofs.Processes.{many_processes, kind_at}
+use Rattle.rtl_process_kinds.proofs.Processes.{many_processes, kind_at}
 use Rattle.rtl_check.proofs.Broken.{breaks_to, breaks_from}
 
 at_rule : (r : Rule) (p : ℕ) (x : Fault) → one_place (rule_number r) p x ≡ true → (n : ℕ) × (x ≡ fault_of r p n)

@@ -23,7 +23,7 @@ use Rattle.rtl_check.specs.Views.{fault_view}
 use Rattle.rtl_check.specs.Listing.{one_place, AddsFaults}
 use Rattle.rtl_check.specs.Places.{widths, places_from, added_if}
 use Rattle.rtl_check.proofs.Joined.{adds_on, adds_nothing, adds_one, lt_next, renamed}
-use Rattle.rtl_check.proofs.Processes.{process_is}
+use Rattle.rtl_process_kinds.proofs.Processes.{process_is}
 use Rattle.rtl_check.proofs.Elements.{number_of, number_is, number_below, number_order, one_number, place_at, IsBefore}
 
 -- what is stored, by the numbers of its elements: those below a bound, and this very one

@@ -5,6 +5,7 @@ pub mod Places
 pub mod Feeders
 pub mod ClockEdges
 pub mod Bounds
+pub mod Findings
 pub mod Verdicts
 pub mod Standing
 pub mod ListedClocks

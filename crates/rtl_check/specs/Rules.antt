@@ -1,5 +1,5 @@
 -- Faults that name a process and a net: whether a net of a process breaks a rule, by what is kept of the process.
-use Rattle.std.specs.Prelude.{◌≡◌, ◌++◌, map, ℕ, Bool, false, not, ◌&&◌, ◌||◌, ◌==◌, List, [], ◌∷◌}
+use Rattle.std.specs.Prelude.{◌≡◌, ◌++◌, map, ℕ, Bool, true, false, not, ◌&&◌, ◌||◌, ◌==◌, List, [], ◌∷◌}
 use Rattle.std.specs.Option.{option_to_list}
 use Rattle.rtl_model.specs.bodies.Assigns.{must_assign}
 use Rattle.rtl_model.specs.simulation.Accepted as f
@@ -12,7 +12,8 @@ use Rattle.rtl_body_facts.specs.declared.kinds.ProcessKind.TheVariants as k
 use Rattle.rtl_body_facts.specs.Reading.{is_in}
 use Rattle.rtl_body_facts.specs.Paths.{driven, to_net}
 use Rattle.rtl_check.specs.declared.fault.CheckFault.{CheckFault}
-use Rattle.rtl_check.specs.Views.{nets_tested, fault_view}
+use Rattle.rtl_check.specs.Views.{fault_view}
+use Rattle.rtl_process_kinds.specs.KindViews.{nets_tested}
 use Rattle.rtl_check.specs.declared.rule.Rule.{Rule}
 use Rattle.rtl_check.specs.declared.rule.Rule.TheVariants.{ClockNotInput, EdgeNotSensitive, ClockAsData, MissingSensitivity, Latch}
 
@@ -58,6 +59,11 @@ pub record Pushes (rule : Rule) (process : ℕ) (nets : List ℕ) (old new : Lis
   pub added : List CheckFault
   pub is : new ≡ old ++ added
   pub are : map fault_view added ≡ map (fault_of rule process) nets
+
+abbrev pub is_mixed : ProcessKind → Bool
+is_mixed k.Combinational = false
+is_mixed (k.Clocked c) = false
+is_mixed k.Mixed = true
 
 -- a process of this kind is clocked by a net
 abbrev pub has_clock : (net : ℕ) → ProcessKind → Bool

@@ -3,62 +3,14 @@
 ghost use Rattle.std.specs.Prelude.{◌≡◌, ◌<◌, ◌+◌, ◌^◌, length};
 ghost use Rattle.rtl_model.specs.simulation.Netlist as m;
 ghost use Rattle.rtl_model.specs.simulation.Levels as l;
-ghost use Rattle.rtl_net.specs.Nets.{source_view};
 ghost use Rattle.rtl_net.specs.Core.{core};
-ghost use Rattle.rtl_check.specs.Views.{AreKinds, AreClockNets};
+ghost use Rattle.rtl_check.specs.Views.{AreClockNets};
+ghost use Rattle.rtl_process_kinds.specs.KindViews.{AreKinds};
 ghost use Rattle.rtl_check.specs.Bounds as b;
 
-use crate::wakes::wakes_of;
 use rtl_body_facts::ProcessKind;
-use rtl_net::{Net, Source};
-
-/// Whether a source is a driver.
-fn is_driver(source: Source) -> bool
-    ensures { result ≡ l.is_driver (source_view source) }
-{
-    match source {
-        Source::Driven { .. } => true,
-        Source::Idle { .. } => false,
-    }
-}
-
-/// Whether a process drives a net.
-fn is_driven(net: &Net, number: usize) -> bool
-    requires { number < length net.now.types }
-    ensures { result ≡ b.is_driven (core net.now) number }
-{
-    let sources = net.sources(number);
-    for source in sources {
-        if is_driver(*source) {
-            return true;
-        }
-    }
-    false
-}
-
-/// Whether a process is sensitive to a net that a process drives.
-pub fn follows_driver(net: &Net, process: usize) -> bool
-    requires { process < length net.now.processes }
-    ensures { result ≡ b.follows_driver (core net.now) (m.process (core net.now) process) }
-{
-    let wakes = wakes_of(net, process);
-    for wake in wakes {
-        if is_driven(net, *wake) {
-            return true;
-        }
-    }
-    false
-}
-
-/// Whether a process of this kind has a reset.
-pub fn resets(kind: ProcessKind) -> bool
-    ensures { result ≡ b.resets kind }
-{
-    match kind {
-        ProcessKind::Clocked(clocking) => clocking.reset.is_some(),
-        _ => false,
-    }
-}
+use rtl_net::Net;
+use rtl_process_kinds::{follows_driver, resets};
 
 /// Whether a process has a reset and is sensitive to a net that a process drives.
 fn is_late(net: &Net, kinds: &[ProcessKind], process: usize) -> bool

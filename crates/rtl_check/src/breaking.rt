@@ -7,7 +7,7 @@ ghost use Rattle.rtl_model.specs.bodies.Assigns.{must_assign};
 ghost use Rattle.rtl_net.specs.Nets.{body_of};
 ghost use Rattle.rtl_body_facts.specs.Reading.{is_in};
 ghost use Rattle.rtl_body_facts.specs.Paths.{driven, to_net};
-ghost use Rattle.rtl_check.specs.Views.{nets_tested};
+ghost use Rattle.rtl_process_kinds.specs.KindViews.{nets_tested};
 ghost use Rattle.rtl_check.specs.Rules.{is_data, clocked_breaks, combinational_breaks, breaks};
 
 use crate::rule::Rule;

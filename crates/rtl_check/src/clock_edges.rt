@@ -5,7 +5,8 @@ ghost use Rattle.std.specs.List.Sorted.{IsStrictlyIncreasing};
 ghost use Rattle.rtl_model.specs.simulation.Report as m;
 ghost use Rattle.rtl_body_facts.specs.Reading.{is_in};
 ghost use Rattle.rtl_net.specs.Core.{core};
-ghost use Rattle.rtl_check.specs.Views.{AreKinds, AreClockNets};
+ghost use Rattle.rtl_check.specs.Views.{AreClockNets};
+ghost use Rattle.rtl_process_kinds.specs.KindViews.{AreKinds};
 ghost use Rattle.rtl_check.specs.ClockEdges.{tests, pair_if, edges_at, nets_by, AreEdgeNets, AreAllEdgeNets};
 
 use rtl_body_facts::{ProcessKind, contains_rising, sort_once};

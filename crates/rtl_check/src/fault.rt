@@ -15,7 +15,8 @@ pub enum CheckFault {
         first: Source,
         second: Source,
     },
-    /// The process is neither clocked nor combinational.
+    /// The process is neither clocked nor combinational; or, in the wider language, its reset may
+    /// come and go within a moment.
     #[error("{rule}, of process {process}", rule = CheckRule::Mixed.words())]
     Mixed {
         process: usize,
@@ -55,6 +56,11 @@ pub enum CheckFault {
     #[error("{rule}", rule = CheckRule::Loop.words())]
     Loop {
         processes: Vec<usize>,
+    },
+    /// In the wider language: each net looks at the next, and the last at the first.
+    #[error("{rule}", rule = CheckRule::Loop.words())]
+    NetLoop {
+        nets: Vec<usize>,
     },
     /// The process reads the element at this place of this variable where it hasn't assigned it on
     /// every syntactic path.

@@ -3,7 +3,8 @@
 ghost use Rattle.std.specs.Prelude.{map, IfOk};
 ghost use Rattle.rtl_model.specs.simulation.Faults.{AreFaultsButLoops};
 ghost use Rattle.rtl_net.specs.Core.{core};
-ghost use Rattle.rtl_check.specs.Views.{fault_view, AreKinds, AreClockNets};
+ghost use Rattle.rtl_check.specs.Views.{fault_view, AreClockNets};
+ghost use Rattle.rtl_process_kinds.specs.KindViews.{AreKinds};
 
 use crate::fault::CheckFault;
 use crate::listing::{mixed, two_drivers};
@@ -27,7 +28,7 @@ pub fn faults_of(
 {
     let mut faults = Vec::new(alloc);
     two_drivers(net, &mut faults)?;
-    mixed(net, kinds, &mut faults)?;
+    mixed(alloc, net, kinds, &mut faults)?;
     by_rule(alloc, net, kinds, clocks, Rule::ClockNotInput, &mut faults)?;
     by_rule(
         alloc,

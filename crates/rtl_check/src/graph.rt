@@ -7,27 +7,13 @@ ghost use Rattle.rtl_net.specs.Nets.{flat, source_view};
 ghost use Rattle.rtl_check_levels.specs.OfNets.{IsTableOf};
 ghost use Rattle.rtl_body_facts.specs.Reading.{is_in};
 ghost use Rattle.rtl_net.specs.Core.{core};
-ghost use Rattle.rtl_check.specs.Views.{AreKinds};
-ghost use Rattle.rtl_check.specs.Feeders.{combinational_at, feeds_by, IsRow};
+ghost use Rattle.rtl_process_kinds.specs.KindViews.{AreKinds};
+ghost use Rattle.rtl_check.specs.Feeders.{feeds_by, IsRow};
 
-use crate::wakes::wakes_of;
 use rtl_body_facts::ProcessKind;
 use rtl_net::{Net, NoMemory, Source, nets_meet_the_laws};
+use rtl_process_kinds::{is_combinational, wakes_of};
 use std::alloc::Global;
-
-/// Whether there is a process of this number that is combinational.
-fn is_combinational(kinds: &[ProcessKind], process: usize) -> bool
-    ensures { result ≡ combinational_at kinds.now process }
-{
-    if process >= kinds.len() {
-        return false;
-    }
-    match kinds[process] {
-        ProcessKind::Combinational => true,
-        ProcessKind::Clocked(_) => false,
-        ProcessKind::Mixed => false,
-    }
-}
 
 /// Appends the process of a driver, if it is combinational.
 fn push_feeder(

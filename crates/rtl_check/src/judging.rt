@@ -1,53 +1,60 @@
-//! The faults of a netlist, or the levels of its combinational processes where none is found.
+//! Judging a netlist, by its processes or by its nets.
 
-ghost use Rattle.std.specs.Prelude.{IfOk};
+ghost use Rattle.std.specs.Prelude.{◌↔◌, IfOk, IsTrue};
+ghost use Rattle.rtl_model.specs.simulation.Accepted.{IsAccepted};
 ghost use Rattle.rtl_net.specs.Core.{core};
-ghost use Rattle.rtl_check.specs.Views.{AreKinds, AreClockNets};
-ghost use Rattle.rtl_check.specs.Verdicts.{IsJudged, JudgesLoopsOnce};
+ghost use Rattle.rtl_check.specs.Verdicts.{IsJudgement, accepts, JudgesLoopsOnce, IfByProcesses, FromsLeadDown, NoChainIsLonger, NoNumberIsLower};
 
+use crate::clocks::clock_nets;
 use crate::fault::CheckFault;
-use crate::faults::faults_of;
-use crate::graph::table_of;
-use rtl_body_facts::ProcessKind;
-use rtl_check_levels::{LevelOrder, Levels, order_of, tables_are_of_nets};
+use crate::reporting::{NetReport, Report, net_report_of, report_of};
+use crate::search::{Found, search};
+use rtl_model::simulation_laws;
 use rtl_net::{Net, NoMemory};
+use rtl_process_kinds::kinds_of;
 use std::alloc::Global;
 
-/// What the rules find of a netlist.
+/// How a netlist is judged.
 #[derive(Drop)]
-pub enum Judged {
-    /// All its faults but loops, in order, or else one loop.
+pub enum Judgement {
+    /// It is accepted by its processes, and this is the report on it.
+    ByProcesses(Report),
+    /// It is accepted by its nets: it is of the wider language, and has a loop of processes or a
+    /// reset that some process drives. This is the report on it.
+    ByNets(NetReport),
+    /// It isn't accepted, and has these faults: all but loops, in order, each once; or one loop,
+    /// where it has no other, listed once round from its lowest process or net.
     Faulty(Vec<CheckFault>),
-    /// The levels of its combinational processes, where no fault is found.
-    Leveled(Levels),
 }
 
-/// Judges a netlist: all its faults but loops, in order; or else a loop; or else levels. A loop is
-/// looked for only where there is no other fault. It takes memory for its faults, and for what
-/// feeds what.
-pub fn judge(
-    alloc: Global,
-    net: &Net,
-    kinds: &[ProcessKind],
-    clocks: &[usize],
-) -> Result<Judged, NoMemory>
-    requires kinds { AreKinds (core net.now) kinds.now }
-    requires clocks { AreClockNets (core net.now) clocks.now }
-    ensures judged { IfOk result (IsJudged (core net.now)) }
+/// Judges a netlist, of either language: it is accepted, by processes or by nets, with the report on
+/// it, just where it has no fault; else these are its faults. A loop is looked for only where there
+/// is no other fault. It takes time in proportion to the netlist, but for the logarithms of sorted
+/// lists, and memory for the kinds of processes, for what feeds or looks at what, for the elements
+/// of one process's variables, and for the answer.
+pub fn judge(alloc: Global, net: &Net) -> Result<Judgement, NoMemory>
+    ensures judgement { IfOk result (IsJudgement (core net.now)) }
+    ensures accepts { IfOk result (λ j. IsTrue (accepts j) ↔ IsAccepted (core net.now)) }
     ensures once { IfOk result JudgesLoopsOnce }
+    ensures leads_down { IfOk result (IfByProcesses (FromsLeadDown (core net.now))) }
+    ensures longest { IfOk result (IfByProcesses (NoChainIsLonger (core net.now))) }
+    ensures lowest { IfOk result (IfByProcesses (NoNumberIsLower (core net.now))) }
 {
-    tables_are_of_nets();
-    net.is_elaborated();
-    let mut faults = faults_of(alloc, net, kinds, clocks)?;
-    if !faults.is_empty() {
-        return Ok(Judged::Faulty(faults));
-    }
-    let table = table_of(alloc, net, kinds)?;
-    match order_of(alloc, &table)? {
-        LevelOrder::Leveled(levels) => Ok(Judged::Leveled(levels)),
-        LevelOrder::Looped(processes) => {
-            faults.push(CheckFault::Loop { processes })?;
-            Ok(Judged::Faulty(faults))
+    simulation_laws::faults_are_listed();
+    let kinds = kinds_of(alloc, net)?;
+    let clocks = clock_nets(alloc, net, &kinds)?;
+    match search(alloc, net, &kinds, &clocks)? {
+        Found::Faulty(faults) => Ok(Judgement::Faulty(faults)),
+        Found::Leveled(levels) => {
+            let report = report_of(alloc, net, &kinds, &clocks, levels)?;
+            simulation_laws::reports_lead_down();
+            simulation_laws::reports_are_shown();
+            simulation_laws::levels_are_shown();
+            Ok(Judgement::ByProcesses(report))
+        }
+        Found::NetsLeveled(levels) => {
+            let report = net_report_of(alloc, net, &kinds, &clocks, levels)?;
+            Ok(Judgement::ByNets(report))
         }
     }
 }

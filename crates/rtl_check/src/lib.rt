@@ -1,8 +1,9 @@
-//! The checker: whether a netlist is accepted, with its report, or else which faults it has.
+//! The checker: whether a netlist is accepted, by its processes or by its nets, with its report, or
+//! else which faults it has.
 //!
-//! The definitions are those of rtl_model's `simulation/Accepted`, `Faults`, `Levels` and `Report`.
-//! `specs/Views.antt` says how the code's faults and reports are seen, and `specs/Listing.antt` how
-//! lists of faults grow.
+//! The definitions are those of rtl_model's `simulation/Accepted`, `Faults`, `Levels`,
+//! `NetLevels` and `Report`. `specs/Views.antt` says how the code's faults are seen, and
+//! `specs/Listing.antt` how lists of faults grow.
 #![tactic(auto)]
 
 mod bound;
@@ -13,24 +14,25 @@ mod clocks;
 mod fault;
 mod faults;
 mod graph;
+mod inner;
 mod judging;
-mod kinds;
 mod listed_clocks;
 mod listing;
 mod reported;
 mod reporting;
 mod rule;
 mod rules;
+mod search;
 mod standing;
 mod variables;
-mod wakes;
 
 pub use breaking::is_used;
 pub use checking::{Verdict, check};
 pub use fault::CheckFault;
-pub use kinds::kind_at;
+pub use judging::{Judgement, judge};
 pub use listed_clocks::are_clocks;
 pub use reported::is_report;
-pub use reporting::Report;
+pub use reporting::{NetReport, Report};
+pub use rtl_process_kinds::kind_at;
 pub use standing::are_levels;
 pub use variables::stored;

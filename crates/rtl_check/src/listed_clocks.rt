@@ -6,14 +6,14 @@ ghost use Rattle.rtl_model.specs.basics.Lists.{IsLess, RisesBy};
 ghost use Rattle.rtl_model.specs.simulation.Netlist as m;
 ghost use Rattle.rtl_model.specs.simulation.Report.{clock_key, AreClocks};
 ghost use Rattle.rtl_net.specs.Core.{core};
-ghost use Rattle.rtl_check.specs.Views.{IsKind};
+ghost use Rattle.rtl_process_kinds.specs.KindViews.{IsKind};
 ghost use Rattle.rtl_check.specs.ClockEdges as e;
 ghost use Rattle.rtl_check.specs.ListedClocks as s;
 
 use crate::clock_edges::edge_number;
-use crate::kinds::kind_at;
 use rtl_body_facts::ProcessKind;
 use rtl_net::Net;
+use rtl_process_kinds::kind_at;
 use vhdl_values::Edge;
 
 /// Whether a pair is this net and edge.

@@ -10,13 +10,14 @@ ghost use Rattle.rtl_check.specs.Standing.{HasNoMixed};
 ghost use Rattle.rtl_check.specs.Reported as s;
 ghost use Rattle.rtl_check.specs.Verdicts.{IsReportOf};
 
-use crate::bound::{follows_driver, one_if, resets};
-use crate::kinds::kind_at;
+use crate::bound::one_if;
+use crate::inner::has_inner_reset;
 use crate::listed_clocks::are_clocks;
 use crate::reporting::Report;
 use crate::standing::are_levels;
 use rtl_model::simulation_laws;
 use rtl_net::Net;
+use rtl_process_kinds::{follows_driver, kind_at, resets};
 use vhdl_values::Edge;
 
 /// The greater of a level and what a process has, if it has one.
@@ -83,6 +84,10 @@ fn make_report(
         → IsTrue result ↔ r.IsReport (core net.now) levels.now from.now clocks.now bound }
 {
     simulation_laws::reports_are_shown();
+    simulation_laws::levels_are_shown();
+    if has_inner_reset(net) {
+        return false;
+    }
     if !are_levels(net, levels, from) {
         return false;
     }

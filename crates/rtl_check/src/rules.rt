@@ -2,7 +2,8 @@
 
 ghost use Rattle.std.specs.Prelude.{◌<◌, length, OnOk};
 ghost use Rattle.rtl_net.specs.Core.{core};
-ghost use Rattle.rtl_check.specs.Views.{AreKinds, AreClockNets};
+ghost use Rattle.rtl_check.specs.Views.{AreClockNets};
+ghost use Rattle.rtl_process_kinds.specs.KindViews.{AreKinds};
 ghost use Rattle.rtl_check.specs.Listing.{is_of_number, one_place, AddsFaults};
 ghost use Rattle.rtl_check.specs.Rules.{rule_number, Pushes};
 

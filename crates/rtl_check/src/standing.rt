@@ -5,13 +5,12 @@ ghost use Rattle.std.specs.Prelude.{◌≡◌, ◌<◌, ◌↔◌, length, slice
 ghost use Rattle.rtl_model.specs.simulation.Netlist as m;
 ghost use Rattle.rtl_net.specs.Nets.{source_view};
 ghost use Rattle.rtl_net.specs.Core.{core};
-ghost use Rattle.rtl_check.specs.Views.{IsKind};
+ghost use Rattle.rtl_process_kinds.specs.KindViews.{IsKind};
 ghost use Rattle.rtl_check.specs.Standing as s;
 
-use crate::kinds::kind_at;
-use crate::wakes::wakes_of;
 use rtl_body_facts::ProcessKind;
 use rtl_net::{Net, Source, nets_meet_the_laws};
+use rtl_process_kinds::{kind_at, wakes_of};
 
 /// The greatest level of some processes, and the lowest that has it; 0 and none where none has a
 /// level.

@@ -5,7 +5,9 @@ use Rattle.rtl_model.specs.bodies.Assigns.{must_assign}
 use Rattle.rtl_model.specs.simulation.Netlist as m
 use Rattle.rtl_model.specs.simulation.Netlist.{Netlist, Edge, process}
 use Rattle.rtl_model.specs.simulation.Accepted as f
-use Rattle.rtl_model.specs.simulation.Accepted.{Fault, IsFault, IsAccepted, HasNoLoop}
+use Rattle.rtl_model.specs.simulation.Accepted.{Fault, IsFault, IsAccepted, IsByNets, HasUnsteadyReset}
+use Rattle.rtl_model.specs.simulation.Calm.{follows_inputs}
+use Rattle.rtl_model.specs.simulation.Faults.{AreFaultsButLoops, is_no_loop}
 use Rattle.rtl_model.specs.simulation.Report.{AreClocks}
 use Rattle.rtl_net.specs.declared.process.Process.{Process}
 use Rattle.rtl_net.specs.Nets.{NetlistView, body_of}
@@ -18,10 +20,11 @@ use Rattle.rtl_body_facts.specs.Paths.{driven, to_net}
 use Rattle.rtl_check.specs.declared.rule.Rule.{Rule}
 use Rattle.rtl_check.specs.declared.rule.Rule.TheVariants.{ClockNotInput, EdgeNotSensitive, ClockAsData, MissingSensitivity, Latch}
 use Rattle.rtl_net.specs.Core.{core}
-use Rattle.rtl_check.specs.Views.{nets_tested, IsKind}
+use Rattle.rtl_process_kinds.specs.KindViews.{nets_tested, IsKind}
 use Rattle.rtl_check.specs.Rules.{is_data, breaks, fault_of}
 use Rattle.rtl_check.specs.Standing.{HasNoMixed}
 use Rattle.rtl_check.proofs.Processes.{process_there}
+use Rattle.rtl_check.proofs.Joined.{no_faults}
 use Rattle.rtl_check.proofs.Broken.{breaks_to, breaks_from}
 use Rattle.rtl_recheck.specs.Kept.{clock_nets, AreWithin, ClockedKeeps, HasNoLatch, CombinationalKeeps, KeepsBy, KeepsRules, HaveOneSource, AllKeep}
 use Rattle.rtl_recheck.proofs.Clocks.{sorted_clocks, same_clocks, clocks_are}
@@ -141,18 +144,30 @@ module _ (net : Netlist) where
   stored_there p v t is = process_there net (f.StoredVariable p v t) is (λ e. differ e (inr (omega arith))) (λ e. differ e (inr (omega arith)))
 
   pub mixed_there : (p : ℕ) → (process net p).kind ≡ m.Mixed → p < length net.processes
-  mixed_there p is = process_there net (f.MixedProcess p) is (λ e. differ e (inr (omega arith))) (λ e. differ e (inl (omega arith)))
+  mixed_there p is = process_there net (f.MixedProcess p) (inl is) (λ e. differ e (inr (omega arith))) (λ e. differ e (inl (omega arith)))
 
-  pub accepted : HasNoMixed net → HaveOneSource net → AllKeep net → HasNoLoop net → IsAccepted net
-  accepted clear one keep loops (f.TwoDrivers n s t) is = one n s t is
-  accepted clear one keep loops (f.MixedProcess p) is = clear p is
-  accepted clear one keep loops (f.ClockNotInput p n) is = (keep p).0 ClockNotInput n is
-  accepted clear one keep loops (f.EdgeNotSensitive p n) is = (keep p).0 EdgeNotSensitive n is
-  accepted clear one keep loops (f.ClockAsData p n) is = (keep p).0 ClockAsData n is
-  accepted clear one keep loops (f.MissingSensitivity p n) is = (keep p).0 MissingSensitivity n is
-  accepted clear one keep loops (f.Latch p n) is = (keep p).0 Latch n is
-  accepted clear one keep loops (f.Loop ps) is = loops ps is
-  accepted clear one keep loops (f.StoredVariable p v t) is = (keep p).1 v t is
+  -- judged by processes, it has no unsteady reset: what no process drives comes from outside
+  steady : (IsByNets net → ⊥) → (p : ℕ) → HasUnsteadyReset net p → ⊥
+  steady other p u = u.not_calm (follows_inputs u.reset.net (λ value. value == u.reset.value) (inl (undriven, u.no_clock)))
+    where
+      undriven : m.IsDriven net u.reset.net → ⊥
+      undriven has = other (u.is_wide, inr (p, u.reset.net, ((u.reset, u.is_reset, refl), has)))
+
+  pub no_fault : HasNoMixed net → (IsByNets net → ⊥) → HaveOneSource net → AllKeep net → AreFaultsButLoops net []
+  no_fault clear other one keep = no_faults net is_no_loop none
+    where
+      none : (fault : Fault) → IsFault net fault → is_no_loop fault ≡ true → ⊥
+      none (f.TwoDrivers n s t) is e = one n s t is
+      none (f.MixedProcess p) (inl is) e = clear p is
+      none (f.MixedProcess p) (inr is) e = steady other p is
+      none (f.ClockNotInput p n) is e = (keep p).0 ClockNotInput n is
+      none (f.EdgeNotSensitive p n) is e = (keep p).0 EdgeNotSensitive n is
+      none (f.ClockAsData p n) is e = (keep p).0 ClockAsData n is
+      none (f.MissingSensitivity p n) is e = (keep p).0 MissingSensitivity n is
+      none (f.Latch p n) is e = (keep p).0 Latch n is
+      none (f.Loop ps) is e = absurd cc
+      none (f.NetLoop ns) is e = absurd cc
+      none (f.StoredVariable p v t) is e = (keep p).1 v t is
 
   pub keeps : IsAccepted net → AllKeep net
   keeps a p = (rules, λ v t is. a (f.StoredVariable p v t) is)

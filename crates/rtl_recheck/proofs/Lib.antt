@@ -3,3 +3,4 @@ pub mod OneSource
 pub mod Stored
 pub mod Clocks
 pub mod Keeping
+pub mod SameReports

@@ -6,7 +6,7 @@ use Rattle.rtl_model.specs.simulation.Netlist.{sources_of}
 use Rattle.rtl_net.specs.declared.net.Source.{Source}
 use Rattle.rtl_net.specs.Nets.{NetlistView, flat, source_view}
 use Rattle.rtl_net.specs.Core.{core}
-use Rattle.rtl_check.proofs.Firsts.{sources_there}
+use Rattle.rtl_process_kinds.proofs.Sources.{sources_there}
 use Rattle.rtl_recheck.specs.Kept.{HasOneSource}
 
 module _ (net : NetlistView) (n : ℕ) (l : n < length net.types) where

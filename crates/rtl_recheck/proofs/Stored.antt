@@ -17,7 +17,7 @@ use Rattle.std.specs.Prelude.{All}
 use Rattle.rtl_check.specs.declared.variables.VariableElement.{VariableElement}
 use Rattle.rtl_net.specs.Core.{core}
 use Rattle.rtl_check.specs.Places.{widths, place_in, places_from}
-use Rattle.rtl_check.proofs.Processes.{process_is}
+use Rattle.rtl_process_kinds.proofs.Processes.{process_is}
 use Rattle.rtl_check.proofs.Elements.{number_of, number_is, number_below, place_at}
 use Rattle.rtl_recheck.specs.Kept.{HasFew, StoresNone, StoresNothing}
 

@@ -13,8 +13,9 @@ use Rattle.rtl_body_facts.specs.declared.kinds.ProcessKind.{ProcessKind}
 use Rattle.rtl_body_facts.specs.declared.kinds.ProcessKind.TheVariants as k
 use Rattle.rtl_body_facts.specs.Reading.{is_in}
 use Rattle.rtl_body_facts.specs.Paths.{driven, to_net}
+use Rattle.rtl_check.specs.declared.reporting.NetReport.{NetReport}
 use Rattle.rtl_check.specs.declared.rule.Rule.{Rule}
-use Rattle.rtl_check.specs.Views.{nets_tested}
+use Rattle.rtl_process_kinds.specs.KindViews.{nets_tested}
 use Rattle.rtl_check.specs.Rules.{is_data, fault_of}
 
 -- ---- lists of nets
@@ -84,3 +85,14 @@ StoresNothing net p = (variable place : ℕ) → IsFault net (StoredVariable p v
 
 abbrev pub AllKeep : Netlist → Type 0
 AllKeep net = (p : ℕ) → KeepsRules net p × StoresNothing net p
+
+-- ---- reports by nets
+
+-- they have the same levels, froms, nets, looks, clocks and bound
+pub record SayTheSame (one other : NetReport) : Type 0 where
+  pub levels : one.levels.items ≡ other.levels.items
+  pub from : one.from.items ≡ other.from.items
+  pub nets : one.nets.items ≡ other.nets.items
+  pub looks : one.looks.items ≡ other.looks.items
+  pub clocks : one.clocks.items ≡ other.clocks.items
+  pub bound : one.bound ≡ other.bound

@@ -5,7 +5,7 @@ ghost use Rattle.std.specs.List.Sorted.{IsStrictlyIncreasing};
 ghost use Rattle.rtl_model.specs.basics.Lists.{RisesBy};
 ghost use Rattle.rtl_model.specs.simulation.Report.{clock_key};
 ghost use Rattle.rtl_body_facts.specs.Reading.{is_in};
-ghost use Rattle.rtl_check.specs.Views.{nets_tested};
+ghost use Rattle.rtl_process_kinds.specs.KindViews.{nets_tested};
 ghost use Rattle.rtl_recheck.specs.Kept.{AreWithin, HasNoClockAsData, clock_nets};
 
 use rtl_body_facts::{Clocking, contains_rising};

@@ -1,5 +1,5 @@
-//! Whether a report stands: that a netlist is accepted, and that this is the report on it, without
-//! memory.
+//! Whether a report stands: that a netlist is accepted, and that this is the report on it; without
+//! memory, where it is judged by processes.
 //!
 //! The definitions are those of rtl_model's `simulation/Accepted` and `Report`; `specs/Kept.antt`
 //! says what is asked of each process.
@@ -8,7 +8,8 @@
 mod clocked;
 mod rechecking;
 mod rules;
+mod same;
 mod sources;
 mod variables;
 
-pub use rechecking::recheck;
+pub use rechecking::{recheck, recheck_by_nets};

@@ -1,15 +1,17 @@
 //! Whether a report stands.
 
-ghost use Rattle.std.specs.Prelude.{◌↔◌, IsTrue};
+ghost use Rattle.std.specs.Prelude.{◌↔◌, IfOk, IsTrue};
 ghost use Rattle.rtl_model.specs.simulation.Accepted.{IsAccepted};
 ghost use Rattle.rtl_net.specs.Core.{core};
-ghost use Rattle.rtl_check.specs.Verdicts.{IsReportOf};
+ghost use Rattle.rtl_check.specs.Verdicts.{IsNetReportOf, IsReportOf};
 
 use crate::rules::{all_keep, has_no_mixed};
+use crate::same::are_same;
 use crate::sources::have_one_source;
-use rtl_check::{Report, is_report};
+use rtl_check::{Judgement, NetReport, Report, is_report, judge};
 use rtl_model::simulation_laws;
-use rtl_net::Net;
+use rtl_net::{Net, NoMemory, nets_meet_the_laws};
+use std::alloc::Global;
 
 /// Whether a netlist is accepted and this is the report on it, in its levels, its froms, its clocks
 /// and its bound. It searches for no loop: levels and froms that agree process by process show that
@@ -23,6 +25,9 @@ pub fn recheck(net: &Net, report: &Report) -> bool
 {
     simulation_laws::reports_are_shown();
     simulation_laws::levels_are_shown();
+    simulation_laws::accepted_by_processes();
+    nets_meet_the_laws();
+    net.is_elaborated();
     if !has_no_mixed(net) {
         return false;
     }
@@ -33,4 +38,18 @@ pub fn recheck(net: &Net, report: &Report) -> bool
         return false;
     }
     all_keep(net, &report.clocks)
+}
+
+/// Whether a netlist is accepted and judged by nets, and this is the report on it. The checker judges
+/// it once more, since there is no other such report: it takes its time and its memory.
+pub fn recheck_by_nets(alloc: Global, net: &Net, report: &NetReport) -> Result<bool, NoMemory>
+    ensures { IfOk result (λ b. IsTrue b ↔ (IsAccepted (core net.now) × IsNetReportOf (core net.now) report.now)) }
+{
+    simulation_laws::one_net_report();
+    simulation_laws::faults_are_listed();
+    match judge(alloc, net)? {
+        Judgement::ByNets(own) => Ok(are_same(&own, report)),
+        Judgement::ByProcesses(_) => Ok(false),
+        Judgement::Faulty(_) => Ok(false),
+    }
 }

@@ -1,7 +1,7 @@
 use Rattle.std.proofs.Common.{◌&&◌, not, ℕ, List, sym, ap, ◌∙◌}
 use Rattle.rtl_body_facts.specs.Reading.{is_in}
 use Rattle.rtl_check.specs.declared.rule.Rule.{Rule}
-use Rattle.rtl_check.specs.Views.{nets_tested}
+use Rattle.rtl_process_kinds.specs.KindViews.{nets_tested}
 use Rattle.rtl_check.specs.Rules.{clocked_breaks}
 use Rattle.rtl_check.proofs.KeptNets.{if_ok, kept_rise, kept_are}
 use Rattle.rtl_check.proofs.breaking.clocked_nets.Goals as goal

@@ -8,7 +8,7 @@ use Rattle.rtl_net.specs.Nets.{source_view}
 use Rattle.rtl_body_facts.specs.Reading.{is_in}
 use Rattle.rtl_body_facts.proofs.Anys.{or_assoc, or_none}
 use Rattle.rtl_check.specs.Feeders.{feeds_by}
-use Rattle.rtl_check.proofs.Rows.{any_map}
+use Rattle.rtl_process_kinds.proofs.Sources.{any_map}
 use Rattle.rtl_check.proofs.graph.push_feeders.Goals as goal
 
 -- what is pushed for one more source, behind what was there

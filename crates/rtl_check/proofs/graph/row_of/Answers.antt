@@ -7,7 +7,7 @@ use Rattle.rtl_net.specs.Nets.{flat}
 use Rattle.rtl_body_facts.specs.Reading.{is_in}
 use Rattle.rtl_body_facts.proofs.Anys.{or_none}
 use Rattle.rtl_check.specs.Feeders.{feeds_by}
-use Rattle.rtl_check.proofs.Processes.{many_processes, within}
+use Rattle.rtl_process_kinds.proofs.Processes.{many_processes, within}
 use Rattle.rtl_check.proofs.Rows.{row_some}
 use Rattle.std.proofs.lemmas.Result.{IfOk-from_err}
 use Rattle.rtl_check.proofs.graph.row_of.Goals as goal

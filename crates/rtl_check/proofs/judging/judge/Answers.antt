@@ -1,38 +1,44 @@
-use Rattle.std.proofs.Common.{◌≡◌, ◌<◌, ◌≤◌, ℕ, length, map, sym, ap, subst, ◌∙◌, arith}
-use Rattle.rtl_check_levels.specs.Feeding as t
-use Rattle.rtl_check_levels.specs.declared.order.LevelOrder.{LevelOrder}
-use Rattle.rtl_check_levels.specs.Orders.{IsOrder}
-use Rattle.rtl_check_levels.specs.Rounds.{IsRound}
+use Rattle.std.proofs.Common.{◌≡◌, ◌∙◌, ◌≤◌, ℕ, Some, sym, subst, map}
 use Rattle.rtl_net.specs.Core.{core}
 use Rattle.rtl_check.specs.Views.{fault_view}
-use Rattle.rtl_check.proofs.Processes.{many_processes}
-use Rattle.rtl_check.proofs.Verdicts.{looped, none_of, closed, none_once, looped_once}
+use Rattle.rtl_check.specs.Findings.{IsFound}
+use Rattle.rtl_check.proofs.Verdicts.{refused}
 use Rattle.rtl_check.proofs.judging.judge.Goals as goal
 
-small : {a b m n : ℕ} → a ≡ b → b ≡ m → m ≡ n → n ≤ 65536 → a < 4294967296
-small e f g l = omega arith
+pub returns-in-Faulty-clause-judgement : goal.returns-in-Faulty-clause-judgement
+returns-in-Faulty-clause-judgement c = (subst (IsFound (core c.args.net.now)) c.in-Faulty.is c.in_ok-faults.ensures).0
 
-pub order_of-requires : goal.order_of-requires
-order_of-requires c =
-    let table = c.in_ok-table.table.items in
-    let is = c.deref.ensures.value in
-    record {
-      closed = subst t.IsClosed (sym is) (closed (core c.args.net.now) table c.in_ok-table.ensures);
-      few = small (ap (λ (xs : t.Table). length xs) is) c.in_ok-table.ensures.each_process (many_processes c.args.net.now) c.is_elaborated.ensures.processes_limit;
-    }
+pub returns-in-Faulty-clause-accepts : goal.returns-in-Faulty-clause-accepts
+returns-in-Faulty-clause-accepts c =
+    let net = core c.args.net.now in
+    refused net (map fault_view c.in-Faulty.faults.items) (c.faults_are_listed.ensures net) (subst (IsFound net) c.in-Faulty.is c.in_ok-faults.ensures).0
 
-pub returns-then-not-is_empty-clause-once : goal.returns-then-not-is_empty-clause-once
-returns-then-not-is_empty-clause-once c = none_once (core c.args.net.now) (map fault_view c.in_ok-faults.faults.items) c.in_ok-faults.ensures
+pub returns-in-Faulty-clause-once : goal.returns-in-Faulty-clause-once
+returns-in-Faulty-clause-once c = (subst (IsFound (core c.args.net.now)) c.in-Faulty.is c.in_ok-faults.ensures).1
 
-pub returns-in_ok-push-in-Looped-clause-judged : goal.returns-in_ok-push-in-Looped-clause-judged
-returns-in_ok-push-in-Looped-clause-judged c =
-    let n = core c.args.net.now in
-    let faults = c.in_ok-faults.faults in
-    looped n faults.items c.push.new.self.items c.in-Looped.processes (none_of faults (sym c.is_empty.ensures ∙ c.if-not-is_empty.false)) c.in_ok-faults.ensures (c.in_ok-push-in-Looped).ensures.items
-    (c.tables_are_of_nets.ensures.loops n c.in_ok-table.table.items c.in-Looped.processes.items c.in_ok-table.ensures
-    (subst (λ (xs : t.Table). IsRound xs c.in-Looped.processes.items) c.deref.ensures.value (subst (λ (o : LevelOrder). IsOrder c.deref.result.now o) c.in-Looped.is c.in_ok-levels.ensures).0))
+pub returns-clause-judgement : goal.returns-clause-judgement
+returns-clause-judgement c = let report = c.in_ok-report-in-NetsLeveled.ensures in (report.accepted, report.report)
 
-pub returns-in_ok-push-in-Looped-clause-once : goal.returns-in_ok-push-in-Looped-clause-once
-returns-in_ok-push-in-Looped-clause-once c =
-    looped_once c.in_ok-faults.faults.items c.push.new.self.items c.in-Looped.processes (none_of c.in_ok-faults.faults (sym c.is_empty.ensures ∙ c.if-not-is_empty.false))
-    (c.in_ok-push-in-Looped).ensures.items (subst (λ (o : LevelOrder). IsOrder c.deref.result.now o) c.in-Looped.is c.in_ok-levels.ensures).1
+pub returns-in-Leveled-clause-judgement : goal.returns-in-Leveled-clause-judgement
+returns-in-Leveled-clause-judgement c = let report = c.in_ok-report-in-Leveled.ensures in (report.accepted, report.report)
+
+pub returns-in-Leveled-clause-leads_down : goal.returns-in-Leveled-clause-leads_down
+returns-in-Leveled-clause-leads_down c q level has =
+    let r = c.in_ok-report-in-Leveled.report in
+    c.reports_lead_down.ensures (core c.args.net.now) r.levels.items r.from.items r.clocks.items r.bound c.in_ok-report-in-Leveled.ensures.report q level has.0 has.1
+
+pub returns-in-Leveled-clause-longest : goal.returns-in-Leveled-clause-longest
+returns-in-Leveled-clause-longest c q level many has chain =
+    let (l, is, longest) = c.in_ok-report-in-Leveled.ensures.report.levels_are.combinational q has.0 in
+    let same : l ≡ level = one (sym is ∙ has.1) in
+    subst (λ (n : ℕ). many ≤ n) same (longest.longest many chain)
+  where
+    one : {a b : ℕ} → Some a ≡ Some b → a ≡ b
+    one e = cc
+
+pub returns-in-Leveled-clause-lowest : goal.returns-in-Leveled-clause-lowest
+returns-in-Leveled-clause-lowest c number rises q level has =
+    let net = core c.args.net.now in
+    let r = c.in_ok-report-in-Leveled.report in
+    let shown = ((c.reports_are_shown.ensures net r.levels.items r.from.items r.clocks.items r.bound).0 c.in_ok-report-in-Leveled.ensures.report).shown in
+    ((c.levels_are_shown.ensures net r.levels.items r.from.items shown).0 q level has.0 has.1).1 number rises

@@ -2,7 +2,8 @@ use Rattle.std.proofs.Common.{◌≡◌, ℕ, List, length, true, false, sym, ap
 use Rattle.rtl_model.specs.simulation.Netlist as m
 use Rattle.rtl_net.specs.declared.process.Process.{Process}
 use Rattle.rtl_net.specs.Core.{core}
-use Rattle.rtl_check.proofs.Processes.{many_processes, clock_there}
+use Rattle.rtl_check.proofs.Processes.{clock_there}
+use Rattle.rtl_process_kinds.proofs.Processes.{many_processes}
 use Rattle.rtl_check.proofs.ListedPairs.{next_or}
 use Rattle.rtl_check.proofs.listed_clocks.are_listed.Goals as goal
 

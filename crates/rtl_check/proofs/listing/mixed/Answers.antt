@@ -1,7 +1,8 @@
 use Rattle.std.proofs.Common.{◌≡◌, ◌<◌, ◌⊎◌, inl, inr, ℕ, arith}
 use Rattle.rtl_net.specs.Core.{core}
 use Rattle.rtl_check.proofs.Joined.{adds_first, adds_place, adds_all, no_loops}
-use Rattle.rtl_check.proofs.Processes.{process_there, ends}
+use Rattle.rtl_check.proofs.Processes.{process_there}
+use Rattle.rtl_process_kinds.proofs.Processes.{ends}
 use Rattle.rtl_check.proofs.listing.mixed.Goals as goal
 
 numbers_differ : {a j k : ℕ} → a ≡ j → a ≡ k → (j < k) ⊎ (k < j) → ⊥

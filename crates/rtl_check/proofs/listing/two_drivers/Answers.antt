@@ -1,6 +1,6 @@
 use Rattle.std.proofs.Common.{arith}
 use Rattle.rtl_net.specs.Core.{core}
-use Rattle.rtl_check.proofs.Processes.{ends}
+use Rattle.rtl_process_kinds.proofs.Processes.{ends}
 use Rattle.rtl_check.proofs.Joined.{adds_first, adds_place, adds_all, no_loops}
 use Rattle.rtl_check.proofs.Firsts.{net_there}
 use Rattle.rtl_check.proofs.listing.two_drivers.Goals as goal

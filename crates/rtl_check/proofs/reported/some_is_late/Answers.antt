@@ -1,7 +1,7 @@
 use Rattle.std.proofs.Common.{◌≡◌, List, length, arith, sym, ap}
 use Rattle.rtl_net.specs.declared.process.Process.{Process}
 use Rattle.rtl_net.specs.Core.{core}
-use Rattle.rtl_check.proofs.Processes.{many_processes}
+use Rattle.rtl_process_kinds.proofs.Processes.{many_processes}
 use Rattle.rtl_check.proofs.Bounds.{none_late}
 use Rattle.rtl_check.proofs.reported.some_is_late.Goals as goal
 

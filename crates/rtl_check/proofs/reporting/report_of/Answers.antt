@@ -1,7 +1,7 @@
 use Rattle.std.proofs.Common.{◌≡◌, ◌+◌, ◌<◌, ◌≤◌, ℕ, arith, sym, subst}
 use Rattle.rtl_model.specs.simulation.Report.{IsReport}
 use Rattle.rtl_net.specs.Core.{core}
-use Rattle.rtl_check.proofs.Processes.{many_processes}
+use Rattle.rtl_process_kinds.proofs.Processes.{many_processes}
 use Rattle.rtl_check.proofs.LevelsFit.{greatest_fits}
 use Rattle.rtl_check.proofs.reporting.report_of.Goals as goal
 
@@ -20,8 +20,8 @@ returns c =
     let n = core c.args.net.now in
     let v = c.args.levels in
     let edges = c.in_ok-edges.edges.items in
-    let (report, no_loop) = c.tables_are_of_nets.ensures.levels n l.table v.levels.items v.from.items v.greatest edges l.is_table l.are_levels c.in_ok-edges.ensures in
+    let (no_loop, report) = c.tables_are_of_nets.ensures.levels n l.table v.levels.items v.from.items v.greatest l.is_table l.are_levels in
     record {
-      report = subst (IsReport n v.levels.items v.from.items edges) (sym c.bound_of-bound.ensures) report;
-      accepted = (c.faults_are_listed.ensures n).accepted_is.1 (l.no_fault, no_loop);
+      report = subst (IsReport n v.levels.items v.from.items edges) (sym c.bound_of-bound.ensures) (report edges l.by_processes c.in_ok-edges.ensures);
+      accepted = c.accepted_by_processes.ensures n (c.nets_meet_the_laws.ensures c.args.net.now c.is_elaborated.ensures).elaborated l.no_fault no_loop l.by_processes;
     }

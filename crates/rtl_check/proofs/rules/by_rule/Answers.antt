@@ -4,7 +4,8 @@ use Rattle.rtl_check.specs.declared.rule.Rule.TheVariants.{ClockNotInput}
 use Rattle.rtl_net.specs.Core.{core}
 use Rattle.rtl_check.specs.Rules.{rule_number}
 use Rattle.rtl_check.proofs.Joined.{adds_first, adds_place, adds_all}
-use Rattle.rtl_check.proofs.Processes.{process_there, ends}
+use Rattle.rtl_check.proofs.Processes.{process_there}
+use Rattle.rtl_process_kinds.proofs.Processes.{ends}
 use Rattle.rtl_check.proofs.rules.by_rule.Goals as goal
 
 between : (r : Rule) → (2 < rule_number r) × (rule_number r < 8)

@@ -1,7 +1,7 @@
 use Rattle.std.proofs.Common.{ℕ, List, get_or, ap, subst, ◌∙◌}
 use Rattle.rtl_body_facts.specs.declared.kinds.ProcessKind.TheVariants as k
 use Rattle.rtl_check.specs.Rules.{breaks, Pushes}
-use Rattle.rtl_check.proofs.Processes.{listed_as, many_processes, within}
+use Rattle.rtl_process_kinds.proofs.Processes.{listed_as, many_processes, within}
 use Rattle.rtl_check.proofs.RuleLists.{if_done, reads_listed, wakes_rise, rule_done}
 use Rattle.rtl_check.proofs.rules.rule_at.Goals as goal
 

@@ -1,7 +1,7 @@
 use Rattle.std.proofs.Common.{◌≡◌, ◌<◌, List, length, true, false, sym, ap, ◌∙◌, arith, refl}
 use Rattle.rtl_net.specs.declared.process.Process.{Process}
 use Rattle.rtl_net.specs.Core.{core}
-use Rattle.rtl_check.proofs.Processes.{many_processes}
+use Rattle.rtl_process_kinds.proofs.Processes.{many_processes}
 use Rattle.rtl_check.proofs.ShownLevels.{shows, stand}
 use Rattle.rtl_check.proofs.standing.are_levels.Goals as goal
 

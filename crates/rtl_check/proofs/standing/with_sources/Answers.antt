@@ -3,7 +3,7 @@ use Rattle.std.proofs.lemmas.List.{at_drop_all}
 use Rattle.rtl_net.specs.declared.net.Source.{Source}
 use Rattle.rtl_net.specs.Nets.{source_view}
 use Rattle.rtl_check.specs.Standing as s
-use Rattle.rtl_check.proofs.Firsts.{sources_there}
+use Rattle.rtl_process_kinds.proofs.Sources.{sources_there}
 use Rattle.rtl_check.proofs.standing.with_sources.Goals as goal
 
 pub returns : goal.returns

@@ -2,7 +2,8 @@ use Rattle.std.proofs.Common.{◌≡◌, ◌<◌, ◌≤◌, ℕ, length, refl, 
 use Rattle.rtl_net.specs.declared.process.Process.{Process}
 use Rattle.rtl_net.specs.Core.{core}
 use Rattle.rtl_check.proofs.Joined.{adds_first, adds_place, adds_all}
-use Rattle.rtl_check.proofs.Processes.{many_processes, process_there}
+use Rattle.rtl_check.proofs.Processes.{process_there}
+use Rattle.rtl_process_kinds.proofs.Processes.{many_processes}
 use Rattle.rtl_check.proofs.variables.stored_variables.Goals as goal
 
 nine_eight : {a : ℕ} → a ≡ 9 → a ≡ 8 → ⊥

@@ -1,7 +1,7 @@
 use Rattle.std.proofs.Common.{◌≡◌, List, length, arith, refl, ap}
 use Rattle.rtl_net.specs.declared.process.Process.{Process}
 use Rattle.rtl_net.specs.Core.{core}
-use Rattle.rtl_check.proofs.Processes.{many_processes}
+use Rattle.rtl_process_kinds.proofs.Processes.{many_processes}
 use Rattle.rtl_recheck.proofs.Keeping.{mixed_there}
 use Rattle.rtl_recheck.proofs.rules.has_no_mixed.Goals as goal
 

@@ -1,8 +1,0 @@
-use Rattle.std.proofs.Common.{◌≡◌, drop}
-use Rattle.std.specs.List.{list_any}
-use Rattle.rtl_net.specs.Core.{core}
-use Rattle.rtl_check.specs.Bounds.{is_driven}
-use Rattle.rtl_check.proofs.bound.follows_driver.Given as goal
-
-abbrev pub invariant-loop-wake : goal.invariant-loop-wake
-invariant-loop-wake l = list_any (is_driven (core l.net)) (drop l.wake-index l.wakes) ≡ list_any (is_driven (core l.net)) l.wakes
