@@ -1,5 +1,5 @@
 -- The edges without which processes assign nothing.
-use Rattle.std.proofs.Common.{◌≡◌, ℕ, zero, suc, ◌+◌, ◌<◌, ◌≤◌, Bool, false, List, [], ◌∷◌, ◌++◌, length, get_or, map, Option, Some, None, refl, sym, ap, subst, ◌∙◌, arith, ◌⊎◌, inl, inr}
+use Rattle.std.proofs.Common.{◌≡◌, ℕ, zero, suc, ◌+◌, ◌<◌, ◌≤◌, Bool, false, List, [], ◌∷◌, ◌++◌, length, get_or, map, Option, Some, None, refl, sym, ap, subst, ◌∙◌, arith, ◌⊎◌, inl, inr, true, not, ◌&&◌}
 use Rattle.std.specs.Prelude.{option_map, Contains, IfSome}
 use Rattle.std.proofs.lemmas.Bool.{cases_lt}
 use Rattle.std.proofs.lemmas.List.{get_or_past, length-map}
@@ -28,7 +28,7 @@ use Rattle.rtl_awaited_edges.specs.Awaiting.{AreEdges, IsAsleep, awaited_edge, e
 use Rattle.rtl_awaited_edges.specs.Laws.{EachAsleepAssignsNothing}
 
 pub processes_many : (net : NetlistView) → length (core net).processes ≡ length net.processes
-processes_many net = length-map (flat net).processes (core_process net.inputs) ∙ length-map net.processes process_view
+processes_many net = length-map (flat net).processes (core_process net.wide net.inputs) ∙ length-map net.processes process_view
 
 -- ---- edges
 
@@ -46,12 +46,12 @@ alone p (Some c) ns = by c.reset refl
     by (Some r) some = rw some refl
 
 pub kind_alone : (net : NetlistView) (p : ℕ) (x : Process) → p < length net.processes → x ≡ get_or net.processes p x
-    → edge_alone (kind_view (k.clocking net.inputs (body_of x)) (events (body_of x))) ≡ awaited_edge (core net) p
+    → edge_alone (kind_view (k.clocking net.wide net.inputs (body_of x)) (events (body_of x))) ≡ awaited_edge (core net) p
 kind_alone net p x l is =
     let there : p < length (map process_view net.processes) = rw (length-map net.processes process_view) l in
-    alone (process_view x) (k.clocking net.inputs (body_of x)) (events (body_of x))
-    ∙ sym (ap (λ (q : m.Process). edge_of_kind q.kind) (get_or-map_within (core_process net.inputs) (map process_view net.processes) p (process_view x) m.no_process there
-    ∙ ap (core_process net.inputs) (get_or-map_within process_view net.processes p x (process_view x) l ∙ ap process_view (sym is))))
+    alone (process_view x) (k.clocking net.wide net.inputs (body_of x)) (events (body_of x))
+    ∙ sym (ap (λ (q : m.Process). edge_of_kind q.kind) (get_or-map_within (core_process net.wide net.inputs) (map process_view net.processes) p (process_view x) m.no_process there
+    ∙ ap (core_process net.wide net.inputs) (get_or-map_within process_view net.processes p x (process_view x) l ∙ ap process_view (sym is))))
 
 pub get_or-push : {X : Type 0} (xs : List X) (x d : X) → get_or (xs ++ x ∷ []) (length xs) d ≡ x
 get_or-push [] x d = refl
@@ -92,16 +92,20 @@ pub leaves_nothing : (net : Netlist) → IsElaborated net → (p clock : ℕ) (e
     → net.edge edge (get_or before clock 0) (get_or v clock 0) ≡ false → (place : ℕ) → get_or ((process net p).effect before v) place None ≡ None
 leaves_nothing net E p clock edge is before v none place =
     E.bodies.clocked_acts p clock place edge before v (None, is)
-    ∙ ap (λ (k : m.ProcessKind). clocked_entry (m.resets (m.kind_reset k) (λ n. get_or v n 0)) (net.edge edge (get_or before clock 0) (get_or v clock 0)) (m.reset_entry (m.kind_reset k) place) (get_or ((process net p).acting_effect v) place None)) is
-    ∙ ap (λ (b : Bool). clocked_entry false b None (get_or ((process net p).acting_effect v) place None)) none
+    ∙ ap (λ (k : m.ProcessKind). clocked_entry (m.resets (m.kind_reset k) (λ n. get_or v n 0)) (net.edge edge (get_or before clock 0) (get_or v clock 0) && not (m.holds_back (m.kind_reset k) (λ n. get_or v n 0))) (m.reset_entry (m.kind_reset k) place) (get_or ((process net p).acting_effect v) place None)) is
+    ∙ ap (λ (b : Bool). clocked_entry false (b && true) None (get_or ((process net p).acting_effect v) place None)) none
 
 -- the clock of a clocked process is a net
-clock_tested : (inputs : List ℕ) (body : Stmts) (c : k.Clocking) → k.IsClockedAlone body c ⊎ k.IsClockedWithReset inputs body c → Contains (events body) c.test.clock
-clock_tested inputs body c (inl a) =
+clock_tested : (wide : Bool) (inputs : List ℕ) (body : Stmts) (c : k.Clocking) → k.IsClocked wide inputs body c → Contains (events body) c.test.clock
+clock_tested wide inputs body c (inl a) =
     let tested = subst (λ (ns : List ℕ). Contains ns c.test.clock) (sym (edge_test_event a.test c.test.clock c.test.edge a.edge)) (Contains-push [] c.test.clock) in
     subst (λ (s : Stmts). Contains (events s) c.test.clock) (sym a.is)
     (Contains-append_left (branches_events (branch a.test c.branch no_else)) [] c.test.clock (Contains-append_left (test_events a.test) (events c.branch ++ []) c.test.clock tested))
-clock_tested inputs body c (inr a) =
+clock_tested wide inputs body c (inr (inr a)) =
+    let tested = subst (λ (ns : List ℕ). Contains ns c.test.clock) (sym (edge_test_event a.test c.test.clock c.test.edge a.edge)) (Contains-push [] c.test.clock) in
+    subst (λ (s : Stmts). Contains (events s) c.test.clock) (sym a.is)
+    (Contains-append_left (branches_events (branch a.test c.branch no_else)) _ c.test.clock (Contains-append_left (test_events a.test) (events c.branch ++ []) c.test.clock tested))
+clock_tested wide inputs body c (inr (inl a)) =
     let tested = subst (λ (ns : List ℕ). Contains ns c.test.clock) (sym (edge_test_event a.test c.test.clock c.test.edge a.edge)) (Contains-push [] c.test.clock) in
     let inner = branches_events (branch a.test c.branch no_else) in
     subst (λ (s : Stmts). Contains (events s) c.test.clock) (sym a.is)
@@ -113,18 +117,18 @@ pub clock_is_net : (net : FlatNetlist) → IsInRange net → (p clock : ℕ) (ed
     → clock < length net.types
 clock_is_net net R p clock edge reset is = by (cases_lt p (length net.processes))
   where
-    kind_is : (core_process net.inputs (process_at net p)).kind ≡ Clocked clock edge reset
+    kind_is : (core_process net.wide net.inputs (process_at net p)).kind ≡ Clocked clock edge reset
     kind_is = sym (ap (λ (q : m.Process). q.kind) (process-core_net net p)) ∙ is
 
     by : (p < length net.processes) ⊎ (length net.processes ≤ p) → clock < length net.types
     by (inl l) =
         let q = process_at net p in
-        let a = is_at_edge net.inputs q clock edge reset kind_is in
+        let a = is_at_edge net.wide net.inputs q clock edge reset kind_is in
         let there = (each_read_is_there (scope_of net.types q) q.body (process_in_range net R p l).body).events_too in
         subst (λ (n : ℕ). n < length net.types) a.clock_is
-        (All-contains (λ n. n < length net.types) (events q.body) a.parts.test.clock there (clock_tested net.inputs q.body a.parts (clocked_is net.inputs q.body a.parts a.is)))
+        (All-contains (λ n. n < length net.types) (events q.body) a.parts.test.clock there (clock_tested net.wide net.inputs q.body a.parts (clocked_is net.wide net.inputs q.body a.parts a.is)))
     by (inr past) =
-        let f : m.Combinational ≡ Clocked clock edge reset = sym (ap (λ (q : FlatProcess). (core_process net.inputs q).kind) (get_or_past net.processes p no_flat_process past)) ∙ kind_is in
+        let f : m.Combinational ≡ Clocked clock edge reset = sym (ap (λ (q : FlatProcess). (core_process net.wide net.inputs q).kind) (get_or_past net.processes p no_flat_process past)) ∙ kind_is in
         absurd cc
 
 -- a process that awaits an edge is clocked without a reset

@@ -22,11 +22,12 @@ pub fn edges_of(alloc: Global, net: &Net) -> Result<Vec<Option<ClockEdge>>, Allo
     ensures { IfOk result (λ edges. AreEdges (core net.now) edges.items) }
 {
     net.is_elaborated();
+    let wide = net.is_wide();
     let inputs = net.inputs();
     let processes = net.processes();
     let mut edges = Vec::with_capacity(alloc, processes.len())?;
     for process in processes {
-        edges.push(edge_alone(kind_of(inputs, &process.body)))?;
+        edges.push(edge_alone(kind_of(wide, inputs, &process.body)))?;
     }
     Ok(edges)
 }

@@ -13,7 +13,7 @@ use Rattle.rtl_model.specs.simulation.Cycle.{State, all_driver_values, net_value
 use Rattle.rtl_model.specs.simulation.Elaborated.{IsWired}
 use Rattle.rtl_model.specs.simulation.Laws.{IsConsistent}
 use Rattle.rtl_model.proofs.basics.Lists.{any_at, any_true, Contains-first, Contains-none}
-use Rattle.rtl_model.proofs.simulation.Decisions.{is_contained}
+use Rattle.rtl_model.proofs.basics.Search.{is_contained}
 use Rattle.rtl_model.proofs.simulation.Order.{get_or-rows}
 use Rattle.rtl_model.proofs.simulation.Rows.{get_or-map, resumed_at}
 use Rattle.rtl_kernel.specs.drivers.Resolved.{AreResolved}

@@ -9,7 +9,7 @@ use Rattle.rtl_model.specs.simulation.Netlist.{Netlist, Source, sources_of}
 use Rattle.rtl_model.specs.simulation.Cycle.{net_value, source_value}
 use Rattle.rtl_model.proofs.basics.Lists.{get_or-map_within}
 use Rattle.rtl_model.proofs.nets.Sources.{sources-core_net}
-use Rattle.rtl_model.proofs.simulation.Decisions.{is_contained}
+use Rattle.rtl_model.proofs.basics.Search.{is_contained}
 use Rattle.rtl_net.specs.Nets.{source_view}
 use Rattle.rtl_net.specs.declared.net.Source as r
 use Rattle.rtl_kernel.specs.drivers.Resolved.{AreResolved}

@@ -47,16 +47,16 @@ nones_are : (ds : List r.Driver) → replicate {A = Option ℕ} (length ds) None
 nones_are [] = refl
 nones_are (d ∷ ds) = ap (λ (xs : List (Option ℕ)). None ∷ xs) (nones_are ds)
 
-module _ (inputs : List ℕ) where
-  drivers_are : (ps : List q.Process) → map start_row ps ≡ map (λ (p : Process). p.starts) (map (core_process inputs) (map process_view ps))
+module _ (wide : Bool) (inputs : List ℕ) where
+  drivers_are : (ps : List q.Process) → map start_row ps ≡ map (λ (p : Process). p.starts) (map (core_process wide inputs) (map process_view ps))
   drivers_are [] = refl
   drivers_are (p ∷ ps) = let rest = drivers_are ps in λ i. starts_are p.drives.items i ∷ rest i
 
-  pending_are : (ps : List q.Process) → map no_entries ps ≡ map (λ (p : Process). map {B = Option ℕ} (λ (n : ℕ). None) p.drives) (map (core_process inputs) (map process_view ps))
+  pending_are : (ps : List q.Process) → map no_entries ps ≡ map (λ (p : Process). map {B = Option ℕ} (λ (n : ℕ). None) p.drives) (map (core_process wide inputs) (map process_view ps))
   pending_are [] = refl
   pending_are (p ∷ ps) = let rest = pending_are ps in λ i. nones_are p.drives.items i ∷ rest i
 
-  waiting_are : (ps : List q.Process) → replicate (length ps) true ≡ map (λ (p : Process). true) (map (core_process inputs) (map process_view ps))
+  waiting_are : (ps : List q.Process) → replicate (length ps) true ≡ map (λ (p : Process). true) (map (core_process wide inputs) (map process_view ps))
   waiting_are [] = refl
   waiting_are (p ∷ ps) = ap (λ (bs : List Bool). true ∷ bs) (waiting_are ps)
 
@@ -157,9 +157,9 @@ module _ {E : Type 0} (process : E → FlatProcess) (types : E → List ElementT
   pub is_started : state_of v k.drivers k.resumed ≡ start_state (core_netlist (flat net)) inputs
   is_started =
       let first = N.no_event ∙ current_is in
-      let rows = drivers ∙ drivers_are net.inputs net.processes in
-      let pending = F.entries ∙ pending_are net.inputs net.processes in
-      let waits = waiting ∙ waiting_are net.inputs net.processes in
+      let rows = drivers ∙ drivers_are net.wide net.inputs net.processes in
+      let pending = F.entries ∙ pending_are net.wide net.inputs net.processes in
+      let waits = waiting ∙ waiting_are net.wide net.inputs net.processes in
       λ i. record { before = first i; now = current_is i; drivers = rows i; pending = pending i; waiting = waits i }
 
   sound : IsSound (flat net) (state_of v k.drivers k.resumed)

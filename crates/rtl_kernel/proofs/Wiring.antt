@@ -71,7 +71,7 @@ module _ (net : NetlistView) where
   pub wakes_are : map (λ (p : q.Process). p.wakes.items) net.processes ≡ wakes_of (core_netlist (flat net))
   wakes_are = by net.processes
     where
-      by : (ps : List q.Process) → map (λ (p : q.Process). p.wakes.items) ps ≡ map (λ (p : Process). p.wakes) (map (core_process net.inputs) (map process_view ps))
+      by : (ps : List q.Process) → map (λ (p : q.Process). p.wakes.items) ps ≡ map (λ (p : Process). p.wakes) (map (core_process net.wide net.inputs) (map process_view ps))
       by [] = refl
       by (p ∷ ps) = ap (λ (ws : List (List ℕ)). p.wakes.items ∷ ws) (by ps)
 

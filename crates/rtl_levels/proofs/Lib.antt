@@ -1,6 +1,5 @@
-pub mod Later
 pub mod Settling
-pub mod Starts
+pub mod Resets
 pub mod Edges
 pub mod Alike
 pub mod Marking
@@ -9,6 +8,7 @@ pub mod Setting
 pub mod Taking
 pub mod Whole
 pub mod Spanned
+pub mod Coming
 pub mod Sweeping
 pub mod Together
 pub mod Advancing
@@ -19,4 +19,7 @@ pub mod Stepping
 pub mod Wired
 pub mod Planned
 pub mod Machines
+pub mod Clocks
 pub mod Ordering
+pub mod Leveling
+pub mod FirstVisits

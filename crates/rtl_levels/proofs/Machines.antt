@@ -1,18 +1,17 @@
 -- A machine's step keeps what holds of it.
-use Rattle.std.proofs.Common.{◌≡◌, ℕ, ◌<◌, ◌≤◌, Bool, true, false, List, [], length, get_or, map, Option, None, sym, ap, ◌∙◌, ◌⊎◌, inl, inr, Contains, All}
+use Rattle.std.proofs.Common.{◌≡◌, ℕ, ◌<◌, ◌≤◌, Bool, true, false, List, [], length, get_or, Option, sym, ap, ◌∙◌, arith, ◌⊎◌, inl, inr, Contains, All}
 use Rattle.std.specs.Prelude.{⊤}
 use Rattle.std.proofs.lemmas.Bool.{cases_lt}
 use Rattle.std.proofs.lemmas.List.{get_or_past, length-map}
 use Rattle.vhdl_values.specs.declared.scalar.Nine.{Nine}
 use Rattle.rtl_model.specs.nets.CoreNetlist.{core_netlist}
 use Rattle.rtl_model.specs.nets.FlatNetlist.{FlatNetlist, IsInRange}
-use Rattle.rtl_model.specs.simulation.Levels.{AreLevels}
+use Rattle.rtl_model.specs.simulation.Levels.{is_clocked}
 use Rattle.rtl_model.specs.simulation.Netlist.{Netlist, Edge, Process, no_process, target, IsClockedBy, IsCombinational, IsInput}
 use Rattle.rtl_model.specs.simulation.Cycle.{with_changes, with_inputs}
-use Rattle.rtl_model.specs.simulation.Machine.{IsFirst, IsStep}
+use Rattle.rtl_model.specs.simulation.Machine.{IsFirst, IsStep, entry_or}
 use Rattle.rtl_model.specs.simulation.Races.{IsRace}
 use Rattle.rtl_model.specs.simulation.Range.{IsValuation}
-use Rattle.rtl_model.proofs.basics.Lists.{get_or-map_within}
 use Rattle.rtl_model.proofs.simulation.Faultless.{Faultless, faultless, kinds_below}
 use Rattle.rtl_model.proofs.simulation.Levels.{numbered}
 use Rattle.rtl_model.proofs.simulation.Starting.{inputs_at, others_at, target_no_input}
@@ -24,18 +23,21 @@ use Rattle.rtl_kernel.proofs.Changing.{given_values}
 use Rattle.rtl_kernel.proofs.Inputs.{inputs_there, named}
 use Rattle.rtl_levels.specs.declared.schedule.Schedule.{Schedule}
 use Rattle.rtl_levels.specs.declared.state.State.{State}
-use Rattle.rtl_levels.specs.Kept.{AreSensitive, IsMachine, IsPlanned, IsStateOf}
+use Rattle.rtl_levels.specs.Kept.{AreSensitive, AreSettledOrToCome, IsMachine, IsPlanned, IsStateOf}
 use Rattle.rtl_levels.specs.Marks.{AllAreReaders, HasNoMark, IsGiven, Marks}
-use Rattle.rtl_levels.specs.Scheduled.{without_level}
-use Rattle.rtl_levels.specs.States.{Advances, AreOthersSettled}
+use Rattle.rtl_levels.specs.Running.{IsDerivedAt, IsSettledAt}
+use Rattle.rtl_levels.specs.Scheduled.{are_clocked}
+use Rattle.rtl_levels.specs.States.{Advances}
 use Rattle.rtl_levels.specs.Steps.{ComesToRest}
 use Rattle.rtl_levels.proofs.Awake.{clash}
 use Rattle.rtl_levels.proofs.Changed.{changed_alike, changed_in_range}
+use Rattle.rtl_levels.proofs.Coming.{stays_or_comes}
 use Rattle.rtl_levels.proofs.Edges.{each_reset_is_kept}
 use Rattle.rtl_levels.proofs.Advancing.{still_state}
+use Rattle.rtl_levels.proofs.Clocks.{told_clocked}
+use Rattle.rtl_levels.proofs.Resets.{reset_clocks}
 use Rattle.rtl_levels.proofs.Settling.{each_stays_settled}
 use Rattle.rtl_levels.proofs.Stepping as stepping
-use Rattle.rtl_levels.proofs.Sweeping.{at_rank, reads_agree}
 
 -- ---- a step
 
@@ -65,16 +67,17 @@ module _ (flat : FlatNetlist) (R : IsInRange flat) (schedule : Schedule) (before
     pub state_now : IsStateOf net schedule now
     state_now = still_state net schedule (λ n. ⊤) (record state { touched = t }) now forgotten F (changed_in_range flat R cs inputs v now.values.items K.state_is.in_range A)
 
-    -- what isn't marked is settled with the new inputs too
-    pub settled_now : AreOthersSettled net schedule.order.items now
-    settled_now k l none =
-        let p = get_or schedule.order.items k 0 in
-        let c = at_rank net schedule K.planned k l in
-        each_stays_settled net K.planned.elaborated p v now.values.items c (λ place h. K.at_rest.solves.on_combinational p place c h)
-        (reads_agree net schedule K.planned (λ n. ⊤) v now.values.items state.dirty.items now.dirty.items F.marks k l none)
-        (λ place h. ap (λ (u : List ℕ). get_or u (target net p place) 0) now_is
-        ∙ others_at net given v (target net p place) K.at_rest.solves.each_net
-        (target_no_input net (numbered net K.planned.elaborated K.planned.accepted) p place h))
+    -- what the new inputs may unsettle has a visit to come
+    pub settled_now : AreSettledOrToCome net schedule 0 now
+    settled_now P p place d h =
+        stays_or_comes net schedule P (λ n. ⊤) v now.values.items state.dirty.items now.dirty.items F.marks 0 (λ n k other l above. omega arith) p place d h
+        (λ agree. inl (each_stays_settled net P.elaborated p place v now.values.items d h (settled d) agree
+        (ap (λ (u : List ℕ). get_or u (target net p place) 0) now_is
+        ∙ others_at net given v (target net p place) K.at_rest.solves.each_net (target_no_input net (numbered net P.elaborated P.accepted) p place h))))
+      where
+        settled : IsDerivedAt net p place → IsSettledAt net v p place
+        settled (inl c) = ap (λ (o : Option ℕ). entry_or o (get_or v (target net p place) 0)) (K.at_rest.solves.on_combinational p place c h)
+        settled (inr (m, R)) = let (clock, edge, is) = reset_clocks net p R.0.0.0 R.0.0.1 in K.at_rest.resets p clock edge is place h
 
     module _ (woken' : List Bool) (W : Marks (wakers_of schedule.clocked) (IsGiven (changes_of cs)) v now.values.items woken woken') where
       pub sensitive_now : AreSensitive (wakers_of schedule.clocked) cs woken'
@@ -111,31 +114,27 @@ module _ (flat : FlatNetlist) (R : IsInRange flat) (schedule : Schedule) (before
 
 -- ---- the first moment
 
--- the marks of the processes that have no level
-module _ (net : Netlist) (levels : List (Option ℕ)) (greatest : ℕ) (V : AreLevels net levels greatest) where
-  pub clocked_marked : (p clock : ℕ) (edge : Edge) → IsClockedBy net p clock edge → get_or (map without_level levels) p false ≡ true
+-- the marks of the clocked processes
+module _ (net : Netlist) where
+  pub clocked_marked : (p clock : ℕ) (edge : Edge) → IsClockedBy net p clock edge → get_or (are_clocked net) p false ≡ true
   clocked_marked p clock edge (reset, is) = by (cases_lt p (length net.processes))
     where
-      by : (p < length net.processes) ⊎ (length net.processes ≤ p) → get_or (map without_level levels) p false ≡ true
-      by (inl l) =
-          get_or-map_within without_level levels p None false (rw (V.each_process) l) ∙ ap without_level (V.clocked p clock edge (reset, is))
+      by : (p < length net.processes) ⊎ (length net.processes ≤ p) → get_or (are_clocked net) p false ≡ true
+      by (inl l) = told_clocked net p l ∙ ap is_clocked is
       by (inr l) = let e = ap (λ (q : Process). q.kind) (get_or_past net.processes p no_process l) in cc
 
-  marked_clocked : (p : ℕ) → get_or (map without_level levels) p false ≡ true → IsCombinational net p → ⊥
-  marked_clocked p h c =
-      let (level, e, _) = V.combinational p c in
-      let f = get_or-map_within without_level levels p None false (rw (V.each_process) c.0) ∙ ap without_level e in
-      cc
+  marked_clocked : (p : ℕ) → get_or (are_clocked net) p false ≡ true → IsCombinational net p → ⊥
+  marked_clocked p h c = let f = told_clocked net p c.0 ∙ ap is_clocked c.1 in cc
 
   -- those follow their clocks, which are inputs
-  pub marked_follow : (schedule : Schedule) → IsPlanned net schedule → (nets : ℕ → Type 0) → ((n : ℕ) → IsInput net n → nets n)
-      → AllAreReaders (wakers_of schedule.clocked) nets (map without_level levels)
-  marked_follow schedule P nets inputs p h = by (cases_lt p (length net.processes))
+  pub marked_follow : (schedule : Schedule) → IsPlanned net schedule → (given : ℕ → Type 0) → ((n : ℕ) → IsInput net n → given n)
+      → AllAreReaders (wakers_of schedule.clocked) given (are_clocked net)
+  marked_follow schedule P given inputs p h = by (cases_lt p (length net.processes))
     where
       F : Faultless net
       F = faultless net P.accepted
 
-      kind : p < length net.processes → IsCombinational net p ⊎ ((clock : ℕ) × (edge : Edge) × IsClockedBy net p clock edge) → (n : ℕ) × nets n × Contains (get_or (wakers_of schedule.clocked) n []) p
+      kind : p < length net.processes → IsCombinational net p ⊎ ((clock : ℕ) × (edge : Edge) × IsClockedBy net p clock edge) → (n : ℕ) × given n × Contains (get_or (wakers_of schedule.clocked) n []) p
       kind l (inl c) = absurd (marked_clocked p h c)
       kind l (inr (clock, edge, is)) = (
         clock,
@@ -143,9 +142,9 @@ module _ (net : Netlist) (levels : List (Option ℕ)) (greatest : ℕ) (V : AreL
         stepping.clocked_follows net schedule P p clock clock edge is l (F.clock_wakes p clock edge is),
       )
 
-      by : (p < length net.processes) ⊎ (length net.processes ≤ p) → (n : ℕ) × nets n × Contains (get_or (wakers_of schedule.clocked) n []) p
+      by : (p < length net.processes) ⊎ (length net.processes ≤ p) → (n : ℕ) × given n × Contains (get_or (wakers_of schedule.clocked) n []) p
       by (inl l) = kind l (kinds_below net F p l)
-      by (inr l) = absurd (clash h (get_or_past (map without_level levels) p false (rw (length-map, V.each_process) l)))
+      by (inr l) = absurd (clash h (get_or_past (are_clocked net) p false (rw length-map l)))
 
 module _ (net : Netlist) (schedule : Schedule) (P : IsPlanned net schedule) (given : ℕ → ℕ) (now : List ℕ) (now_is : now ≡ with_inputs net given net.start) (in_range : IsValuation net now) where
   pub kept_first : (state : State) (woken : List Bool) → IsFirst net given state.values.items → IsStateOf net schedule state → length woken ≡ length net.processes → HasNoMark state.dirty.items

@@ -3,8 +3,8 @@ use Rattle.std.proofs.Common.{◌≡◌, ℕ, ◌+◌, ◌-◌, ◌<◌, ◌≤�
 use Rattle.std.proofs.lemmas.Bool.{cases_eq, cases_lt}
 use Rattle.std.proofs.lemmas.List.{get_or-set_other}
 use Rattle.rtl_kernel.specs.wakes.Woken.{AddsPlaces}
-use Rattle.rtl_net_groups.specs.Written.{IsWritten}
-use Rattle.rtl_levels.specs.Marks.{Marks, IsOfRun, IsReader}
+use Rattle.rtl_net_groups.specs.Written.{IsOther, IsWritten}
+use Rattle.rtl_levels.specs.Marks.{GetsOther, IsReader, Marks}
 
 module _ (index : List (List ℕ)) where
   pub marks_same : (nets : ℕ → Type 0) (v w : List ℕ) (m : List Bool) → ((n : ℕ) → get_or v n 0 ≡ get_or w n 0) → Marks index nets v w m m
@@ -53,9 +53,9 @@ module _ (index : List (List ℕ)) where
       other k (inr c) = inr (net, refl, c)
 
   -- the readers of a run of nets, which have the same
-  pub marks_run : (v w : List ℕ) (first : ℕ) (given : List ℕ) (a b : List Bool) → 0 < length given → ((k : ℕ) → k < length given → get_or index (first + k) [] ≡ get_or index first [])
-      → IsWritten first given v w → length b ≡ length a → AddsPlaces (get_or index first []) a b → Marks index (IsOfRun first (length given)) v w a b
-  marks_run v w first given a b some together W many A = record {
+  pub marks_run : (v w : List ℕ) (first : ℕ) (given : List ℕ) (a b : List Bool) → IsOther first given v → ((k : ℕ) → k < length given → get_or index (first + k) [] ≡ get_or index first [])
+      → IsWritten first given v w → length b ≡ length a → AddsPlaces (get_or index first []) a b → Marks index (GetsOther first given v) v w a b
+  marks_run v w first given a b one together W many A = record {
     as_many = many;
     kept = A.kept;
     readers_marked = λ n k differs f. readers_marked n k differs f (cases_lt n first);
@@ -73,6 +73,6 @@ module _ (index : List (List ℕ)) where
       readers_marked n k differs f (inl less) = absurd (differs (sym (W.below n less)))
       readers_marked n k differs f (inr low) = behind n k differs f low (cases_lt n (first + length given))
 
-      other : (k : ℕ) → (get_or a k false ≡ true) ⊎ Contains (get_or index first []) k → (get_or a k false ≡ true) ⊎ ((n : ℕ) × IsOfRun first (length given) n × IsReader index n k)
+      other : (k : ℕ) → (get_or a k false ≡ true) ⊎ Contains (get_or index first []) k → (get_or a k false ≡ true) ⊎ ((n : ℕ) × GetsOther first given v n × IsReader index n k)
       other k (inl h) = inl h
-      other k (inr c) = inr (first, record { at = 0; within = some; is = omega arith }, c)
+      other k (inr c) = inr (first + one.place, record { at = one.place; within = one.there; is = refl; other = one.differ }, rw (together one.place one.there) c)

@@ -4,7 +4,7 @@ use Rattle.std.specs.Global.{Global}
 use Rattle.std.proofs.lemmas.List.{length-map}
 use Rattle.rtl_net_groups.specs.Groups.{Grouping}
 use Rattle.rtl_net_groups.specs.Touching.{MarksRun}
-use Rattle.rtl_net_groups.specs.Written.{IsWritten}
+use Rattle.rtl_net_groups.specs.Written.{IsOther, IsWritten}
 use Rattle.rtl_kernel.specs.wakes.Woken.{AddsPlaces, wakers_of}
 use Rattle.rtl_kernel.proofs.Grouped.{wakers_at}
 use Rattle.rtl_net_groups.proofs.Replaced.{same_values}
@@ -14,14 +14,14 @@ use Rattle.rtl_levels.proofs.Marking.{marks_run, marks_same}
 use Rattle.rtl_net_groups.proofs.Touching.{touches_run, touches_same}
 
 module _ (readers : Grouping) (first : ℕ) (given : List ℕ) (a : State) where
-  pub get_new : (b : State) → StandTogether readers first (length given) a → IsWritten first given a.values.items b.values.items → 0 < length given → (listed : List ℕ)
+  pub get_new : (b : State) → StandTogether readers first (length given) a → IsWritten first given a.values.items b.values.items → IsOther first given a.values.items → (listed : List ℕ)
       → listed ≡ get_or (wakers_of readers) first [] → length b.dirty.items ≡ length a.dirty.items → AddsPlaces listed a.dirty.items b.dirty.items
       → MarksRun first (first + length given) a.touched b.touched → GetValues readers first given a b
-  get_new b T W some listed are lasting adds M = record {
+  get_new b T W one listed are lasting adds M = record {
     written = W;
     advances = record {
       as_many = W.as_many;
-      marks = marks_run (wakers_of readers) a.values.items b.values.items first given a.dirty.items b.dirty.items some alike W lasting
+      marks = marks_run (wakers_of readers) a.values.items b.values.items first given a.dirty.items b.dirty.items one alike W lasting
           (subst (λ (xs : List ℕ). AddsPlaces xs a.dirty.items b.dirty.items) are adds);
       touched = touches_run a.touched b.touched first given a.values.items b.values.items W M;
     };
@@ -33,7 +33,7 @@ module _ (readers : Grouping) (first : ℕ) (given : List ℕ) (a : State) where
       alike : (k : ℕ) → k < length given → get_or (wakers_of readers) (first + k) [] ≡ get_or (wakers_of readers) first []
       alike k l =
           wakers_at readers (first + k) (in_nets (first + k) (omega (arith, l, T.there))) ∙ ap (λ (g : ℕ). get_or readers.listed g []) (T.together k l)
-          ∙ sym (wakers_at readers first (in_nets first (omega (arith, T.there, some))))
+          ∙ sym (wakers_at readers first (in_nets first (omega (arith, T.there, one.there))))
 
   -- those that they have
   pub get_same : (w : Vec ℕ Global) → IsWritten first given a.values.items w.items → ((k : ℕ) → k < length given → get_or a.values.items (first + k) 0 ≡ get_or given k 0)

@@ -2,7 +2,6 @@
 use Rattle.std.proofs.Common.{◌≡◌, ℕ, ◌+◌, ◌<◌, ◌≤◌, List, Option, Some, None, arith, length, get_or, drop, ap, sym, subst, ◌∙◌, ◌⊎◌, inl, inr, Contains, IsSome}
 use Rattle.std.specs.List.{range_with_len}
 use Rattle.std.proofs.lemmas.Bool.{cases_lt}
-use Rattle.std.proofs.lemmas.List.Elements.{Contains-get_or}
 use Rattle.std.proofs.lemmas.List.FromFn.{get_or-range_with_len, length-range_with_len}
 use Rattle.rtl_drives.specs.declared.spans.Span.{Span}
 use Rattle.rtl_drives.specs.Spans.{places_of}
@@ -13,11 +12,11 @@ use Rattle.rtl_kernel.specs.drivers.Updates.{IsTaken}
 use Rattle.rtl_kernel.specs.wakes.Woken.{AreDifferent}
 use Rattle.rtl_kernel.proofs.Updating.{left_all, left_one, none_left, taken_more}
 use Rattle.rtl_levels.specs.declared.state.State.{State}
-use Rattle.rtl_levels.specs.Marks.{IsOfRun}
-use Rattle.rtl_levels.specs.Running.{TakesPart, at_targets}
+use Rattle.rtl_levels.specs.Marks.{GetsOther}
+use Rattle.rtl_levels.specs.Running.{IsNew, TakesPart, at_targets}
 use Rattle.rtl_levels.specs.States.{Advances, GetValues, StandTogether, StateTakesOver, StateTakesPart}
 use Rattle.rtl_levels.proofs.Advancing.{advances_none, advances_then, advances_wider}
-use Rattle.rtl_levels.proofs.Taking.{part_all, part_none, part_run, part_then, taken_here}
+use Rattle.rtl_levels.proofs.Taking.{at_target, new_before, part_all, part_none, part_run, part_then, taken_here}
 use Rattle.rtl_levels.proofs.Whole.{run_differs}
 
 abbrev pub no_span : Span
@@ -25,13 +24,14 @@ no_span = record { first = 0; len = 0 }
 
 module _ (readers : Grouping) (targets : List ℕ) (entries : List (Option ℕ)) where
   pub some_none : (from : ℕ) (a : State) → StateTakesPart readers targets entries from from a a
-  some_none from a = record { part = part_none targets entries a.values.items; taken = λ q l k. absurd (omega (arith, l, k)); advances = advances_none readers (Contains targets) a }
+  some_none from a = record { part = part_none targets entries a.values.items; taken = λ q l k. absurd (omega (arith, l, k)); advances = advances_none readers (IsNew targets entries a.values.items) a }
 
   pub some_then : (from middle end : ℕ) (a b c : State) → StateTakesPart readers targets entries from middle a b → StateTakesPart readers targets entries middle end b c → StateTakesPart readers targets entries from end a c
   some_then from middle end a b c S T = record {
     part = part_then targets entries a.values.items b.values.items c.values.items S.part T.part;
     taken = λ q low high. by q low high (cases_lt q middle);
-    advances = advances_then readers (Contains targets) a b c S.advances T.advances;
+    advances = advances_then readers (IsNew targets entries a.values.items) a b c S.advances
+        (advances_wider readers (IsNew targets entries b.values.items) (IsNew targets entries a.values.items) (new_before targets entries a.values.items b.values.items S.part) b c T.advances);
   }
     where
       by : (q : ℕ) → from ≤ q → q < end → (q < middle) ⊎ (middle ≤ q) → IsTaken entries (at_targets targets c.values.items) q
@@ -46,27 +46,36 @@ module _ (readers : Grouping) (targets : List ℕ) (entries : List (Option ℕ))
     part = part;
     taken = taken_more entries (at_targets targets a.values.items) (at_targets targets b.values.items) first first given are
         (taken_here targets entries differ a.values.items b.values.items first net given within is are G.written) part.stay (λ q l k. absurd (omega (arith, l, k)));
-    advances = advances_wider readers (IsOfRun net (length given)) (Contains targets) of_run a b G.advances;
+    advances = advances_wider readers (GetsOther net given a.values.items) (IsNew targets entries a.values.items) of_run a b G.advances;
   }
     where
       part : TakesPart targets entries a.values.items b.values.items
       part = part_run targets entries differ a.values.items b.values.items first net given within is are G.written
 
-      of_run : (n : ℕ) → IsOfRun net (length given) n → Contains targets n
-      of_run n r = let l = r.within in subst (λ (m : ℕ). Contains targets m) (is r.at l ∙ sym r.is) (Contains-get_or targets (first + r.at) 0 (omega (arith, l, within)))
+      of_run : (n : ℕ) → GetsOther net given a.values.items n → IsNew targets entries a.values.items n
+      of_run n r =
+          let l = r.within in
+          let there : first + r.at < length targets = omega (arith, l, within) in
+          let at = is r.at l ∙ sym r.is in
+          record {
+            place = first + r.at;
+            there = there;
+            is = at;
+            new = λ taken. r.other (ap (λ (m : ℕ). get_or a.values.items m 0) (sym at) ∙ sym (at_target targets entries a.values.items (first + r.at) there) ∙ taken (get_or given r.at 0) (are r.at l));
+          }
 
   -- those of the spans before the index
   pub record IsTaking (spans : List Span) (index : ℕ) (a b : State) : Type 0 where
     pub part : TakesPart targets entries a.values.items b.values.items
     pub left : (q : ℕ) → IsTaken entries (at_targets targets b.values.items) q ⊎ Contains (places_of (drop index spans)) q
-    pub advances : Advances readers (Contains targets) a b
+    pub advances : Advances readers (IsNew targets entries a.values.items) a b
 
   module _ (spans : List Span) where
     pub taking_none : AreAssigned entries (places_of spans) → (a : State) → IsTaking spans 0 a a
     taking_none A a = record {
       part = part_none targets entries a.values.items;
       left = left_all entries (at_targets targets a.values.items) spans A;
-      advances = advances_none readers (Contains targets) a;
+      advances = advances_none readers (IsNew targets entries a.values.items) a;
     }
 
     pub taking_more : (i : ℕ) (d : Span) → i < length spans → (a b c : State) → IsTaking spans i a b
@@ -75,7 +84,8 @@ module _ (readers : Grouping) (targets : List ℕ) (entries : List (Option ℕ))
       part = part_then targets entries a.values.items b.values.items c.values.items I.part S.part;
       left = left_one entries (at_targets targets b.values.items) (at_targets targets c.values.items) spans i d l S.part.stay
           (λ k m. S.taken ((get_or spans i d).first + k) (omega arith) (omega (arith, m))) I.left;
-      advances = advances_then readers (Contains targets) a b c I.advances S.advances;
+      advances = advances_then readers (IsNew targets entries a.values.items) a b c I.advances
+          (advances_wider readers (IsNew targets entries b.values.items) (IsNew targets entries a.values.items) (new_before targets entries a.values.items b.values.items I.part) b c S.advances);
     }
 
     pub taking_all : (i : ℕ) → length spans ≤ i → (a b : State) → IsTaking spans i a b → StateTakesOver readers targets entries a b

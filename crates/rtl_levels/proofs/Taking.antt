@@ -7,7 +7,7 @@ use Rattle.rtl_model.proofs.basics.Lists.{get_or-map_within}
 use Rattle.rtl_kernel.specs.drivers.Updates.{IsTaken}
 use Rattle.rtl_net_groups.specs.Written.{IsWritten}
 use Rattle.rtl_kernel.specs.wakes.Woken.{AreDifferent}
-use Rattle.rtl_levels.specs.Running.{TakesOver, TakesPart, at_targets}
+use Rattle.rtl_levels.specs.Running.{IsNew, TakesOver, TakesPart, at_targets}
 
 module _ (targets : List ℕ) (entries : List (Option ℕ)) where
   pub at_target : (v : List ℕ) (place : ℕ) → place < length targets → get_or (at_targets targets v) place 0 ≡ get_or v (get_or targets place 0) 0
@@ -26,6 +26,10 @@ module _ (targets : List ℕ) (entries : List (Option ℕ)) where
     stay = λ place taken. B.stay place (A.stay place taken);
     on_others = λ n other. B.on_others n other ∙ A.on_others n other;
   }
+
+  -- what is new behind a part was before it
+  pub new_before : (u v : List ℕ) → TakesPart targets entries u v → (n : ℕ) → IsNew targets entries v n → IsNew targets entries u n
+  new_before u v P n N = record { place = N.place; there = N.there; is = N.is; new = λ taken. N.new (P.stay N.place taken) }
 
   -- ---- the places from one on, whose nets stand one behind the other
 

@@ -1,7 +1,7 @@
 -- What the machine takes from its netlist.
 use Rattle.std.proofs.Common.{◌≡◌, ℕ, ◌<◌, ◌≤◌, true, false, List, [], length, get_or, map, Option, sym, ap, subst, ◌∙◌, arith, ◌⊎◌, inl, inr, All}
 use Rattle.std.proofs.lemmas.Bool.{cases_Bool, cases_lt}
-use Rattle.std.proofs.lemmas.List.Elements.{All-map}
+use Rattle.std.proofs.lemmas.List.Elements.{All-filter, All-map}
 use Rattle.std.proofs.lemmas.List.{get_or-set_same, get_or_default, ext_get_or, get_or_past, length-map}
 use Rattle.rtl_model.specs.bodies.Types.{ElementType, KeepsTypes}
 use Rattle.rtl_model.specs.nets.CoreNetlist.{core_process, part_effect}
@@ -9,7 +9,7 @@ use Rattle.rtl_model.specs.nets.FlatNetlist.{FlatProcess, IsInRange, no_flat_pro
 use Rattle.rtl_model.specs.simulation.Levels.{is_clocked}
 use Rattle.rtl_model.proofs.nets.InRange.{process_in_range}
 use Rattle.rtl_model.specs.simulation.Netlist as m
-use Rattle.rtl_model.specs.simulation.Netlist.{process, IsCombinational}
+use Rattle.rtl_model.specs.simulation.Netlist.{process}
 use Rattle.rtl_model.proofs.basics.Lists.{get_or-map_within}
 use Rattle.rtl_model.proofs.nets.Processes.{process-core_net}
 use Rattle.rtl_model.specs.simulation.Range.{IsValuation}
@@ -19,10 +19,13 @@ use Rattle.rtl_kernel.specs.drivers.Transactions.{HasRunOf, all_targets, nets_of
 use Rattle.rtl_kernel.proofs.Steps.{keeps_types}
 use Rattle.rtl_kernel.proofs.Wiring.{nets_there, targets_are}
 use Rattle.rtl_net.specs.Nets.{NetlistView, flat, process_view}
+use Rattle.rtl_net.specs.declared.process.Driver.{Driver}
 use Rattle.rtl_net.specs.declared.process.Process.{Process}
 use Rattle.rtl_net.specs.Core.{core}
 use Rattle.rtl_levels.specs.Kept.{MayRun}
-use Rattle.rtl_levels.specs.Scheduled.{clocked_wakes, wakes_by_rank}
+use Rattle.rtl_levels.specs.declared.order.Visit.{Visit}
+use Rattle.rtl_levels.specs.Scheduled.{clocked_wakes, marking_nets, marks}
+use Rattle.rtl_levels.specs.Visits.{moves}
 
 -- what a run of a process has left, and what others had left
 module _ (entries : List (Option ℕ)) (p : ℕ) (old new : List Outcome) (R : HasRunOf entries p old new) where
@@ -39,8 +42,10 @@ module _ (net : NetlistView) where
       by (inl l) = rw (process-core_net (flat net) p) (process_in_range (flat net) R p l).wakes
       by (inr l) = rw (process-core_net (flat net) p, get_or_past (flat net).processes p no_flat_process l) (λ k d m. absurd (omega (arith, m)))
 
-  pub rows_there : IsInRange (flat net) → (order : List ℕ) → All (λ (nets : List ℕ). All (λ n. n < length net.types) nets) (wakes_by_rank (core net) order)
-  rows_there R order = All-map (λ (nets : List ℕ). All (λ n. n < length net.types) nets) (λ (p : ℕ). (process (core net) p).wakes) order (λ k d l. wakes_there R (get_or order k d))
+  pub rows_there : IsInRange (flat net) → (nets : List ℕ) (visits : List Visit) → All (λ (ns : List ℕ). All (λ n. n < length net.types) ns) (map (marking_nets (core net) nets) visits)
+  rows_there R nets visits =
+      All-map (λ (ns : List ℕ). All (λ n. n < length net.types) ns) (marking_nets (core net) nets) visits
+      (λ k d l. All-filter (marks (moves (process (core net) (get_or visits k d).process).kind) nets (get_or visits k d)) (λ n. n < length net.types) (process (core net) (get_or visits k d).process).wakes (wakes_there R (get_or visits k d).process))
 
   pub clocked_there : IsInRange (flat net) → All (λ (nets : List ℕ). All (λ n. n < length net.types) nets) (map clocked_wakes (core net).processes)
   clocked_there R =
@@ -55,10 +60,7 @@ module _ (net : NetlistView) where
   all_targets_there R = All-map (λ (nets : List ℕ). All (λ n. n < length net.types) nets) (λ (p : Process). nets_of p.drives.items) net.processes (nets_there net R)
 
   pub processes_many : length (core net).processes ≡ length net.processes
-  processes_many = length-map (flat net).processes (core_process net.inputs) ∙ length-map net.processes process_view
-
-  pub combinational_there : (p : ℕ) → IsCombinational (core net) p → p < length net.processes
-  combinational_there p c = rw (← processes_many) c.0
+  processes_many = length-map (flat net).processes (core_process net.wide net.inputs) ∙ length-map net.processes process_view
 
   pub drives_of_all : all_targets net.processes ≡ map (λ (x : m.Process). x.drives) (core net).processes
   drives_of_all =
@@ -81,6 +83,11 @@ module _ (net : NetlistView) where
         ap (λ (x : Process). x.wakes.items) is
         ∙ sym (ap (λ (x : FlatProcess). x.wakes) (get_or-map_within process_view net.processes p q no_flat_process there))
         ∙ sym (ap (λ (x : m.Process). x.wakes) (process-core_net (flat net) p))
+
+  -- the nets of drivers that are looked up
+  pub drives_looked_up : (p : ℕ) (l : p < length net.processes) (ps : List Process) (q : Process) (ds : List Driver) → ps ≡ net.processes → q ≡ get_or ps p q → ds ≡ q.drives.items
+      → nets_of ds ≡ (process (core net) p).drives
+  drives_looked_up p l ps q ds same is here = ap nets_of here ∙ drives_are p q l (is ∙ ap (λ (xs : List Process). get_or xs p q) same)
 
 module _ {E : Type 0} (process_of : E → FlatProcess) (types : E → List ElementType) (most : E → ℕ) (net : NetlistView) (bodies : List E) (runs : List Outcome)
     (M : MayRun process_of types most net bodies runs) where

@@ -1,5 +1,5 @@
 -- What holds of every machine, and of its parts.
-use Rattle.std.specs.Prelude.{◌≡◌, ℕ, ◌<◌, All, Bool, false, List, Option, Some, None, IsTrue, length, map, slice_index, slice_index_or}
+use Rattle.std.specs.Prelude.{◌≡◌, ℕ, ◌<◌, ◌⊎◌, All, Bool, false, List, Option, Some, None, IsTrue, length, map, slice_index, slice_index_or}
 use Rattle.vhdl_values.specs.declared.scalar.Nine.{Nine}
 use Rattle.rtl_model.specs.bodies.Types.{ElementType}
 use Rattle.rtl_model.specs.nets.FlatNetlist.{FlatProcess, IsInRange, process_at}
@@ -22,8 +22,9 @@ use Rattle.rtl_net.specs.Nets.{NetlistView, flat}
 use Rattle.rtl_levels.specs.declared.schedule.Schedule.{Schedule}
 use Rattle.rtl_levels.specs.declared.state.State.{State}
 use Rattle.rtl_levels.specs.Marks.{AllAreReaders, HasNoMark, IsGiven}
-use Rattle.rtl_levels.specs.Running.{KeepsResets}
+use Rattle.rtl_levels.specs.Running.{IsDerivedAt, IsSettledAt, KeepsResets}
 use Rattle.rtl_levels.specs.Scheduled.{IsSchedule, whole_first}
+use Rattle.rtl_levels.specs.Visits.{AreNetLevels, IsToCome}
 
 -- Each process of a netlist may be run: the k-th body is that of the k-th process, and the k-th run
 -- has its room.
@@ -34,12 +35,15 @@ pub record MayRun {E : Type 0} (process : E → FlatProcess) (types : E → List
   pub run_bodies : RunBodies process types (flat net) bodies
   pub room : HaveRoom most (flat net) bodies runs
 
--- Who is run when, in this accepted netlist: each process's drivers are cut over the nets that the
--- same combinational processes are sensitive to.
+-- Who is run when, in this accepted netlist: each process's drivers are cut over the nets that mark
+-- the same visits.
 pub record IsPlanned (net : Netlist) (s : Schedule) : Type 0 where
   pub elaborated : IsElaborated net
   pub accepted : IsAccepted net
-  pub schedule : IsSchedule net s.order.items (wakers_of s.readers) (wakers_of s.clocked)
+  -- the levels of nets by which it was made
+  pub nets : List ℕ
+  pub nets_are : AreNetLevels net nets
+  pub schedule : IsSchedule net nets s.visits.items (wakers_of s.readers) (wakers_of s.clocked)
   pub each_reader : length (wakers_of s.readers) ≡ length net.start
   pub each_clocked : length (wakers_of s.clocked) ≡ length net.start
   pub cuts : AreCutsOf s.readers.of_net (map (λ (p : Process). p.drives) net.processes) s.cuts
@@ -50,8 +54,16 @@ pub record IsPlanned (net : Netlist) (s : Schedule) : Type 0 where
 -- the values are the nets', each rank has a mark, and each net a chunk
 pub record IsStateOf (net : Netlist) (schedule : Schedule) (s : State) : Type 0 where
   pub in_range : IsValuation net s.values.items
-  pub each_rank : length s.dirty.items ≡ length schedule.order.items
+  pub each_rank : length s.dirty.items ≡ length schedule.visits.items
   pub each_chunk : s.touched.nets ≡ length s.values.items
+
+-- By whatever levels it was made: the net of each driver that may change it behind others has settled,
+-- or a visit of its process, at the net's level or below it, is marked and still to come.
+abbrev pub AreSettledOrToCome : Netlist → Schedule → (from : ℕ) → State → Type 0
+AreSettledOrToCome net schedule from s =
+    (P : IsPlanned net schedule) (p place : ℕ) → IsDerivedAt net p place → HasPlace net p place
+    → IsSettledAt net s.values.items p place
+    ⊎ IsToCome schedule.visits.items s.dirty.items from p (slice_index P.nets (target net p place))
 
 -- each marked process is sensitive to a net that one of these changes gives a value
 pub record AreSensitive (clocked : List (List ℕ)) (changes : List (ℕ × Nine)) (marked : List Bool) : Type 0 where

@@ -1,80 +1,75 @@
--- The laws of running processes one by one, each once a moment.
-use Rattle.std.specs.Prelude.{◌≡◌, ℕ, suc, ◌<◌, false, List, Option, Some, None, slice_index, slice_index_or, Contains}
-use Rattle.rtl_model.specs.basics.Valuations.{AgreeOn}
-use Rattle.rtl_model.specs.simulation.Netlist.{Netlist, Edge, Reset, process, target, HasPlace, HasReset, IsCombinational, IsClockedBy, IsInput}
+-- The laws of running processes one by one.
+use Rattle.std.specs.Prelude.{◌≡◌, ℕ, suc, false, List, length, None, slice_index, slice_index_or}
+use Rattle.rtl_model.specs.simulation.Netlist.{Netlist, Edge, Reset, process, target, HasPlace, HasReset, IsClockedBy, IsInput}
 use Rattle.rtl_model.specs.simulation.Cycle.{with_inputs}
 use Rattle.rtl_model.specs.simulation.Elaborated.{IsElaborated}
 use Rattle.rtl_model.specs.simulation.Accepted.{IsAccepted}
-use Rattle.rtl_model.specs.simulation.Levels.{AreLevels}
 use Rattle.rtl_model.specs.simulation.Races.{IsRace}
-use Rattle.rtl_model.specs.simulation.Machine.{Solves, IsFirst, IsStep, IsMachineRun, entry_or, register_first, register_next}
-use Rattle.rtl_levels.specs.Running.{IsSettled, IsWritten, KeepsResets}
+use Rattle.rtl_model.specs.simulation.Machine.{IsFirst, IsStep, IsMachineRun, entry_or, given, register_first, register_next}
+use Rattle.rtl_levels.specs.Running.{AgreeOnLooks, IsDerivedAt, IsSettledAt, IsWritten, KeepsResets, behind_reset}
 
--- ---- combinational processes
+-- ---- visits
 
--- the levels rise from each process to those that read what it drives
-abbrev pub EachReaderIsLater : Type 0
-EachReaderIsLater =
-    (net : Netlist) → IsAccepted net → (levels : List (Option ℕ)) (greatest : ℕ) → AreLevels net levels greatest
-    → (p q place a b : ℕ) → IsCombinational net p → IsCombinational net q → HasPlace net p place
-    → Contains (process net q).reads (target net p place)
-    → slice_index_or levels p None ≡ Some a → slice_index_or levels q None ≡ Some b → a < b
-
--- a process stays settled where neither what it reads nor what it drives changes
+-- a driver's net stays settled where neither what the driver looks at nor the net itself changes
 abbrev pub EachStaysSettled : Type 0
 EachStaysSettled =
-    (net : Netlist) → IsElaborated net → (p : ℕ) (v w : List ℕ)
-    → IsCombinational net p → IsSettled net v p → AgreeOn (process net p).reads v w
-    → ((place : ℕ) → HasPlace net p place → slice_index w (target net p place) ≡ slice_index v (target net p place))
-    → IsSettled net w p
+    (net : Netlist) → IsElaborated net → (p place : ℕ) (v w : List ℕ)
+    → IsDerivedAt net p place → HasPlace net p place → IsSettledAt net v p place → AgreeOnLooks net p place v w
+    → slice_index w (target net p place) ≡ slice_index v (target net p place)
+    → IsSettledAt net w p place
 
--- From v to w, p is settled, and each that was, and reads nothing that changed, still is.
+-- From v to w, of the drivers that look at nothing that changes, p's are settled, and each that was still is.
 pub record RunSettles (net : Netlist) (p : ℕ) (v w : List ℕ) : Type 0 where
-  pub itself : IsSettled net w p
-  pub others : (q : ℕ) → IsCombinational net q → IsSettled net v q
-      → AgreeOn (process net q).reads v w → IsSettled net w q
+  pub itself : (place : ℕ) → IsDerivedAt net p place → HasPlace net p place → AgreeOnLooks net p place v w
+      → IsSettledAt net w p place
+  pub others : (q place : ℕ) → IsDerivedAt net q place → HasPlace net q place → IsSettledAt net v q place
+      → AgreeOnLooks net q place v w → IsSettledAt net w q place
 
 abbrev pub EachRunSettles : Type 0
 EachRunSettles =
     (net : Netlist) → IsElaborated net → IsAccepted net → (p : ℕ) (v w : List ℕ)
-    → IsCombinational net p → IsWritten net p v w → RunSettles net p v w
+    → IsWritten net p v w → RunSettles net p v w
 
 -- ---- clocked processes
 
--- Before the first moment there is no edge: what a run of the clocked process p leaves gives what
--- its registers start with.
+-- Before the first moment there is no edge: what a run of the clocked process p leaves, and then its reset read in w,
+-- gives what its registers start with.
 abbrev pub EachStartIsTaken : Type 0
 EachStartIsTaken =
     (net : Netlist) → IsElaborated net → IsAccepted net
-    → (inputs : ℕ → ℕ) (p clock place : ℕ) (edge : Edge) (before : List ℕ)
+    → (inputs : ℕ → ℕ) (p clock place : ℕ) (edge : Edge) (before w : List ℕ)
     → IsClockedBy net p clock edge → slice_index before clock ≡ slice_index (with_inputs net inputs net.start) clock
-    → entry_or (slice_index_or ((process net p).effect before (with_inputs net inputs net.start)) place None)
-    (slice_index net.start (target net p place))
-    ≡ register_first net p place inputs
+    → behind_reset net w p place
+    (entry_or (slice_index_or ((process net p).effect before (with_inputs net inputs net.start)) place None)
+    (slice_index net.start (target net p place)))
+    ≡ register_first net p place inputs w
 
--- What the clocked process p does from the valuation v with new inputs.
-pub record EdgeIsTaken (net : Netlist) (v : List ℕ) (inputs : ℕ → ℕ) (p clock : ℕ) (edge : Edge) : Type 0 where
-  -- Whatever the other nets had before, a run of p leaves what its registers have next. It reads
-  -- the new inputs, and so does what is done in v itself: without a race no data input changes at
-  -- an edge, and no branch reads a clock.
+-- What the clocked process p does from the valuation v with new inputs, on the way to w.
+pub record EdgeIsTaken (net : Netlist) (v : List ℕ) (inputs : ℕ → ℕ) (w : List ℕ) (p clock : ℕ) (edge : Edge)
+    : Type 0 where
+  -- Whatever the other nets had before, a run of p leaves what its registers have next, but for the reset in w. It
+  -- reads the new inputs, and so does what is done in v itself: without a race no data input changes at an edge, and
+  -- no branch reads a clock.
   pub taken : (before : List ℕ) (place : ℕ) → slice_index before clock ≡ slice_index v clock
-      → entry_or (slice_index_or ((process net p).effect before (with_inputs net inputs v)) place None)
-      (slice_index v (target net p place))
-      ≡ register_next net p place clock edge v inputs
-  -- where neither its clock has its edge nor its reset's net changes, they have v's values
+      → behind_reset net w p place
+      (entry_or (slice_index_or ((process net p).effect before (with_inputs net inputs v)) place None)
+      (slice_index v (target net p place)))
+      ≡ register_next net p place clock edge v inputs w
+  -- where neither its clock has its edge nor its reset's net changes at once, they have v's values, but for the same
   pub left : (place : ℕ) → HasPlace net p place → net.edge edge (slice_index v clock) (inputs clock) ≡ false
-      → ((reset : Reset) → HasReset net p reset → slice_index v reset.net ≡ inputs reset.net)
-      → register_next net p place clock edge v inputs ≡ slice_index v (target net p place)
+      → ((reset : Reset) → HasReset net p reset → slice_index v reset.net ≡ given net v inputs reset.net)
+      → behind_reset net w p place (slice_index v (target net p place))
+      ≡ register_next net p place clock edge v inputs w
 
 abbrev pub EachEdgeIsTaken : Type 0
 EachEdgeIsTaken =
     (net : Netlist) → IsElaborated net → IsAccepted net
-    → (was registers : ℕ → ℕ) (v : List ℕ) → Solves net was registers v → KeepsResets net v
+    → (v : List ℕ) → length v ≡ length net.start → KeepsResets net v
     → (inputs : ℕ → ℕ) → (IsRace net (slice_index v) inputs → ⊥)
-    → (p clock : ℕ) (edge : Edge) → IsClockedBy net p clock edge
-    → EdgeIsTaken net v inputs p clock edge
+    → (w : List ℕ) (p clock : ℕ) (edge : Edge) → IsClockedBy net p clock edge
+    → EdgeIsTaken net v inputs w p clock edge
 
--- the machine's first valuation keeps resets, and so does each that a step gives
+-- in the machine's first valuation registers have settled, and so they have in each that a step gives
 pub record ResetsAreKept (net : Netlist) (inputs : ℕ → ℕ) (w : List ℕ) : Type 0 where
   pub first : IsFirst net inputs w → KeepsResets net w
   pub step : (v : List ℕ) → IsStep net v inputs w → KeepsResets net w

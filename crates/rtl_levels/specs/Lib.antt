@@ -1,6 +1,7 @@
 pub mod Running
 pub mod Laws
 pub mod Machine
+pub mod Visits
 pub mod Scheduled
 pub mod Pieces
 pub mod Marks

@@ -1,10 +1,9 @@
--- Marks of those that are to run, because a net that they are sensitive to has changed (IEEE
--- 1076-2008, 14.7.5.3).
+-- Marks of those that are to run, since a net has changed (IEEE 1076-2008, 14.7.5.3).
 use Rattle.std.specs.Prelude.{◌≡◌, ℕ, ◌+◌, ◌<◌, ◌⊎◌, Bool, false, List, [], length, slice_index, slice_index_or, IsTrue, Contains}
 
--- Of an index: for each net the numbers of those that are sensitive to it.
+-- Of an index: for each net the numbers that a change of it marks, its readers.
 module _ (index : List (List ℕ)) where
-  -- this number is sensitive to the net: it is a reader of it
+  -- this number is a reader of the net
   abbrev pub IsReader : (net number : ℕ) → Type 0
   IsReader net number = Contains (slice_index_or index net []) number
 
@@ -30,11 +29,12 @@ module _ (index : List (List ℕ)) where
 abbrev pub IsGiven : List (ℕ × ℕ) → (net : ℕ) → Type 0
 IsGiven changes net = (value : ℕ) × Contains changes (net, value)
 
--- one of so many nets from the first on
-pub record IsOfRun (first len net : ℕ) : Type 0 where
+-- of the nets from the first on, which get these values, one to which its value is new
+pub record GetsOther (first : ℕ) (given v : List ℕ) (net : ℕ) : Type 0 where
   pub at : ℕ
-  pub within : at < len
+  pub within : at < length given
   pub is : net ≡ first + at
+  pub other : slice_index v net ≡ slice_index given at → ⊥
 
 -- none is marked
 abbrev pub HasNoMark : List Bool → Type 0

@@ -2,17 +2,14 @@
 use Rattle.std.specs.Prelude.{◌≡◌, ℕ, Bool, false, List, length, slice_index, slice_index_or, Option, None, IsTrue}
 use Rattle.rtl_model.specs.simulation.Netlist.{Netlist, process, target, HasPlace, IsCombinational}
 use Rattle.rtl_model.specs.simulation.Machine.{entry_or}
-use Rattle.rtl_levels.specs.Running.{IsSettled}
+use Rattle.rtl_model.specs.simulation.Accepted.{IsResetBy}
+use Rattle.rtl_model.specs.simulation.NetLevels.{IsDerived}
+use Rattle.rtl_levels.specs.Running.{IsSettled, behind_reset}
 
 -- a marked process drives n
 abbrev pub IsDrivenByMarked : Netlist → List Bool → (n : ℕ) → Type 0
 IsDrivenByMarked net marked n =
     (p : ℕ) × (place : ℕ) × IsTrue (slice_index_or marked p false) × HasPlace net p place × (target net p place ≡ n)
-
--- a combinational process drives n
-abbrev pub IsCombinationallyDriven : Netlist → (n : ℕ) → Type 0
-IsCombinationallyDriven net n =
-    (p : ℕ) × (place : ℕ) × IsCombinational net p × HasPlace net p place × (target net p place ≡ n)
 
 -- Of the marked processes those that still are have run from the values before and v, and left
 -- these entries. The others would leave none.
@@ -57,19 +54,18 @@ pub record SomeTakeOver (net : Netlist) (marked still : List Bool) (entries : �
       → HasPlace net p place → target net p place ≡ n → ⊥)
       → slice_index w n ≡ slice_index v n
 
--- In w every combinational process is settled, and nothing but what they drive differs from v.
+-- In w all that combinational processes drive has settled, and what the resets made inside assign has its entries where
+-- they hold; nothing else differs from v.
 pub record IsSwept (net : Netlist) (v w : List ℕ) : Type 0 where
   pub each_net : length w ≡ length v
   pub settled : (p : ℕ) → IsCombinational net p → IsSettled net w p
-  pub on_others : (n : ℕ) → (IsCombinationallyDriven net n → ⊥) → slice_index w n ≡ slice_index v n
+  pub on_resets : (p place m : ℕ) → IsResetBy net p place m → HasPlace net p place
+      → slice_index w (target net p place) ≡ behind_reset net w p place (slice_index v (target net p place))
+  pub on_others : (n : ℕ) → (IsDerived net n → ⊥) → slice_index w n ≡ slice_index v n
 
--- The marked processes, which are to be clocked, have run together from the values before and v,
--- and with what they assigned all combinational ones have settled in w.
+-- The marked processes, which are to be clocked, have run together from the values before and v; with what they
+-- assigned, the others have settled in w.
 pub record ComesToRest (net : Netlist) (marked : List Bool) (before v w : List ℕ) : Type 0 where
-  pub each_net : length w ≡ length v
-  pub on_marked : (p place : ℕ) → IsTrue (slice_index_or marked p false) → HasPlace net p place
-      → slice_index w (target net p place)
-      ≡ entry_or (slice_index_or ((process net p).effect before v) place None) (slice_index v (target net p place))
-  pub settled : (p : ℕ) → IsCombinational net p → IsSettled net w p
-  pub on_others : (n : ℕ) → (IsDrivenByMarked net marked n → ⊥)
-      → (IsCombinationallyDriven net n → ⊥) → slice_index w n ≡ slice_index v n
+  pub between : List ℕ
+  pub taken : AllTakeOver net marked (λ p. (process net p).effect before v) v between
+  pub swept : IsSwept net between w

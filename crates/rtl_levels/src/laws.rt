@@ -1,30 +1,27 @@
 //! The laws of running processes one by one (`specs/Laws.antt`), each the contract of a function
 //! that does nothing.
 
-ghost use Rattle.rtl_levels.specs.Laws.{EachReaderIsLater, EachStaysSettled, EachRunSettles, EachStartIsTaken};
+ghost use Rattle.rtl_levels.specs.Laws.{EachStaysSettled, EachRunSettles, EachStartIsTaken};
 ghost use Rattle.rtl_levels.specs.Laws.{EachEdgeIsTaken, EachResetIsKept, EachMachineGoesOnAlike};
 
-/// A combinational process that reads what another drives has a greater level.
-pub fn each_reader_is_later()
-    ensures { EachReaderIsLater }
-{}
-
-/// A combinational process stays settled where neither what it reads nor what it drives changes. A
-/// run settles its process, and leaves settled whatever reads nothing that the run changed.
+/// A driver's net stays settled where neither what the driver looks at nor the net itself changes.
+/// A run settles of its process what looks at nothing that the run changes, and leaves settled
+/// whatever looks at nothing of that.
 pub fn each_run_settles()
     ensures stays { EachStaysSettled }
     ensures settles { EachRunSettles }
 {}
 
 /// A run of a clocked process from what all nets start with, and the first inputs, gives what its
-/// registers start with.
+/// registers start with, once its reset has been read in the first valuation too.
 pub fn each_start_is_taken()
     ensures { EachStartIsTaken }
 {}
 
 /// A run of a clocked process from the settled values, with the new inputs, gives what its
-/// registers have next; where neither its edge comes nor its reset's net changes they keep what
-/// they have. Resets are kept from the first valuation on.
+/// registers have next, once its reset has been read in the next valuation too; where neither its
+/// edge comes nor its reset's net changes at once, what they have gives it. Resets are kept from
+/// the first valuation on.
 pub fn each_edge_is_taken()
     ensures edges { EachEdgeIsTaken }
     ensures resets { EachResetIsKept }

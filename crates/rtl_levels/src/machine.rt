@@ -1,7 +1,7 @@
 //! The machine.
 
-ghost use Rattle.std.specs.Prelude.{◌≡◌, ℕ, All, length, map, slice_index, Contains, IfOk};
-ghost use Rattle.rtl_model.specs.simulation.Accepted.{IsAccepted};
+ghost use Rattle.std.specs.Prelude.{◌≡◌, ℕ, All, length, slice_index, Contains, IfOk};
+ghost use Rattle.rtl_model.specs.simulation.Accepted.{IsAccepted, IsByNets};
 ghost use Rattle.rtl_model.specs.simulation.Cycle.{with_changes};
 ghost use Rattle.rtl_model.specs.simulation.Levels.{AreLevels};
 ghost use Rattle.rtl_model.specs.simulation.Machine.{IsFirst, IsStep};
@@ -13,14 +13,15 @@ ghost use Rattle.rtl_kernel.specs.wakes.Woken.{wakers_of};
 ghost use Rattle.rtl_net.specs.Nets.{flat};
 ghost use Rattle.rtl_net.specs.Core.{core};
 ghost use Rattle.rtl_net_groups.specs.Touching.{KeepsLeft, Touches};
-ghost use Rattle.rtl_levels.specs.Kept.{AreSensitive, IsPlanned, IsStateOf, MayRun};
+ghost use Rattle.rtl_levels.specs.Kept.{AreSensitive, AreSettledOrToCome, IsPlanned, IsStateOf, MayRun};
 ghost use Rattle.rtl_levels.specs.Marks.{HasNoMark};
-ghost use Rattle.rtl_levels.specs.Scheduled.{without_level};
-ghost use Rattle.rtl_levels.specs.States.{AreOthersSettled};
 ghost use Rattle.rtl_levels.specs.Steps.{ComesToRest};
+ghost use Rattle.rtl_levels.specs.Visits.{AreNetLevels};
 
 use crate::clocked::{run_marked, take_marked};
+use crate::clocking::clocked_processes;
 use crate::inputs::{changes_to, set_inputs, take_inputs};
+use crate::levels::levels_of_nets;
 use crate::schedule::Schedule;
 use crate::state::State;
 use crate::sweep::sweep;
@@ -30,14 +31,18 @@ use rtl_eval::Exec;
 use rtl_kernel::{fresh_outcomes, starting_codes};
 use rtl_net::Net;
 use rtl_net_groups::Touched;
+use rtl_process_kinds::kinds_of;
 use std::alloc::{AllocError, Global};
 use std::marker::Model;
 use vhdl_values::Nine;
 
 /// The synchronous machine of an accepted netlist, at a moment at which it has settled. A step runs
 /// the clocked processes that are sensitive to what changes, with the new inputs and before
-/// anything else changes, and then each combinational process of which something that it is
-/// sensitive to changes, in order of level. `new` takes all memory, and no other call takes any.
+/// anything else changes, and then visits, in order of levels, each combinational process of which
+/// something that it is sensitive to changes, and each clocked one whose reset does, where a
+/// process drives that: at the first level of the nets that it drives above that of what changes.
+/// A visit sees no event, so of a clocked process it takes its reset's branch alone. `new` and
+/// `leveled` take all memory, and no other call takes any.
 pub struct Machine<'a, E: Exec> {
     net: &'a Net,
     bodies: &'a [E],
@@ -78,9 +83,9 @@ impl<'a, E: Exec> Model for Machine<'a, E> {
 }
 
 impl<'a, E: Exec> Machine<'a, E> {
-    /// The machine of an accepted netlist at its first moment. The k-th body runs the k-th process,
-    /// and the k-th level is its level; there is a value for each of the netlist's inputs, in their
-    /// order.
+    /// The machine of an accepted netlist that is judged by processes, at its first moment. The
+    /// k-th body runs the k-th process, and the k-th level is its level; there is a value for each
+    /// of the netlist's inputs, in their order.
     pub fn new(
         alloc: Global,
         net: &'a Net,
@@ -89,7 +94,27 @@ impl<'a, E: Exec> Machine<'a, E> {
         initial: &[Nine],
     ) -> Result<Machine<'a, E>, AllocError>
         requires accepted { IsAccepted (core net.now) }
+        requires by_processes { IsByNets (core net.now) → ⊥ }
         requires levels { (greatest : ℕ) × AreLevels (core net.now) levels.now greatest }
+        requires bodies { RunBodies E.process E.types (flat net.now) bodies.now }
+        requires initial { length initial.now ≡ length net.now.inputs }
+        ensures net { IfOk result (λ m. m.net ≡ net.now) }
+        ensures first { IfOk result (λ m. IsFirst (core net.now) (initial_inputs (flat net.now) initial.now) m.values) }
+    {
+        let nets = levels_of_nets(alloc, net, levels)?;
+        Machine::leveled(alloc, net, bodies, &nets, initial)
+    }
+
+    /// The same of any accepted netlist, by these levels of its nets.
+    pub fn leveled(
+        alloc: Global,
+        net: &'a Net,
+        bodies: &'a [E],
+        nets: &[u32],
+        initial: &[Nine],
+    ) -> Result<Machine<'a, E>, AllocError>
+        requires accepted { IsAccepted (core net.now) }
+        requires nets { AreNetLevels (core net.now) nets.now }
         requires bodies { RunBodies E.process E.types (flat net.now) bodies.now }
         requires initial { length initial.now ≡ length net.now.inputs }
         ensures net { IfOk result (λ m. m.net ≡ net.now) }
@@ -100,10 +125,11 @@ impl<'a, E: Exec> Machine<'a, E> {
         let changes = changes_to(alloc, net.inputs(), initial)?;
         set_inputs(&changes, &mut values);
         let before = Vec::from_slice(alloc, &values)?;
-        let mut woken = clocked_marks(alloc, levels)?;
-        let schedule = Schedule::new(alloc, net, levels)?;
+        let kinds = kinds_of(alloc, net)?;
+        let mut woken = clocked_processes(alloc, &kinds)?;
+        let schedule = Schedule::new(alloc, net, &kinds, &woken, nets)?;
         let mut runs = fresh_outcomes(alloc, net.processes(), bodies)?;
-        let mut state = State::new(alloc, values, schedule.order.len())?;
+        let mut state = State::new(alloc, values, schedule.visits.len())?;
         let mut ahead = 0;
         come_to_rest(
             net, bodies, &schedule, &changes, &before, &mut runs, &mut woken, &mut state,
@@ -165,20 +191,8 @@ impl<'a, E: Exec> Machine<'a, E> {
     }
 }
 
-/// Marks for the clocked processes, which are those that have no level.
-fn clocked_marks(alloc: Global, levels: &[Option<u32>]) -> Result<Vec<bool>, AllocError>
-    ensures { IfOk result (λ marks. marks.items ≡ map without_level levels.now) }
-{
-    let mut marks = Vec::with_capacity(alloc, levels.len())?;
-    for level in levels {
-        marks.push(level.is_none())?;
-    }
-    Ok(marks)
-}
-
 /// Runs the woken clocked processes together, each of which is sensitive to a net that changes;
-/// then, each once, the combinational ones that are dirty or get dirty. Those that aren't are
-/// settled.
+/// then makes the visits that are dirty or get dirty.
 fn come_to_rest<E: Exec>(
     net: &Net,
     bodies: &[E],
@@ -196,7 +210,7 @@ fn come_to_rest<E: Exec>(
     requires each_process { length woken.old.items ≡ length (core net.now).processes }
     requires before { IsValuation (core net.now) before.now }
     requires state { IsStateOf (core net.now) schedule.now state.old }
-    requires settled { AreOthersSettled (core net.now) schedule.now.order.items state.old }
+    requires settled { AreSettledOrToCome (core net.now) schedule.now 0 state.old }
     ensures may { MayRun E.process E.types E.most net.now bodies.now runs.new.items }
     ensures state { IsStateOf (core net.now) schedule.now state.new }
     ensures rest { ComesToRest (core net.now) woken.old.items before.now

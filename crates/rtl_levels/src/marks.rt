@@ -6,7 +6,7 @@ ghost use Rattle.rtl_levels.specs.Marks.{AreBelow, Marks};
 
 use rtl_net_groups::Groups;
 
-/// The readers of a net: what is sensitive to it.
+/// The readers of a net: what a change of it marks.
 #[inline(always)]
 pub fn readers_of(groups: &Groups, net: usize) -> &[usize]
     requires { net < length (wakers_of groups.now) }

@@ -1,7 +1,7 @@
 //! Runs of single processes.
 
 ghost use Rattle.std.specs.Prelude.{◌<◌, length};
-ghost use Rattle.rtl_model.specs.simulation.Netlist.{process, IsCombinational};
+ghost use Rattle.rtl_model.specs.simulation.Netlist.{process};
 ghost use Rattle.rtl_model.specs.simulation.Range.{IsValuation};
 ghost use Rattle.rtl_kernel.specs.drivers.Transactions.{HasRunOf};
 ghost use Rattle.rtl_net.specs.Core.{core};
@@ -35,7 +35,7 @@ pub fn run<E: Exec>(
     bodies[number].run(values, before, &mut runs[number]);
 }
 
-/// Runs a combinational process and takes over what it assigns.
+/// Runs a process, which sees no event, and takes over what it assigns.
 pub fn settle<E: Exec>(
     net: &Net,
     bodies: &[E],
@@ -46,7 +46,7 @@ pub fn settle<E: Exec>(
 )
     requires may { MayRun E.process E.types E.most net.now bodies.now runs.old.items }
     requires planned { IsPlanned (core net.now) schedule.now }
-    requires combinational { IsCombinational (core net.now) number }
+    requires there { number < length net.now.processes }
     requires state { IsStateOf (core net.now) schedule.now state.old }
     ensures may { MayRun E.process E.types E.most net.now bodies.now runs.new.items }
     ensures state { IsStateOf (core net.now) schedule.now state.new }

@@ -1,28 +1,32 @@
 //! Who is run when.
 
-ghost use Rattle.std.specs.Prelude.{◌≡◌, ℕ, ◌<◌, All, length, map, IfOk};
+ghost use Rattle.std.specs.Prelude.{◌≡◌, ◌<◌, ◌++◌, All, length, map, IfOk, OnOk};
+ghost use Rattle.std.specs.List.{filter};
 ghost use Rattle.rtl_model.specs.simulation.Accepted.{IsAccepted};
-ghost use Rattle.rtl_model.specs.simulation.Levels.{AreLevels};
 ghost use Rattle.rtl_net.specs.Core.{core};
+ghost use Rattle.rtl_process_kinds.specs.KindViews.{AreKinds};
 ghost use Rattle.rtl_levels.specs.Kept.{IsPlanned};
-ghost use Rattle.rtl_levels.specs.Scheduled.{clocked_wakes, wakes_by_rank};
+ghost use Rattle.rtl_levels.specs.Scheduled.{are_clocked, clocked_wakes, kind_moves, marking_nets, marks};
+ghost use Rattle.rtl_levels.specs.Visits.{AreNetLevels};
 
-use crate::order::order_of;
+use crate::clocking::moves;
+use crate::order::{Visit, visits_of};
 use crate::wholes::wholes_of;
 use rtl_awaited_edges::{ClockEdge, edges_of, leaders_of};
+use rtl_body_facts::ProcessKind;
 use rtl_kernel::target_lists;
 use rtl_net::Net;
 use rtl_net_groups::{Cuts, Groups, Lists};
 use std::alloc::{AllocError, Global};
 
-/// The combinational processes in the order in which they are run, the ranks of those that are
-/// sensitive to each net, and the clocked processes that are; the cuts of each process's drivers
-/// over nets that the same combinational ones are sensitive to, and where there is one alone its
-/// first net; and of each process the edge without which it assigns nothing, if it is clocked and
-/// has no reset, and a process that awaits the same.
+/// The visits of processes in their order, for each net those that a change of it marks, and the
+/// clocked processes that are sensitive to it; the cuts of each process's drivers over nets that
+/// mark the same visits, and where there is one alone its first net; and of each process the edge
+/// without which it assigns nothing, if it is clocked and has no reset, and a process that awaits
+/// the same.
 #[derive(Drop)]
 pub struct Schedule {
-    pub order: Vec<usize>,
+    pub visits: Vec<Visit>,
     pub readers: Groups,
     pub clocked: Groups,
     pub cuts: Cuts,
@@ -32,16 +36,25 @@ pub struct Schedule {
 }
 
 impl Schedule {
-    /// The schedule of an accepted netlist, whose processes have these levels.
-    pub fn new(alloc: Global, net: &Net, levels: &[Option<u32>]) -> Result<Schedule, AllocError>
+    /// The schedule of an accepted netlist whose processes have these kinds, these of which are
+    /// clocked, and whose nets have these levels.
+    pub fn new(
+        alloc: Global,
+        net: &Net,
+        kinds: &[ProcessKind],
+        clocked: &[bool],
+        nets: &[u32],
+    ) -> Result<Schedule, AllocError>
         requires accepted { IsAccepted (core net.now) }
-        requires levels { (greatest : ℕ) × AreLevels (core net.now) levels.now greatest }
+        requires kinds { AreKinds (core net.now) kinds.now }
+        requires clocked { clocked.now ≡ are_clocked (core net.now) }
+        requires nets { AreNetLevels (core net.now) nets.now }
         ensures { IfOk result (IsPlanned (core net.now)) }
     {
-        let order = order_of(alloc, levels)?;
         let together = vec![in alloc; 0; net.nets()]?;
-        let by_rank = wakes_of(alloc, net, &order)?;
-        let by_process = wakes_of_clocked(alloc, net, levels)?;
+        let visits = visits_of(alloc, net, nets)?;
+        let by_rank = marking_nets(alloc, net, kinds, nets, &visits)?;
+        let by_process = wakes_of_clocked(alloc, net, clocked)?;
         let readers = Groups::new(alloc, &together, &by_rank)?;
         let clocked = Groups::new(alloc, &together, &by_process)?;
         let targets = target_lists(alloc, net.processes())?;
@@ -50,7 +63,7 @@ impl Schedule {
         let edges = edges_of(alloc, net)?;
         let leaders = leaders_of(alloc, &edges)?;
         Ok(Schedule {
-            order,
+            visits,
             readers,
             clocked,
             cuts,
@@ -61,33 +74,66 @@ impl Schedule {
     }
 }
 
-/// The nets that these processes are sensitive to.
-fn wakes_of(alloc: Global, net: &Net, order: &[usize]) -> Result<Lists<usize>, AllocError>
-    requires there { All (λ p. p < length net.now.processes) order.now }
-    ensures { IfOk result (λ lists. lists ≡ wakes_by_rank (core net.now) order.now) }
+/// Of each visit the nets whose changes mark it.
+fn marking_nets(
+    alloc: Global,
+    net: &Net,
+    kinds: &[ProcessKind],
+    nets: &[u32],
+    visits: &[Visit],
+) -> Result<Lists<usize>, AllocError>
+    requires kinds { AreKinds (core net.now) kinds.now }
+    requires processes { All (λ visit. visit.process < length net.now.processes) visits.now }
+    requires nets { length nets.now ≡ length net.now.types }
+    ensures { IfOk result (λ lists. lists ≡ map (marking_nets (core net.now) nets.now) visits.now) }
 {
+    net.is_elaborated();
     let processes = net.processes();
     let mut lists = Lists::new(alloc)?;
-    for process in order {
-        lists.push(processes[*process].wakes.as_slice())?;
+    let mut marking = Vec::new(alloc);
+    for visit in visits {
+        marking.clear();
+        push_marking(
+            kinds[visit.process],
+            nets,
+            *visit,
+            processes[visit.process].wakes.as_slice(),
+            &mut marking,
+        )?;
+        lists.push(&marking)?;
     }
     Ok(lists)
 }
 
+/// Of these nets those whose changes mark a visit of a process of this kind.
+fn push_marking(
+    kind: ProcessKind,
+    nets: &[u32],
+    visit: Visit,
+    wakes: &[usize],
+    marking: &mut Vec<usize>,
+) -> Result<(), AllocError>
+    requires { All (λ n. n < length nets.now) wakes.now }
+    ensures { OnOk result (marking.new.items ≡ marking.old.items
+        ++ filter (marks (kind_moves kind) nets.now visit) wakes.now) }
+{
+    for net in wakes {
+        if moves(kind, *net) && visit.is_first_above(nets[*net]) {
+            marking.push(*net)?;
+        }
+    }
+    Ok(())
+}
+
 /// Of each process the nets that it is sensitive to, where it is clocked.
-fn wakes_of_clocked(
-    alloc: Global,
-    net: &Net,
-    levels: &[Option<u32>],
-) -> Result<Lists<usize>, AllocError>
-    requires accepted { IsAccepted (core net.now) }
-    requires levels { (greatest : ℕ) × AreLevels (core net.now) levels.now greatest }
+fn wakes_of_clocked(alloc: Global, net: &Net, clocked: &[bool]) -> Result<Lists<usize>, AllocError>
+    requires { clocked.now ≡ are_clocked (core net.now) }
     ensures { IfOk result (λ lists. lists ≡ map clocked_wakes (core net.now).processes) }
 {
     let processes = net.processes();
     let mut lists = Lists::new(alloc)?;
     for number in 0..processes.len() {
-        if levels[number].is_none() {
+        if clocked[number] {
             lists.push(processes[number].wakes.as_slice())?;
         } else {
             lists.push(&[])?;

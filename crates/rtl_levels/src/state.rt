@@ -7,8 +7,8 @@ use crate::marks::{mark, mark_readers, readers_of};
 use rtl_net_groups::{Groups, Touched, replace};
 use std::alloc::{AllocError, Global};
 
-/// The values of all nets, as codes, with marks of the combinational processes that are to run, by
-/// rank, and of the chunks of the nets that the last step, or the one under way, may have changed.
+/// The values of all nets, as codes, with marks of the visits that are to be made, by rank, and of
+/// the chunks of the nets that the last step, or the one under way, may have changed.
 #[derive(Drop)]
 pub struct State {
     pub values: Vec<u8>,
@@ -17,7 +17,7 @@ pub struct State {
 }
 
 impl State {
-    /// These values, where all of so many combinational processes are to run.
+    /// These values, where all of so many visits are to be made.
     pub fn new(alloc: Global, values: Vec<u8>, ranks: usize) -> Result<State, AllocError>
         ensures values { IfOk result (λ s. s.values.items ≡ values.items) }
         ensures each_rank { IfOk result (λ s. length s.dirty.items ≡ ranks) }

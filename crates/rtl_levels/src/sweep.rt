@@ -1,10 +1,9 @@
-//! The combinational processes of a moment.
+//! The visits of a moment.
 
 ghost use Rattle.rtl_net.specs.Core.{core};
 ghost use Rattle.rtl_net_groups.specs.Touching.{Touches};
-ghost use Rattle.rtl_levels.specs.Kept.{IsPlanned, IsStateOf, MayRun};
+ghost use Rattle.rtl_levels.specs.Kept.{AreSettledOrToCome, IsPlanned, IsStateOf, MayRun};
 ghost use Rattle.rtl_levels.specs.Marks.{HasNoMark};
-ghost use Rattle.rtl_levels.specs.States.{AreOthersSettled};
 ghost use Rattle.rtl_levels.specs.Steps.{IsSwept};
 
 use crate::running::settle;
@@ -15,8 +14,9 @@ use rtl_eval::Exec;
 use rtl_net::Net;
 use rtl_net_groups::next_marked;
 
-/// Runs the marked combinational processes, and those that get marked by what these change, each
-/// once, in order of rank. All others are settled; afterwards all are.
+/// Makes the marked visits, and those that get marked by what these change, in order: each runs its
+/// process and takes over all that it assigns. What no visit is to settle is settled; afterwards
+/// all is.
 pub fn sweep<E: Exec>(
     net: &Net,
     bodies: &[E],
@@ -27,7 +27,7 @@ pub fn sweep<E: Exec>(
     requires may { MayRun E.process E.types E.most net.now bodies.now runs.old.items }
     requires planned { IsPlanned (core net.now) schedule.now }
     requires state { IsStateOf (core net.now) schedule.now state.old }
-    requires settled { AreOthersSettled (core net.now) schedule.now.order.items state.old }
+    requires settled { AreSettledOrToCome (core net.now) schedule.now 0 state.old }
     ensures may { MayRun E.process E.types E.most net.now bodies.now runs.new.items }
     ensures state { IsStateOf (core net.now) schedule.now state.new }
     ensures swept { IsSwept (core net.now) state.old.values.items state.new.values.items }
@@ -38,7 +38,7 @@ pub fn sweep<E: Exec>(
     while rank < state.dirty.len() {
         if state.dirty[rank] {
             state.dirty[rank] = false;
-            let process = schedule.order[rank];
+            let process = schedule.visits[rank].process;
             settle(net, bodies, schedule, process, runs, state);
             rank += 1;
         } else {

@@ -1,4 +1,4 @@
-use Rattle.std.proofs.Common.{◌≡◌, ◌<◌, ◌+◌, ℕ, List, [], ◌∷◌, None, length, get_or, sym, ap, subst, ◌∙◌, arith}
+use Rattle.std.proofs.Common.{Bool, ◌≡◌, ◌<◌, ◌+◌, ℕ, List, [], ◌∷◌, None, length, get_or, sym, ap, subst, ◌∙◌, arith}
 use Rattle.std.specs.List.Sorted.{IsStrictlyIncreasing}
 use Rattle.std.proofs.lemmas.List.{length-append}
 use Rattle.rtl_model.specs.bodies.Reads.{events}
@@ -23,9 +23,10 @@ loop-process-preserved c =
     let x = c.process-item.result in
     let there : i < length net.processes = subst (λ (ps : List Process). i < length ps) c.processes-processes.ensures c.loop-process-test.true in
     let at : x ≡ get_or net.processes i x = c.process-item.is ∙ ap (λ (ps : List Process). get_or ps i x) c.processes-processes.ensures in
-    let is : c.kind_of.result ≡ kind_view (m.clocking net.inputs (body_of x)) (events (body_of x)) =
-    c.kind_of.ensures ∙ (ap (λ (ns : List ℕ). kind_view (m.clocking ns (statements_of c.deref.result.now)) (events (statements_of c.deref.result.now))) c.inputs-inputs.ensures
-    ∙ ap (λ (xs : List Statement). kind_view (m.clocking net.inputs (statements_of xs)) (events (statements_of xs))) c.deref.ensures.value) in
+    let is : c.kind_of.result ≡ kind_view (m.clocking net.wide net.inputs (body_of x)) (events (body_of x)) =
+    c.kind_of.ensures ∙ (ap (λ (w : Bool). kind_view (m.clocking w c.inputs-inputs.result.now (statements_of c.deref.result.now)) (events (statements_of c.deref.result.now))) c.is_wide-wide.ensures
+    ∙ ap (λ (ns : List ℕ). kind_view (m.clocking net.wide ns (statements_of c.deref.result.now)) (events (statements_of c.deref.result.now))) c.inputs-inputs.ensures
+    ∙ ap (λ (xs : List Statement). kind_view (m.clocking net.wide net.inputs (statements_of xs)) (events (statements_of xs))) c.deref.ensures.value) in
     let told = c.edge_alone.ensures ∙ ap edge_alone is in
     record {
       so_many = ap length c.in_ok-push.ensures.items ∙ (length-append c.loop-process.edges.items (c.edge_alone.result ∷ []) ∙ ap (λ (k : ℕ). k + 1) c.loop-process.invariant.so_many);

@@ -1,4 +1,4 @@
-use Rattle.std.proofs.Common.{◌≡◌, ◌<◌, ℕ, false, List, Option, Contains, length, get_or, set, below_more, ap, sym, subst, ◌∙◌, arith}
+use Rattle.std.proofs.Common.{◌≡◌, ◌<◌, ℕ, false, List, Option, length, get_or, set, below_more, ap, sym, subst, ◌∙◌, arith}
 use Rattle.std.specs.Prelude.{⊤}
 use Rattle.std.proofs.lemmas.List.{get_or_default, get_or-set_same}
 use Rattle.rtl_model.specs.nets.FlatNetlist.{process_at}
@@ -71,7 +71,7 @@ loop-process-preserved c =
           let outcome : o.entries ≡ entries p = ap (λ (x : Outcome). x.entries) (w.index-runs-process.is ∙ get_or_default runs p o no_outcome in_runs) in
           let O = subst (λ (es : List (Option ℕ)). StateTakesOver readers (process net p).drives es old new) outcome w.take_over.ensures in
           let T = one_takes_over net entries p marked u u' in_marked mark O.taken in
-          let F = advances_wider readers (Contains (process net p).drives) (λ n. ⊤) (λ n h. tt) old new O.advances in
+          let F = advances_wider readers _ (λ n. ⊤) (λ n h. tt) old new O.advances in
           record {
             taken = others_take_over net entries L first marked (set marked p false) v u u' I.taken T;
             off = below_more (λ (k : ℕ). get_or (set marked p false) (get_or processes k 0) false ≡ false) i

@@ -1,6 +1,4 @@
 use Rattle.std.proofs.Common.{arith, length}
-use Rattle.std.specs.List.{range_with_len}
-use Rattle.std.specs.Prelude.{Contains}
 use Rattle.rtl_levels.proofs.Advancing.{still_together}
 use Rattle.rtl_levels.proofs.Spanned.{no_span, span_taken, span_together, taking_all, taking_more, taking_none}
 use Rattle.rtl_levels.proofs.entries.take_each.Goals as goal
@@ -16,7 +14,7 @@ set_run-requires c =
     let entries = c.args.outcome.now.entries in
     span_together c.args.readers.now c.args.first entries c.assigned-span-items.result.now c.assigned-span-items.ensures.within c.loop-span.span-index no_span c.loop-span-test.true
     c.values-assigned.result.now c.values-assigned.ensures.as_many c.loop-span.state
-    (still_together c.args.readers.now (Contains (range_with_len c.args.first (length entries))) c.args.state.now c.loop-span.state c.loop-span.invariant.advances c.args.first (length entries) c.requires)
+    (still_together c.args.readers.now _ c.args.state.now c.loop-span.state c.loop-span.invariant.advances c.args.first (length entries) c.requires)
 
 pub loop-span-preserved : goal.loop-span-preserved
 loop-span-preserved c =

@@ -1,4 +1,4 @@
-use Rattle.std.proofs.Common.{◌≡◌, ℕ, ◌+◌, ◌-◌, ◌<◌, ◌≤◌, All, List, [], Option, Some, None, arith, length, get_or, ap, subst, ◌∙◌, Contains}
+use Rattle.std.proofs.Common.{◌≡◌, ℕ, ◌+◌, ◌-◌, ◌<◌, ◌≤◌, All, List, [], Option, Some, None, arith, length, get_or, ap, subst, ◌∙◌}
 use Rattle.std.specs.Prelude.{IsSome}
 use Rattle.std.proofs.lemmas.List.{length-map}
 use Rattle.rtl_kernel.specs.drivers.Transactions.{nets_of}
@@ -46,7 +46,7 @@ set_run-requires c =
     let in_drives : first < length drives = omega (arith, c.loop-first-test.true, c.requires.within, c.requires.each_driver) in
     piece_together readers (nets_of drives) first _ c.piece_end-beyond.result (get_or drives first none).net (length c.values-assigned.result.now) c.piece_end-beyond.ensures c.requires.cuts.nets
     (net_at drives first none in_drives) c.values-assigned.ensures.as_many c.loop-first.state
-    (still_have_readers readers (Contains (nets_of drives)) c.args.state.now c.loop-first.state c.loop-first.invariant.some.advances c.requires.have_readers)
+    (still_have_readers readers _ c.args.state.now c.loop-first.state c.loop-first.invariant.some.advances c.requires.have_readers)
 
 pub loop-first-preserved : goal.loop-first-preserved
 loop-first-preserved c =

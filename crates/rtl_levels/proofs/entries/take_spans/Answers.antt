@@ -1,5 +1,4 @@
 use Rattle.std.proofs.Common.{arith}
-use Rattle.std.specs.Prelude.{Contains}
 use Rattle.rtl_drives.proofs.Places.{place_assigned}
 use Rattle.rtl_kernel.specs.drivers.Transactions.{nets_of}
 use Rattle.rtl_levels.proofs.Advancing.{still_have_readers}
@@ -18,7 +17,7 @@ take_span-requires-clause-all c = λ k l. place_assigned _ _ c.assigned-span-ite
 
 pub take_span-requires-clause-have_readers : goal.take_span-requires-clause-have_readers
 take_span-requires-clause-have_readers c =
-    still_have_readers c.args.schedule.now.readers (Contains (nets_of c.args.drives.now)) c.args.state.now c.loop-span.state c.loop-span.invariant.advances c.requires.have_readers
+    still_have_readers c.args.schedule.now.readers _ c.args.state.now c.loop-span.state c.loop-span.invariant.advances c.requires.have_readers
 
 pub loop-span-preserved : goal.loop-span-preserved
 loop-span-preserved c =

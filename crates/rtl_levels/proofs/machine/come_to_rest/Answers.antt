@@ -1,4 +1,4 @@
-use Rattle.std.proofs.Common.{◌≡◌, ℕ, true, false, List, Option, None, get_or, refl, ap, sym, ◌∙◌}
+use Rattle.std.proofs.Common.{◌≡◌, ℕ, true, false, List, Option, None, get_or, ap, sym, ◌∙◌}
 use Rattle.std.specs.Prelude.{⊤}
 use Rattle.rtl_model.specs.simulation.Netlist.{process}
 use Rattle.rtl_model.proofs.nets.InRange.{keeps_range}
@@ -7,7 +7,7 @@ use Rattle.rtl_net.specs.Nets.{flat}
 use Rattle.rtl_net.specs.Core.{core}
 use Rattle.rtl_levels.specs.Kept.{entries_of}
 use Rattle.rtl_levels.proofs.Awake.{with_asleep}
-use Rattle.rtl_levels.proofs.Resting.{at_rest, stays_clean}
+use Rattle.rtl_levels.proofs.Resting.{stays_to_come}
 use Rattle.rtl_levels.proofs.Stepping.{woken_clocked}
 use Rattle.rtl_net_groups.proofs.Touching.{touches_then}
 use Rattle.rtl_levels.proofs.Wired.{runs_many}
@@ -67,25 +67,30 @@ pub sweep-requires-clause-state : goal.sweep-requires-clause-state
 sweep-requires-clause-state g c = c.take_marked.ensures.state
 
 pub sweep-requires-clause-settled : goal.sweep-requires-clause-settled
-sweep-requires-clause-settled g c =
+sweep-requires-clause-settled g c P p place d has =
+    let net = core c.args.net.now in
+    let before = c.args.before.now in
+    let v = c.args.state.now.values.items in
+    let R = c.run_marked.ensures.ran in
     let E = c.take_marked.ensures in
-    stays_clean (core c.args.net.now) c.args.schedule.now c.requires.planned c.run_marked.new.marked.items
-    (λ p m. woken_clocked _ _ c.requires.planned _ _ c.requires.sensitive p (c.run_marked.ensures.ran.fewer p m))
-    (entries_of c.deref-2.result.now) c.args.state.now.values.items c.take_marked.new.state.values.items E.taken
-    (λ n. ⊤) c.args.state.now.dirty.items c.take_marked.new.state.dirty.items E.advances.marks c.requires.settled
+    stays_to_come net c.args.schedule.now P c.run_marked.new.marked.items
+    (λ p m. woken_clocked _ _ c.requires.planned _ _ c.requires.sensitive p (R.fewer p m))
+    (entries_of c.deref-2.result.now) before v c.take_marked.new.state.values.items
+    (λ p m. ap (λ os. entries_of os p) c.deref-2.ensures.value ∙ R.ran p m ∙ ap (λ (u : List ℕ). (process net p).effect before u) c.deref.ensures.value) E.taken
+    (λ n. ⊤) c.args.state.now.dirty.items c.take_marked.new.state.dirty.items E.advances.marks p place d has (c.requires.settled P p place d has)
 
 pub returns-clause-rest : goal.returns-clause-rest
 returns-clause-rest g c =
     let net = core c.args.net.now in
-    let before = c.args.before.now in
     let v = c.args.state.now.values.items in
     let w = c.take_marked.new.state.values.items in
     let P = c.requires.planned in
     let R = rw (c.deref.ensures.value, ← c.deref-2.ensures.value) at c.run_marked.ensures.ran in
-    let taken = with_asleep net (numbered net P.elaborated P.accepted) before v w c.args.woken.now.items c.run_marked.new.marked.items
-    (entries_of c.deref-2.result.now) R c.take_marked.ensures.taken in
-    at_rest net c.args.schedule.now P c.args.woken.now.items (woken_clocked _ _ P _ _ c.requires.sensitive) (λ p. (process net p).effect before v) v w taken before
-    c.sweep.new.state.values.items (λ p m. refl) c.sweep.ensures.swept
+    record {
+      between = w;
+      taken = with_asleep net (numbered net P.elaborated P.accepted) c.args.before.now v w c.args.woken.now.items c.run_marked.new.marked.items (entries_of c.deref-2.result.now) R c.take_marked.ensures.taken;
+      swept = c.sweep.ensures.swept;
+    }
 
 pub returns-clause-may : goal.returns-clause-may
 returns-clause-may g c = c.sweep.ensures.may

@@ -11,14 +11,14 @@ use Rattle.rtl_net.specs.Core.{core}
 use Rattle.rtl_levels.specs.States.{StateTakesOver}
 use Rattle.rtl_levels.proofs.Advancing.{have_readers, still_state}
 use Rattle.rtl_levels.proofs.Together.{taken_in_range}
-use Rattle.rtl_levels.proofs.Wired.{combinational_there, ran_entries, runs_many}
+use Rattle.rtl_levels.proofs.Wired.{ran_entries, runs_many}
 use Rattle.rtl_levels.proofs.running.settle.Goals as goal
 
 pub run-requires-clause-may : goal.run-requires-clause-may
 run-requires-clause-may g c = c.requires.may
 
 pub run-requires-clause-there : goal.run-requires-clause-there
-run-requires-clause-there g c = combinational_there c.args.net.now c.args.number c.requires.combinational
+run-requires-clause-there g c = c.requires.there
 
 pub run-requires-clause-before : goal.run-requires-clause-before
 run-requires-clause-before g c = rw (c.deref.ensures.value) c.requires.state.in_range
@@ -30,12 +30,12 @@ pub take_over-requires-clause-planned : goal.take_over-requires-clause-planned
 take_over-requires-clause-planned g c = c.requires.planned
 
 pub take_over-requires-clause-there : goal.take_over-requires-clause-there
-take_over-requires-clause-there g c = combinational_there c.args.net.now c.args.number c.requires.combinational
+take_over-requires-clause-there g c = c.requires.there
 
 pub take_over-requires-clause-own : goal.take_over-requires-clause-own
 take_over-requires-clause-own g c =
     let p = c.args.number in
-    let in_new : p < length c.run.new.runs.items = rw (runs_many _ _ _ _ _ _ c.run.ensures.may) (combinational_there c.args.net.now p c.requires.combinational) in
+    let in_new : p < length c.run.new.runs.items = rw (runs_many _ _ _ _ _ _ c.run.ensures.may) c.requires.there in
     subst (λ (o : Outcome). IsOf (process_at (flat c.args.net.now) p) o) (sym (c.index.ensures ∙ get_or_default c.run.new.runs.items p c.index.result.now no_outcome in_new))
     (c.run.ensures.may.room.own p in_new)
 
@@ -50,7 +50,7 @@ returns-clause-written g c =
     let net = core c.args.net.now in
     let p = c.args.number in
     let v = c.args.state.now.values.items in
-    let there = combinational_there c.args.net.now p c.requires.combinational in
+    let there = c.requires.there in
     let in_runs : p < length c.args.runs.now.items = rw (runs_many _ _ _ _ _ _ c.requires.may) there in
     let in_new : p < length c.run.new.runs.items = rw (runs_many _ _ _ _ _ _ c.run.ensures.may) there in
     let entries : c.index.result.now.entries ≡ (process net p).effect v v =

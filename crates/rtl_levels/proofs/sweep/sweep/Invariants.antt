@@ -9,7 +9,7 @@ abbrev pub invariant-loop-rank : goal.invariant-loop-rank
 invariant-loop-rank g l = record {
   may : MayRun g.E.Exec.process g.E.Exec.types g.E.Exec.most l.net l.bodies l.runs.items;
   state : IsStateOf (core l.net) l.schedule l.state;
-  sweeping : IsSweeping (core l.net) l.schedule.order.items l.rank l.initial.state.values.items l.state.values.items l.state.dirty.items;
+  sweeping : IsSweeping (core l.net) l.schedule l.rank l.initial.state.values.items l.state;
   within : l.rank ≤ length l.state.dirty.items;
   touched : Touches l.initial.state.touched l.state.touched l.initial.state.values.items l.state.values.items;
 }

@@ -22,7 +22,7 @@ returns-then-replace c =
     let old = c.args.self.now.values in
     let done = rw c.deref_mut.ensures.value at c.replace.ensures.written in
     get_new c.args.readers.now c.args.first c.args.given.now c.args.self.now _ c.requires (written_items old c.replace.new.over c.args.first c.args.given.now done)
-    (omega (arith, (c.replace.ensures.other c.if-replace.true).there)) c.readers_of.result.now c.readers_of.ensures c.mark.ensures.as_many c.mark.ensures.marks c.mark_run.ensures
+    (rw c.deref_mut.ensures.value at (c.replace.ensures.other c.if-replace.true)) c.readers_of.result.now c.readers_of.ensures c.mark.ensures.as_many c.mark.ensures.marks c.mark_run.ensures
 
 pub returns-else-replace : goal.returns-else-replace
 returns-else-replace c =
