@@ -1,10 +1,8 @@
 -- The settling theorem, from rtl_model's of sound flat netlists.
-use Rattle.std.proofs.Common.{◌≡◌, ℕ, ◌≤◌, List, [], ◌∷◌, length, Option, refl, subst, arith}
+use Rattle.std.proofs.Common.{◌≡◌, ℕ, ◌≤◌, List, [], ◌∷◌, length, refl, subst, arith}
 use Rattle.rtl_model.specs.nets.CoreNetlist.{core_netlist}
 use Rattle.rtl_model.specs.nets.Laws.{EachSimulatesTheMachine, EachHasOneSolution}
-use Rattle.rtl_model.specs.simulation.Netlist.{Edge, Netlist, Source, sources_of}
-use Rattle.rtl_model.specs.simulation.Levels.{IsBound, bound}
-use Rattle.rtl_model.specs.simulation.Report.{IsReport}
+use Rattle.rtl_model.specs.simulation.Netlist.{Netlist, Source, sources_of}
 use Rattle.rtl_model.specs.simulation.Moments.{HasDeltas}
 use Rattle.rtl_model.specs.simulation.Accepted.{IsAccepted, TwoDrivers}
 use Rattle.rtl_model.proofs.simulation.Orders.{one_number}
@@ -20,10 +18,6 @@ at_most_one net accepted n = by (sources_of net n) refl
     by (a ∷ []) is = omega arith
     by (a ∷ b ∷ more) is = absurd (accepted (TwoDrivers n a b) (more, is))
 
--- a report's bound
-pub bound_of : {net : Netlist} {levels from : List (Option ℕ)} {clocks : List (ℕ × Edge)} {most : ℕ} (report : IsReport net levels from clocks most) → IsBound net report.greatest most
-bound_of {levels = levels} report = record { levels = levels; are_levels = report.levels_are; is = report.rest.bound_is }
-
 pub is_synchronous : EachNetMeetsTheLaws → EachSimulatesTheMachine → EachHasOneSolution → EachAcceptedIsSynchronous
 is_synchronous meets simulates solves net most stimulus is_net said raceless =
     let core = core_netlist (flat net) in
@@ -34,14 +28,14 @@ is_synchronous meets simulates solves net most stimulus is_net said raceless =
         one_source = at_most_one core said.accepted;
         comes = all.begins;
         settles = λ m begun is_begun.
-            let s = all.settles said.report.greatest most (bound_of said.report) m begun is_begun in
+            let s = all.settles said.greatest most said.is_bound m begun is_begun in
             (s.deltas, s.settles, s.in_bound);
-        starts = λ levels greatest are none begun is_begun.
-            let s = all.settles greatest (bound core greatest) (record { levels = levels; are_levels = are; is = refl }) 0 begun is_begun in
+        starts = λ greatest is none begun is_begun.
+            let s = all.settles greatest most is 0 begun is_begun in
             (s.deltas, s.settles, s.at_start refl none);
         is_machine = λ m deltas settled has.
             let (begun, is_begun, (settles, leads)) = has in
-            let s = all.settles said.report.greatest most (bound_of said.report) m begun is_begun in
+            let s = all.settles said.greatest most said.is_bound m begun is_begun in
             let same = one_number core begun deltas s.deltas settles s.settles in
             s.is_machine (raceless m) settled (subst (λ (k : ℕ). HasDeltas core k begun settled) same leads) all.one_run.0 all.one_run.1;
         machine = all.one_run.1;

@@ -21,7 +21,6 @@ use Rattle.rtl_simulation.specs.Answered.{Fails, IsWhole, LeavesBeginning, Write
 use Rattle.rtl_simulation.specs.Engines.{ComesTo}
 use Rattle.rtl_simulation.specs.Simulated.{NeverSettles}
 use Rattle.rtl_simulation.specs.Watched.{AreStands, IsToldAll, IsToldFirst, WasTold}
-use Rattle.rtl_run.proofs.Theorem.{bound_of}
 use Rattle.rtl_run.proofs.Texts.{are_of_run, whole_is, beginning_is}
 
 module _ (net : NetlistView) (s : StimulusView) (limit : ℕ) (run : ℕ → List ℕ) (synchronous : IsSynchronous (core net) limit (inputs_at s) run) where
@@ -82,7 +81,7 @@ module _ (net : NetlistView) (s : StimulusView) (limit : ℕ) (run : ℕ → Lis
     whole summary is_net one said is_whole =
         let moments_are = is_whole.all.count_is ∙ is_whole.all.all in
         let most = subst (λ (k : ℕ). IsMost (core net) (inputs_at s) k summary.most_deltas) (ap pred moments_are) is_whole.most in
-        let greatest = one (core net) said.report.greatest limit (connected_is_elaborated (flat net) is_net.in_range is_net.connected) said.accepted (bound_of said.report) (inputs_at s) (pred (length (moments s))) in
+        let greatest = one (core net) said.greatest limit (connected_is_elaborated (flat net) is_net.in_range is_net.connected) said.accepted said.is_bound (inputs_at s) (pred (length (moments s))) in
         let same : summary.most_deltas ≡ greatest.0 = greatest.3 summary.most_deltas most in
         record { all = traces_moments summary.moments is_whole.all; most = most; within = subst (λ (k : ℕ). k ≤ limit) (sym same) greatest.2 }
 

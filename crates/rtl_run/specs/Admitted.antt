@@ -1,9 +1,11 @@
 -- Which netlists and texts of stimuli are simulated as a synchronous machine, and why others are refused: by the
 -- checker first, then by the text, and then by a race.
-use Rattle.std.specs.Prelude.{◌≡◌, ℕ, suc, ◌<◌, List, map, length, slice_index, Ok, Err}
-use Rattle.rtl_model.specs.simulation.Netlist.{Edge}
-use Rattle.rtl_model.specs.simulation.Accepted.{IsAccepted}
+use Rattle.std.specs.Prelude.{◌≡◌, ℕ, suc, ◌<◌, List, map, length, slice_index, Option, Ok, Err}
+use Rattle.rtl_model.specs.simulation.Netlist.{Netlist, Edge}
+use Rattle.rtl_model.specs.simulation.Accepted.{IsAccepted, IsByNets}
 use Rattle.rtl_model.specs.simulation.Faults.{AreFaults}
+use Rattle.rtl_model.specs.simulation.Levels.{AreLevels}
+use Rattle.rtl_model.specs.simulation.NetLevels.{AreLevelsByNets}
 use Rattle.rtl_model.specs.simulation.Races.{IsFirstRace}
 use Rattle.rtl_model.specs.simulation.Report.{AreClocks}
 use Rattle.rtl_net.specs.Nets.{NetlistView}
@@ -14,9 +16,25 @@ use Rattle.rtl_stim_lines.specs.declared.faults.StimFault.TheVariants.{Race, NoM
 use Rattle.rtl_stim_lines.specs.Reading.{schedule_of}
 use Rattle.rtl_stim.specs.Ports.{inputs_of}
 use Rattle.rtl_stim.specs.Stimuli.{StimulusView, IsRead, moments, inputs_at}
+use Rattle.rtl_run.specs.declared.admission.Acceptance.{Acceptance}
+use Rattle.rtl_run.specs.declared.machine_levels.MachineLevels.{MachineLevels}
+use Rattle.rtl_run.specs.declared.machine_levels.MachineLevels.TheVariants.{OfProcesses, OfNets}
 use Rattle.rtl_run.specs.declared.fault.MachineFault.{MachineFault}
 use Rattle.rtl_run.specs.declared.fault.MachineFault.TheVariants.{Rejected, Stim, Memory, Output}
 use Rattle.rtl_run.specs.Synchronous.{SaysYes, IsRaceless}
+
+-- these are the levels of its processes, by which it is judged, or by nets those of its nets
+abbrev pub AreMachineLevels : Netlist → MachineLevels → Type 0
+AreMachineLevels net (OfProcesses levels) =
+    (IsByNets net → ⊥) × (greatest : ℕ) × AreLevels net levels.items greatest
+AreMachineLevels net (OfNets nets) =
+    (levels : List (Option ℕ)) × (greatest : ℕ) × AreLevelsByNets net levels nets.items greatest
+
+-- the checker says yes with this bound, and these are the clocks and levels
+pub record IsAcceptedWith (net : Netlist) (a : Acceptance) : Type 0 where
+  pub says : SaysYes net a.bound
+  pub clocks_are : AreClocks net a.clocks.items
+  pub levels_are : AreMachineLevels net a.levels
 
 module _ (net : NetlistView) (text : List ℕ) where
   -- The checker says yes with this bound, the text says this stimulus of the netlist's inputs, and it has no race.

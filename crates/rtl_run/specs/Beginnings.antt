@@ -2,7 +2,6 @@
 use Rattle.std.specs.Prelude.{◌≡◌, ℕ, List, [], None}
 use Rattle.rtl_model.specs.bodies.Types.{ElementType}
 use Rattle.rtl_model.specs.nets.FlatNetlist.{FlatProcess}
-use Rattle.rtl_model.specs.simulation.Levels.{AreLevels}
 use Rattle.rtl_agenda.specs.Agenda.{AgendaState}
 use Rattle.rtl_eval_code.specs.Codes.{CodeOf, process_of}
 use Rattle.rtl_kernel.specs.kernel.Kept.{RunBodies}
@@ -12,15 +11,15 @@ use Rattle.byte_streams.specs.Written.{SinkState, IsIntact}
 use Rattle.rtl_stim.specs.Ports.{HasOwnPorts, inputs_of}
 use Rattle.rtl_stim.specs.Stimuli.{StimulusView, inputs_at}
 use Rattle.rtl_run.specs.declared.admission.Admitted.{Admitted}
-use Rattle.rtl_run.specs.Admitted.{IsAdmitted}
+use Rattle.rtl_run.specs.Admitted.{AreMachineLevels, IsAdmitted}
 use Rattle.rtl_run.specs.Synchronous.{SaysYes, IsRaceless}
 
--- the stimulus that the text says is admitted, with the levels of the netlist's processes, these are their bodies, and
--- nothing waits
+-- the stimulus that the text says is admitted, with levels of the netlist, these are its processes' bodies, and nothing
+-- waits
 pub record IsPrepared (net : NetlistView) (text : List ℕ) (a : Admitted) (codes : List CodeOf) (agenda : AgendaState)
     : Type 0 where
   pub admitted : IsAdmitted net text a.bound a.stimulus
-  pub levels : (greatest : ℕ) × AreLevels (core net) a.levels.items greatest
+  pub levels : AreMachineLevels (core net) a.levels
   pub bodies : RunBodies process_of (λ (c : CodeOf). c.process.net.types) (flat net) codes
   pub waiting : agenda.waiting ≡ []
   pub last : agenda.last ≡ None

@@ -1,25 +1,22 @@
 -- The settling theorem: an accepted netlist is, under a stimulus without a race, a synchronous machine.
-use Rattle.std.specs.Prelude.{◌≡◌, ℕ, ◌≤◌, List, length, Option}
-use Rattle.rtl_model.specs.simulation.Netlist.{Netlist, Edge, sources_of}
+use Rattle.std.specs.Prelude.{◌≡◌, ℕ, ◌≤◌, List, length}
+use Rattle.rtl_model.specs.simulation.Netlist.{Netlist, sources_of}
 use Rattle.rtl_model.specs.simulation.Cycle.{State}
 use Rattle.rtl_model.specs.simulation.Moments.{Begun, SettlesIn, HasSettled}
 use Rattle.rtl_model.specs.simulation.Accepted.{IsAccepted}
 use Rattle.rtl_model.specs.simulation.Laws.{HasNoReset}
-use Rattle.rtl_model.specs.simulation.Levels.{AreLevels}
-use Rattle.rtl_model.specs.simulation.Report.{IsReport}
+use Rattle.rtl_model.specs.simulation.NetLevels.{IsBound}
 use Rattle.rtl_model.specs.simulation.Races.{HasNoRace}
 use Rattle.rtl_model.specs.simulation.Machine.{Solves, IsMachineRun}
 use Rattle.rtl_net.specs.Nets.{NetlistView}
 use Rattle.rtl_net.specs.Elaborated.{IsNet}
 use Rattle.rtl_net.specs.Core.{core}
 
--- The checker says yes with this bound: the netlist has no fault, and the bound is its report's.
+-- The checker says yes with this bound: the netlist has no fault, and the bound is that of its greatest level.
 pub record SaysYes (net : Netlist) (bound : ℕ) : Type 0 where
   pub accepted : IsAccepted net
-  pub levels : List (Option ℕ)
-  pub from : List (Option ℕ)
-  pub clocks : List (ℕ × Edge)
-  pub report : IsReport net levels from clocks bound
+  pub greatest : ℕ
+  pub is_bound : IsBound net greatest bound
 
 -- no data input changes at an active clock edge, at any moment
 abbrev pub IsRaceless : Netlist → (stimulus : ℕ → ℕ → ℕ) → Type 0
@@ -41,7 +38,7 @@ pub record IsSynchronous (net : Netlist) (bound : ℕ) (stimulus : ℕ → ℕ �
   pub settles : (m : ℕ) (begun : State) → Begun net stimulus m begun → (deltas : ℕ) × SettlesIn net begun deltas
       × (deltas ≤ bound)
   -- the first within the greatest level, where no process has a reset
-  pub starts : (levels : List (Option ℕ)) (greatest : ℕ) → AreLevels net levels greatest → HasNoReset net
+  pub starts : (greatest : ℕ) → IsBound net greatest bound → HasNoReset net
       → (begun : State) → Begun net stimulus 0 begun → (deltas : ℕ) × SettlesIn net begun deltas × (deltas ≤ greatest)
   -- what it settles in is the machine's valuation,
   pub is_machine : (m deltas : ℕ) (settled : State) → HasSettled net stimulus m deltas settled → settled.now ≡ run m

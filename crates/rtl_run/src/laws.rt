@@ -39,5 +39,5 @@ pub fn each_run_is_written_alike()
     ensures { EachRunIsWrittenAlike }
 {
     each_trace_is_the_one();
-    simulation_laws::one_report();
+    simulation_laws::one_bound();
 }

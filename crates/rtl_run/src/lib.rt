@@ -24,6 +24,7 @@ mod fault;
 mod laws;
 mod level_engine;
 mod level_summary;
+mod machine_levels;
 mod ports;
 mod prepared;
 mod running;
@@ -38,6 +39,7 @@ pub use laws::{
     accepted_nets_are_synchronous, each_run_is_written_alike, each_trace_is_the_one, each_word_sets,
 };
 pub use level_summary::LevelSummary;
+pub use machine_levels::MachineLevels;
 pub use prepared::SLOTS;
 pub use running::run_watched;
 pub use stepping::Stepping;

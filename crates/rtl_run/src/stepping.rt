@@ -1,9 +1,9 @@
 //! Simulations by levels.
 
-ghost use Rattle.std.specs.Prelude.{ℕ, IfErr, IfOk, map};
-ghost use Rattle.rtl_model.specs.simulation.Levels.{AreLevels};
+ghost use Rattle.std.specs.Prelude.{IfErr, IfOk, map};
 ghost use Rattle.rtl_net.specs.Core.{core};
 ghost use Rattle.rtl_net.specs.Nets.{signal_view};
+ghost use Rattle.rtl_run.specs.Admitted.{AreMachineLevels};
 ghost use Rattle.rtl_run.specs.Beginnings.{IsReady};
 ghost use Rattle.rtl_run.specs.Watched.{IsToldRun, IsToldRunFirst};
 ghost use Rattle.rtl_run.specs.levels.Answered.{TracesLevels};
@@ -12,22 +12,22 @@ use crate::fault::{MachineFault, settled_fault};
 use crate::laws::accepted_nets_are_synchronous;
 use crate::level_engine::LevelEngine;
 use crate::level_summary::LevelSummary;
+use crate::machine_levels::{MachineLevels, first_machine};
 use byte_streams::{Sink, Watch};
 use rtl_eval::Exec;
-use rtl_levels::Machine;
 use rtl_net::Shown;
 use rtl_simulation::Course;
 use rtl_stim::{Agenda, Stimulus};
 use std::alloc::Global;
 
-/// What is simulated: an accepted netlist, whose k-th process has the k-th body and the k-th level,
+/// What is simulated: an accepted netlist, whose k-th process has the k-th body, by its levels,
 /// under a stimulus without a race, with the bound of its report; and the signals that the trace
 /// shows.
 #[derive(Drop)]
 pub struct Stepping<'a, E: Exec> {
     pub shown: Shown<'a>,
     pub bodies: &'a [E],
-    pub levels: &'a [Option<u32>],
+    pub levels: &'a MachineLevels,
     pub stimulus: &'a Stimulus,
     pub bound: u32,
 }
@@ -50,7 +50,7 @@ impl<E: Exec> Stepping<'_, E> {
         watch: &mut V,
         out: &mut W,
     ) -> Result<LevelSummary, MachineFault>
-        requires levels { (greatest : ℕ) × AreLevels (core self.now.shown.net.now) self.now.levels.now greatest }
+        requires levels { AreMachineLevels (core self.now.shown.net.now) self.now.levels.now }
         requires ready { IsReady E.process E.types self.now.shown.net.now self.now.bodies.now self.now.stimulus.now
             self.now.bound (A.state agenda.old) (W.state out.old) }
         ensures traces { TracesLevels self.now.shown.net.now (map signal_view self.now.shown.signals.now)
@@ -63,7 +63,7 @@ impl<E: Exec> Stepping<'_, E> {
         accepted_nets_are_synchronous();
         self.shown.net.is_elaborated();
         let initial = self.stimulus.initial();
-        let machine = Machine::new(alloc, self.shown.net, self.bodies, self.levels, initial)?;
+        let machine = first_machine(alloc, self.shown.net, self.bodies, self.levels, initial)?;
         let mut engine = LevelEngine { machine };
         let course = Course {
             shown: self.shown,

@@ -1,6 +1,6 @@
 -- What the run of an accepted netlist writes is one text.
 use Rattle.std.proofs.Common.{◌≡◌, ℕ, ◌≤◌, List, length, Ok, inl, inr, sym, ap, subst, ◌∙◌}
-use Rattle.rtl_model.specs.simulation.Laws.{OneMachineRun, OneReport}
+use Rattle.rtl_model.specs.simulation.Laws.{OneBound, OneMachineRun}
 use Rattle.rtl_net.specs.Nets.{NetlistView, SignalView}
 use Rattle.rtl_net.specs.Elaborated.{IsNet}
 use Rattle.rtl_net.specs.Laws.{EachNetMeetsTheLaws}
@@ -34,7 +34,7 @@ same_stimulus net text a b s t A B = λ i. record { inputs = (A.says.0 ∙ sym B
     same_schedule : s.schedule ≡ t.schedule
     same_schedule = same_ok s.schedule t.schedule A.says.1 B.says.1
 
-module _ (one : EachTraceIsTheOne) (reports : OneReport) (net : NetlistView) (names : List SignalView) (text : List ℕ) (is_net : IsNet net) (old left right : SinkState) (summary : Summary) (levels : LevelSummary) where
+module _ (one : EachTraceIsTheOne) (bounds : OneBound) (net : NetlistView) (names : List SignalView) (text : List ℕ) (is_net : IsNet net) (old left right : SinkState) (summary : Summary) (levels : LevelSummary) where
   both : (A : Admits net text (λ s bound. Traces net names s bound old left (Ok summary))) (B : Admits net text (λ s bound. TracesLevels net names s bound old right (Ok levels)))
       → WriteAlike old left right summary levels
   both A B = record {
@@ -57,12 +57,12 @@ module _ (one : EachTraceIsTheOne) (reports : OneReport) (net : NetlistView) (na
       same_bound =
           let yes = A.admitted.accepted in
           let also = B.admitted.accepted in
-          (reports (core net) yes.accepted yes.levels also.levels yes.from also.from yes.clocks also.clocks A.bound B.bound yes.report also.report).3
+          (bounds (core net) yes.greatest also.greatest A.bound B.bound yes.accepted yes.is_bound also.is_bound).1
 
   pub alike : RunsNet net names text old left (Ok summary) → RunsLevels net names text old right (Ok levels) → WriteAlike old left right summary levels
   alike (inl A) (inl B) = both A B
   alike (inl A) (inr R) = let is = R.is in cc
   alike (inr R) either = let is = R.is in cc
 
-pub each_run_is_written_alike : EachTraceIsTheOne → OneReport → EachRunIsWrittenAlike
+pub each_run_is_written_alike : EachTraceIsTheOne → OneBound → EachRunIsWrittenAlike
 each_run_is_written_alike one reports net names text is_net old left right summary levels = alike one reports net names text is_net old left right summary levels

@@ -18,16 +18,16 @@ same c =
     c.each_word_sets.ensures (inputs_of c.args.net.now) (map (λ (word : Bor (List ℕ)). word.now) c.args.words.now)
     ∙ ap (schedule_of_pairs (inputs_of c.args.net.now)) (sym (ap (map pair_view) c.deref.ensures.value ∙ c.in_ok-pairs.ensures))
 
-pub returns-in_err-report-clause-refused : goal.returns-in_err-report-clause-refused
-returns-in_err-report-clause-refused c =
-    fails_with _ _ c.from_residual.result c.in_err-report.field-0.0 c.from_residual.ensures.1 (c.in_err-report.ensures.refused (words_of c.args.words.now))
+pub returns-in_err-acceptance-clause-refused : goal.returns-in_err-acceptance-clause-refused
+returns-in_err-acceptance-clause-refused c =
+    fails_with _ _ c.from_residual.result c.in_err-acceptance.field-0.0 c.from_residual.ensures.1 (c.in_err-acceptance.ensures.refused (words_of c.args.words.now))
 
 pub returns-in_err-stimulus-clause-refused : goal.returns-in_err-stimulus-clause-refused
 returns-in_err-stimulus-clause-refused c =
     let fault = c.in_err-stimulus.field-0.0 in
     let said = same (goal.at.returns-in_err-stimulus-clause-refused c).After-deref in
     fails_with _ _ c.from_residual-in_err-stimulus.result (of_stim fault) c.from_residual-in_err-stimulus.ensures.1
-    (refused_text c.args.net.now (words_of c.args.words.now) fault c.in_ok-report.ensures.accepted (λ n. said ∙ c.in_err-stimulus.ensures n))
+    (refused_text c.args.net.now (words_of c.args.words.now) fault c.in_ok-acceptance.ensures.accepted.says.accepted (λ n. said ∙ c.in_err-stimulus.ensures n))
 
 pub without_race-requires-clause-inputs : goal.without_race-requires-clause-inputs
 without_race-requires-clause-inputs c = c.in_ok-stimulus.ensures.0

@@ -4,6 +4,3 @@ use Rattle.rtl_run.proofs.admission.without_race.Goals as goal
 
 pub first_race-requires-clause-inputs : goal.first_race-requires-clause-inputs
 first_race-requires-clause-inputs c = ap all_nets c.requires.inputs ∙ c.requires.ports.elements
-
-pub returns-clause-levels : goal.returns-clause-levels
-returns-clause-levels c = (c.requires.report.greatest, c.requires.report.levels_are)

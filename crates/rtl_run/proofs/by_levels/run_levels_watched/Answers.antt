@@ -16,7 +16,7 @@ returns g c = record {
 pub trace-requires : goal.trace-requires
 trace-requires g c =
     let P = c.in_ok-admitted.ensures in
-    record { levels = rw c.deref-2.ensures.value P.levels; ready = ready c.requires.ports P c.deref.ensures.value c.requires.intact }
+    record { levels = P.levels; ready = ready c.requires.ports P c.deref.ensures.value c.requires.intact }
 
 pub returns-in_err-admitted : goal.returns-in_err-admitted
 returns-in_err-admitted g c =

@@ -26,11 +26,11 @@ runs g c =
     c.accepted_nets_are_synchronous.ensures c.args.self.now.shown.net.now c.args.self.now.bound (inputs_at c.args.self.now.stimulus.now) c.is_elaborated.ensures c.requires.ready.accepted
     c.requires.ready.raceless
 
-pub new-requires-clause-accepted : goal.new-requires-clause-accepted
-new-requires-clause-accepted g c = let ready = c.requires.ready in ready.accepted.accepted
+pub first_machine-requires-clause-accepted : goal.first_machine-requires-clause-accepted
+first_machine-requires-clause-accepted g c = let ready = c.requires.ready in ready.accepted.accepted
 
-pub new-requires-clause-bodies : goal.new-requires-clause-bodies
-new-requires-clause-bodies g c = let ready = c.requires.ready in ready.run
+pub first_machine-requires-clause-bodies : goal.first_machine-requires-clause-bodies
+first_machine-requires-clause-bodies g c = let ready = c.requires.ready in ready.run
 
 pub trace-requires : goal.trace-requires
 trace-requires g c =
