@@ -1,5 +1,5 @@
 -- What the sources of nets hold before a simulation begins, and what the nets start with (IEEE 1076-2008, 14.7.3).
-use Rattle.std.specs.Prelude.{◌≡◌, ℕ, ◌<◌, ◌==◌, if◌then◌else◌, List, [], ◌∷◌, length, map, flat_map, slice_index_or}
+use Rattle.std.specs.Prelude.{◌≡◌, ℕ, false, ◌<◌, ◌==◌, if◌then◌else◌, List, [], ◌∷◌, length, map, flat_map, slice_index_or}
 use Rattle.std.specs.List.{range_with_len}
 use Rattle.smallvec.specs.SmallVec.{SmallVec}
 use Rattle.rtl_model.specs.bodies.Types.{ElementType}
@@ -46,4 +46,5 @@ with_defaults types inputs defaults idle processes = record {
   inputs = inputs;
   idle = map (idle_at idle) (range_with_len 0 (length defaults));
   processes = map process_view processes;
+  wide = false;
 }

@@ -86,6 +86,7 @@ module _ (d : Numbered) (m : Made) (h : IsTold d m) (same : length m.kinds.items
     inputs = inputs-are d.instances m.elements.items h.elements i;
     idle = (ap (λ n. map (idle_at (idle_in (used m))) (range_with_len 0 n)) many ∙ idle-is) i;
     processes = flat-all d.nets d.processes m.processes.items h.processes i;
+    wide = false;
   }
 
   module _ (table : List (SmallVec ℕ)) (t : IsHeld m table) where
@@ -181,6 +182,7 @@ module _ (d : Numbered) (m : Made) (h : IsTold d m) (same : length m.kinds.items
           inputs = (k.inputs ∙ inputs-are d.instances m.elements.items h.elements) i;
           idle = ((λ j. map (idle_at (k.idle j)) (range_with_len 0 (h.nets j))) ∙ idle-is) i;
           processes = flat-all d.nets d.processes m.processes.items h.processes i;
+          wide = false;
         };
         scopes = h.scopes i;
         signals = h.signals i;

@@ -128,6 +128,7 @@ with_defaults d = record {
   inputs = inputs_of d;
   idle = map (idle_values d) (range_with_len 0 d.nets);
   processes = map (flat_process d.nets) d.processes;
+  wide = false;
 }
 
 -- a net with sources starts with the resolution of what they start with, any other with its default

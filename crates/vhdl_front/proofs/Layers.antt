@@ -1,5 +1,5 @@
 -- From the tree of a source to its netlist.
-use Rattle.std.proofs.Common.{◌≡◌, ◌≢◌, ◌<◌, ◌≤◌, subst, ℕ, length, List, ◌∷◌, None, Some, Result, Ok, Err, All, arith}
+use Rattle.std.proofs.Common.{◌≡◌, ◌≢◌, ◌<◌, ◌≤◌, sym, ap, ◌∙◌, subst, ℕ, Bool, true, false, length, List, ◌∷◌, None, Some, Result, Ok, Err, refl, All, arith}
 use Rattle.std.specs.Prelude.{IsTrue, IsErrAnd, IfOk, IfErr, IfSome, Contains}
 use Rattle.std.proofs.lemmas.List.Elements.{All-cons, All-contains, All-weaker}
 use Rattle.vhdl_lexer.specs.declared.language.Language.{Language}
@@ -23,12 +23,18 @@ use Rattle.vhdl_names.proofs.Spelled.{words}
 use Rattle.vhdl_names.proofs.Written.{units_in_are_sound, ports_in_are_distinct}
 use Rattle.vhdl_names_registers.proofs.Standing.{written_stand}
 use Rattle.vhdl_expand_rules.specs.Elab.{fault_told}
+use Rattle.vhdl_expand_rules.specs.Expansion.{expanded_design}
 use Rattle.vhdl_expand_rules.specs.Tops.{Top}
+use Rattle.vhdl_expand_rules.proofs.Steps.{bound, ok}
 use Rattle.vhdl_expand_rules.specs.declared.fault.ElabFault.{ElabFault}
 use Rattle.vhdl_expand_rules.specs.declared.fault.ElabFault.TheVariants as elab
+use Rattle.vhdl_elab_rules.specs.Elaboration.{Elaborated, elaborated_net}
 use Rattle.vhdl_elab_rules.specs.Refused.{MayRefuse}
+use Rattle.vhdl_elab_rules.specs.Shown.{Shown, shown, as_shown, net_shown}
+use Rattle.vhdl_elab_rules.specs.Wiring.{flat_net}
 use Rattle.vhdl_elab_rules.proofs.Nets.{each-has-its-names}
 use Rattle.vhdl_elab_rules.proofs.Ports.{each-has-own-ports}
+use Rattle.vhdl_elab_rules.proofs.laws.Sound.{accepted}
 use Rattle.vhdl_elab_rules.proofs.laws.Standing.{refusals-stand}
 use Rattle.rtl_net.specs.Nets.{NetlistView}
 use Rattle.rtl_stim.specs.Ports.{HasOwnPorts}
@@ -37,7 +43,7 @@ use Rattle.vhdl_front_rules.specs.Sources.{IsFileOf}
 use Rattle.vhdl_front_rules.specs.Designs.{IsNetOf}
 use Rattle.vhdl_front_rules.specs.Faults.{LiesIn, of_name, of_elab}
 use Rattle.vhdl_front_rules.specs.Refusals.{Refuses}
-use Rattle.vhdl_front.specs.Steps.{ShowsTop, HasNameFault, HasElabFault, GivesNet}
+use Rattle.vhdl_front.specs.Steps.{read_in, ShowsTop, HasNameFault, HasElabFault, GivesNet}
 use Rattle.vhdl_front.specs.Laws.{EachRefusalLiesInItsSource}
 use Rattle.vhdl_front_rules.specs.declared.fault.SourceFault.{SourceFault}
 use Rattle.vhdl_front_rules.specs.declared.fault.SourceFault.TheVariants.{Lex, Syntax, Name, Elab, NoMemory}
@@ -49,21 +55,59 @@ is_spelled language source file read = record { source = source; tokens = read.t
 
 -- ---- its netlist
 
-pub opened : (asked : Asked) (file : File) (units : u.Units) (net : NetlistView) → IsFileOf asked.language asked.source file → units_in asked.language file ≡ Some units → IsTrue (are_sound units) → ShowsTop units asked.top net
-    → IsNetOf asked net
+-- elaboration knows no language
+narrow : (units : u.Units) (top : Top) (x : Elaborated) → elaborated_net units top ≡ Ok x → x.flat.wide ≡ false
+unfolding elaborated_net flat_net
+narrow units top x e =
+    let design = bound (expanded_design units top) _ x e in
+    ap (λ (y : Elaborated). y.flat.wide) (sym (accepted design.x x design.then_gave).is)
+
+pub shows_top : (language : Language) (units : u.Units) (top : Top) (net : NetlistView) → as_shown (elaborated_net units top) ≡ Ok (net_shown net) → ShowsTop language units top (read_in language net)
+shows_top language units top net given = by language
+  where
+    x : Elaborated
+    x = (bound (elaborated_net units top) _ (net_shown net) given).x
+
+    is : elaborated_net units top ≡ Ok x
+    is = (bound (elaborated_net units top) _ (net_shown net) given).gave
+
+    shows : net_shown net ≡ shown x
+    shows = sym (ok (shown x) (net_shown net) (bound (elaborated_net units top) _ (net_shown net) given).then_gave)
+
+    is_narrow : net.wide ≡ false
+    is_narrow = ap (λ (s : Shown). s.flat.wide) shows ∙ narrow units top x is
+
+    shown_narrow : net_shown (record net { wide = false }) ≡ shown x
+    shown_narrow = (λ i. net_shown (record net { wide = sym is_narrow i })) ∙ shows
+
+    by : (language : Language) → ShowsTop language units top (read_in language net)
+    by Profile = record { design = x; is = is; wide = is_narrow; shows = shown_narrow }
+    by Wide = record { design = x; is = is; wide = refl; shows = shown_narrow }
+
+pub opened : (asked : Asked) (file : File) (units : u.Units) (net : NetlistView) → IsFileOf asked.language asked.source file → units_in asked.language file ≡ Some units → IsTrue (are_sound units)
+    → ShowsTop asked.language units asked.top net → IsNetOf asked net
 opened asked file units net read typed sound shown = record {
   design = shown.design;
   has = record { units = units; analysed = record { file = file; read = read; well_typed = typed }; is = shown.is };
+  wide = shown.wide;
   shows = shown.shows;
-  named = each-has-its-names units asked.top shown.design net sound shown.is shown.shows;
+  named = let alike = each-has-its-names units asked.top shown.design (record net { wide = false }) sound shown.is shown.shows in record { nets = alike.nets; processes = alike.processes };
 }
+
+-- a netlist has ports of its own, whatever language it was read in
+of_language : (wide : Bool) (net : NetlistView) → HasOwnPorts (record net { wide = wide }) → HasOwnPorts net
+of_language wide net h = record { names = h.names; elements = h.elements }
+
+pub ports_read_in : (language : Language) (net : NetlistView) → HasOwnPorts net → HasOwnPorts (read_in language net)
+ports_read_in Profile net h = h
+ports_read_in Wide net h = of_language net.wide (record net { wide = true }) h
 
 pub own_ports : (asked : Asked) (net : NetlistView) → IsNetOf asked net → HasOwnPorts net
 own_ports asked net h =
     let units = h.has.units in
     let analysed = h.has.analysed in
-    each-has-own-ports units asked.top h.design net (units_in_are_sound asked.language analysed.file units analysed.read.well_formed analysed.well_typed)
-    (ports_in_are_distinct asked.language analysed.file units (words analysed.file (is_spelled asked.language asked.source analysed.file analysed.read)) analysed.well_typed) h.has.is h.shows
+    of_language false net (each-has-own-ports units asked.top h.design (record net { wide = false }) (units_in_are_sound asked.language analysed.file units analysed.read.well_formed analysed.well_typed)
+    (ports_in_are_distinct asked.language analysed.file units (words analysed.file (is_spelled asked.language asked.source analysed.file analysed.read)) analysed.well_typed) h.has.is h.shows)
 
 -- ---- why it has none
 
@@ -118,11 +162,11 @@ refusal_lies asked problem at r =
 -- ---- the whole
 
 module _ (asked : Asked) (file : File) (units : u.Units) (read : IsFileOf asked.language asked.source file) (typed : units_in asked.language file ≡ Some units) where
-  pub gives_opened : IsTrue (are_sound units) → (answer : Result NetlistView SourceFault) → GivesNet units asked.top answer → IfOk answer (λ net. IsNetOf asked net)
+  pub gives_opened : IsTrue (are_sound units) → (answer : Result NetlistView SourceFault) → GivesNet asked.language units asked.top answer → IfOk answer (λ net. IsNetOf asked net)
   gives_opened sound (Ok net) h = opened asked file units net read typed sound h
   gives_opened sound (Err fault) h = tt
 
-  pub gives_refused : (answer : Result NetlistView SourceFault) → GivesNet units asked.top answer → IfErr answer (Refuses asked)
+  pub gives_refused : (answer : Result NetlistView SourceFault) → GivesNet asked.language units asked.top answer → IfErr answer (Refuses asked)
   gives_refused (Ok net) h = tt
   gives_refused (Err (Elab (elab.At problem at))) h = record { units = units; analysed = record { file = file; read = read; well_typed = typed }; refused = h }
   gives_refused (Err (Elab elab.NoMemory)) h = h
@@ -131,7 +175,7 @@ module _ (asked : Asked) (file : File) (units : u.Units) (read : IsFileOf asked.
   gives_refused (Err (Syntax fault)) h = absurd h
   gives_refused (Err (Name fault)) h = absurd h
 
-  pub gives_told : (answer : Result NetlistView SourceFault) → GivesNet units asked.top answer → IfErr answer (LiesIn (length asked.source))
+  pub gives_told : (answer : Result NetlistView SourceFault) → GivesNet asked.language units asked.top answer → IfErr answer (LiesIn (length asked.source))
   gives_told (Ok net) h = tt
   gives_told (Err (Elab (elab.At problem at))) h =
       refusal_lies asked problem at (record { units = units; analysed = record { file = file; read = read; well_typed = typed }; refused = h })

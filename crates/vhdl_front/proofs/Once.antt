@@ -23,7 +23,7 @@ use Rattle.vhdl_elab_rules.specs.Elaboration.{Elaborated, net_of, resolves, shar
 use Rattle.vhdl_elab_rules.specs.Limits.{counts, is_within_limits}
 use Rattle.vhdl_elab_rules.specs.Numbering.{numbered_design}
 use Rattle.vhdl_elab_rules.specs.Refused.{MayRefuse}
-use Rattle.vhdl_elab_rules.specs.Shown.{shown}
+use Rattle.vhdl_elab_rules.specs.Shown.{shown, net_shown}
 use Rattle.vhdl_front_rules.specs.Sources.{SpellsTokens, IsFileOf, HasSyntaxFault}
 use Rattle.vhdl_front_rules.specs.Asking.{Asked}
 use Rattle.vhdl_front_rules.specs.Designs.{HasUnits, HasDesign}
@@ -47,7 +47,10 @@ one_design asked one other p q =
     let both = sym p.is ∙ e ∙ q.is in cc
 
 pub one_net : EachSourceHasOneNet
-one_net asked one other p q = p.shows ∙ ap shown (one_design asked p.design q.design p.has q.has) ∙ sym q.shows
+one_net asked one other p q = λ i. record (shown_alike i) { flat = record ((shown_alike i).flat) { wide = (p.wide ∙ sym q.wide) i } }
+  where
+    shown_alike : net_shown (record one { wide = false }) ≡ net_shown (record other { wide = false })
+    shown_alike = p.shows ∙ ap shown (one_design asked p.design q.design p.has q.has) ∙ sym q.shows
 
 -- ---- refusals
 

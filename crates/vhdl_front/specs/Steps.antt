@@ -1,5 +1,5 @@
 -- What the code's own calls say.
-use Rattle.std.specs.Prelude.{◌≡◌, None, Some, Result, Ok, Err, IsTrue}
+use Rattle.std.specs.Prelude.{◌≡◌, true, false, None, Some, Result, Ok, Err, IsTrue}
 use Rattle.rtl_net.specs.Nets.{NetlistView}
 use Rattle.vhdl_elab_rules.specs.Elaboration.{Elaborated, elaborated_net}
 use Rattle.vhdl_elab_rules.specs.Refused.{MayRefuse}
@@ -7,6 +7,7 @@ use Rattle.vhdl_expand_rules.specs.Tops.{Top}
 use Rattle.vhdl_expand_rules.specs.declared.fault.ElabFault.TheVariants as elab
 use Rattle.vhdl_names_rules.specs.problems.Files as breaks
 use Rattle.vhdl_lexer.specs.declared.language.Language.{Language}
+use Rattle.vhdl_lexer.specs.declared.language.Language.TheVariants.{Profile, Wide}
 use Rattle.vhdl_names_rules.specs.Registers.{units_in}
 use Rattle.vhdl_names_rules.specs.declared.fault.NameFault.TheVariants as names
 use Rattle.vhdl_names_rules.specs.sound.Named.{are_named}
@@ -17,6 +18,7 @@ use Rattle.vhdl_elab_rules.specs.Shown.{Shows}
 use Rattle.vhdl_tree.specs.Tree.{File}
 use Rattle.vhdl_names_units.specs.declared.unit.Units.{Units}
 use Rattle.vhdl_names_units.specs.views.Units.{units_view}
+use Rattle.vhdl_front_rules.specs.Asking.{is_wide}
 use Rattle.vhdl_front_rules.specs.declared.fault.SourceFault.{SourceFault}
 use Rattle.vhdl_front_rules.specs.declared.fault.SourceFault.TheVariants.{Name, Elab, NoMemory}
 
@@ -38,11 +40,17 @@ pub record AreReady (units : u.Units) : Type 0 where
   pub named : IsTrue (are_named units)
   pub ports : IsTrue (small_ports_are_distinct units)
 
--- the units have this netlist
-pub record ShowsTop (units : u.Units) (top : Top) (net : NetlistView) : Type 0 where
+-- what elaboration gives, as a netlist of a source that was read in this language
+abbrev pub read_in : Language → NetlistView → NetlistView
+read_in Profile net = net
+read_in Wide net = record net { wide = true }
+
+-- the units, read in this language, have this netlist
+pub record ShowsTop (language : Language) (units : u.Units) (top : Top) (net : NetlistView) : Type 0 where
   pub design : Elaborated
   pub is : elaborated_net units top ≡ Ok design
-  pub shows : Shows design net
+  pub wide : net.wide ≡ is_wide language
+  pub shows : Shows design (record net { wide = false })
 
 -- only a fault of elaboration, only where the units have no design, and with the problem and the byte that may be told
 abbrev pub HasElabFault : u.Units → Top → SourceFault → Type 0
@@ -51,6 +59,6 @@ HasElabFault units top (Elab (elab.At problem at)) = MayRefuse units top (proble
 HasElabFault units top NoMemory = Unit {0}
 HasElabFault units top _ = ⊥
 
-abbrev pub GivesNet : u.Units → Top → Result NetlistView SourceFault → Type 0
-GivesNet units top (Ok net) = ShowsTop units top net
-GivesNet units top (Err fault) = HasElabFault units top fault
+abbrev pub GivesNet : Language → u.Units → Top → Result NetlistView SourceFault → Type 0
+GivesNet language units top (Ok net) = ShowsTop language units top net
+GivesNet language units top (Err fault) = HasElabFault units top fault

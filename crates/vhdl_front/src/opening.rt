@@ -1,6 +1,6 @@
 //! From a source to its netlist.
 
-ghost use Rattle.std.specs.Prelude.{IfOk, IfErr, length};
+ghost use Rattle.std.specs.Prelude.{◌≡◌, IfOk, IfErr, length};
 ghost use Rattle.rtl_stim.specs.Ports.{HasOwnPorts};
 ghost use Rattle.vhdl_expand_rules.specs.Tops as tops;
 ghost use Rattle.vhdl_expand_rules.specs.views.Tops.{top_view};
@@ -10,6 +10,7 @@ ghost use Rattle.vhdl_front_rules.specs.Faults.{LiesIn};
 ghost use Rattle.vhdl_front_rules.specs.Refusals.{Refuses};
 ghost use Rattle.vhdl_front_rules.specs.Sources.{IsFileOf};
 ghost use Rattle.vhdl_names.specs.Spelled.{IsSpelled};
+ghost use Rattle.vhdl_front.specs.Steps as steps;
 ghost use Rattle.vhdl_front.specs.Steps.{GivesUnits, AreReady, GivesNet};
 ghost use Rattle.vhdl_tree.specs.View.{file_view};
 ghost use Rattle.vhdl_tree.specs.grammar.Units.{IsFileIn};
@@ -44,7 +45,7 @@ pub fn open(alloc: Global, asked: Asked<'_>) -> Result<Net, SourceFault>
 {
     let file = read(alloc, asked.language, asked.source)?;
     let units = units_of(alloc, asked.language, &file)?;
-    net_of(alloc, &units, asked.top)
+    net_of(alloc, asked.language, &units, asked.top)
 }
 
 /// Sources in VHDL.
@@ -81,14 +82,30 @@ fn units_of(alloc: Global, language: Language, file: &File) -> Result<Units, Sou
     }
 }
 
-/// The netlist of a top of some units.
-fn net_of(alloc: Global, units: &Units, top: Top<'_>) -> Result<Net, SourceFault>
+/// The netlist of a top of some units, which were read in a language.
+fn net_of(
+    alloc: Global,
+    language: Language,
+    units: &Units,
+    top: Top<'_>,
+) -> Result<Net, SourceFault>
     requires { AreReady (units_view units.now) }
-    ensures given { GivesNet (units_view units.now) (top_view top.entry) result }
+    ensures given { GivesNet language (units_view units.now) (top_view top.entry) result }
     ensures ports { IfOk result (λ net. HasOwnPorts net) }
 {
     match elaborate(alloc, units, top) {
-        Ok(net) => Ok(net),
+        Ok(net) => Ok(read_in(language, net)),
         Err(fault) => Err(SourceFault::from(fault)),
+    }
+}
+
+/// A netlist that elaboration gives, which knows no language, as one of a source that was read in
+/// this one.
+fn read_in(language: Language, net: Net) -> Net
+    ensures { result ≡ steps.read_in language net }
+{
+    match language {
+        Language::Profile => net,
+        Language::Wide => net.widened(),
     }
 }
