@@ -32,7 +32,9 @@ serves_more {o = o} f s = record {
   output = elim (s.output) [ inl x ↦ inl (x.0, x.1, watched_more f x.0 s.answer o.out o.out_after x.2) | inr y ↦ inr y ];
   placed = s.placed;
   said = s.said;
+  answered = s.answered;
   told = s.told;
+  freed = s.freed;
   ends = s.ends;
 }
 

@@ -1,7 +1,7 @@
 -- What is told below the lines of a fault: an explanation, where one is asked for.
 use Rattle.std.specs.Prelude.{◌≡◌, ℕ, ◌-◌, Bool, true, false, if◌then◌else◌, List, [], ◌++◌, Option, Some, None, map, option_map, unwrap_or, slice_index_or, codes, decimal}
-use Rattle.rtl_check.specs.declared.checking.Verdict.{Verdict}
-use Rattle.rtl_check.specs.declared.checking.Verdict.TheVariants as verdict
+use Rattle.rtl_check.specs.declared.judging.Judgement.{Judgement}
+use Rattle.rtl_check.specs.declared.judging.Judgement.TheVariants.{Faulty}
 use Rattle.rtl_net.specs.Nets.{NetlistView}
 use Rattle.fault_rules.specs.declared.expecting.ExpectRule.TheVariants.{NotASignal}
 use Rattle.fault_rules.specs.Rules.{words_of}
@@ -123,14 +123,14 @@ abbrev pub told : Telling → (read : Source) → NetlistView → Fault → List
 told telling read net fault =
     fault_lines (files_of telling) net fault ++ (if telling.explains then explanation telling read net fault else [])
 
--- ---- verdicts
+-- ---- judgements
 
-abbrev pub verdict_explained : Telling → NetlistView → Verdict → List ℕ
-verdict_explained telling net (verdict.Yes report) = []
-verdict_explained telling net (verdict.No faults) =
+abbrev pub faults_explained : Telling → NetlistView → Judgement → List ℕ
+faults_explained telling net (Faulty faults) =
     rejection_explained (files_of telling) (read_of telling.source) net faults.items
+faults_explained telling net _ = []
 
--- a verdict's text, and below it the explanation of its faults where that is asked for
-abbrev pub with_explanation : (text_of : NetlistView → Verdict → List ℕ) → Telling → NetlistView → Verdict → List ℕ
-with_explanation text_of telling net v =
-    text_of net v ++ (if telling.explains then verdict_explained telling net v else [])
+-- a judgement's text, and below it the explanation of its faults where that is asked for
+abbrev pub with_explanation : (text_of : NetlistView → Judgement → List ℕ) → Telling → NetlistView → Judgement → List ℕ
+with_explanation text_of telling net j =
+    text_of net j ++ (if telling.explains then faults_explained telling net j else [])

@@ -1,9 +1,9 @@
 -- What a listing answers as a command.
 use Rattle.std.proofs.Common.{◌≡◌, ℕ, Bool, List, Result, Ok, Err, inl, inr, refl, sym, subst}
 use Rattle.std.specs.Prelude.{IfErr, IsErrAnd, OnOk}
-use Rattle.rtl_check.specs.Verdicts.{IsVerdict, ListsLoopsOnce}
+use Rattle.rtl_check.specs.Verdicts.{IsJudgement, JudgesLoopsOnce}
 use Rattle.rtl_net.specs.Core.{core}
-use Rattle.rtl_check.specs.declared.checking.Verdict.{Verdict}
+use Rattle.rtl_check.specs.declared.judging.Judgement.{Judgement}
 use Rattle.rtlsim_commands.specs.Listed.{Writes, ListsNet, AnswersVerdict}
 use Rattle.rtlsim_command_faults.specs.declared.faults.Fault.{Fault}
 use Rattle.rtlsim_command_faults.specs.declared.faults.Fault.TheVariants.{Memory, Output}
@@ -30,13 +30,13 @@ pub writes_all : (text : List ℕ) (answer : Result (Unit {0}) Fault) (old new :
 writes_all text (Ok x) old new intact goes whole failed = (whole, (goes.whole whole).1)
 writes_all text (Err f) old new intact goes whole failed = rw failed.0 (failed.1, goes.beginning intact)
 
-module _ (text_of : NetlistView → Verdict → List ℕ) (net : NetlistView) where
-  pub checks_failed : (verdict : Verdict) (Q : Fault → Type 0) (answer : Result Bool Fault) (old new : SinkState) → IsErrAnd answer Q → IsVerdict (core net) verdict
-      → ListsLoopsOnce verdict → Writes (text_of net verdict) answer old new → AnswersVerdict text_of net answer old new
-  checks_failed verdict Q (Ok x) old new h is once written = absurd h
-  checks_failed verdict Q (Err f) old new h is once written = inl (record { verdict = verdict; is = is; once = once; written = written })
+module _ (text_of : NetlistView → Judgement → List ℕ) (net : NetlistView) where
+  pub checks_failed : (judgement : Judgement) (Q : Fault → Type 0) (answer : Result Bool Fault) (old new : SinkState) → IsErrAnd answer Q → IsJudgement (core net) judgement
+      → JudgesLoopsOnce judgement → Writes (text_of net judgement) answer old new → AnswersVerdict text_of net answer old new
+  checks_failed judgement Q (Ok x) old new h is once written = absurd h
+  checks_failed judgement Q (Err f) old new h is once written = inl (record { judgement = judgement; is = is; once = once; written = written })
 
-  -- no verdict for want of memory
+  -- no judgement for want of memory
   pub unchecked : (answer : Result Bool Fault) (old : SinkState) → IsErrAnd answer (λ f. f ≡ Memory) → AnswersVerdict text_of net answer old old
   unchecked (Ok x) old h = absurd h
   unchecked (Err f) old h = inr (h, refl)
@@ -53,7 +53,7 @@ module _ (So : Fault → Type 0) (memory : So Memory) (output : So Output) where
   lists_fault net (Ok x) old new h = tt
   lists_fault net (Err fault) old new h = writes_fault (Unit {0}) _ fault old new h
 
-  pub checks_fault : (text_of : NetlistView → Verdict → List ℕ) (net : NetlistView) (answer : Result Bool Fault) (old new : SinkState) → AnswersVerdict text_of net answer old new
+  pub checks_fault : (text_of : NetlistView → Judgement → List ℕ) (net : NetlistView) (answer : Result Bool Fault) (old new : SinkState) → AnswersVerdict text_of net answer old new
       → IfErr answer So
   checks_fault text_of net (Ok x) old new h = tt
   checks_fault text_of net (Err fault) old new (inl w) = writes_fault Bool _ fault old new w.written

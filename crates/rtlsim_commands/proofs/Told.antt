@@ -1,19 +1,20 @@
 -- What is told of an answer.
-use Rattle.std.proofs.Common.{◌≡◌, ℕ, List, [], length, Option, Result, Ok, Err, ◌⊎◌, inl, inr, refl, sym, subst, ◌∙◌, true≢false}
+use Rattle.std.proofs.Common.{◌≡◌, ℕ, false, List, [], length, Option, Result, Ok, Err, ◌⊎◌, inl, inr, refl, sym, subst, ◌∙◌, true≢false}
 use Rattle.rtlsim_command_faults.specs.Faults.{of_source}
 use Rattle.rtlsim_command_faults.specs.Places.{IsTold}
-use Rattle.rtlsim_command_faults.specs.Told.{TellsFault}
 use Rattle.rtlsim_command_faults.specs.declared.telling.Telling.{Telling}
 use Rattle.rtlsim_command_faults.specs.declared.faults.Fault.{Fault}
 use Rattle.rtlsim_command_faults.specs.declared.faults.Fault.TheVariants.{NoSettling}
 use Rattle.rtlsim_command_faults.specs.declared.status.Status.{Status}
 use Rattle.rtlsim_command_faults.proofs.Refused.{nameless, source_told}
-use Rattle.rtlsim_commands.specs.Refused.{RefusesSource}
+use Rattle.rtlsim_commands.specs.Freed.{Frees}
+use Rattle.rtlsim_commands.specs.Refused.{RefusesSource, TellsAnswer}
 use Rattle.rtlsim_commands.specs.Served.{Outputs, ServesOr, Unrefused, ended}
-use Rattle.rtlsim_commands.specs.Answered.{TellsText}
+use Rattle.rtlsim_commands.specs.Sights.{Sight, events_of}
 use Rattle.rtlsim_commands.specs.Told.{Done, TellsNets, TellsRefused, TellsBehind}
-use Rattle.rtlsim_commands.specs.Remarked.{TellsRemarks}
-use Rattle.rtlsim_commands.specs.Unsettled.{TellsChanging}
+use Rattle.rtlsim_commands.proofs.Unsettled.{AreNoted, fault_told, tells_changing}
+use Rattle.std.specs.Prelude.{take, IfErr}
+use Rattle.rtl_simulation.specs.Simulated.{changing}
 use Rattle.vhdl_front_rules.specs.Asking.{Asked}
 use Rattle.rtl_net.specs.Nets.{NetlistView}
 use Rattle.byte_streams.specs.Written.{SinkState}
@@ -37,7 +38,7 @@ behind_refused events telling asked (front.Lex x) said old new h = inr h
 behind_refused events telling asked _ said old new h = inr h
 
 no_net : NetlistView
-no_net = record { types = []; starts = []; idle = []; inputs = []; processes = []; scopes = []; signals = [] }
+no_net = record { types = []; starts = []; idle = []; inputs = []; processes = []; scopes = []; signals = []; wide = false }
 
 -- the fault that is told is the one of the source, or a want of memory
 pub told_so : (So : SourceFault → Type 0) (fault told : SourceFault) → (told ≡ fault) ⊎ (told ≡ front.NoMemory) → So front.NoMemory → So fault → So told
@@ -53,7 +54,9 @@ module _ {A : Type 0} (Refused : SourceFault → SinkState → SinkState → Typ
     output = elim (s.output) [ inl x ↦ inl x | inr y ↦ absurd (y.3) ];
     placed = s.placed;
     said = s.said;
+    answered = s.answered;
     told = s.told;
+    freed = s.freed;
     ends = s.ends;
   }
 
@@ -66,6 +69,7 @@ module _ {A : Type 0} (Refused : SourceFault → SinkState → SinkState → Typ
     output = inr (fault, refl, refuses, refused);
     placed = source_told (length asked.source) fault lies;
     said = said;
+    answered = o.err_after;
     told = (
       no_net,
       (λ named. absurd (true≢false (sym named ∙ nameless fault))),
@@ -73,31 +77,41 @@ module _ {A : Type 0} (Refused : SourceFault → SinkState → SinkState → Typ
       tells.first no_net,
       behind_refused done.events telling asked fault said tells.between o.err_after tells.behind,
     );
+    freed = inl refl;
     ends = ends;
   }
 
-  -- the work on its netlist is done
-  pub serves_done : (net : NetlistView) (answer : Result A Fault) (x : A) → answer ≡ Ok x → IsNetOf asked net → Does net answer o.out o.out_after
-      → (between : SinkState) → TellsText (done.text x) o.err between → TellsRemarks telling net between o.err_after
-      → outcome ≡ ended (done.status x) o.out_after o.err_after → ServesOr Refused Does done telling asked outcome o
-  serves_done net answer x at is does between tells remarks ends = record {
+module _ {A : Type 0} (Does : NetlistView → Result A Fault → SinkState → SinkState → Type 0) (text : A → List ℕ) (status : A → Status) (sight : Sight)
+    (telling : Telling) (asked : Asked) (outcome : Status) (o : Outputs) where
+  -- what the command answers on the source's netlist is told, of a fault with the first of the nets that still change
+  pub serves_net : (net : NetlistView) (answer : Result A Fault) (numbers shown : List ℕ) → IsNetOf asked net → Does net answer o.out o.out_after → shown ≡ numbers
+      → IfErr answer (AreNoted sight numbers net) → (said : Status) (answered : SinkState) → TellsAnswer text status telling net shown answer o.err answered said
+      → Frees telling asked answered o.err_after → outcome ≡ ended said o.out_after o.err_after
+      → ServesOr Unrefused Does (record { text = text; status = status; events = events_of sight }) telling asked outcome o
+  serves_net net (Ok x) numbers shown is does same noted said answered tells freed ends = record {
     answer = Ok x;
-    output = inl (net, is, subst (λ (r : Result A Fault). Does net r o.out o.out_after) at does);
+    output = inl (net, is, does);
     placed = tt;
-    said = done.status x;
-    told = (net, is, between, tells, remarks, refl);
+    said = said;
+    answered = answered;
+    told = (net, is, tells.0, tells.1, tells.2, tells.3);
+    freed = freed;
     ends = ends;
   }
-
-  -- it ends with a fault, behind which this is told
-  pub serves_told : (net : NetlistView) (answer : Result A Fault) (fault : Fault) → answer ≡ Err fault → IsNetOf asked net → Does net answer o.out o.out_after
-      → IsTold (length asked.source) fault → (said : Status) (between : SinkState) → TellsFault telling net fault o.err between said
-      → TellsChanging done.events telling.explains net fault between o.err_after → outcome ≡ ended said o.out_after o.err_after → ServesOr Refused Does done telling asked outcome o
-  serves_told net answer fault at is does placed said between tells behind ends = record {
+  serves_net net (Err fault) numbers shown is does same noted said answered tells freed ends = record {
     answer = Err fault;
-    output = inl (net, is, subst (λ (r : Result A Fault). Does net r o.out o.out_after) at does);
-    placed = placed;
+    output = inl (net, is, does);
+    placed = fault_told {A = A} sight (λ stands before now at. numbers ≡ take 17 (changing before now)) net (Err fault) fault (length asked.source) refl noted;
     said = said;
-    told = (net, (λ named. is), between, tells, behind_nets done.events telling asked fault said between o.err_after (net, is, behind));
+    answered = answered;
+    told = (
+      net,
+      (λ named. is),
+      tells.between,
+      tells.lines,
+      behind_nets (events_of sight) telling asked fault said tells.between answered
+          (net, is, tells_changing {A = A} sight telling.explains net numbers shown (Err fault) fault tells.between answered refl same noted tells.behind),
+    );
+    freed = freed;
     ends = ends;
   }

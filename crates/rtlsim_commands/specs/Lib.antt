@@ -13,6 +13,7 @@ pub mod Opened
 -- what is told of it
 pub mod Unsettled
 pub mod Wider
+pub mod Freed
 pub mod Remarked
 pub mod Told
 pub mod Served

@@ -1,12 +1,13 @@
 -- What `net` and `check` write of a netlist.
 use Rattle.std.specs.Prelude.{◌≡◌, ◌⊎◌, ℕ, Bool, if◌then◌else◌, List, [], ◌++◌, Result, Ok, Err}
-use Rattle.rtl_check.specs.Verdicts.{IsVerdict, ListsLoopsOnce, is_yes}
+use Rattle.rtl_check.specs.Verdicts.{IsJudgement, JudgesLoopsOnce, accepts}
 use Rattle.rtl_net.specs.Core.{core}
-use Rattle.rtl_check.specs.declared.checking.Verdict.{Verdict}
+use Rattle.rtl_check.specs.declared.judging.Judgement.{Judgement}
 use Rattle.rtlsim_command_faults.specs.Explanations.{files_of, with_explanation}
 use Rattle.rtlsim_command_faults.specs.declared.faults.Fault.{Fault}
 use Rattle.rtlsim_command_faults.specs.declared.faults.Fault.TheVariants.{Memory, Output}
 use Rattle.rtlsim_command_faults.specs.declared.telling.Telling.{Telling}
+use Rattle.rtlsim_circles.specs.Paths.{path_text}
 use Rattle.rtlsim_findings_text.specs.Json.{json_text}
 use Rattle.rtlsim_listing.specs.CheckText.{check_text}
 use Rattle.rtlsim_listing.specs.DotText.{dot_text}
@@ -29,21 +30,21 @@ Writes text (Err _) old new = ⊥
 abbrev pub ListsNet : NetlistView → Result (Unit {0}) Fault → (old new : SinkState) → Type 0
 ListsNet net answer old new = Writes (net_text net) answer old new
 
--- the text of the checker's verdict on the netlist, in which a loop stands once round
-pub record WritesVerdict (text_of : NetlistView → Verdict → List ℕ) (net : NetlistView)
+-- the text of the checker's judgement of the netlist, in which a loop stands once round
+pub record WritesJudgement (text_of : NetlistView → Judgement → List ℕ) (net : NetlistView)
     (answer : Result Bool Fault) (old new : SinkState) : Type 0 where
-  pub verdict : Verdict
-  pub is : IsVerdict (core net) verdict
-  pub once : ListsLoopsOnce verdict
-  pub written : Writes (text_of net verdict) answer old new
+  pub judgement : Judgement
+  pub is : IsJudgement (core net) judgement
+  pub once : JudgesLoopsOnce judgement
+  pub written : Writes (text_of net judgement) answer old new
 
--- it answers whether the verdict is yes; memory may also be refused before there is one
-abbrev pub AnswersVerdict : (text_of : NetlistView → Verdict → List ℕ)
+-- it answers whether the netlist is accepted; memory may also be refused before that is known
+abbrev pub AnswersVerdict : (text_of : NetlistView → Judgement → List ℕ)
     → NetlistView → Result Bool Fault → (old new : SinkState) → Type 0
 AnswersVerdict text_of net (Ok passed) old new =
-    (w : WritesVerdict text_of net (Ok passed) old new) × (is_yes w.verdict ≡ passed)
+    (w : WritesJudgement text_of net (Ok passed) old new) × (accepts w.judgement ≡ passed)
 AnswersVerdict text_of net (Err fault) old new =
-    WritesVerdict text_of net (Err fault) old new ⊎ ((fault ≡ Memory) × (new ≡ old))
+    WritesJudgement text_of net (Err fault) old new ⊎ ((fault ≡ Memory) × (new ≡ old))
 
 -- the lines of the verdict
 abbrev pub ChecksNet : NetlistView → Result Bool Fault → (old new : SinkState) → Type 0
@@ -53,10 +54,14 @@ ChecksNet net answer old new = AnswersVerdict check_text net answer old new
 abbrev pub DrawsNet : NetlistView → Result Bool Fault → (old new : SinkState) → Type 0
 DrawsNet net answer old new = AnswersVerdict dot_text net answer old new
 
--- the lines with explanations of the faults, and below them the remarks on the netlist, where they are asked for
-abbrev pub with_remarks : Telling → NetlistView → Verdict → List ℕ
-with_remarks telling net v =
-    with_explanation check_text telling net v ++ (if telling.explains then remarks_text (files_of telling) net else [])
+-- the path to the greatest level, and the remarks on the netlist
+abbrev pub path_and_remarks : Telling → NetlistView → Judgement → List ℕ
+path_and_remarks telling net j = path_text net j ++ remarks_text (files_of telling) net
+
+-- the lines with explanations of the faults, and these below them, where they are asked for
+abbrev pub with_remarks : Telling → NetlistView → Judgement → List ℕ
+with_remarks telling net j =
+    with_explanation check_text telling net j ++ (if telling.explains then path_and_remarks telling net j else [])
 
 abbrev pub ChecksNetTold : Telling → NetlistView → Result Bool Fault → (old new : SinkState) → Type 0
 ChecksNetTold telling net answer old new = AnswersVerdict (with_remarks telling) net answer old new
@@ -71,7 +76,7 @@ abbrev pub DrawsNetTold : Telling → NetlistView → Result Bool Fault → (old
 DrawsNetTold telling net answer old new = AnswersVerdict (with_explanation dot_text telling) net answer old new
 
 -- what is written of a verdict in each form
-abbrev pub form_text : Form → NetlistView → Verdict → List ℕ
+abbrev pub form_text : Form → NetlistView → Judgement → List ℕ
 form_text Lines = check_text
 form_text Graph = dot_text
 form_text (ToldLines telling) = with_remarks telling.now

@@ -1,5 +1,6 @@
 -- What a command leaves on both outputs, and the status that it ends with.
 use Rattle.std.specs.Prelude.{◌≡◌, ◌||◌, Bool, true, false, length, Result, IfErr}
+use Rattle.rtlsim_commands.specs.Freed.{Frees}
 use Rattle.rtlsim_commands.specs.Listed.{ChecksNetJson}
 use Rattle.rtlsim_commands.specs.Opened.{OpensOr, Writeless}
 use Rattle.rtlsim_command_faults.specs.Explanations.{files_of}
@@ -36,6 +37,7 @@ abbrev pub ended : Status → (out err : SinkState) → Status
 ended outcome out err = ended_by (out.failed || err.failed) outcome
 
 -- The command answers on the source; what is told of the answer goes to the standard error, and decides the status.
+-- Below it stands of which of the checker's rules the wider language frees the source.
 pub record ServesOr {A : Type 0} (Refused : SourceFault → (old new : SinkState) → Type 0)
     (Does : NetlistView → Result A Fault → SinkState → SinkState → Type 0)
     (done : Done A) (telling : Telling) (asked : Asked) (outcome : Status) (o : Outputs) : Type 0 where
@@ -43,7 +45,9 @@ pub record ServesOr {A : Type 0} (Refused : SourceFault → (old new : SinkState
   pub output : OpensOr Refused Does asked answer o.out o.out_after
   pub placed : IfErr answer (IsTold (length asked.source))
   pub said : Status
-  pub told : Tells done telling asked answer o.err o.err_after said
+  pub answered : SinkState
+  pub told : Tells done telling asked answer o.err answered said
+  pub freed : Frees telling asked answered o.err_after
   pub ends : outcome ≡ ended said o.out_after o.err_after
 
 -- nothing is written to the standard output where the source is refused
@@ -57,13 +61,7 @@ abbrev pub ServesObject : Telling → Asked → (outcome : Status) → Outputs �
 ServesObject telling asked outcome o =
     ServesOr (Describes (files_of telling) asked) (ChecksNetJson telling) verdict telling asked outcome o
 
--- ---- a step of the code: on the netlist of whichever source
+-- ---- a step of the code: of a source that isn't refused
 
 abbrev pub Unrefused : SourceFault → (old new : SinkState) → Type 0
 Unrefused fault old new = ⊥
-
-abbrev pub ServesNet : {A : Type 0} → (Does : NetlistView → Result A Fault → SinkState → SinkState → Type 0)
-    → Done A → Telling → NetlistView
-    → (outcome : Status) → Outputs → Type 0
-ServesNet Does done telling net outcome o =
-    (asked : Asked) → IsNetOf asked net → ServesOr Unrefused Does done telling asked outcome o

@@ -13,6 +13,7 @@ ghost use Rattle.rtlsim_commands.specs.Told as told;
 ghost use Rattle.rtlsim_commands.specs.Unsettled.{NamesIf, TellsRun};
 ghost use Rattle.vhdl_front_rules.specs.Asking.{asked_view};
 
+use crate::command::Site;
 use crate::wider::push_wider;
 use byte_streams::Sink;
 use rtl_net::Net;
@@ -99,23 +100,21 @@ fn asks_others(explains: bool, first: &Fault, said: Status) -> bool
 
 /// Tells a fault of a netlist with its names, and below its explanation the nets of these numbers
 /// where a moment doesn't settle, and answers the status.
-pub(crate) fn refuse_net<O: Sink, E: Sink>(
-    alloc: Global,
+pub(crate) fn refuse_net<E: Sink>(
+    site: Site<'_>,
     telling: &Telling<'_>,
-    net: &Net,
     fault: &Fault,
     changing: &[usize],
-    out: &O,
     err: &mut E,
 ) -> Status
     requires { IsIntact (E.state err.old) }
-    ensures { (said : Status) × TellsRun telling.now net.now fault.now changing.now (E.state err.old) (E.state err.new)
-        said
-        × (result ≡ ended said (O.state out.now) (E.state err.new)) }
+    ensures { TellsRun telling.now site.entry.net.now fault.now changing.now
+        (E.state err.old) (E.state err.new) result }
 {
+    let Site { alloc, net } = site;
     let said = tell_fault(alloc, telling, net, fault, err);
     tell_behind(alloc, telling.explains, net, fault, changing, err);
-    ended_by_writes(said, out, err)
+    said
 }
 
 /// Tells the nets of these numbers where a moment doesn't settle and explanations are asked for.

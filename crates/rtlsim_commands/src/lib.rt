@@ -11,13 +11,15 @@
 //! is compared with what is expected of it. `specs/Opened.antt` says what a command answers that
 //! opens a source, `specs/Served.antt` and `specs/Told.antt` what it leaves on both outputs, and
 //! `specs/Unsettled.antt` what is told of nets that still change;
-//! `specs/Wider.antt` says how far the wider language reads a source that is refused.
+//! `specs/Wider.antt` says how far the wider language reads a source that is refused, and
+//! `specs/Freed.antt` which of the checker's rules a source doesn't break in it.
 #![tactic(auto)]
 
 mod both;
 mod command;
 mod comparing;
 mod ending;
+mod freed;
 mod listing;
 mod noting;
 mod opening;

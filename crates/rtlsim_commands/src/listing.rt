@@ -1,17 +1,17 @@
-//! The lines of a netlist, and of the checker's verdict on it.
+//! The lines of a netlist, and of the checker's judgement of it.
 
 ghost use Rattle.std.specs.Prelude.{◌≡◌, [], if◌then◌else◌, IfErr, OnOk};
-ghost use Rattle.rtl_check.specs.Verdicts as verdicts;
+ghost use Rattle.rtl_check.specs.Verdicts.{accepts};
 ghost use Rattle.byte_streams.specs.Written.{HasFailed, IsIntact};
-ghost use Rattle.rtlsim_commands.specs.Listed.{AnswersVerdict, ListsNet, form_text};
-ghost use Rattle.rtlsim_command_faults.specs.Explanations.{files_of, verdict_explained};
+ghost use Rattle.rtlsim_commands.specs.Listed.{AnswersVerdict, ListsNet, form_text, path_and_remarks};
+ghost use Rattle.rtlsim_command_faults.specs.Explanations.{faults_explained};
 ghost use Rattle.rtlsim_command_faults.specs.declared.faults.Fault.TheVariants.{Output};
 ghost use Rattle.rtlsim_listing.specs.Printing.{Prints};
-ghost use Rattle.rtlsim_findings_text.specs.RemarkText.{remarks_text};
 
-use byte_streams::Sink;
-use rtl_check::{Verdict, check};
+use byte_streams::{Sink, push_text};
+use rtl_check::{Judgement, judge};
 use rtl_net::{Net, NoMemory};
+use rtlsim_circles::path_text;
 use rtlsim_command_faults::{Fault, Telling};
 use rtlsim_findings_text::{explain_rejection, show_check_json, show_remarks};
 use rtlsim_listing::{show_check, show_net};
@@ -41,7 +41,7 @@ fn went_out<S: Sink>(out: &S) -> Result<(), Fault>
     Ok(())
 }
 
-/// In which form a verdict is written.
+/// In which form a judgement is written.
 #[derive(Clone, Copy)]
 pub enum Form<'a, 'b> {
     /// Its lines.
@@ -57,8 +57,8 @@ pub enum Form<'a, 'b> {
     Object(&'a Telling<'b>),
 }
 
-/// Checks a netlist, writes the verdict in this form, and answers whether it is yes. It takes
-/// memory in proportion to the netlist.
+/// Checks a netlist, writes the judgement in this form, and answers whether it is accepted. It
+/// takes memory in proportion to the netlist.
 ///
 /// # Errors
 ///
@@ -72,79 +72,83 @@ pub(crate) fn check_net<S: Sink>(
     requires intact { IsIntact (S.state out.old) }
     ensures { AnswersVerdict (form_text form.now) net.now result (S.state out.old) (S.state out.new) }
 {
-    let verdict = check(alloc, net)?;
-    show_verdict(alloc, form, net, &verdict, out)?;
+    let judgement = judge(alloc, net)?;
+    show_judgement(alloc, form, net, &judgement, out)?;
     went_out(out)?;
-    Ok(is_yes(&verdict))
+    Ok(is_accepted(&judgement))
 }
 
-/// Writes a verdict in this form.
-fn show_verdict<S: Sink>(
+/// Writes a judgement in this form.
+fn show_judgement<S: Sink>(
     alloc: Global,
     form: &Form<'_, '_>,
     net: &Net,
-    verdict: &Verdict,
+    judgement: &Judgement,
     out: &mut S,
 ) -> Result<(), NoMemory>
-    ensures { Prints result (S.state out.old) (S.state out.new) (form_text form.now net.now verdict.now) }
+    ensures { Prints result (S.state out.old) (S.state out.new) (form_text form.now net.now judgement.now) }
 {
     match form {
-        Form::Lines => show_check(alloc, net, verdict, false, out),
-        Form::Graph => show_check(alloc, net, verdict, true, out),
+        Form::Lines => show_check(alloc, net, judgement, false, out),
+        Form::Graph => show_check(alloc, net, judgement, true, out),
         Form::ToldLines(telling) => {
-            show_check(alloc, net, verdict, false, out)?;
-            show_explanation(alloc, telling, net, verdict, out)?;
-            show_asked_remarks(alloc, telling, net, out)
+            show_check(alloc, net, judgement, false, out)?;
+            show_explanation(alloc, telling, net, judgement, out)?;
+            show_behind(alloc, telling, net, judgement, out)
         }
         Form::ToldGraph(telling) => {
-            show_check(alloc, net, verdict, true, out)?;
-            show_explanation(alloc, telling, net, verdict, out)
+            show_check(alloc, net, judgement, true, out)?;
+            show_explanation(alloc, telling, net, judgement, out)
         }
         Form::Object(telling) => {
-            show_check_json(alloc, telling.files, telling.source, net, verdict, out)
+            show_check_json(alloc, telling.files, telling.source, net, judgement, out)
         }
     }
 }
 
-/// Writes the remarks on a netlist, where explanations are asked for.
-fn show_asked_remarks<S: Sink>(
+/// Writes the path to the greatest level and the remarks on a netlist, where explanations are asked
+/// for.
+fn show_behind<S: Sink>(
     alloc: Global,
     telling: &Telling<'_>,
     net: &Net,
+    judgement: &Judgement,
     out: &mut S,
 ) -> Result<(), NoMemory>
     ensures { Prints result (S.state out.old) (S.state out.new)
-        (if telling.now.explains then remarks_text (files_of telling.now) net.now else []) }
+        (if telling.now.explains then path_and_remarks telling.now net.now judgement.now else []) }
 {
     if telling.explains {
+        let path = path_text(alloc, net, judgement)?;
+        push_text(out, &path);
         show_remarks(alloc, telling.files, net, out)
     } else {
         Ok(())
     }
 }
 
-/// Writes the explanation of a verdict's faults where that is asked for.
+/// Writes the explanation of a judgement's faults where that is asked for.
 fn show_explanation<S: Sink>(
     alloc: Global,
     telling: &Telling<'_>,
     net: &Net,
-    verdict: &Verdict,
+    judgement: &Judgement,
     out: &mut S,
 ) -> Result<(), NoMemory>
     ensures { Prints result (S.state out.old) (S.state out.new)
-        (if telling.now.explains then verdict_explained telling.now net.now verdict.now else []) }
+        (if telling.now.explains then faults_explained telling.now net.now judgement.now else []) }
 {
-    match verdict {
-        Verdict::No(faults) if telling.explains => {
+    match judgement {
+        Judgement::Faulty(faults) if telling.explains => {
             explain_rejection(alloc, telling.files, telling.source, net, faults, out)
         }
         _ => Ok(()),
     }
 }
 
-/// Whether a verdict is yes.
-fn is_yes(verdict: &Verdict) -> bool
-    ensures { result ≡ verdicts.is_yes verdict.now }
+/// Whether a netlist that is judged so is accepted.
+fn is_accepted(judgement: &Judgement) -> bool
+    ensures { result ≡ accepts judgement.now }
 {
-    matches!(verdict, Verdict::Yes(_))
+    !matches!(judgement, Judgement::Faulty(_))
 }

@@ -5,11 +5,14 @@ ghost use Rattle.rtl_simulation.specs.Simulated as spec;
 ghost use Rattle.byte_streams.specs.Written.{IsIntact};
 ghost use Rattle.rtl_stim.specs.Ports.{HasOwnPorts};
 ghost use Rattle.rtlsim_commands.specs.Sights.{Seeing, IsOfNet, events_of};
-ghost use Rattle.rtlsim_commands.specs.Served.{Serves, ServesNet, ServesObject, both};
+ghost use Rattle.rtlsim_commands.specs.Refused.{TellsAnswer};
+ghost use Rattle.rtlsim_commands.specs.Served.{Serves, ServesObject, ServesOr, Unrefused, both};
 ghost use Rattle.vhdl_front_rules.specs.Asking.{asked_view};
+ghost use Rattle.vhdl_front_rules.specs.Designs.{IsNetOf};
 
 use crate::command::{Answer, Command, Site};
 use crate::ending::{ended_by_writes, refuse_net, refuse_source};
+use crate::freed::tell_freed;
 use crate::listing::Form;
 use crate::noting::{Noting, Numbers};
 use crate::printing::CheckNet;
@@ -40,7 +43,10 @@ pub fn serve<F: Front, C: Command, V: Watch, O: Sink, E: Sink>(
         (both (O.state out.old) (O.state out.new) (E.state err.old) (E.state err.new)) }
 {
     match F::open(alloc, asked) {
-        Ok(net) => serve_net(alloc, telling, &net, command, watch, out, err),
+        Ok(net) => {
+            let site = Site { alloc, net: &net };
+            serve_net::<F, C, V, O, E>(site, asked, telling, command, watch, out, err)
+        }
         Err(fault) => refuse_source::<F, O, E>(alloc, asked, telling, fault, out, err),
     }
 }
@@ -64,7 +70,9 @@ pub fn describe<F: Front, O: Sink, E: Sink>(
         Ok(net) => {
             let form = Form::Object(telling);
             let mut command = CheckNet { form };
-            serve_net(alloc, telling, &net, &mut command, &mut Unwatched, out, err)
+            let site = Site { alloc, net: &net };
+            let mut watch = Unwatched;
+            serve_net::<F, _, _, O, E>(site, asked, telling, &mut command, &mut watch, out, err)
         }
         Err(fault) => {
             let told = describe_refusal::<F, O>(alloc, telling.files, asked, fault, out);
@@ -73,33 +81,52 @@ pub fn describe<F: Front, O: Sink, E: Sink>(
     }
 }
 
-/// Serves a command on the netlist of a source.
-fn serve_net<C: Command, V: Watch, O: Sink, E: Sink>(
-    alloc: Global,
+/// Serves a command on the netlist of a source. Below what is told of its answer stands which of
+/// the checker's rules the source doesn't break in the wider language.
+fn serve_net<F: Front, C: Command, V: Watch, O: Sink, E: Sink>(
+    site: Site<'_>,
+    asked: Asked<'_>,
     telling: &Telling<'_>,
-    net: &Net,
     command: &mut C,
     watch: &mut V,
     out: &mut O,
     err: &mut E,
 ) -> Status
-    requires ports { HasOwnPorts net.now }
+    requires net { IsNetOf (asked_view asked) site.net.now }
+    requires ports { HasOwnPorts site.net.now }
     requires out { IsIntact (O.state out.old) }
     requires err { IsIntact (E.state err.old) }
-    ensures { ServesNet (Seeing (C.sight command.old) (C.does command.old)
+    ensures { ServesOr Unrefused (Seeing (C.sight command.old) (C.does command.old)
         (λ stands. V.told watch.old stands watch.new))
         (record { text = C.Answer.text; status = C.Answer.said; events = events_of (C.sight command.old) }) telling.now
-        net.now result
+        (asked_view asked.entry) result
         (both (O.state out.old) (O.state out.new) (E.state err.old) (E.state err.new)) }
 {
-    let (answer, changing) = on_net_noting(alloc, net, command, watch, out);
+    let (answer, changing) = on_net_noting(site.alloc, site.net, command, watch, out);
+    let said = tell_answer(site, telling, &answer, &changing, err);
+    tell_freed::<F, E>(site, asked, telling, said, err);
+    ended_by_writes(said, out, err)
+}
+
+/// Tells what a command answers, of a fault with the nets of these numbers, and answers the status.
+fn tell_answer<A: Answer, E: Sink>(
+    site: Site<'_>,
+    telling: &Telling<'_>,
+    answer: &Result<A, Fault>,
+    changing: &[usize],
+    err: &mut E,
+) -> Status
+    requires { IsIntact (E.state err.old) }
+    ensures { TellsAnswer A.text A.said telling.now site.entry.net.now changing.now answer.now (E.state err.old)
+        (E.state err.new) result }
+{
     match answer {
         Ok(answer) => {
-            let status = answer.tell(err);
-            tell_remarks(alloc, telling, net, err);
-            ended_by_writes(status, out, err)
+            let said = answer.tell(err);
+            tell_remarks(site.alloc, telling, site.net, err);
+            said
         }
-        Err(fault) => refuse_net(alloc, telling, net, &fault, &changing, out, err),
+        Err(fault) => refuse_net(site, telling, fault, changing, err),
     }
 }
 

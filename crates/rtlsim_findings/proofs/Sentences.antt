@@ -1,10 +1,10 @@
--- A sentence of the same rule, with the same names.
-use Rattle.std.proofs.Common.{◌≡◌, ℕ, List, ap, ◌∙◌}
-use Rattle.fault_rules.specs.Rules.{words_of}
-use Rattle.fault_rules.specs.declared.report.Report.{Report}
-use Rattle.rtlsim_findings.specs.Sayings.{sentence}
+-- A sentence of the code's words with the same names.
+use Rattle.std.proofs.Common.{◌≡◌, ℕ, List, refl}
+use denote.Bor.{Bor}
+use Rattle.fault_rules.specs.Rules.{Text, AreWords}
+use Rattle.fault_rules.specs.declared.words.Words.{Words}
+use Rattle.rtlsim_findings.specs.Sayings.{said_by, sentence}
 
-pub same_sentence : (told report : Report) (a culprits b nets : List ℕ) → told ≡ report → a ≡ culprits → b ≡ nets
-    → sentence (words_of told.rule) a b ≡ sentence (words_of report.rule) culprits nets
-same_sentence told report a culprits b nets r p n =
-    ap (λ (x : Report). sentence (words_of x.rule) a b) r ∙ ap (λ x. sentence (words_of report.rule) x b) p ∙ ap (λ x. sentence (words_of report.rule) culprits x) n
+pub same_sentence : (words : Words Text) (told : Words (Bor (List ℕ))) (a culprits b nets : List ℕ)
+    → AreWords words told → a ≡ culprits → b ≡ nets → said_by told a b ≡ sentence words culprits nets
+same_sentence words told a culprits b nets are p n = rw (are.opening, are.middle, are.closing, p, n) refl

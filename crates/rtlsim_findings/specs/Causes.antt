@@ -1,7 +1,7 @@
 -- What faults have in common that are told together: the rule, the lines that declare their processes, of a latch the
 -- statement that leaves the assignment out, and what makes a process neither clocked nor combinational. So a fault that
 -- each instance of an entity has is told once.
-use Rattle.std.specs.Prelude.{ℕ, ◌==◌, ◌&&◌, Bool, true, false, slice_get, Option, Some, None, option_map}
+use Rattle.std.specs.Prelude.{ℕ, ◌==◌, ◌&&◌, Bool, true, false, List, [], ◌∷◌, slice_get, Option, Some, None, option_map}
 use Rattle.rtl_model.specs.simulation.Accepted.{Fault}
 use Rattle.rtl_net.specs.Nets.{NetlistView}
 use Rattle.rtl_net.specs.declared.process.Process.{Process}
@@ -16,7 +16,8 @@ use Rattle.rtlsim_findings.specs.Mixed.{why}
 use Rattle.rtlsim_findings.specs.Omitted.{left_out, are_same}
 use Rattle.rtlsim_findings.specs.declared.cause.Cause.{Cause}
 use Rattle.rtlsim_findings.specs.declared.cause.Obstacle.{Obstacle}
-use Rattle.rtlsim_listing.specs.Reports.{report_of}
+use Rattle.rtlsim_listing.specs.DotText.{driver_in}
+use Rattle.rtlsim_listing.specs.Reports.{CircleView, Processes, Nets, circle_of, report_of}
 
 -- ---- processes
 
@@ -27,6 +28,18 @@ process_at _ = None
 
 abbrev pub first_process : Fault → Option ℕ
 first_process fault = process_at (report_of fault).place
+
+-- the process at whose place a fault is told: of a loop of nets the one that drives the first
+abbrev pub first_driver : NetlistView → List ℕ → Option ℕ
+first_driver net [] = None
+first_driver net (n ∷ nets) = driver_in net n
+
+abbrev pub told_in : NetlistView → (first : Option ℕ) → CircleView → Option ℕ
+told_in net first (Processes processes) = first
+told_in net first (Nets nets) = first_driver net nets
+
+abbrev pub told_at : NetlistView → Fault → Option ℕ
+told_at net fault = told_in net (first_process fault) (circle_of fault)
 
 abbrev pub second_of : Subject → Option ℕ
 second_of (Sources n first second) = second
@@ -70,7 +83,7 @@ is_same_obstacle _ _ = false
 abbrev pub cause_of : NetlistView → Fault → Cause
 cause_of net fault = record {
   number = (words_of (report_of fault).rule).number;
-  first = at_process net (first_process fault);
+  first = at_process net (told_at net fault);
   second = at_process net (second_process fault);
   omission = left_out net fault;
   obstacle = option_map obstacle_of (why net fault);

@@ -2,7 +2,6 @@
 pub mod Ranges
 pub mod Once
 pub mod Omitted
-pub mod Circles
 pub mod Mixed
 pub mod Causes
 pub mod Findings

@@ -7,12 +7,13 @@ use Rattle.rtl_model.specs.simulation.Accepted.{Fault, Latch}
 use Rattle.rtl_net.specs.Names.{net_name, process_name}
 use Rattle.rtl_net.specs.Nets.{NetlistView}
 use Rattle.rtl_mixed_reasons.specs.declared.reason.Reason.{Reason}
-use Rattle.fault_rules.specs.Rules.{Text, words_of}
+use denote.Bor.{Bor}
+use Rattle.fault_rules.specs.Rules.{Text}
 use Rattle.fault_rules.specs.declared.report.Subject.{Subject}
 use Rattle.fault_rules.specs.declared.report.Subject.TheVariants.{Sources, ProcessNet, Element, Net, Process as Process', Circle}
 use Rattle.fault_rules.specs.declared.words.Words.{Words}
 use Rattle.rtlsim_findings.specs.Causes.{is_of, second_process}
-use Rattle.rtlsim_findings.specs.Circles.{loop_text}
+use Rattle.rtlsim_circles.specs.Circles.{circle_text}
 use Rattle.rtlsim_findings.specs.Findings.{FindingView}
 use Rattle.rtlsim_findings.specs.Mixed.{why, reason_text}
 use Rattle.rtlsim_findings.specs.Omitted.{said}
@@ -20,7 +21,7 @@ use Rattle.rtlsim_findings.specs.Once.{each_new}
 use Rattle.rtlsim_findings.specs.Ranges.{follows, range_text}
 use Rattle.rtlsim_findings.specs.declared.cause.Obstacle.{Obstacle}
 use Rattle.rtlsim_listing.specs.CheckText.{source_name, variable_name}
-use Rattle.rtlsim_listing.specs.Reports.{report_of, circle_of}
+use Rattle.rtlsim_listing.specs.Reports.{CircleView, Processes, Nets, report_of, circle_of, words_for}
 
 -- ---- nets
 
@@ -67,13 +68,13 @@ all_ranges_of net f =
 
 -- ---- the sentence
 
--- the processes that it is told of, and idle ports by that word; of a circle the nets too
-abbrev pub culprits_of : NetlistView → (circle : List ℕ) → Subject → List ℕ
+-- the processes that it is told of, and idle ports by that word; of a circle the nets too, or these alone
+abbrev pub culprits_of : NetlistView → (circle : CircleView) → Subject → List ℕ
 culprits_of net circle (Sources n first second) = source_name net first ++ codes " and " ++ source_name net second
 culprits_of net circle (ProcessNet process n) = process_name net process
 culprits_of net circle (Process' process) = process_name net process
 culprits_of net circle (Element process variable place) = process_name net process
-culprits_of net circle Circle = loop_text net circle
+culprits_of net circle Circle = circle_text net circle
 culprits_of net circle _ = []
 
 abbrev pub culprits : NetlistView → Fault → List ℕ
@@ -90,8 +91,12 @@ listed (text ∷ texts) = text ++ flat_map another texts
 abbrev pub sentence : Words Text → (culprits nets : List ℕ) → List ℕ
 sentence words culprits nets = words.opening.now ++ culprits ++ words.middle.now ++ nets ++ words.closing.now
 
+-- the same of the code's words
+abbrev pub said_by : Words (Bor (List ℕ)) → (culprits nets : List ℕ) → List ℕ
+said_by words culprits nets = words.opening.now ++ culprits ++ words.middle.now ++ nets ++ words.closing.now
+
 abbrev pub message : NetlistView → FindingView → List ℕ
-message net f = sentence (words_of (report_of f.first).rule) (culprits net f.first) (listed (ranges_of net f))
+message net f = sentence (words_for f.first) (culprits net f.first) (listed (ranges_of net f))
 
 -- ---- the other instances
 
@@ -104,13 +109,17 @@ also f = each_new is_of (f.first ∷ []) f.others
 abbrev pub one : ℕ → Option ℕ
 one process = Some process
 
+abbrev pub processes_round : CircleView → List (Option ℕ)
+processes_round (Processes processes) = map one processes
+processes_round (Nets nets) = []
+
 -- two drivers in order, without a process where a port is idle; a circle in order
-abbrev pub processes_of : (circle : List ℕ) → Subject → List (Option ℕ)
+abbrev pub processes_of : (circle : CircleView) → Subject → List (Option ℕ)
 processes_of circle (Sources n first second) = first ∷ second ∷ []
 processes_of circle (ProcessNet process n) = Some process ∷ []
 processes_of circle (Process' process) = Some process ∷ []
 processes_of circle (Element process variable place) = Some process ∷ []
-processes_of circle Circle = map one circle
+processes_of circle Circle = processes_round circle
 processes_of circle _ = []
 
 abbrev pub processes_in : Fault → List (Option ℕ)

@@ -12,7 +12,7 @@ use rtl_check::CheckFault;
 use rtl_latches::Omission;
 use rtl_mixed_reasons::Reason;
 use rtl_net::{Net, NoMemory};
-use rtlsim_listing::report_of;
+use rtlsim_listing::{Circle, circle_of, driver_of, report_of};
 use std::alloc::Global;
 
 /// What makes a process neither clocked nor combinational.
@@ -54,7 +54,7 @@ pub(crate) fn cause_of(
     let obstacle = obstacle_of(why(alloc, net, fault)?);
     Ok(Cause {
         number: report_of(fault).rule.words().number,
-        first: at_process(net, first_process(fault)),
+        first: at_process(net, told_at(net, fault)),
         second: at_process(net, second_process(fault)),
         omission,
         obstacle,
@@ -98,6 +98,26 @@ pub fn first_process(fault: &CheckFault) -> Option<usize>
     match report_of(fault).place {
         Place::Process(process) => Some(process),
         _ => None,
+    }
+}
+
+/// The process at whose place a fault is told: of a loop of nets the one that drives the first.
+fn told_at(net: &Net, fault: &CheckFault) -> Option<usize>
+    ensures { result ≡ spec.told_at net.now (fault_view fault.now) }
+{
+    match circle_of(fault) {
+        Circle::Processes(_) => first_process(fault),
+        Circle::Nets(nets) => first_driver(net, nets),
+    }
+}
+
+/// The process that drives the first of these nets.
+fn first_driver(net: &Net, nets: &[usize]) -> Option<usize>
+    ensures { result ≡ spec.first_driver net.now nets.now }
+{
+    match nets {
+        [first, ..] => driver_of(net, *first),
+        [] => None,
     }
 }
 

@@ -14,7 +14,6 @@ mod naming;
 mod omitted;
 mod ranges;
 mod remarked;
-mod rounds;
 mod saying;
 
 pub use cause::{Cause, Obstacle, at_process, first_process};
@@ -22,5 +21,4 @@ pub use finding::{Finding, findings};
 pub use naming::{all_ranges_of, culprits, ranges_of};
 pub use ranges::{follows, push_range};
 pub use remarked::{RemarkFinding, remark_findings, remark_message, remark_process, remark_report};
-pub use rounds::{first_or, link_net, name_of_net};
 pub use saying::{also, message, note_at, note_text, processes};

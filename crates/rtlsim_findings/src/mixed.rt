@@ -1,17 +1,18 @@
-//! Why the process of a fault is neither clocked nor combinational.
+//! Why the process of a fault is neither clocked nor combinational, or its reset not calm.
 
 ghost use Rattle.std.specs.Prelude.{◌≡◌, IfOk};
 ghost use Rattle.rtl_check.specs.Views.{fault_view};
 ghost use Rattle.rtlsim_findings.specs.Mixed as spec;
 
-use crate::rounds::name_of_net;
 use rtl_check::CheckFault;
 use rtl_mixed_reasons::{Reason, reason_of};
 use rtl_net::{Net, NoMemory};
+use rtlsim_circles::name_of_net;
 use rtlsim_listing::process_name;
 use std::alloc::Global;
 
-/// Why the process is neither clocked nor combinational, where a fault tells that.
+/// Why the process is neither clocked nor combinational, or its reset not calm, where a fault tells
+/// that.
 pub(crate) fn why(alloc: Global, net: &Net, fault: &CheckFault) -> Result<Option<Reason>, NoMemory>
     ensures { IfOk result (λ reason. reason ≡ spec.why net.now (fault_view fault.now)) }
 {
@@ -30,6 +31,7 @@ pub(crate) fn reason_text(alloc: Global, net: &Net, reason: Reason) -> Result<Ve
     text.extend_from_slice(&name_of_net(alloc, net, reason.net)?)?;
     text.extend_from_slice(note.middle.as_bytes())?;
     text.extend_from_slice(&name_of_process(alloc, net, reason.driver)?)?;
+    text.extend_from_slice(&name_of_net(alloc, net, reason.second)?)?;
     text.extend_from_slice(note.closing.as_bytes())?;
     Ok(text)
 }

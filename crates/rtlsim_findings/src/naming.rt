@@ -11,11 +11,11 @@ ghost use Rattle.rtlsim_listing.specs.CheckText.{source_name};
 use crate::cause::is_of;
 use crate::finding::Finding;
 use crate::ranges::{follows, push_range};
-use crate::rounds::loop_text;
 use fault_rules::Subject;
 use indexmap::IndexSet;
 use rtl_check::CheckFault;
 use rtl_net::{Net, NoMemory};
+use rtlsim_circles::circle_text;
 use rtlsim_listing::{circle_of, element_of, net_name, process_name, report_of, source_name};
 use std::alloc::Global;
 
@@ -202,7 +202,8 @@ pub(crate) fn range(alloc: Global, first: &[u8], last: &[u8]) -> Result<Vec<u8>,
     Ok(text)
 }
 
-/// The processes that a fault is told of, and idle ports by that word; of a circle the nets too.
+/// The processes that a fault is told of, and idle ports by that word; of a circle the nets too, or
+/// these alone.
 pub fn culprits(alloc: Global, net: &Net, fault: &CheckFault) -> Result<Vec<u8>, NoMemory>
     ensures { IfOk result (λ text. text.items ≡ spec.culprits net.now (fault_view fault.now)) }
 {
@@ -211,7 +212,7 @@ pub fn culprits(alloc: Global, net: &Net, fault: &CheckFault) -> Result<Vec<u8>,
         Subject::ProcessNet { process, .. }
         | Subject::Process { process }
         | Subject::Element { process, .. } => process_name(alloc, net, process),
-        Subject::Circle => loop_text(alloc, net, circle_of(fault)),
+        Subject::Circle => circle_text(alloc, net, circle_of(fault)),
         _ => Ok(Vec::new(alloc)),
     }
 }

@@ -153,7 +153,7 @@ pub fn remark_message(alloc: Global, net: &Net, found: &RemarkFinding) -> Result
     let process = name_of_process(alloc, net, found.remark.process)?;
     sentence(
         alloc,
-        remark_report(found.remark).rule,
+        remark_report(found.remark).rule.words(),
         &process,
         &found.nets,
     )

@@ -3,8 +3,8 @@
 ghost use Rattle.std.specs.Prelude.{◌≡◌, if◌then◌else◌, [], ◌∷◌, ◌++◌, codes, flat_map, map, IfOk, OnOk};
 ghost use Rattle.rtl_check.specs.Views.{fault_view};
 ghost use Rattle.rtl_net.specs.Names.{process_name};
-ghost use Rattle.fault_rules.specs.Rules.{words_of};
 ghost use Rattle.rtlsim_findings.specs.Findings.{finding_view};
+ghost use Rattle.rtlsim_listing.specs.Reports.{circle_view};
 ghost use Rattle.rtlsim_findings.specs.Sayings as spec;
 ghost use Rattle.rtlsim_findings.specs.steps.Pairs as steps;
 
@@ -13,11 +13,11 @@ use crate::finding::Finding;
 use crate::mixed::{reason_text, why};
 use crate::naming::{culprits, ranges_of};
 use crate::omitted::said;
-use fault_rules::{Rule, Subject};
+use fault_rules::{Subject, Words};
 use indexmap::IndexSet;
 use rtl_check::CheckFault;
 use rtl_net::{Net, NoMemory};
-use rtlsim_listing::{circle_of, process_name, report_of};
+use rtlsim_listing::{Circle, circle_of, process_name, report_of, words_for};
 use std::alloc::Global;
 
 /// The sentence of a finding.
@@ -27,19 +27,18 @@ pub fn message(alloc: Global, net: &Net, finding: &Finding<'_>) -> Result<Vec<u8
     let ranges = ranges_of(alloc, net, finding)?;
     let nets = listed(alloc, &ranges)?;
     let culprits = culprits(alloc, net, finding.first)?;
-    sentence(alloc, report_of(finding.first).rule, &culprits, &nets)
+    sentence(alloc, words_for(finding.first), &culprits, &nets)
 }
 
-/// The sentence of a rule, with its processes and nets.
+/// The sentence of these words, with its processes and nets.
 pub(crate) fn sentence(
     alloc: Global,
-    rule: Rule,
+    words: &Words<&str>,
     culprits: &[u8],
     nets: &[u8],
 ) -> Result<Vec<u8>, NoMemory>
-    ensures { IfOk result (λ text. text.items ≡ spec.sentence (words_of rule) culprits.now nets.now) }
+    ensures { IfOk result (λ text. text.items ≡ spec.said_by words.now culprits.now nets.now) }
 {
-    let words = rule.words();
     let mut text = Vec::from_slice(alloc, words.opening.as_bytes())?;
     text.extend_from_slice(culprits)?;
     text.extend_from_slice(words.middle.as_bytes())?;
@@ -153,8 +152,19 @@ fn push_processes(fault: &CheckFault, processes: &mut Vec<Option<usize>>) -> Res
     }
 }
 
-/// Appends the processes of a circle.
-fn push_circle(circle: &[usize], processes: &mut Vec<Option<usize>>) -> Result<(), NoMemory>
+/// Appends the processes of a circle of processes.
+fn push_circle(circle: Circle<'_>, processes: &mut Vec<Option<usize>>) -> Result<(), NoMemory>
+    ensures { OnOk result (processes.new.items
+        ≡ processes.old.items ++ spec.processes_round (circle_view circle.entry)) }
+{
+    match circle {
+        Circle::Processes(circle) => push_round(circle, processes),
+        Circle::Nets(_) => Ok(()),
+    }
+}
+
+/// Appends these processes.
+fn push_round(circle: &[usize], processes: &mut Vec<Option<usize>>) -> Result<(), NoMemory>
     ensures { OnOk result (processes.new.items ≡ processes.old.items ++ map spec.one circle.now) }
 {
     for process in circle {

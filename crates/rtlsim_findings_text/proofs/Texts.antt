@@ -42,6 +42,12 @@ four t s r q a b k x l y i j e = rw (e, j, i) (simp append_assoc)
 pub six : (t s r q p o a b c d e f : List ℕ) → s ≡ t ++ a → r ≡ s ++ b → q ≡ r ++ c → p ≡ q ++ d → o ≡ p ++ e → o ++ f ≡ t ++ (a ++ b ++ c ++ d ++ e ++ f)
 six t s r q p o a b c d e f i j k l m = rw (m, l, k, j, i) (simp append_assoc)
 
+-- two parts of one, two of another, and two of what stands below
+pub eight : (t s r q p o n m a b c d k x y h : List ℕ) (wide : List ℕ → List ℕ) → s ≡ t ++ a → r ≡ s ++ b → q ≡ r ++ c → p ≡ q ++ d → o ≡ p ++ k → n ≡ o ++ wide a → m ≡ n ++ wide b
+    → wide (a ++ b) ≡ wide a ++ wide b → a ++ b ≡ x → c ++ d ≡ y → m ++ h ≡ t ++ (x ++ y ++ k ++ (wide x ++ h))
+eight t s r q p o n m a b c d k x y h wide e1 e2 e3 e4 e5 e6 e7 apart front back =
+    rw (e7, e6, e5, e4, e3, e2, e1, ← front, ← back, apart) (simp append_assoc)
+
 -- from the beginning of a text
 pub all_three : (t s r a b c : List ℕ) → t ≡ a → s ≡ t ++ b → r ≡ s ++ c → r ≡ a ++ b ++ c
 all_three t s r a b c i j k = rw (k, j, i) refl

@@ -15,18 +15,23 @@ use Rattle.vhdl_source_files.specs.Files.{FileView}
 use Rattle.rtlsim_findings.specs.Findings.{FindingView, findings}
 use Rattle.rtlsim_findings.specs.Sayings.{message, culprits, another, also}
 use Rattle.rtlsim_listing.specs.CheckText.{title_text}
-use Rattle.rtlsim_listing.specs.Reports.{report_of}
+use Rattle.rtlsim_listing.specs.Reports.{report_of, words_for}
 use Rattle.rtlsim_notes.specs.Notes.{NoteView, notes}
 use Rattle.vhdl_slips.specs.Words.{Read, with_tokens}
 use Rattle.rtlsim_findings_text.specs.Placed.{place_text, shown_text}
 
-abbrev pub words_for : FindingView → Words Text
-words_for f = words_of (report_of f.first).rule
+-- what is said of its rule
+abbrev pub rule_words : FindingView → Words Text
+rule_words f = words_of (report_of f.first).rule
+
+-- what a designer does about it
+abbrev pub help_for : Fault → List ℕ
+help_for fault = (words_for fault).help.now
 
 -- the place, what is found, and the line of the place
 unfoldable pub told_text : List FileView → NetlistView → FindingView → List ℕ
 told_text files net f =
-    place_text files f.cause.first ++ title_text (words_for f) ++ codes ": "
+    place_text files f.cause.first ++ title_text (rule_words f) ++ codes ": "
     ++ message net f ++ codes "\n" ++ shown_text files f.cause.first
 
 -- the same of a note
@@ -50,7 +55,7 @@ also_text net (fault ∷ faults) = codes "also in " ++ culprits net fault ++ oth
 unfoldable pub paragraph : List FileView → (source : Read) → NetlistView → FindingView → List ℕ
 paragraph files source net f =
     told_text files net f ++ flat_map (noted files) (notes source net f)
-    ++ also_text net (also f) ++ help_line (words_for f).help.now
+    ++ also_text net (also f) ++ help_line (help_for f.first)
 
 -- ---- the end
 

@@ -16,11 +16,12 @@ use crate::rejection::is_element;
 use crate::values::{push_array, push_process, push_processes, push_string};
 use fault_rules::{Rule, Subject};
 use rtl_net::NoMemory;
+use rtlsim_circles::nets_round;
 use rtlsim_findings::{
     Finding, RemarkFinding, all_ranges_of, at_process, message, processes, remark_message,
     remark_process, remark_report,
 };
-use rtlsim_listing::{push_decimal, report_of};
+use rtlsim_listing::{circle_of, push_decimal, report_of, words_for};
 use rtlsim_notes::{Note, notes};
 use rtlsim_refusals::Position;
 use std::alloc::Global;
@@ -69,7 +70,7 @@ fn push_said(site: &Site<'_>, finding: &Finding<'_>, text: &mut Vec<u8>) -> Resu
         &message(site.alloc, site.net, finding)?,
         text,
     )?;
-    let words = report_of(finding.first).rule.words();
+    let words = words_for(finding.first);
     push_member(b",\"help\":", words.help.as_bytes(), text)
 }
 
@@ -87,32 +88,34 @@ fn push_named(site: &Site<'_>, finding: &Finding<'_>, text: &mut Vec<u8>) -> Res
     ensures { OnOk result (text.new.items
         ≡ text.old.items ++ spec.named_text site.now.net.now (finding_view finding.now)) }
 {
-    let subject = report_of(finding.first).subject;
     text.extend_from_slice(b",\"processes\":")?;
     push_processes(site, &processes(site.alloc, finding)?, text)?;
-    push_names(site, b",\"nets\":", is_net(subject), finding, text)?;
-    push_names(site, b",\"variables\":", is_element(subject), finding, text)
+    text.extend_from_slice(b",\"nets\":")?;
+    push_array(&nets_in(site, finding)?, true, text)?;
+    text.extend_from_slice(b",\"variables\":")?;
+    push_array(&variables_in(site, finding)?, true, text)
 }
 
-/// Appends the member of this name: the names that all faults of a finding are told of, if they are
-/// told here.
-#[tactic(auto, unfolding(crate::specs::Values::array_text))]
-fn push_names(
-    site: &Site<'_>,
-    name: &[u8],
-    told: bool,
-    finding: &Finding<'_>,
-    text: &mut Vec<u8>,
-) -> Result<(), NoMemory>
-    ensures { OnOk result (text.new.items
-        ≡ text.old.items ++ (name.now ++ spec.names_if told site.now.net.now (finding_view finding.now))) }
+/// The nets that all faults of a finding are told of, or those of its circle.
+fn nets_in(site: &Site<'_>, finding: &Finding<'_>) -> Result<Vec<Vec<u8>>, NoMemory>
+    ensures { IfOk result (λ texts. map (λ t. t.items) texts.items
+        ≡ spec.nets_in site.now.net.now (finding_view finding.now)) }
 {
-    text.extend_from_slice(name)?;
-    if told {
-        push_array(&all_ranges_of(site.alloc, site.net, finding)?, true, text)
-    } else {
-        Ok(text.extend_from_slice(b"[]")?)
+    if is_net(report_of(finding.first).subject) {
+        return all_ranges_of(site.alloc, site.net, finding);
     }
+    nets_round(site.alloc, site.net, circle_of(finding.first))
+}
+
+/// The elements of variables that they are told of.
+fn variables_in(site: &Site<'_>, finding: &Finding<'_>) -> Result<Vec<Vec<u8>>, NoMemory>
+    ensures { IfOk result (λ texts. map (λ t. t.items) texts.items
+        ≡ spec.variables_in site.now.net.now (finding_view finding.now)) }
+{
+    if is_element(report_of(finding.first).subject) {
+        return all_ranges_of(site.alloc, site.net, finding);
+    }
+    Ok(Vec::new(site.alloc))
 }
 
 /// Whether something is told of nets.

@@ -2,7 +2,6 @@
 
 ghost use Rattle.std.specs.Prelude.{◌≡◌, ◌++◌, All, codes, decimal, flat_map, map, IfOk, OnOk};
 ghost use Rattle.rtl_check.specs.Views.{fault_view};
-ghost use Rattle.fault_rules.specs.Rules.{words_of};
 ghost use Rattle.rtlsim_refusals.specs.Explained.{help_line};
 ghost use Rattle.rtlsim_findings.specs.Findings.{finding_view};
 ghost use Rattle.rtlsim_notes.specs.Notes.{note_view};
@@ -12,11 +11,10 @@ ghost use Rattle.rtlsim_findings_text.specs.Marks.{IsMarked, files_at, view};
 
 use crate::places::{MarkedFile, Site, push_place};
 use crate::shown::push_shown;
-use fault_rules::Rule;
 use rtl_check::CheckFault;
 use rtl_net::NoMemory;
 use rtlsim_findings::{Finding, also, culprits, message};
-use rtlsim_listing::{push_decimal, push_title, report_of};
+use rtlsim_listing::{push_decimal, push_title, report_of, words_for};
 use rtlsim_notes::{Note, notes};
 use vhdl_slips::Lexed;
 
@@ -39,7 +37,7 @@ pub(crate) fn paragraph(
     let notes = notes(site.alloc, source, site.net, finding)?;
     push_notes(site.files, &notes, &mut text)?;
     push_also(site, &also(site.alloc, finding)?, &mut text)?;
-    push_help(report_of(finding.first).rule, &mut text)?;
+    push_help(finding.first, &mut text)?;
     Ok(text)
 }
 
@@ -129,12 +127,12 @@ fn push_more(count: usize, text: &mut Vec<u8>) -> Result<(), NoMemory>
     Ok(())
 }
 
-/// Appends what a designer does about a broken rule.
-fn push_help(rule: Rule, text: &mut Vec<u8>) -> Result<(), NoMemory>
-    ensures { OnOk result (text.new.items ≡ text.old.items ++ help_line (words_of rule).help.now) }
+/// Appends what a designer does about a fault.
+fn push_help(fault: &CheckFault, text: &mut Vec<u8>) -> Result<(), NoMemory>
+    ensures { OnOk result (text.new.items ≡ text.old.items ++ help_line (spec.help_for (fault_view fault.now))) }
 {
     text.extend_from_slice(b"help: ")?;
-    text.extend_from_slice(rule.words().help.as_bytes())?;
+    text.extend_from_slice(words_for(fault).help.as_bytes())?;
     text.extend_from_slice(b"\n")?;
     Ok(())
 }

@@ -1,7 +1,6 @@
 //! Explanations of the checker's faults, for a designer.
 
 ghost use Rattle.std.specs.Prelude.{◌≡◌, All, flat_map, map, take, drop};
-ghost use Rattle.byte_streams.specs.Written.{Goes};
 ghost use Rattle.vhdl_source_files.specs.Files.{file_view};
 ghost use Rattle.rtlsim_findings.specs.Findings.{finding_view};
 ghost use Rattle.rtlsim_listing.specs.Printing.{Prints};
@@ -76,7 +75,7 @@ pub fn explain_rejection<S: Sink>(
     let files = marked.as_slice();
     let site = Site { alloc, files, net };
     push_found(&site, source, &found, sink)?;
-    push_ending(faults, sink);
+    push_text(sink, ending(faults));
     Ok(())
 }
 
@@ -114,16 +113,14 @@ fn push_paragraphs<S: Sink>(
     Ok(())
 }
 
-/// Writes what simulates it all the same, where no variable keeps its value.
-fn push_ending<S: Sink>(faults: &[CheckFault], sink: &mut S)
-    ensures { Goes (S.state sink.old) (S.state sink.new) (spec.ending faults.now) }
+/// What simulates it all the same, where no variable keeps its value.
+fn ending(faults: &[CheckFault]) -> &'static [u8]
+    ensures { result.now ≡ spec.ending faults.now }
 {
-    if !any_stored(faults) {
-        push_text(
-            sink,
-            b"help: run --event simulates it, without the promises of run\n",
-        );
+    if any_stored(faults) {
+        return b"";
     }
+    b"help: run --event simulates it, without the promises of run\n"
 }
 
 /// Whether one of these faults is of a variable that keeps its value.

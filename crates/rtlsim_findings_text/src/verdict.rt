@@ -1,4 +1,4 @@
-//! The object of a verdict.
+//! The object of a judgement.
 
 ghost use Rattle.std.specs.Prelude.{◌≡◌, All, flat_map, map, IfOk};
 ghost use Rattle.vhdl_source_files.specs.Files.{file_view};
@@ -15,7 +15,7 @@ use crate::places::{Site, mark_files};
 use crate::rejection::{any_stored, first_placed, not_placed, without_tokens};
 use crate::values::push_array;
 use byte_streams::{Sink, push_text};
-use rtl_check::Verdict;
+use rtl_check::Judgement;
 use rtl_net::{Net, NoMemory};
 use rtl_remarks::remarks;
 use rtlsim_findings::{Finding, RemarkFinding, findings, remark_findings};
@@ -24,7 +24,7 @@ use std::alloc::Global;
 use vhdl_slips::Lexed;
 use vhdl_source_files::SourceFile;
 
-/// Writes the checker's verdict on a netlist and the remarks on it as an object of JSON on one
+/// Writes the checker's judgement of a netlist and the remarks on it as an object of JSON on one
 /// line: `yes` with the greatest level and the bound, or `no` with an object for each finding, at
 /// its place in these files, whose texts joined are the netlist's source, with places that its
 /// tokens show. It takes memory for the findings and the remarks, and for the text of one at a
@@ -34,17 +34,17 @@ pub fn show_check_json<S: Sink>(
     files: &[SourceFile<'_>],
     source: Lexed<'_>,
     net: &Net,
-    verdict: &Verdict,
+    judgement: &Judgement,
     out: &mut S,
 ) -> Result<(), NoMemory>
     ensures { Prints result (S.state out.old) (S.state out.new)
-        (spec.json_text (map file_view files.now) (read_of source.entry) net.now verdict.now) }
+        (spec.json_text (map file_view files.now) (read_of source.entry) net.now judgement.now) }
 {
-    let found = found(alloc, net, verdict)?;
+    let found = found(alloc, net, judgement)?;
     let marked = mark_files(alloc, files)?;
     let files = marked.as_slice();
     let site = Site { alloc, files, net };
-    let begin = verdict_text(alloc, verdict)?;
+    let begin = verdict_text(alloc, judgement)?;
     let end = end_text(&site)?;
     push_text(out, &begin);
     push_text(out, b",\"faults\":[");
@@ -54,34 +54,44 @@ pub fn show_check_json<S: Sink>(
     Ok(())
 }
 
-/// The findings of a verdict.
-fn found<'a>(alloc: Global, net: &Net, verdict: &'a Verdict) -> Result<Vec<Finding<'a>>, NoMemory>
-    ensures { IfOk result (λ found. map finding_view found.items ≡ spec.found net.now verdict.now) }
+/// The findings of a judgement.
+fn found<'a>(
+    alloc: Global,
+    net: &Net,
+    judgement: &'a Judgement,
+) -> Result<Vec<Finding<'a>>, NoMemory>
+    ensures { IfOk result (λ found. map finding_view found.items ≡ spec.found net.now judgement.now) }
 {
-    match verdict {
-        Verdict::Yes(_) => Ok(Vec::new(alloc)),
-        Verdict::No(faults) => findings(alloc, net, faults),
+    match judgement {
+        Judgement::Faulty(faults) => findings(alloc, net, faults),
+        _ => Ok(Vec::new(alloc)),
     }
 }
 
 /// How the object begins.
-fn verdict_text(alloc: Global, verdict: &Verdict) -> Result<Vec<u8>, NoMemory>
-    ensures { IfOk result (λ text. text.items ≡ spec.verdict_text verdict.now) }
+fn verdict_text(alloc: Global, judgement: &Judgement) -> Result<Vec<u8>, NoMemory>
+    ensures { IfOk result (λ text. text.items ≡ spec.verdict_text judgement.now) }
 {
-    match verdict {
-        Verdict::Yes(report) => yes_text(alloc, greatest_level(&report.levels), report.bound),
-        Verdict::No(faults) => no_text(alloc, any_stored(faults)),
+    match judgement {
+        Judgement::ByProcesses(report) => {
+            yes_text(alloc, false, greatest_level(&report.levels), report.bound)
+        }
+        Judgement::ByNets(report) => {
+            yes_text(alloc, true, greatest_level(&report.levels), report.bound)
+        }
+        Judgement::Faulty(faults) => no_text(alloc, any_stored(faults)),
     }
 }
 
 /// How the object of a yes begins.
-fn yes_text(alloc: Global, levels: u32, bound: u32) -> Result<Vec<u8>, NoMemory>
-    ensures { IfOk result (λ text. text.items ≡ spec.yes_text levels bound) }
+fn yes_text(alloc: Global, by_nets: bool, levels: u32, bound: u32) -> Result<Vec<u8>, NoMemory>
+    ensures { IfOk result (λ text. text.items ≡ spec.yes_text by_nets levels bound) }
 {
     let mut text = Vec::from_slice(alloc, b"{\"version\":2,\"verdict\":\"yes\",\"levels\":")?;
     push_decimal(levels as usize, &mut text)?;
     text.extend_from_slice(b",\"bound\":")?;
     push_decimal(bound as usize, &mut text)?;
+    text.extend_from_slice(if by_nets { b",\"by\":\"nets\"" } else { b"" })?;
     text.extend_from_slice(b",\"simulates\":\"run\"")?;
     Ok(text)
 }

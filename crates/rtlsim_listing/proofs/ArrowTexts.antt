@@ -2,7 +2,7 @@
 use Rattle.std.proofs.Common.{◌≡◌, ℕ, zero, suc, ◌<◌, false, List, [], ◌∷◌, ◌++◌, Some, All, length, take, drop, refl, sym, ap, arith}
 use Rattle.std.specs.Prelude.{if◌then◌else◌, bytes_eq, slice_get, slice_index}
 use Rattle.std.proofs.lemmas.Option.{slice_get_within, get_or_from_slice_get}
-use Rattle.rtl_check.proofs.Rows.{nets_of_wakes}
+use Rattle.rtl_process_kinds.proofs.Sources.{nets_of_wakes}
 use Rattle.rtl_net.specs.declared.process.Process.{Process}
 use Rattle.rtl_net.specs.Elaborated.{IsNet}
 use Rattle.rtl_net.specs.Nets.{NetlistView}

@@ -3,3 +3,4 @@ pub mod ArrowTexts
 pub mod Greatest
 pub mod Numbered
 pub mod Printing
+mod Words

@@ -1,10 +1,10 @@
--- The levels of an accepted netlist as a graph in Graphviz's language: a column for each level, with its combinational
--- processes; the registers in a column of their own before them; and an arrow to each combinational process from each
--- that drives what it is sensitive to, with the signal's name. Names stand between quotes as they are: none has a quote
--- or a backslash in it.
-use Rattle.std.specs.Prelude.{ℕ, zero, suc, ◌+◌, ◌==◌, ◌&&◌, Bool, false, if◌then◌else◌, List, [], ◌∷◌, ◌++◌, length, position, bytes_eq, slice_get, slice_index, slice_index_or, Option, Some, None, codes, decimal}
-use Rattle.rtl_check.specs.declared.checking.Verdict.{Verdict}
-use Rattle.rtl_check.specs.declared.checking.Verdict.TheVariants.{Yes, No}
+-- The levels of an accepted netlist as a graph in Graphviz's language: a column for each level, with its processes;
+-- those without a level, which are registers, in a column of their own before them; and an arrow to each process with a
+-- level from each that drives what it is sensitive to, with the signal's name. Names stand between quotes as they are:
+-- none has a quote or a backslash in it.
+use Rattle.std.specs.Prelude.{ℕ, zero, suc, ◌+◌, ◌==◌, ◌&&◌, nat_lt, Bool, false, if◌then◌else◌, List, [], ◌∷◌, ◌++◌, length, position, bytes_eq, slice_get, slice_index, slice_index_or, Option, Some, None, codes, decimal}
+use Rattle.rtl_check.specs.declared.judging.Judgement.{Judgement}
+use Rattle.rtl_check.specs.declared.judging.Judgement.TheVariants.{ByProcesses, ByNets, Faulty}
 use Rattle.rtlsim_listing.specs.CheckText.{greatest_level, rejection_text}
 use Rattle.rtlsim_listing.specs.NetText.{lines}
 use Rattle.rtlsim_listing.specs.Reports.{process_of}
@@ -46,6 +46,9 @@ abbrev pub driver_of : List Source → Option ℕ
 driver_of [] = None
 driver_of (source ∷ sources) = process_of source
 
+abbrev pub driver_in : NetlistView → (n : ℕ) → Option ℕ
+driver_in net n = if nat_lt n (length net.types) then driver_of (flat_sources (flat net) n) else None
+
 abbrev pub arrow_from : NetlistView → (from : Option ℕ) → (to n : ℕ) → List ℕ
 arrow_from net None to n = []
 arrow_from net (Some from) to n = arrow net from to n
@@ -86,13 +89,13 @@ node_text net p level =
     codes "    { rank=same; \"level " ++ decimal level ++ codes "\"; \"" ++ process_name net p ++ codes "\"; }\n"
 
 -- in the column of its level, with the arrows to it
-abbrev pub combinational_text : NetlistView → (p level : ℕ) → List ℕ
-combinational_text net p level = node_text net p level ++ arrows_to net p
+abbrev pub leveled_text : NetlistView → (p level : ℕ) → List ℕ
+leveled_text net p level = node_text net p level ++ arrows_to net p
 
--- a register has no level
+-- what has no level is a register
 abbrev pub process_text : NetlistView → (p : ℕ) → (level : Option ℕ) → List ℕ
 process_text net p None = register_text net p
-process_text net p (Some level) = combinational_text net p level
+process_text net p (Some level) = leveled_text net p level
 
 abbrev pub process_lines : NetlistView → (levels : List (Option ℕ)) → (p : ℕ) → List ℕ
 process_lines net levels p = process_text net p (slice_index_or levels p None)
@@ -123,6 +126,7 @@ graph_text net levels =
     columns_text (greatest_level levels) ++ lines (process_lines net levels) (length levels) ++ codes "}\n"
 
 -- the graph of a netlist that the checker accepts, and the faults of another
-abbrev pub dot_text : NetlistView → Verdict → List ℕ
-dot_text net (Yes report) = graph_text net report.levels.items
-dot_text net (No faults) = rejection_text net faults.items
+abbrev pub dot_text : NetlistView → Judgement → List ℕ
+dot_text net (ByProcesses report) = graph_text net report.levels.items
+dot_text net (ByNets report) = graph_text net report.levels.items
+dot_text net (Faulty faults) = rejection_text net faults.items

@@ -104,7 +104,7 @@ fn push_process<W: Sink>(
     ensures { Prints result (W.state out.old) (W.state out.new) (spec.process_lines net.now levels.now number) }
 {
     match levels[number] {
-        Some(level) => push_combinational(alloc, net, number, level, out),
+        Some(level) => push_leveled(alloc, net, number, level, out),
         None => push_register(alloc, net, number, out),
     }
 }
@@ -125,15 +125,15 @@ fn push_register<W: Sink>(
     Ok(())
 }
 
-/// The line of a combinational process in the column of its level, and the arrows to it.
-fn push_combinational<W: Sink>(
+/// The line of a process in the column of its level, and the arrows to it.
+fn push_leveled<W: Sink>(
     alloc: Global,
     net: &Net,
     number: usize,
     level: u32,
     out: &mut W,
 ) -> Result<(), NoMemory>
-    ensures { Prints result (W.state out.old) (W.state out.new) (spec.combinational_text net.now number level) }
+    ensures { Prints result (W.state out.old) (W.state out.new) (spec.leveled_text net.now number level) }
 {
     let name = process_name(alloc, net, number)?;
     push_text(out, b"    { rank=same; \"level ");
@@ -195,14 +195,24 @@ fn arrow_by(alloc: Global, net: &Net, to: usize, number: usize) -> Result<Vec<u8
     requires there { number < length net.now.types }
     ensures { IfOk result (λ text. text.items ≡ spec.arrow_by net.now to number) }
 {
-    match driver_of(net.sources(number)) {
+    match first_driver(net.sources(number)) {
         Some(from) => arrow_of(alloc, net, from, to, number),
         None => Ok(Vec::new(alloc)),
     }
 }
 
+/// The process of a net's first driver, if it has one.
+pub fn driver_of(net: &Net, number: usize) -> Option<usize>
+    ensures { result ≡ spec.driver_in net.now number }
+{
+    if number < net.nets() {
+        return first_driver(net.sources(number));
+    }
+    None
+}
+
 /// The process of the first of these sources, if that is a driver.
-fn driver_of(sources: &[Source]) -> Option<usize>
+fn first_driver(sources: &[Source]) -> Option<usize>
     ensures { result ≡ spec.driver_of (map source_view sources.now) }
 {
     match sources {

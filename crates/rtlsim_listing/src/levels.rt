@@ -1,15 +1,26 @@
-//! The checker's yes: the bound, and the levels of combinational processes.
+//! The checker's yes: the bound, and the levels of processes.
 
 ghost use Rattle.std.specs.Prelude.{◌≡◌, ◌<◌, length, slice_index_or, None, IfOk};
 ghost use Rattle.byte_streams.specs.Written.{Goes};
 ghost use Rattle.rtlsim_listing.specs.NetText.{lines};
 ghost use Rattle.rtlsim_listing.specs.CheckText as spec;
+ghost use Rattle.rtlsim_listing.specs.CheckText.{shown_view};
 ghost use Rattle.rtlsim_listing.specs.Printing.{Prints};
 
-use crate::names::process_name;
+use crate::names::{net_name, process_name};
 use byte_streams::{Sink, push_number, push_text};
 use rtl_net::{Net, NoMemory};
 use std::alloc::Global;
+
+/// What is printed of a report.
+#[derive(Clone, Copy)]
+pub(crate) struct Shown<'a> {
+    /// Whether levels come from nets, in place of processes.
+    pub(crate) by_nets: bool,
+    pub(crate) levels: &'a [Option<u32>],
+    pub(crate) from: &'a [Option<usize>],
+    pub(crate) bound: u32,
+}
 
 /// The greatest of the levels that there are, 0 without any.
 pub fn greatest_level(levels: &[Option<u32>]) -> u32
@@ -37,15 +48,14 @@ pub(crate) fn push_bounds<W: Sink>(levels: u32, bound: u32, out: &mut W)
 pub(crate) fn push_levels<W: Sink>(
     alloc: Global,
     net: &Net,
-    levels: &[Option<u32>],
-    from: &[Option<usize>],
+    shown: &Shown<'_>,
     out: &mut W,
 ) -> Result<(), NoMemory>
     ensures { Prints result (W.state out.old) (W.state out.new)
-        (lines (spec.level_line net.now levels.now from.now) (length levels.now)) }
+        (lines (spec.level_line net.now (shown_view shown.now)) (length shown.now.levels.now)) }
 {
-    for number in 0..levels.len() {
-        push_level(alloc, net, levels, from, number, out)?;
+    for number in 0..shown.levels.len() {
+        push_level(alloc, net, shown, number, out)?;
     }
     Ok(())
 }
@@ -54,16 +64,19 @@ pub(crate) fn push_levels<W: Sink>(
 fn push_level<W: Sink>(
     alloc: Global,
     net: &Net,
-    levels: &[Option<u32>],
-    from: &[Option<usize>],
+    shown: &Shown<'_>,
     number: usize,
     out: &mut W,
 ) -> Result<(), NoMemory>
-    requires there { number < length levels.now }
-    ensures { Prints result (W.state out.old) (W.state out.new) (spec.level_line net.now levels.now from.now number) }
+    requires there { number < length shown.now.levels.now }
+    ensures { Prints result (W.state out.old) (W.state out.new)
+        (spec.level_line net.now (shown_view shown.now) number) }
 {
-    match levels[number] {
-        Some(level) => push_level_of(alloc, net, number, level, from_at(from, number), out),
+    match shown.levels[number] {
+        Some(level) => {
+            let behind = from_text(alloc, net, shown.by_nets, from_at(shown.from, number))?;
+            push_level_of(alloc, net, number, level, &behind, out)
+        }
         None => Ok(()),
     }
 }
@@ -85,30 +98,45 @@ fn push_level_of<W: Sink>(
     net: &Net,
     number: usize,
     level: u32,
-    from: Option<usize>,
+    behind: &[u8],
     out: &mut W,
 ) -> Result<(), NoMemory>
-    ensures { Prints result (W.state out.old) (W.state out.new) (spec.level_of net.now number level from) }
+    ensures { Prints result (W.state out.old) (W.state out.new) (spec.level_of net.now number level behind.now) }
 {
     let name = process_name(alloc, net, number)?;
-    let behind = from_text(alloc, net, from)?;
     push_text(out, b"level ");
     push_number(out, level as u64);
     push_text(out, b" ");
     push_text(out, &name);
-    push_text(out, &behind);
+    push_text(out, behind);
     push_text(out, b"\n");
     Ok(())
 }
 
-/// `from` and the name of a process, or nothing.
-fn from_text(alloc: Global, net: &Net, from: Option<usize>) -> Result<Vec<u8>, NoMemory>
-    ensures { IfOk result (λ text. text.items ≡ spec.from_text net.now from) }
+/// `from` and the name of a net or of a process, or nothing.
+fn from_text(
+    alloc: Global,
+    net: &Net,
+    by_nets: bool,
+    from: Option<usize>,
+) -> Result<Vec<u8>, NoMemory>
+    ensures { IfOk result (λ text. text.items ≡ spec.from_text net.now by_nets from) }
 {
     let mut text = Vec::new(alloc);
-    if let Some(process) = from {
+    if let Some(number) = from {
         text.extend_from_slice(b" from ")?;
-        text.extend_from_slice(&process_name(alloc, net, process)?)?;
+        text.extend_from_slice(&origin_name(alloc, net, by_nets, number)?)?;
     }
     Ok(text)
+}
+
+/// The name of a net or of a process.
+fn origin_name(alloc: Global, net: &Net, by_nets: bool, number: usize) -> Result<Vec<u8>, NoMemory>
+    ensures { IfOk result (λ name. name.items ≡ spec.origin_name net.now by_nets number) }
+{
+    if by_nets {
+        net_name(alloc, net, number)
+    } else {
+        process_name(alloc, net, number)
+    }
 }

@@ -1,4 +1,4 @@
-//! What is printed of a netlist and of the checker's verdict on it, in lines.
+//! What is printed of a netlist and of the checker's judgement of it, in lines.
 //!
 //! `specs/NetText.antt` and `specs/CheckText.antt` define the lines, `specs/DotText.antt` the graph
 //! of an accepted netlist's levels, and `specs/Printing.antt` says what goes out of them where
@@ -17,10 +17,11 @@ mod texts;
 mod variables;
 
 pub use checking::show_check;
+pub use graph::driver_of;
 pub use levels::greatest_level;
 pub use names::{net_name, process_name, source_name};
 pub use nets::show_net;
 pub use rejection::show_faults;
-pub use report::{circle_of, place_of, report_of};
+pub use report::{Circle, circle_of, place_of, report_of, words_for};
 pub use texts::{push_decimal, push_title};
 pub use variables::element_of;

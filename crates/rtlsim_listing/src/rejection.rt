@@ -1,12 +1,12 @@
 //! The checker's no, with a line for each fault.
 
-ghost use Rattle.std.specs.Prelude.{◌≡◌, ◌++◌, [], flat_map, IfOk, OnOk};
-ghost use Rattle.fault_rules.specs.declared.report.Subject.{Subject};
+ghost use Rattle.std.specs.Prelude.{◌≡◌, ◌++◌, flat_map, IfOk, OnOk};
 ghost use Rattle.rtlsim_listing.specs.CheckText as spec;
 ghost use Rattle.rtlsim_listing.specs.Printing.{Prints};
+ghost use Rattle.rtlsim_listing.specs.Reports.{circle_view};
 
 use crate::names::{net_name, process_name, source_name};
-use crate::report::{circle_of, report_of};
+use crate::report::{Circle, circle_of, report_of};
 use crate::texts::push_title;
 use crate::variables::element_of;
 use byte_streams::{Sink, push_text};
@@ -57,15 +57,16 @@ fn line_of(alloc: Global, net: &Net, fault: &CheckFault) -> Result<Vec<u8>, NoMe
     Ok(line)
 }
 
-/// Appends what a fault is told of, with the processes of its circle.
+/// Appends what a fault is told of, with its circle.
 fn push_subject(
     alloc: Global,
     net: &Net,
-    circle: &[usize],
+    circle: Circle<'_>,
     subject: Subject,
     line: &mut Vec<u8>,
 ) -> Result<(), NoMemory>
-    ensures { OnOk result (line.new.items ≡ line.old.items ++ spec.subject_text net.now circle.now subject) }
+    ensures { OnOk result (line.new.items
+        ≡ line.old.items ++ spec.subject_text net.now (circle_view circle.entry) subject) }
 {
     match subject {
         Subject::Sources {
@@ -89,7 +90,7 @@ fn push_subject(
             push_at(alloc, net, process, b" variable ", &name, line)
         }
         Subject::Process { process } => push_member(alloc, net, process, line),
-        Subject::Circle => push_members(alloc, net, circle, line),
+        Subject::Circle => push_circle(alloc, net, circle, line),
         _ => Ok(()),
     }
 }
@@ -104,7 +105,7 @@ fn push_sources(
     line: &mut Vec<u8>,
 ) -> Result<(), NoMemory>
     ensures { OnOk result (line.new.items
-        ≡ line.old.items ++ spec.subject_text net.now [] (Subject.Sources number first second)) }
+        ≡ line.old.items ++ spec.sources_text net.now number first second) }
 {
     line.extend_from_slice(b" net ")?;
     line.extend_from_slice(&net_name(alloc, net, number)?)?;
@@ -130,6 +131,35 @@ fn push_at(
     push_member(alloc, net, process, line)?;
     line.extend_from_slice(word)?;
     Ok(line.extend_from_slice(name)?)
+}
+
+/// Appends the processes or the nets of a circle.
+fn push_circle(
+    alloc: Global,
+    net: &Net,
+    circle: Circle<'_>,
+    line: &mut Vec<u8>,
+) -> Result<(), NoMemory>
+    ensures { OnOk result (line.new.items ≡ line.old.items ++ spec.circle_text net.now (circle_view circle.entry)) }
+{
+    match circle {
+        Circle::Processes(processes) => push_members(alloc, net, processes, line),
+        Circle::Nets(nets) => {
+            line.extend_from_slice(b" nets")?;
+            push_links(alloc, net, nets, line)
+        }
+    }
+}
+
+/// Appends the names of a loop's nets, each behind a space.
+fn push_links(alloc: Global, net: &Net, nets: &[usize], line: &mut Vec<u8>) -> Result<(), NoMemory>
+    ensures { OnOk result (line.new.items ≡ line.old.items ++ flat_map (spec.link_text net.now) nets.now) }
+{
+    for number in nets {
+        line.extend_from_slice(b" ")?;
+        line.extend_from_slice(&net_name(alloc, net, *number)?)?;
+    }
+    Ok(())
 }
 
 /// Appends the names of a loop's processes, each behind a space.

@@ -1,13 +1,37 @@
-//! What the checker's faults tell.
+//! What the checker's faults tell, and what is said of them.
 
 ghost use Rattle.std.specs.Prelude.{◌≡◌};
 ghost use Rattle.rtl_check.specs.Views.{fault_view};
 ghost use Rattle.rtl_net.specs.Nets.{source_view};
+ghost use Rattle.fault_rules.specs.Rules.{AreWords};
 ghost use Rattle.rtlsim_listing.specs.Reports as spec;
+ghost use Rattle.rtlsim_listing.specs.Reports.{circle_view};
 
-use fault_rules::{CheckRule, Place, Report, Rule, Subject};
+use fault_rules::{CheckRule, Place, Report, Rule, Subject, Words};
 use rtl_check::CheckFault;
 use rtl_net::Source;
+
+/// What is said of a loop of nets, in place of what its rule says.
+static NET_LOOP: Words<&str> = Words {
+    layer: "fault",
+    number: 8,
+    name: "Loop",
+    opening: "each net looks at the next, and the last at the first: ",
+    middle: "",
+    closing: "",
+    help: "see where each of these nets is assigned whether the right signal is read, as state for next_state; a value \
+        that adds up in steps does so in a variable, as v := v + a(i), which is assigned at the end; a value that is \
+        to be kept is assigned under rising_edge(clk)",
+};
+
+/// The circle that a fault is told of.
+#[derive(Clone, Copy)]
+pub enum Circle<'a> {
+    /// Of processes, each of which is sensitive to what the next drives.
+    Processes(&'a [usize]),
+    /// Of nets, each of which looks at the next.
+    Nets(&'a [usize]),
+}
 
 /// What a fault tells.
 pub fn report_of(fault: &CheckFault) -> Report
@@ -37,6 +61,7 @@ pub fn report_of(fault: &CheckFault) -> Report
         ),
         CheckFault::Latch { process, net } => at_net(CheckRule::Latch, *process, *net),
         CheckFault::Loop { processes } => of_circle(processes),
+        CheckFault::NetLoop { .. } => told(CheckRule::Loop, None, Subject::Circle),
         CheckFault::StoredVariable {
             process,
             variable,
@@ -45,13 +70,24 @@ pub fn report_of(fault: &CheckFault) -> Report
     }
 }
 
-/// The processes of the circle that a fault is told of.
-pub fn circle_of(fault: &CheckFault) -> &[usize]
-    ensures { result.now ≡ spec.circle_of (fault_view fault.now) }
+/// What is said of a fault.
+pub fn words_for(fault: &CheckFault) -> &'static Words<&'static str>
+    ensures { AreWords (spec.words_for (fault_view fault.now)) result.now }
 {
     match fault {
-        CheckFault::Loop { processes } => processes,
-        _ => &[],
+        CheckFault::NetLoop { .. } => &NET_LOOP,
+        _ => report_of(fault).rule.words(),
+    }
+}
+
+/// The circle that a fault is told of; another fault is told of none.
+pub fn circle_of(fault: &CheckFault) -> Circle<'_>
+    ensures { circle_view result ≡ spec.circle_of (fault_view fault.now) }
+{
+    match fault {
+        CheckFault::Loop { processes } => Circle::Processes(processes),
+        CheckFault::NetLoop { nets } => Circle::Nets(nets),
+        _ => Circle::Processes(&[]),
     }
 }
 

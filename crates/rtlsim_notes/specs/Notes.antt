@@ -1,18 +1,19 @@
 -- The notes of a finding: its own first, and then those of its rule, of each byte the first.
-use Rattle.std.specs.Prelude.{ℕ, ◌==◌, Bool, false, if◌then◌else◌, List, [], ◌∷◌, ◌++◌, slice_get, take, Option, Some, None, flat_map}
-use Rattle.rtl_model.specs.simulation.Accepted.{Fault, TwoDrivers, EdgeNotSensitive, MissingSensitivity, Loop}
+use Rattle.std.specs.Prelude.{ℕ, ◌-◌, ◌==◌, Bool, false, if◌then◌else◌, List, [], ◌∷◌, ◌++◌, slice_get, take, Option, Some, None, flat_map}
+use Rattle.rtl_model.specs.simulation.Accepted.{Fault, TwoDrivers, EdgeNotSensitive, MissingSensitivity, Loop, NetLoop}
 use Rattle.rtl_net.specs.Nets.{NetlistView, label_at}
 use Rattle.rtlsim_findings.specs.Causes.{at_process}
-use Rattle.rtlsim_findings.specs.Circles.{first_or}
+use Rattle.rtlsim_circles.specs.Circles.{first_or}
 use Rattle.rtlsim_findings.specs.Findings.{FindingView}
 use Rattle.rtlsim_findings.specs.Once.{each_new}
 use Rattle.rtlsim_findings.specs.Sayings.{note_at, note_text}
 use Rattle.rtlsim_findings.specs.declared.cause.Obstacle.{Obstacle}
 use Rattle.fault_rules.specs.declared.report.Subject.{Subject}
 use Rattle.fault_rules.specs.declared.report.Subject.TheVariants.{Sources}
+use Rattle.rtlsim_listing.specs.DotText.{driver_in}
 use Rattle.rtlsim_listing.specs.Reports.{report_of}
 use Rattle.rtlsim_notes.specs.Loops.{loop_of}
-use Rattle.rtlsim_notes.specs.Sayings.{connection_text, inside_text, lack_text, loop_text, read_text, step_text}
+use Rattle.rtlsim_notes.specs.Sayings.{connection_text, inside_text, lack_text, look_text, loop_text, read_text, step_text}
 use Rattle.rtlsim_notes.specs.Scopes.{child_of, instance_of, names_in, scope_of, scope_of_net}
 use Rattle.rtlsim_notes.specs.declared.noted.Note.{Note}
 use Rattle.vhdl_lexer.specs.declared.token.Token.{Token}
@@ -129,11 +130,14 @@ abbrev pub names_for : NetlistView → (n : ℕ) → (scope : Option ℕ) → Li
 names_for net n None = []
 names_for net n (Some scope) = names_in net scope n
 
+-- where a process reads a net first
+abbrev pub read_in : Read → NetlistView → (process n : ℕ) → Option Token
+read_in source net process n =
+    first_use uses.Read source.text (names_for net n (scope_at net (Some process)))
+    (body (tokens_of source net process))
+
 abbrev pub read_notes : Read → NetlistView → (process n : ℕ) → List NoteView
-read_notes source net process n =
-    read_note source.text
-    (first_use uses.Read source.text (names_for net n (scope_at net (Some process)))
-    (body (tokens_of source net process)))
+read_notes source net process n = read_note source.text (read_in source net process n)
 
 -- ---- the processes of a circle behind the first
 
@@ -150,6 +154,29 @@ steps_from net first before (this ∷ rest) =
 abbrev pub step_notes : NetlistView → List ℕ → List NoteView
 step_notes net [] = []
 step_notes net (first ∷ rest) = steps_from net first first rest
+
+-- ---- the nets of a circle, each where the process that drives it reads the next: so many of them
+
+abbrev pub look_note : NetlistView → (n next : ℕ) → Option Token → List NoteView
+look_note net n next None = []
+look_note net n next (Some t) = note t.start (look_text net n next) ∷ []
+
+abbrev pub looks_by : Read → NetlistView → (n next : ℕ) → (process : Option ℕ) → List NoteView
+looks_by source net n next None = []
+looks_by source net n next (Some process) = look_note net n next (read_in source net process next)
+
+abbrev pub looks_at : Read → NetlistView → (n next : ℕ) → List NoteView
+looks_at source net n next = looks_by source net n next (driver_in net n)
+
+abbrev pub looks_from : Read → NetlistView → (first room : ℕ) → List ℕ → List NoteView
+looks_from source net first room [] = []
+looks_from source net first room (n ∷ nets) =
+    if room == 0 then []
+    else looks_at source net n (first_or first nets) ++ looks_from source net first (room - 1) nets
+
+abbrev pub look_notes : Read → NetlistView → List ℕ → List NoteView
+look_notes source net [] = []
+look_notes source net (n ∷ nets) = looks_from source net n 20 (n ∷ nets)
 
 -- ---- the association by which an instance drives a net of another scope
 
@@ -190,6 +217,7 @@ rule_notes source net (EdgeNotSensitive process n) = list_notes source net proce
 rule_notes source net (MissingSensitivity process n) = list_notes source net process ++ read_notes source net process n
 rule_notes source net (Loop processes) =
     step_notes net processes ++ flat_map (list_notes source net) (take 20 processes)
+rule_notes source net (NetLoop nets) = look_notes source net nets
 rule_notes source net _ = []
 
 abbrev pub further_notes : Read → NetlistView → FindingView → List NoteView

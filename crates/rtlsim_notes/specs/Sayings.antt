@@ -1,8 +1,8 @@
 -- What notes say.
 use Rattle.std.specs.Prelude.{ℕ, List, ◌++◌, codes, slice_get}
-use Rattle.rtl_net.specs.Names.{process_name}
+use Rattle.rtl_net.specs.Names.{net_name, process_name}
 use Rattle.rtl_net.specs.Nets.{NetlistView}
-use Rattle.rtlsim_findings.specs.Circles.{link_net, name_of_net}
+use Rattle.rtlsim_circles.specs.Circles.{link_net, name_of_net}
 use Rattle.vhdl_places.specs.declared.lists.Lack.{Lack}
 use Rattle.vhdl_places.specs.declared.lists.Lack.TheVariants.{Nothing, Reading, EdgeIf, EdgeBranch}
 
@@ -41,6 +41,10 @@ abbrev pub step_text : NetlistView → (before this next : ℕ) → List ℕ
 step_text net before this next =
     process_name net this ++ codes " drives " ++ link_name net before this
     ++ codes ", and is sensitive to " ++ link_name net this next
+
+-- of a net of a circle, where its process reads the next
+abbrev pub look_text : NetlistView → (n next : ℕ) → List ℕ
+look_text net n next = net_name net n ++ codes " looks at " ++ net_name net next ++ codes " here"
 
 -- of an instance that connects a net
 abbrev pub connection_text : (label port : List ℕ) → List ℕ

@@ -1,14 +1,19 @@
-//! Notes at the processes of a circle.
+//! Notes at the processes of a circle, and where its nets are read.
 
 ghost use Rattle.std.specs.Prelude.{◌≡◌, ◌++◌, map, OnOk};
 ghost use Rattle.rtlsim_notes.specs.Notes as spec;
 ghost use Rattle.rtlsim_notes.specs.Notes.{note_view};
+ghost use Rattle.vhdl_slips.specs.Words.{read_of};
 
+use crate::lists::read_in;
 use crate::noted::{Note, push_note};
-use crate::sayings::step_text;
+use crate::sayings::{look_text, step_text};
 use rtl_net::{Net, NoMemory};
-use rtlsim_findings::{at_process, first_or};
+use rtlsim_circles::first_or;
+use rtlsim_findings::at_process;
+use rtlsim_listing::driver_of;
 use std::alloc::Global;
+use vhdl_slips::Lexed;
 
 /// Appends the notes at the processes of a circle behind the first.
 pub(crate) fn push_steps(
@@ -57,4 +62,74 @@ fn push_at(at: Option<usize>, text: Vec<u8>, notes: &mut Vec<Note>) -> Result<()
         Some(at) => push_note(at, text, notes),
         None => Ok(()),
     }
+}
+
+/// So many nets of a circle are told.
+const MOST: usize = 20;
+
+/// Appends the notes where the processes that drive a circle's nets read the next ones.
+pub(crate) fn push_looks(
+    alloc: Global,
+    source: Lexed<'_>,
+    net: &Net,
+    nets: &[usize],
+    notes: &mut Vec<Note>,
+) -> Result<(), NoMemory>
+    ensures { OnOk result (map note_view notes.new.items
+        ≡ map note_view notes.old.items ++ spec.look_notes (read_of source.entry) net.now nets.now) }
+{
+    match nets {
+        [first, ..] => push_looks_from(alloc, source, net, *first, nets, notes),
+        [] => Ok(()),
+    }
+}
+
+/// Appends the notes of these nets, the last of which looks at the first.
+fn push_looks_from(
+    alloc: Global,
+    source: Lexed<'_>,
+    net: &Net,
+    first: usize,
+    nets: &[usize],
+    notes: &mut Vec<Note>,
+) -> Result<(), NoMemory>
+    ensures { OnOk result (map note_view notes.new.items
+        ≡ map note_view notes.old.items ++ spec.looks_from (read_of source.entry) net.now first 20 nets.now) }
+{
+    let mut room = MOST;
+    let mut left = nets;
+    while let [number, rest @ ..] = left {
+        if room == 0 {
+            return Ok(());
+        }
+        push_look(alloc, source, net, *number, first_or(first, rest), notes)?;
+        room -= 1;
+        left = rest;
+    }
+    Ok(())
+}
+
+/// Appends the note where the process that drives a net reads the next.
+fn push_look(
+    alloc: Global,
+    source: Lexed<'_>,
+    net: &Net,
+    number: usize,
+    next: usize,
+    notes: &mut Vec<Note>,
+) -> Result<(), NoMemory>
+    ensures { OnOk result (map note_view notes.new.items
+        ≡ map note_view notes.old.items ++ spec.looks_at (read_of source.entry) net.now number next) }
+{
+    let Some(process) = driver_of(net, number) else {
+        return Ok(());
+    };
+    let Some(token) = read_in(alloc, source, net, process, next)? else {
+        return Ok(());
+    };
+    push_note(
+        token.start as usize,
+        look_text(alloc, net, number, next)?,
+        notes,
+    )
 }

@@ -96,6 +96,24 @@ fn names_for<'a>(
     }
 }
 
+/// Where a process reads a net first.
+pub(crate) fn read_in(
+    alloc: Global,
+    source: Lexed<'_>,
+    net: &Net,
+    process: usize,
+    number: usize,
+) -> Result<Option<Token>, NoMemory>
+    ensures { IfOk result (λ token. token ≡ spec.read_in (read_of source.entry) net.now process number) }
+{
+    let names = names_for(alloc, net, process, number)?;
+    let words = Lexed {
+        text: source.text,
+        tokens: body(tokens_of(source, net, process)),
+    };
+    Ok(first_use(Use::Read, &names, words))
+}
+
 /// Appends the note where a process reads a net that isn't in its list.
 pub(crate) fn push_read(
     alloc: Global,
@@ -108,12 +126,7 @@ pub(crate) fn push_read(
     ensures { OnOk result (map note_view notes.new.items
         ≡ map note_view notes.old.items ++ spec.read_notes (read_of source.entry) net.now process number) }
 {
-    let names = names_for(alloc, net, process, number)?;
-    let words = Lexed {
-        text: source.text,
-        tokens: body(tokens_of(source, net, process)),
-    };
-    let Some(token) = first_use(Use::Read, &names, words) else {
+    let Some(token) = read_in(alloc, source, net, process, number)? else {
         return Ok(());
     };
     let text = read_text(alloc, text_of(source.text, token))?;

@@ -4,8 +4,8 @@ ghost use Rattle.std.specs.Prelude.{◌≡◌, ◌++◌, IfOk, codes};
 ghost use Rattle.rtlsim_notes.specs.Sayings as spec;
 
 use rtl_net::{Net, NoMemory};
-use rtlsim_findings::{link_net, name_of_net};
-use rtlsim_listing::process_name;
+use rtlsim_circles::{link_net, name_of_net};
+use rtlsim_listing::{net_name, process_name};
 use std::alloc::Global;
 use vhdl_places::Lack;
 
@@ -106,6 +106,22 @@ pub(crate) fn step_text(
     text.extend_from_slice(&link_name(alloc, net, before, this)?)?;
     text.extend_from_slice(b", and is sensitive to ")?;
     text.extend_from_slice(&link_name(alloc, net, this, next)?)?;
+    Ok(text)
+}
+
+/// What is said of a net of a circle, where its process reads the next.
+pub(crate) fn look_text(
+    alloc: Global,
+    net: &Net,
+    number: usize,
+    next: usize,
+) -> Result<Vec<u8>, NoMemory>
+    ensures { IfOk result (λ text. text.items ≡ spec.look_text net.now number next) }
+{
+    let mut text = net_name(alloc, net, number)?;
+    text.extend_from_slice(b" looks at ")?;
+    text.extend_from_slice(&net_name(alloc, net, next)?)?;
+    text.extend_from_slice(b" here")?;
     Ok(text)
 }
 

@@ -11,7 +11,7 @@ pub returns-in-Ok : goal.returns-in-Ok
 returns-in-Ok g c =
     let telling = c.args.telling.now in
     let asked = asked_view c.args.asked in
-    serves_so (Describes (files_of telling) asked) _ _ telling _ _ _ (c.serve_net.ensures asked c.in-Ok.ensures.net)
+    serves_so (Describes (files_of telling) asked) _ _ telling _ _ _ c.serve_net.ensures
 
 pub returns-in-Err : goal.returns-in-Err
 returns-in-Err g c =

@@ -1,11 +1,10 @@
 use Rattle.std.proofs.Common.{refl}
 use Rattle.rtlsim_commands.specs.Opened.{Writeless}
 use Rattle.rtlsim_commands.proofs.Told.{serves_refused, serves_so}
-use Rattle.vhdl_front_rules.specs.Asking.{asked_view}
 use Rattle.rtlsim_commands.proofs.serving.serve.Goals as goal
 
 pub returns-in-Ok : goal.returns-in-Ok
-returns-in-Ok g c = serves_so Writeless _ _ c.args.telling.now _ _ _ (c.serve_net.ensures (asked_view c.args.asked) c.in-Ok.ensures.net)
+returns-in-Ok g c = serves_so Writeless _ _ c.args.telling.now _ _ _ c.serve_net.ensures
 
 pub returns-in-Err : goal.returns-in-Err
 returns-in-Err g c =

@@ -7,4 +7,4 @@ pub returns : goal.returns
 returns c =
     let process = c.deref.ensures.value ∙ c.in_ok-process.ensures in
     subst (λ t. IfOk c.sentence.result (λ text. text.items ≡ t))
-    (same_sentence c.remark_report.result _ _ _ _ _ c.remark_report.ensures process c.deref-2.ensures.value) c.sentence.ensures
+    (same_sentence _ _ _ _ _ _ (rw c.remark_report.ensures at c.words.ensures) process c.deref-2.ensures.value) c.sentence.ensures

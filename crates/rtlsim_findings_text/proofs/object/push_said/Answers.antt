@@ -1,7 +1,5 @@
 use Rattle.std.proofs.Common.{◌++◌, codes, ap, ◌∙◌}
 use Rattle.std.proofs.lemmas.Result.{IfOk-equal}
-use Rattle.fault_rules.specs.Rules.{words_of}
-use Rattle.fault_rules.specs.declared.report.Report.{Report}
 use Rattle.rtlsim_findings_text.specs.Json.{said_text}
 use Rattle.rtlsim_findings_text.specs.Values.{string_text}
 use Rattle.rtlsim_findings_text.proofs.Texts.{part, two}
@@ -11,6 +9,6 @@ pub returns : goal.returns
 unfolding said_text
 returns c =
     let message = part _ _ _ _ c.in_ok-push_member.ensures (ap (λ t. codes ",\"message\":" ++ string_text t) (c.deref.ensures.value ∙ c.in_ok-message.ensures)) in
-    let help = c.as_bytes.ensures.value ∙ c.words-words.ensures.help ∙ ap (λ (r : Report). (words_of r.rule).help.now) c.report_of.ensures in
+    let help = c.as_bytes.ensures.value ∙ c.words_for-words.ensures.help in
     IfOk-equal c.push_member-2.result _ _ _ c.push_member-2.ensures
     (ap (λ t. c.push_member.new.text.items ++ (codes ",\"help\":" ++ string_text t)) help ∙ two _ _ _ (codes ",\"help\":") _ message)

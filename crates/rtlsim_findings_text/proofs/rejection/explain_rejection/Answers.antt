@@ -36,4 +36,4 @@ returns g c =
     let net = c.args.net.now in
     let source = read_of c.args.source in
     let told = told_of (λ fs. paragraphs fs source net) finding_view (map file_view c.args.files.now) _ _ _ _ (findings net c.args.faults.now) c.as_slice-files.ensures.value c.in_ok-marked.ensures.are c.deref.ensures.value c.in_ok-found.ensures in
-    Goes-append _ _ _ _ _ (subst (Goes _ _) told c.in_ok-push_found.ensures) c.push_ending.ensures
+    Goes-append _ _ _ _ _ (subst (Goes _ _) told c.in_ok-push_found.ensures) (subst (Goes _ _) c.ending.ensures c.push_text.ensures)

@@ -1,0 +1,12 @@
+//! Circles of processes and of nets, and the path from a process down to level 1, as texts.
+//!
+//! `specs/Circles.antt` says how circles are told, and `specs/Paths.antt` how a path is.
+#![tactic(auto)]
+
+mod nets;
+mod path;
+mod processes;
+
+pub use nets::{circle_text, nets_round};
+pub use path::path_text;
+pub use processes::{first_or, link_net, name_of_net};
