@@ -37,7 +37,7 @@ use std::io;
 use tries::Tries;
 
 /// The tables of calls, in the folder in which the program runs.
-const TABLES: [&str; 27] = [
+const TABLES: [&str; 29] = [
     "values.txt",
     "refused.txt",
     "inputs.txt",
@@ -46,6 +46,8 @@ const TABLES: [&str; 27] = [
     "generics.txt",
     "trace.txt",
     "wide.txt",
+    "by_nets.txt",
+    "inner_resets.txt",
     "explain.txt",
     "remarks.txt",
     "net.txt",

@@ -15,7 +15,7 @@ impl Teller for Tries {
         let (source, _) = frame.source_of(alloc, "");
         found.heed(&source);
         match open(alloc, Asked::plain(source.as_bytes(), b"t")) {
-            Ok(net) => push_try(alloc, &net, written, found),
+            Ok(net) => push_try(alloc, net, written, found),
             Err(fault) => found.push_shown(&fault),
         }
     }
