@@ -7,6 +7,8 @@
     design_cases.py check FILE PROGRAM [ARG..]  yes on each design without a fault, else no with its fault; no on each faulty twin
     design_cases.py make_wide N SEED FILE     as make, without faults, and with registers as --wide reads them: conditions beside an edge,
                                               also behind a reset, several ifs of one edge, waits; then `run FILE PROGRAM --wide` and so on
+    design_cases.py make_nets N SEED FILE     as make_wide, with loops of processes in which no net depends on itself
+    design_cases.py make_resets N SEED FILE   as make_wide, with resets that are made inside, and resets behind the edge
     design_cases.py make_plain N SEED FILE    as make, with no weak letter in stimuli and literals, so that a 0 or 1 of GHDL's trace is one
     design_cases.py expect FILE PROGRAM       PROGRAM run --expect (also --levels, --event) of such designs with GHDL's values in a file: all
                                               hold; and with one letter turned over, that line is told
@@ -172,6 +174,10 @@ def twins(r, text):
 # the commands
 
 
+def is_wide():
+    return designs.WIDE or designs.NETS or designs.RESETS
+
+
 def make(n, seed, path):
     r, done, tried, refused = random.Random(seed), 0, 0, collections.Counter()
     with open(path, "w") as f:
@@ -180,7 +186,7 @@ def make(n, seed, path):
             while len(batch) < min(BATCH, n - done):
                 d = Design(r, f"d{done + len(batch)}")
                 tried += 1
-                unit = d.make(wild=not designs.WIDE and r.random() < 0.33)
+                unit = d.make(wild=not is_wide() and r.random() < 0.33)
                 lines, changes, toggles, stop = stimulus(r, d)
                 units = d.units + [unit]
                 text, full = "".join(t for t, _ in units), "".join(beside(u) for u in units) + testbench(d, changes, toggles)
@@ -196,7 +202,7 @@ def make(n, seed, path):
                         "stop": stop,
                         "fault": sorted(d.faults),
                         "full": full,
-                        "faulty": [] if d.faults or designs.WIDE else twins(r, text),
+                        "faulty": [] if d.faults or is_wide() else twins(r, text),
                     }
                 )
             values = simulated([(c["top"], c.pop("full"), c["stop"]) for c in batch])
@@ -320,8 +326,8 @@ def expect(path, program):
 if __name__ == "__main__":
     if sys.argv[1] == "make_plain":
         NINE, designs.LETTERS, designs.IDLE = "01", "01", "Z-"
-    designs.WIDE = sys.argv[1] == "make_wide"
-    if sys.argv[1] in ("make", "make_plain", "make_wide"):
+    designs.WIDE, designs.NETS, designs.RESETS = (sys.argv[1] == word for word in ("make_wide", "make_nets", "make_resets"))
+    if sys.argv[1].startswith("make"):
         make(int(sys.argv[2]), int(sys.argv[3]), sys.argv[4])
     elif sys.argv[1] == "run":
         sys.exit(run(sys.argv[2], sys.argv[3], sys.argv[4:]))

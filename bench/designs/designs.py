@@ -8,6 +8,8 @@ ORDER = ["=", "/=", "<", "<=", ">", ">="]
 LETTERS = "01010101LHXZ"  # of the literals
 IDLE = "ZZZZ-LHW"  # what a driver that rests gives
 WIDE = False  # whether registers are written as `--wide` reads them
+NETS = False  # whether processes are put together, so that they are loops, in which no net looks at itself
+RESETS = False  # whether resets are made inside, and stand behind the edge
 
 
 class Signal:
@@ -40,6 +42,7 @@ class Design:
         self.r, self.top, self.depth, self.count = random_, top, depth, 0
         self.known, self.shown, self.faults, self.edges, self.types = [], [], set(), set(), []
         self.decls, self.body, self.units, self.ins, self.outs = [], [], [], [], []
+        self.resets = [("rst", "01")]  # what may reset, and by which values
 
     def fresh(self, letter):
         self.count += 1
@@ -419,6 +422,76 @@ class Design:
         reset = f"{self.literal(s)} when rst = '1' else " if self.chance(0.5) else ""
         return f"{self.label()}{s.name} <= {reset}{self.value(s)} when {self.joined(edge + self.gates())};"
 
+    # what `--wide` accepts: loops of processes alone
+
+    def put_together(self):
+        """combinational processes, several as one: a net looks at what it looked at before"""
+        alone, rest = [], []
+        for text in self.body:
+            process = re.fullmatch(r"(?:p\d+: )?process \([^)]*\) (.*?)begin (.*)end process;", text)
+            m = process or re.fullmatch(r"(?:p\d+: )?()(\w+ <= (?:(?! when ).)*;)", text)
+            if m and not re.search(r"_edge|'event", text):
+                alone.append(m.groups())
+            else:
+                rest.append(text)
+        self.r.shuffle(alone)
+        while alone:
+            n = self.r.randint(1, 4)
+            decls, texts = ("".join(part) for part in zip(*((d, t.strip() + " ") for d, t in alone[:n])))
+            alone = alone[n:]
+            reads = self.reads(texts)
+            woken = "all" if self.chance(0.6) or not reads else ", ".join(reads)
+            rest.append(f"{self.label()}process ({woken}) {decls}begin {texts}end process;")
+        self.body = rest
+
+    # and resets that are made inside, none of which comes and goes within a moment
+
+    def copied(self, net, values):
+        """a copy of a net that may reset by these values, and those by which it may"""
+        s, turned = self.declare("s", 1), self.chance(0.5)
+        self.body.append(f"{self.label()}{s.name} <= {'not ' if turned else ''}{net};")
+        self.known = self.known + [s]
+        self.resets.append((s.name, values.translate({48: 49, 49: 48}) if turned else values))
+        return self.resets[-1]
+
+    def make_resets(self):
+        """what is made of inputs, registers, of which such may be the reset, and copies of both"""
+        r, known = self.r, self.known
+        for _ in range(r.randint(0, 2)):
+            self.known = [Signal("rst", "s", 1)] + ([] if self.depth else self.in_ports)
+            value, s = self.scalar(2), self.declare("s", 1)
+            self.body.append(f"{self.label()}{s.name} <= {value};")
+            self.resets.append((s.name, "01"))
+            known = known + [s]
+        self.known, made = known, self.resets[1:]
+        made = self.resets[:] + [self.copied(net, values) for net, values in made if self.chance(0.4)]
+        for _ in range(r.randint(1, 3)):
+            s, start, entry = self.declare("s", 1), r.choice("U01"), r.choice("01")
+            self.decls[-1] = f"signal {s.name} : std_logic := '{start}';"
+            clock, rising = r.choice(["clk", "clk", "ck2"]), self.chance(0.7)
+            self.edges.add((clock, rising))
+            edge, text = f"{'rising' if rising else 'falling'}_edge({clock})", f"{s.name} <= {self.scalar(2)};"
+            if self.chance(0.4):
+                entry = None
+                self.body.append(f"process ({clock}) begin if {edge} then {text} end if; end process;")
+            else:
+                body, woken = self.reset_by(made, f"{s.name} <= '{entry}';", edge, text)
+                self.body.append(f"process ({clock}, {woken}) begin {body} end process;")
+            self.resets.append((s.name, "01"))
+            self.known = self.known + [s]
+            # a copy comes to what the register starts with, and then to what it's reset to
+            copy = (s.name, "".join(v for v in "01" if start != v or entry in (None, v)))
+            while copy[1] and self.chance(0.5):
+                copy = self.copied(*copy)
+
+    def reset_by(self, nets, set_, edge, text):
+        """the statement of a register with one of these as its reset, before the edge or behind it, and that net"""
+        net, values = self.r.choice(nets)
+        test = f"{net} = '{self.r.choice(values)}'"
+        if self.chance(0.5):
+            return f"if {test} then {set_} elsif {edge} then {text} end if;", net
+        return f"if {edge} then {text} end if; if {test} then {set_} end if;", net
+
     # clocked processes, and what breaks a rule
 
     def clocked(self, mine):
@@ -435,10 +508,11 @@ class Design:
                 f"{clock} = '{rising:d}' and {clock}'event",
             ]
         )
+        gated = self.joined([edge] + self.gates()) if RESETS else edge
         decls, text, vs = self.variables()
         text += " ".join(self.statement(s, "<=", 3, False) for s in mine)
         self.known = [s for s in self.known if s not in vs]
-        if self.chance(0.5):
+        if not RESETS and self.chance(0.5):
             return "{}process ({}) {}begin if {} then {} end if; end process;".format(self.label(), clock, decls, edge, text)
         set_ = (
             " ".join(
@@ -448,6 +522,9 @@ class Design:
             )
             or "null;"
         )
+        if RESETS:
+            body, net = self.reset_by(self.resets, set_, gated, text)
+            return f"{self.label()}process ({clock}, {net}) {decls}begin {body} end process;"
         reset = r.choice(["rst = '%s'", "rst = '%s'", "'%s' = rst", "(rst = '%s')"]) % r.choice("011")
         woken = "all" if self.chance(0.2) else clock + ", rst"
         return "{}process ({}) {}begin if {} then {} elsif {} then {} end if; end process;".format(
@@ -530,7 +607,9 @@ class Design:
             self.decls.append("constant {} : {} := {};".format(k.name, k.type(), self.literal(k)))
             self.known = self.known + [k]
         self.known = self.known + registers
-        for _ in range(r.randint(1, 6 if self.depth == 0 else 3)):
+        if RESETS:
+            self.make_resets()
+        for _ in range(r.randint(1, 6 if self.depth == 0 else 3) + 3 * NETS):
             if self.depth < 2 and self.chance(0.25):
                 self.child()
             if self.chance(0.1):
@@ -544,6 +623,8 @@ class Design:
             n = r.randint(1, len(registers))
             self.body.append(self.clocked(registers[:n]))
             registers = registers[n:]
+        if NETS:
+            self.put_together()
         r.shuffle(self.body)
         return self.text()
 
