@@ -35,7 +35,8 @@ pub fn assigns_constants(statements: &[Statement]) -> bool
 
 /// Whether they do so and look at nothing, as the branch of a reset behind an edge.
 pub fn assigns_plain_constants(statements: &[Statement]) -> bool
-    ensures { result ≡ is_empty (leaves (statements_of statements.now)) && m.assigns_constants (statements_of statements.now) }
+    ensures { result ≡ is_empty (leaves (statements_of statements.now))
+        && m.assigns_constants (statements_of statements.now) }
 {
     looks_at_nothing(statements) && assigns_constants(statements)
 }

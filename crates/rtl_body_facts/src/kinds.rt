@@ -300,7 +300,8 @@ fn clocking_of(wide: bool, inputs: &[usize], body: &[Statement]) -> Option<Clock
 /// or isn't.
 pub fn kind_of(wide: bool, inputs: &[usize], body: &[Statement]) -> ProcessKind
     requires { IsStrictlyIncreasing inputs.now }
-    ensures { result ≡ kind_view (m.clocking wide inputs.now (statements_of body.now)) (events (statements_of body.now)) }
+    ensures { result ≡ kind_view (m.clocking wide inputs.now (statements_of body.now))
+        (events (statements_of body.now)) }
 {
     match clocking_of(wide, inputs, body) {
         Some(clocking) => ProcessKind::Clocked(clocking),

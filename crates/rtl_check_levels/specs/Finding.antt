@@ -21,7 +21,8 @@ waiters (v ∷ vs) zero = v.items
 waiters (v ∷ vs) (suc p) = waiters vs p
 
 -- Levels so far: those that there are, stand.
-pub record LevelsSoFar (counting : Counting) (table : Table) (levels from : List (Option ℕ)) (greatest : ℕ) : Type 0 where
+pub record LevelsSoFar (counting : Counting) (table : Table) (levels from : List (Option ℕ)) (greatest : ℕ)
+    : Type 0 where
   pub each_row : length levels ≡ length table
   pub each_from : length from ≡ length table
   pub unplaced : (q : ℕ) → level_of levels q ≡ None → slice_index_or from q None ≡ None

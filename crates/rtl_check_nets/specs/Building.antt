@@ -42,7 +42,8 @@ pub record AddsDriver (nets net : ℕ) (look : Option Look) (old new : NetTable)
   pub other_counts : (row : ℕ) → row ≢ net → counts_at new row ≡ counts_at old row
 
 -- the same of the drivers of a process from a place on, one after another; these are what its places look at
-pub data AddsDrivers (nets : ℕ) (looks : List (Option Look)) : (place : ℕ) → List Driver → (old new : NetTable) → Type 0 where
+pub data AddsDrivers (nets : ℕ) (looks : List (Option Look))
+    : (place : ℕ) → List Driver → (old new : NetTable) → Type 0 where
   none : (place : ℕ) (table : NetTable) → AddsDrivers nets looks place [] table table
   more : (place : ℕ) (driver : Driver) (drivers : List Driver) (old next new : NetTable)
       → AddsDriver nets driver.net (look_at looks place) old next → AddsDrivers nets looks (place + 1) drivers next new

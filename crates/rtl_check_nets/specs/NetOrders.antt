@@ -15,7 +15,8 @@ AreReported net l =
     (clocks : List (ℕ × Edge)) → IsByNets net → AreClocks net clocks
     → IsNetReport net l.levels.items l.from.items l.nets.items l.looks.items clocks (bound_by_nets net l.greatest)
 
--- There is no loop of nets, and they have these levels, which are few; or this is a loop of nets, listed once round from its lowest net.
+-- There is no loop of nets, and they have these levels, which are few; or this is a loop of nets, listed once round
+-- from its lowest net.
 abbrev pub IsNetOrder : Netlist → NetOrder → Type 0
 IsNetOrder net (Leveled levels) = HasNoNetLoop net × AreReported net levels × (levels.greatest + 1 < 2 ^ 32)
 IsNetOrder net (Looped nets) = IsNetLoop net nets.items × IsListedOnce nets.items

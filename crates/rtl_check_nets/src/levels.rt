@@ -59,7 +59,8 @@ fn below_of(net: &Net, kinds: &[ProcessKind], nets: &Levels, process: usize) -> 
 fn nets_of(alloc: Global, levels: &[Option<u32>], nets: usize) -> Result<Vec<u32>, NoMemory>
     requires { nets ≤ length levels.now }
     ensures many { IfOk result (λ v. length v.items ≡ nets) }
-    ensures each { IfOk result (λ v. (n : ℕ) → n < nets → slice_index v.items n ≡ unwrap_or (l.level_of levels.now n) 0) }
+    ensures each { IfOk result (λ v. (n : ℕ) → n < nets
+        → slice_index v.items n ≡ unwrap_or (l.level_of levels.now n) 0) }
 {
     let mut are = Vec::new(alloc);
     for net in 0..nets {

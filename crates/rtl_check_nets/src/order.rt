@@ -39,9 +39,9 @@ fn nets_among(alloc: Global, rows: &[usize], nets: usize) -> Result<Vec<usize>, 
     Ok(among)
 }
 
-/// The levels of the nets of a netlist and of its processes by them, or a loop of nets: of a netlist
-/// that has no fault, but perhaps a loop. It takes time and memory in proportion to sensitivities
-/// and to what bodies look at.
+/// The levels of the nets of a netlist and of its processes by them, or a loop of nets: of a
+/// netlist that has no fault, but perhaps a loop. It takes time and memory in proportion to
+/// sensitivities and to what bodies look at.
 pub fn net_order_of(alloc: Global, net: &Net, kinds: &[ProcessKind]) -> Result<NetOrder, NoMemory>
     requires kinds { AreKinds (core net.now) kinds.now }
     requires no_fault { AreFaultsButLoops (core net.now) [] }

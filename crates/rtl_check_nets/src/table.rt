@@ -158,8 +158,8 @@ impl NetTable {
         self.add_registers(alloc, nets, &registers, reset)
     }
 
-    /// The hubs, each fed by what its two looks are. A hub that nothing reads may look at a net that
-    /// isn't there: that has no row.
+    /// The hubs, each fed by what its two looks are. A hub that nothing reads may look at a net
+    /// that isn't there: that has no row.
     fn add_hubs(&mut self, alloc: Global, nets: usize, hubs: &[Hub]) -> Result<(), NoMemory>
         requires order { AreInOrder hubs.now }
         requires few { nets + length hubs.now ≤ 2 ^ 64 }

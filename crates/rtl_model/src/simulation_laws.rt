@@ -35,8 +35,8 @@ pub fn one_net_report()
     ensures { OneNetReport }
 {}
 
-/// What has no fault but perhaps a loop, and isn't judged by nets, is accepted where no processes are
-/// a loop.
+/// What has no fault but perhaps a loop, and isn't judged by nets, is accepted where no processes
+/// are a loop.
 pub fn accepted_by_processes()
     ensures { AcceptedByProcesses }
 {}

@@ -1,5 +1,5 @@
--- The sets of values that are asked for: of a reset's net the one value that its test has, '0' or '1', and of a net that
--- it copies those whose copy is asked for.
+-- The sets of values that are asked for: of a reset's net the one value that its test has, '0' or '1', and of a net
+-- that it copies those whose copy is asked for.
 use Rattle.std.specs.Prelude.{ℕ, Bool, true, false, ◌||◌, ◌==◌, if◌then◌else◌}
 use Rattle.rtl_process_kinds.specs.declared.asked.Asked.{Asked}
 use Rattle.rtl_process_kinds.specs.declared.asked.Asked.TheVariants as a

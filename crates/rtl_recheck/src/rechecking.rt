@@ -40,8 +40,8 @@ pub fn recheck(net: &Net, report: &Report) -> bool
     all_keep(net, &report.clocks)
 }
 
-/// Whether a netlist is accepted and judged by nets, and this is the report on it. The checker judges
-/// it once more, since there is no other such report: it takes its time and its memory.
+/// Whether a netlist is accepted and judged by nets, and this is the report on it. The checker
+/// judges it once more, since there is no other such report: it takes its time and its memory.
 pub fn recheck_by_nets(alloc: Global, net: &Net, report: &NetReport) -> Result<bool, NoMemory>
     ensures { IfOk result (λ b. IsTrue b ↔ (IsAccepted (core net.now) × IsNetReportOf (core net.now) report.now)) }
 {

@@ -82,7 +82,8 @@ EachStateIsInRange =
 abbrev pub WideAcceptsAll : Type 0
 WideAcceptsAll =
     (net : FlatNetlist) → IsInRange net → IsConnected net → net.wide ≡ false → IsAccepted (core_netlist net)
-    → IsAccepted (core_netlist (record net { wide = true })) × (IsByNets (core_netlist (record net { wide = true })) → ⊥)
+    → IsAccepted (core_netlist (record net { wide = true }))
+    × (IsByNets (core_netlist (record net { wide = true })) → ⊥)
 
 -- ---- of those that are accepted besides
 

@@ -45,9 +45,9 @@ has_late_reset net =
     list_any
     (λ p. is_some (kind_reset p.kind) && list_any (λ n. list_any is_driver (sources_of net n)) p.wakes) net.processes
 
--- The bound on a moment's delta cycles, where resets are inputs: the greatest level; one more where a process is clocked,
--- since registers change in the first delta cycle; and one more where a process with a reset may be resumed in a delta
--- cycle, since while its reset holds each run makes its drivers active.
+-- The bound on a moment's delta cycles, where resets are inputs: the greatest level; one more where a process is
+-- clocked, since registers change in the first delta cycle; and one more where a process with a reset may be resumed in
+-- a delta cycle, since while its reset holds each run makes its drivers active.
 abbrev pub bound : Netlist → (greatest : ℕ) → ℕ
 bound net greatest = greatest + (if has_clocked net then 1 else 0) + (if has_late_reset net then 1 else 0)
 

@@ -1,5 +1,5 @@
--- Levels by nets: of a net, the length of the longest chain of nets, each looking at the one before, that ends with it; of
--- a process, one more than that of the nets it is sensitive to. And the report on a netlist that is judged by nets.
+-- Levels by nets: of a net, the length of the longest chain of nets, each looking at the one before, that ends with it;
+-- of a process, one more than that of the nets it is sensitive to. And the report on a netlist that is judged by nets.
 use Rattle.std.specs.Prelude.{◌≡◌, ◌≢◌, ℕ, suc, zero, pred, ◌+◌, ◌<◌, ◌≤◌, ◌⊎◌, List, length, slice_index, slice_index_or, Option, Some, None, Contains, if◌then◌else◌}
 use Rattle.rtl_model.specs.basics.Chains.{IsLongest}
 use Rattle.rtl_model.specs.simulation.Netlist.{Netlist, Edge, Reset, process, target, HasPlace, HasReset, IsDriven, IsCombinational}
