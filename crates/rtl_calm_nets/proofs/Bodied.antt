@@ -1,5 +1,5 @@
 -- What is looked up in bodies is what they copy, and what their resets' tests ask for.
-use Rattle.std.proofs.Common.{◌≡◌, ℕ, ◌+◌, ◌-◌, ◌<◌, ◌≤◌, Bool, true, false, ◌==◌, List, [], ◌∷◌, ◌++◌, append-nil, append_assoc, Option, Some, None, refl, sym, ap, subst, ◌∙◌, arith, ◌⊎◌, inl, inr, Contains}
+use Rattle.std.proofs.Common.{◌≡◌, ℕ, Bool, true, false, ◌==◌, List, [], ◌∷◌, ◌++◌, append-nil, append_assoc, Option, Some, None, refl, sym, ap, subst, ◌∙◌, arith, inl, inr, Contains}
 use Rattle.vhdl_values.specs.declared.scalar.Nine.{Nine}
 use Rattle.vhdl_values.specs.declared.scalar.Nine.TheVariants.{Zero, One}
 use Rattle.vhdl_values.specs.declared.kinds.Edge.{Edge}
@@ -15,7 +15,6 @@ use Rattle.rtl_model.proofs.bodies.Clocking.{clocked_is}
 use Rattle.rtl_model.specs.nets.FlatNetlist.{FlatProcess, FlatVariable, element_starts}
 use Rattle.rtl_model.specs.nets.CoreNetlist.{core_kind, core_reset}
 use Rattle.rtl_model.specs.simulation.Netlist.{Reset, kind_reset}
-use Rattle.rtl_net.specs.declared.body.Test.{Test}
 use Rattle.rtl_process_kinds.specs.declared.asked.Asked.{Asked}
 use Rattle.rtl_process_kinds.specs.declared.asked.Asked.TheVariants as a
 use Rattle.rtl_process_kinds.specs.AskedValues.{is_asked}

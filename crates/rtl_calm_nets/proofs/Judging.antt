@@ -1,5 +1,5 @@
 -- Marks of clocks, the one source of a net, the places of all steps, and unsteady resets.
-use Rattle.std.proofs.Common.{◌≡◌, ◌≢◌, ◌↔◌, ℕ, zero, suc, ◌+◌, ◌*◌, ◌/◌, ◌%◌, ◌<◌, ◌≤◌, ◌==◌, Bool, true, false, not, ◌&&◌, List, [], ◌∷◌, ◌++◌, length, get_or, set, take, drop, map, replicate, Vec, Global, Some, None, IsTrue, refl, sym, ap, subst, ◌∙◌, arith, ◌⊎◌, inl, inr, Contains}
+use Rattle.std.proofs.Common.{◌≡◌, ◌≢◌, ◌↔◌, ℕ, zero, suc, ◌+◌, ◌*◌, ◌/◌, ◌%◌, ◌<◌, ◌≤◌, ◌==◌, Bool, true, false, not, List, [], ◌∷◌, ◌++◌, length, get_or, set, take, drop, map, replicate, Vec, Global, Some, None, IsTrue, refl, sym, ap, subst, ◌∙◌, arith, ◌⊎◌, inl, inr, Contains}
 use Rattle.std.proofs.lemmas.Bool.{cases_eq, cases_lt}
 use Rattle.std.proofs.lemmas.List.{length-map, get_or_past, get_or-set_same, get_or-set_other}
 use Rattle.std.proofs.Math.ListN.{length-set}
@@ -7,7 +7,7 @@ use Rattle.rtl_model.specs.simulation.Netlist as m
 use Rattle.rtl_model.specs.simulation.Netlist.{Netlist, Source, Driver, Idle, Reset, HasPlace, HasReset, IsClock, IsDriven, IsClockOf, process, sources_of, reset_of}
 use Rattle.rtl_model.specs.simulation.Elaborated.{IsWired}
 use Rattle.rtl_model.specs.simulation.Accepted.{HasUnsteadyReset}
-use Rattle.rtl_model.specs.simulation.Calm.{IsCalm, IsFromOutside}
+use Rattle.rtl_model.specs.simulation.Calm.{IsCalm, IsFromOutside, follows_inputs}
 use Rattle.rtl_net.specs.declared.net.Source.{Source as Kept}
 use Rattle.rtl_net.specs.Nets.{source_view}
 use Rattle.rtl_body_facts.specs.declared.kinds.ProcessKind.{ProcessKind}
@@ -26,7 +26,8 @@ use Rattle.rtl_calm_nets.specs.declared.origins.Origin.TheVariants as o
 use Rattle.rtl_calm_nets.specs.declared.search.Step.{Step}
 use Rattle.rtl_calm_nets.specs.declared.search.Step.TheVariants as s
 use Rattle.rtl_process_kinds.specs.AskedValues.{is_asked, number_of, numbered}
-use Rattle.rtl_calm_nets.specs.NetOrigins.{AreClockMarks, AreOutside, with_clock, IsResetTest, IsOrigin, driven, without, given_at}
+use Rattle.rtl_calm_nets.specs.NetOrigins.{AreClockMarks, AreOutside, with_clock, IsResetTest, IsOrigin, without, given_at}
+use Rattle.rtl_calm_nets.specs.InnerResets.{HasInnerReset}
 use Rattle.rtl_calm_nets.specs.CalmPlaces.{place_of, AreCalm, AreSteps, calm_step}
 
 -- ---- clocks
@@ -293,5 +294,7 @@ module _ (net : Netlist) (clocks calm : List Bool) (C : AreClockMarks net clocks
 pub unsteady_none : (net : Netlist) (p : ℕ) → reset_of net p ≡ None → HasUnsteadyReset net p → ⊥
 unsteady_none net p e u = let h : None ≡ Some u.reset = sym e ∙ u.is_reset in cc
 
-pub unsteady_narrow : (net : Netlist) (p : ℕ) → net.wide ≡ false → HasUnsteadyReset net p → ⊥
-unsteady_narrow net p e u = let h : false ≡ true = sym e ∙ u.is_wide in cc
+pub unsteady_inner : (net : Netlist) (p : ℕ) → HasUnsteadyReset net p → (HasInnerReset net → ⊥) → ⊥
+unsteady_inner net p u outer =
+    let n = u.reset.net in
+    u.not_calm (follows_inputs n (λ value. value == u.reset.value) (inl (λ driven. outer (u.is_wide, (p, n, ((u.reset, u.is_reset, refl), driven))), u.no_clock)))

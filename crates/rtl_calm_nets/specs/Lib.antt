@@ -1,3 +1,4 @@
+pub mod InnerResets
 pub mod Reaching
 pub mod NetOrigins
 pub mod OutsideLooks

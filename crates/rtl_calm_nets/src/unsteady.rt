@@ -7,6 +7,7 @@ ghost use Rattle.rtl_process_kinds.specs.KindViews.{AreKinds};
 ghost use Rattle.rtl_calm_nets.specs.NetOrigins.{AreClockMarks};
 ghost use Rattle.rtl_calm_nets.specs.CalmPlaces.{AreCalm};
 
+use crate::inner::has_inner_reset;
 use crate::outside::{clock_marks, is_marked};
 use crate::places::{calm_nets, place_of};
 use crate::resets::reset_of;
@@ -41,7 +42,7 @@ fn is_unsteady(
 
 /// Of each process whether it has an unsteady reset: in the wider language one that is no clock,
 /// and may come and go within a moment. It takes time and memory in proportion to nets, processes
-/// and what bodies look at.
+/// and what bodies look at; where no process drives a reset, memory for the result alone.
 pub fn unsteady_resets(
     alloc: Global,
     net: &Net,
@@ -52,7 +53,7 @@ pub fn unsteady_resets(
     ensures each { IfOk result (λ unsteady. (p : ℕ)
         → IsTrue (slice_index_or unsteady.items p false) ↔ HasUnsteadyReset (core net.now) p) }
 {
-    if !net.is_wide() {
+    if !has_inner_reset(net) {
         return Ok(vec![in alloc; false; kinds.len()]?);
     }
     let clocks = clock_marks(alloc, net, kinds)?;

@@ -1,11 +1,10 @@
 -- What the bound on delta cycles counts, by the kinds of processes and the clocks.
-use Rattle.std.proofs.Common.{◌≡◌, ℕ, ◌<◌, Bool, true, false, ◌==◌, not, List, [], ◌∷◌, length, get_or, map, refl, sym, ap, ◌∙◌, arith, Option}
-use Rattle.std.specs.List.{list_any}
+use Rattle.std.proofs.Common.{◌≡◌, ℕ, ◌<◌, false, ◌==◌, not, List, [], ◌∷◌, length, refl, sym, ap, ◌∙◌, arith, Option}
 use Rattle.std.proofs.lemmas.Bool.{ne_eqb}
 use Rattle.std.proofs.lemmas.List.{get_or_default}
 use Rattle.rtl_model.specs.simulation.Netlist as m
-use Rattle.rtl_model.specs.simulation.Netlist.{Netlist, Process, Reset, Source, process, no_process, sources_of}
-use Rattle.rtl_model.specs.simulation.Levels.{is_clocked, has_clocked, is_driver, has_late_reset}
+use Rattle.rtl_model.specs.simulation.Netlist.{Netlist, Process, Reset, process, no_process}
+use Rattle.rtl_model.specs.simulation.Levels.{is_clocked, has_clocked, has_late_reset}
 use Rattle.rtl_model.proofs.basics.Lists.{any_true, all_none, in_contains, contains_in, Contains-none, Contains-first}
 use Rattle.rtl_check.specs.Views.{AreClockNets}
 use Rattle.rtl_check.specs.Bounds as b

@@ -10,7 +10,7 @@ use Rattle.rtl_model.specs.nets.CoreNetlist.{core_process, drives_net}
 use Rattle.rtl_model.specs.simulation.Netlist as m
 use Rattle.rtl_model.specs.simulation.Netlist.{Edge, Reset, process, kind_reset}
 use Rattle.rtl_model.specs.simulation.Accepted as f
-use Rattle.rtl_model.specs.simulation.Accepted.{Fault, IsFault, IsClockOf, IsResetOf, IsClock}
+use Rattle.rtl_model.specs.simulation.Accepted.{IsFault, IsClockOf, IsResetOf}
 use Rattle.rtl_model.proofs.basics.Lists.{in_contains, contains_in}
 use Rattle.rtl_net.specs.declared.process.Driver.{Driver}
 use Rattle.rtl_net.specs.declared.process.Process.{Process}

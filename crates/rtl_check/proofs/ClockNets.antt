@@ -6,7 +6,7 @@ use Rattle.std.proofs.lemmas.Bool.{eqb-true, eq-eqb}
 use Rattle.std.proofs.lemmas.List.{get_or_default, take_more}
 use Rattle.std.proofs.lemmas.List.Folds.{list_any-append}
 use Rattle.rtl_model.specs.simulation.Netlist as m
-use Rattle.rtl_model.specs.simulation.Netlist.{Netlist, Edge, Reset, process}
+use Rattle.rtl_model.specs.simulation.Netlist.{Netlist, process}
 use Rattle.rtl_model.specs.simulation.Accepted.{IsClock, IsClockOf}
 use Rattle.rtl_model.proofs.basics.Lists.{any_at, any_true}
 use Rattle.rtl_body_facts.specs.declared.kinds.ProcessKind.{ProcessKind}

@@ -3,7 +3,7 @@ use Rattle.std.proofs.Common.{◌≡◌, ℕ, ◌<◌, ◌≤◌, true, false, l
 use Rattle.std.proofs.lemmas.Bool.{cases_lt}
 use Rattle.std.proofs.Math.ListN.{get_or-eq_default}
 use Rattle.rtl_model.specs.simulation.Netlist as m
-use Rattle.rtl_model.specs.simulation.Netlist.{Netlist, Combinational, Clocked, Mixed, Reset, process, no_process}
+use Rattle.rtl_model.specs.simulation.Netlist.{Netlist, Combinational, Clocked, Mixed, process, no_process}
 use Rattle.rtl_model.specs.simulation.Accepted as f
 use Rattle.rtl_model.specs.simulation.Accepted.{Fault, IsFault, IsClockOf, IsResetOf}
 use Rattle.rtl_model.specs.simulation.Faults.{fault_number}

@@ -1,30 +1,26 @@
 -- The table of a netlist, by rows.
-use Rattle.std.proofs.Common.{◌≡◌, ℕ, ◌<◌, ◌≤◌, Bool, true, false, ◌||◌, ◌==◌, List, [], ◌∷◌, length, get_or, map, refl, sym, ap, subst, ◌∙◌, arith, ◌⊎◌, inl, inr, Option, Some, None, Contains}
+use Rattle.std.proofs.Common.{◌≡◌, ℕ, ◌<◌, ◌≤◌, true, ◌==◌, List, length, get_or, refl, sym, ap, subst, ◌∙◌, arith, ◌⊎◌, inl, inr, Option, Some, None, Contains}
 use Rattle.std.specs.Prelude.{IsSome}
 use Rattle.std.specs.Global.{Vec}
 use Rattle.std.specs.List.{list_any}
 use Rattle.std.proofs.lemmas.Bool.{and_parts, and_from, cases_lt, eqb-true, eq-eqb}
-use Rattle.std.proofs.lemmas.List.{get_or_default, get_or_past, length-map}
-use Rattle.rtl_model.specs.nets.FlatNetlist.{flat_sources, ProcessInRange}
-use Rattle.rtl_model.specs.simulation.Netlist as m
+use Rattle.std.proofs.lemmas.List.{get_or_past}
+use Rattle.rtl_model.specs.nets.FlatNetlist.{flat_sources}
 use Rattle.rtl_model.specs.simulation.Netlist.{Netlist, Source, Driver, Idle, IsCombinational, process, target, sources_of}
 use Rattle.rtl_model.specs.simulation.Accepted as f
 use Rattle.rtl_model.specs.simulation.Elaborated.{IsWired}
-use Rattle.rtl_model.proofs.basics.Lists.{in_contains, contains_in, any_at, any_true, get_or-map_within}
-use Rattle.rtl_net.specs.declared.process.Process.{Process}
-use Rattle.rtl_net.specs.Nets.{NetlistView, flat, process_view}
-use Rattle.rtl_net.specs.Elaborated.{IsNet}
+use Rattle.rtl_model.proofs.basics.Lists.{in_contains, contains_in, any_at, any_true}
+use Rattle.rtl_net.specs.Nets.{NetlistView, flat}
 use Rattle.rtl_check_levels.specs.Feeding as t
 use Rattle.rtl_check_levels.specs.OfNets.{IsTableOf}
 use Rattle.rtl_body_facts.specs.declared.kinds.ProcessKind.{ProcessKind}
-use Rattle.rtl_body_facts.specs.declared.kinds.ProcessKind.TheVariants as k
 use Rattle.rtl_body_facts.specs.Reading.{is_in}
 use Rattle.rtl_net.specs.Core.{core}
-use Rattle.rtl_process_kinds.specs.KindViews.{IsKind, AreKinds}
+use Rattle.rtl_process_kinds.specs.KindViews.{AreKinds}
 use Rattle.rtl_check.specs.Feeders.{feeds_by, IsRow}
-use Rattle.rtl_process_kinds.specs.KindViews.{combinational_kind, combinational_at}
-use Rattle.rtl_process_kinds.proofs.Combinational.{combinational_to, combinational_from, kind_past}
-use Rattle.rtl_process_kinds.proofs.Sources.{any_map, sources_there}
+use Rattle.rtl_process_kinds.specs.KindViews.{combinational_at}
+use Rattle.rtl_process_kinds.proofs.Combinational.{combinational_to, combinational_from}
+use Rattle.rtl_process_kinds.proofs.Sources.{sources_there}
 
 module _ (net : Netlist) (kinds : List ProcessKind) (ks : AreKinds net kinds) where
   feeder_of : (p : ℕ) (s : Source) → feeds_by kinds p s ≡ true → (place : ℕ) × (s ≡ Driver p place) × IsCombinational net p

@@ -4,7 +4,7 @@ use Rattle.std.specs.Prelude.{MatchOption, IfSome}
 use Rattle.std.proofs.lemmas.Bool.{cases_lt}
 use Rattle.std.proofs.lemmas.List.{get_or_past}
 use Rattle.rtl_model.specs.simulation.Netlist as m
-use Rattle.rtl_model.specs.simulation.Netlist.{Netlist, Edge, Reset, IsCombinational, IsClockedBy, process}
+use Rattle.rtl_model.specs.simulation.Netlist.{Netlist, Edge, IsCombinational, IsClockedBy, process}
 use Rattle.rtl_model.specs.simulation.Accepted.{Feeds}
 use Rattle.rtl_model.specs.simulation.Elaborated.{IsWired}
 use Rattle.rtl_check.specs.Standing.{level_of, highest_of, StandsAs, Stands, ShowFroms, HasNoMixed}

@@ -1,9 +1,8 @@
 -- A netlist's faults, or its loop.
-use Rattle.std.proofs.Common.{◌≡◌, ◌≢◌, ◌==◌, ℕ, zero, suc, Bool, not, true, false, List, [], ◌∷◌, ◌++◌, length, map, refl, sym, ap, subst, ◌∙◌, arith, inl, inr, Vec, Global, vec_len}
-use Rattle.std.specs.Prelude.{IsTrue, ◌↔◌, Contains}
+use Rattle.std.proofs.Common.{◌≡◌, ◌≢◌, ◌==◌, ℕ, zero, suc, true, false, List, [], ◌∷◌, ◌++◌, length, map, refl, sym, ap, subst, ◌∙◌, arith, inl, inr, Vec, Global, vec_len}
+use Rattle.std.specs.Prelude.{IsTrue, ◌↔◌}
 use Rattle.std.proofs.lemmas.Bool.{eqb-true}
-use Rattle.rtl_model.specs.simulation.Netlist.{Netlist, Source, Driver, sources_of, target}
-use Rattle.rtl_model.specs.simulation.Elaborated.{IsElaborated}
+use Rattle.rtl_model.specs.simulation.Netlist.{Netlist}
 use Rattle.rtl_model.specs.simulation.Accepted as f
 use Rattle.rtl_model.specs.simulation.Faults.{AreFaults, AreFaultsButLoops, fault_number}
 use Rattle.rtl_model.specs.simulation.Laws.{FaultsAreListed}
@@ -12,9 +11,9 @@ use Rattle.rtl_check_levels.specs.Feeding as t
 use Rattle.rtl_check_levels.specs.OfNets.{IsTableOf}
 use Rattle.rtl_check_levels.specs.Rounds.{IsListedOnce}
 use Rattle.rtl_check.specs.declared.fault.CheckFault.{CheckFault}
-use Rattle.rtl_check.specs.declared.fault.CheckFault.TheVariants as c
 use Rattle.rtl_check.specs.Views.{fault_view}
-use Rattle.rtl_check.specs.Findings.{AreLoopsOnce, HasInnerReset}
+use Rattle.rtl_calm_nets.specs.InnerResets.{HasInnerReset}
+use Rattle.rtl_check.specs.Findings.{AreLoopsOnce}
 
 no_items : (xs : List CheckFault) → (length xs == 0) ≡ true → xs ≡ []
 no_items [] e = refl

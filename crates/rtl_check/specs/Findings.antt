@@ -1,7 +1,7 @@
 -- What the search finds of a netlist: faults, or levels.
-use Rattle.std.specs.Prelude.{ℕ, ◌+◌, ◌<◌, ◌^◌, ◌⊎◌, List, [], map, Contains, IsTrue}
+use Rattle.std.specs.Prelude.{ℕ, ◌+◌, ◌<◌, ◌^◌, ◌⊎◌, List, [], map, Contains}
 use Rattle.rtl_model.specs.simulation.Netlist.{Netlist}
-use Rattle.rtl_model.specs.simulation.Accepted.{Fault, Loop, NetLoop, HasNoNetLoop, IsByNets, IsInnerReset}
+use Rattle.rtl_model.specs.simulation.Accepted.{Fault, Loop, NetLoop, HasNoNetLoop, IsByNets}
 use Rattle.rtl_model.specs.simulation.Faults.{AreFaults, AreFaultsButLoops}
 use Rattle.rtl_check_levels.specs.declared.order.Levels.{Levels}
 use Rattle.rtl_check_levels.specs.Feeding.{Table}
@@ -13,10 +13,6 @@ use Rattle.rtl_check_nets.specs.NetOrders.{AreReported}
 use Rattle.rtl_check.specs.declared.search.Found.{Found}
 use Rattle.rtl_check.specs.declared.search.Found.TheVariants.{Faulty, Leveled, NetsLeveled}
 use Rattle.rtl_check.specs.Views.{fault_view}
-
--- in the wider language a process is reset by a net that some process drives
-abbrev pub HasInnerReset : Netlist → Type 0
-HasInnerReset net = IsTrue net.wide × ((p : ℕ) × (n : ℕ) × IsInnerReset net p n)
 
 -- each loop among these faults is listed once round, from its lowest process or net
 abbrev pub AreLoopsOnce : List Fault → Type 0

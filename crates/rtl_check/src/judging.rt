@@ -27,11 +27,11 @@ pub enum Judgement {
     Faulty(Vec<CheckFault>),
 }
 
-/// Judges a netlist, of either language: it is accepted, by processes or by nets, with the report on
-/// it, just where it has no fault; else these are its faults. A loop is looked for only where there
-/// is no other fault. It takes time in proportion to the netlist, but for the logarithms of sorted
-/// lists, and memory for the kinds of processes, for what feeds or looks at what, for the elements
-/// of one process's variables, and for the answer.
+/// Judges a netlist, of either language: it is accepted, by processes or by nets, with the report
+/// on it, just where it has no fault; else these are its faults. A loop is looked for only where
+/// there is no other fault. It takes time in proportion to the netlist, but for the logarithms of
+/// sorted lists, and memory for the kinds of processes, for what feeds or looks at what, for the
+/// elements of one process's variables, and for the answer.
 pub fn judge(alloc: Global, net: &Net) -> Result<Judgement, NoMemory>
     ensures judgement { IfOk result (IsJudgement (core net.now)) }
     ensures accepts { IfOk result (λ j. IsTrue (accepts j) ↔ IsAccepted (core net.now)) }

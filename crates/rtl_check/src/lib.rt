@@ -14,7 +14,6 @@ mod clocks;
 mod fault;
 mod faults;
 mod graph;
-mod inner;
 mod judging;
 mod listed_clocks;
 mod listing;

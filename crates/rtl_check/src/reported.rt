@@ -11,10 +11,10 @@ ghost use Rattle.rtl_check.specs.Reported as s;
 ghost use Rattle.rtl_check.specs.Verdicts.{IsReportOf};
 
 use crate::bound::one_if;
-use crate::inner::has_inner_reset;
 use crate::listed_clocks::are_clocks;
 use crate::reporting::Report;
 use crate::standing::are_levels;
+use rtl_calm_nets::has_inner_reset;
 use rtl_model::simulation_laws;
 use rtl_net::Net;
 use rtl_process_kinds::{follows_driver, kind_at, resets};

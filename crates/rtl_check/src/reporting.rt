@@ -71,8 +71,8 @@ pub struct NetReport {
     /// The level of each process that may assign in a delta cycle: one more than the greatest level
     /// of a net that it is sensitive to.
     pub levels: Vec<Option<u32>>,
-    /// Of each such process the lowest net of the level below that it is sensitive to; none at level
-    /// 1.
+    /// Of each such process the lowest net of the level below that it is sensitive to; none at
+    /// level 1.
     pub from: Vec<Option<usize>>,
     /// The level of each net: how many nets the longest chain has that ends with it, each but the
     /// first looking at the one before. 0 of a net that changes behind no other.

@@ -6,13 +6,14 @@ ghost use Rattle.rtl_model.specs.simulation.Faults.{AreFaultsButLoops};
 ghost use Rattle.rtl_net.specs.Core.{core};
 ghost use Rattle.rtl_check.specs.Views.{AreClockNets};
 ghost use Rattle.rtl_process_kinds.specs.KindViews.{AreKinds};
-ghost use Rattle.rtl_check.specs.Findings.{IsFound, HasInnerReset};
+ghost use Rattle.rtl_calm_nets.specs.InnerResets.{HasInnerReset};
+ghost use Rattle.rtl_check.specs.Findings.{IsFound};
 
 use crate::fault::CheckFault;
 use crate::faults::faults_of;
 use crate::graph::table_of;
-use crate::inner::has_inner_reset;
 use rtl_body_facts::ProcessKind;
+use rtl_calm_nets::has_inner_reset;
 use rtl_check_levels::{LevelOrder, Levels, order_of, tables_are_of_nets};
 use rtl_check_nets::{NetLevels, NetOrder, net_order_of};
 use rtl_net::{Net, NoMemory, nets_meet_the_laws};
@@ -55,8 +56,8 @@ fn search_nets(
 }
 
 /// Looks for a loop of processes in a netlist that is judged by processes unless it has one, of
-/// which these are the faults but loops: none. Where it has one, and is of the wider language, it is
-/// judged by nets.
+/// which these are the faults but loops: none. Where it has one, and is of the wider language, it
+/// is judged by nets.
 fn search_processes(
     alloc: Global,
     net: &Net,
@@ -85,9 +86,9 @@ fn search_processes(
     }
 }
 
-/// Searches a netlist for all its faults but loops, in order; or else for a loop; or else for levels.
-/// A loop is looked for only where there is no other fault. It takes memory for its faults, and for
-/// what feeds or looks at what.
+/// Searches a netlist for all its faults but loops, in order; or else for a loop; or else for
+/// levels. A loop is looked for only where there is no other fault. It takes memory for its faults,
+/// and for what feeds or looks at what.
 pub fn search(
     alloc: Global,
     net: &Net,

@@ -1,4 +1,4 @@
-use Rattle.std.proofs.Common.{◌≡◌, ℕ, ◌<◌, List, length, set, Option, Some, None, sym, ap, subst, ◌∙◌, arith, slice_set}
+use Rattle.std.proofs.Common.{ℕ, ◌<◌, List, length, Option, Some, None, sym, ap, subst, ◌∙◌, arith, slice_set}
 use Rattle.std.proofs.lemmas.Result.{IfOk-weaker}
 use Rattle.std.proofs.lemmas.List.{get_or-set_same}
 use Rattle.rtl_model.proofs.nets.Connected.{connected_is_elaborated}

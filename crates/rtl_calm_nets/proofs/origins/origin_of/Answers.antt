@@ -1,7 +1,7 @@
-use Rattle.std.proofs.Common.{◌≡◌, ℕ, ◌<◌, ◌*◌, List, [], ◌∷◌, length, get_or, true, false, sym, ap, subst, ◌∙◌, arith}
+use Rattle.std.proofs.Common.{◌≡◌, ◌<◌, List, [], ◌∷◌, length, get_or, true, false, sym, ap, subst, ◌∙◌, arith}
 use Rattle.std.proofs.lemmas.List.{get_or_default}
 use Rattle.rtl_model.proofs.nets.Connected.{connected_is_elaborated}
-use Rattle.rtl_model.specs.simulation.Netlist.{Driver, process, sources_of}
+use Rattle.rtl_model.specs.simulation.Netlist.{Driver, sources_of}
 use Rattle.rtl_net.specs.Nets.{flat}
 use Rattle.rtl_net.specs.Core.{core}
 use Rattle.rtl_process_kinds.proofs.Processes.{many_processes}

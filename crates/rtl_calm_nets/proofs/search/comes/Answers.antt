@@ -1,4 +1,4 @@
-use Rattle.std.proofs.Common.{◌<◌, List, ℕ, Contains, get_or, subst}
+use Rattle.std.proofs.Common.{List, ℕ, Contains, get_or, subst}
 use Rattle.std.proofs.lemmas.List.{get_or_default}
 use Rattle.rtl_calm_nets.proofs.search.comes.Goals as goal
 

@@ -1,4 +1,4 @@
-use Rattle.std.proofs.Common.{subst, ◌∙◌}
+use Rattle.std.proofs.Common.{subst}
 use Rattle.rtl_net.specs.Core.{core}
 use Rattle.rtl_calm_nets.specs.NetOrigins.{IsResetTest}
 use Rattle.rtl_calm_nets.proofs.Judging.{judged_calm, judged_clock}

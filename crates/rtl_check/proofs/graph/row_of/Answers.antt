@@ -1,4 +1,4 @@
-use Rattle.std.proofs.Common.{◌<◌, ◌||◌, ℕ, Bool, List, [], ◌∷◌, take, length, get_or, sym, ap, subst, ◌∙◌}
+use Rattle.std.proofs.Common.{◌<◌, ◌||◌, ℕ, Bool, [], ◌∷◌, take, length, get_or, sym, ap, subst, ◌∙◌}
 use Rattle.std.specs.List.{list_any}
 use Rattle.std.proofs.lemmas.List.{take_all, take_more}
 use Rattle.std.proofs.lemmas.List.Folds.{list_any-append}

@@ -1,4 +1,4 @@
-use Rattle.std.proofs.Common.{◌≡◌, ◌⊎◌, inl, inr, true, false, refl, sym, ◌∙◌}
+use Rattle.std.proofs.Common.{◌≡◌, inl, inr, true, false, refl, sym, ◌∙◌}
 use Rattle.rtl_model.specs.simulation.Netlist.{process}
 use Rattle.rtl_model.specs.simulation.Accepted.{IsFault, MixedProcess}
 use Rattle.rtl_net.specs.Core.{core}

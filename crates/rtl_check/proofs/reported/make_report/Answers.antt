@@ -1,6 +1,6 @@
 use Rattle.std.proofs.Common.{◌≡◌, true, false, inr, sym, ◌∙◌}
 use Rattle.rtl_net.specs.Core.{core}
-use Rattle.rtl_check.specs.Findings.{HasInnerReset}
+use Rattle.rtl_calm_nets.specs.InnerResets.{HasInnerReset}
 use Rattle.rtl_check.proofs.ReportParts.{froms, shown, bound_is}
 use Rattle.rtl_check.proofs.Verdicts.{by_processes}
 use Rattle.rtl_check.proofs.reported.make_report.Goals as goal

@@ -1,7 +1,5 @@
-use Rattle.std.proofs.Common.{◌≡◌, [], List, map, sym, subst, ◌∙◌, inl, inr}
-use Rattle.rtl_model.specs.simulation.Faults.{AreFaultsButLoops}
+use Rattle.std.proofs.Common.{map, sym, ◌∙◌, inl, inr}
 use Rattle.rtl_net.specs.Core.{core}
-use Rattle.rtl_check.specs.declared.fault.CheckFault.{CheckFault}
 use Rattle.rtl_check.specs.Views.{fault_view}
 use Rattle.rtl_check.proofs.Verdicts.{none_of, some_of, none_once, no_fault}
 use Rattle.rtl_check.proofs.search.search.Goals as goal

@@ -1,4 +1,4 @@
-use Rattle.std.proofs.Common.{◌≡◌, ◌<◌, ◌≤◌, ℕ, List, length, sym, ap, subst, ◌∙◌, refl, inl, arith}
+use Rattle.std.proofs.Common.{◌≡◌, ◌<◌, ◌≤◌, ℕ, length, sym, ap, subst, ◌∙◌, refl, inl, arith}
 use Rattle.rtl_check_levels.specs.Feeding as t
 use Rattle.rtl_check_levels.specs.Levels as l
 use Rattle.rtl_check_levels.specs.declared.order.LevelOrder.{LevelOrder}

@@ -2,7 +2,7 @@
 
 ghost use Rattle.std.specs.Prelude.{◌↔◌, IsTrue};
 ghost use Rattle.rtl_net.specs.Core.{core};
-ghost use Rattle.rtl_check.specs.Findings.{HasInnerReset};
+ghost use Rattle.rtl_calm_nets.specs.InnerResets.{HasInnerReset};
 
 use rtl_net::Net;
 use rtl_process_kinds::inner_reset;
