@@ -195,6 +195,12 @@ def chain(n):
     return Case(design("clk : in std_logic", signals("q", n, "std_logic", " := '0'"), f"{clocked('q0 <= not q0;')}\n{inverters}"), cycles(20))
 
 
+def ripple(n):
+    """A process that drives a chain of n nets, which have settled from the start."""
+    inverters = "\n".join(f"q{k} <= not q{k - 1};" for k in range(1, n))
+    return Case(design("d : in std_logic", signals("q", n, "std_logic"), f"process (all) begin q0 <= d;\n{inverters}\nend process;"))
+
+
 def layers(n):
     width = math.isqrt(n)
     gates = [f"q{row * width + k} <= q{(row - 1) * width + k} xor q{(row - 1) * width + (k + 1) % width};" for row in range(1, width) for k in range(width)]
@@ -265,6 +271,14 @@ def inputs_apart(n):
 
 def inputs_together(n):
     return Case(many_inputs(n), "".join(f"at 5 d{k} 1\n" for k in range(n)) + "stop 10\n")
+
+
+def reset_beside_inputs(n):
+    """n registers of one process, which is sensitive to its reset and to n inputs, which change together."""
+    clear, take = lines(n, "q# <= '0';"), lines(n, "q# <= d#;")
+    process = f"process (all) begin if rst = '1' then\n{clear}\nelsif rising_edge(clk) then\n{take}\nend if; end process;"
+    source = design(f"clk, rst : in std_logic; {inputs('d', n)}", signals("q", n, "std_logic"), process)
+    return Case(source, "at 0 rst 1\n" + "".join(f"at 5 d{k} 1\n" for k in range(n)) + "stop 10\n")
 
 
 def words(n):
@@ -364,6 +378,7 @@ def undeclared(n):
 NOTHING = Case(design("a : in std_logic", "", ""), "stop 0\n")
 RUNS = ("run", "run --event", "run --levels")
 EACH = ("net", "check", "check --dot", "check --json", "check --explain", *RUNS)
+WIDE = ("check --wide", "run --wide", "run --wide --levels")
 JUDGED = ("check", "check --json", "check --explain")
 REFUSED = (*JUDGED, "run --event")
 EVENTS = "a wave through n inverters is n delta cycles of up to n events"
@@ -391,6 +406,7 @@ SHAPES = {
     "fanout": Shape(fanout, 1024, EACH),
     "compared": Shape(compared, 128, EACH),
     "chain": Shape(chain, 128, EACH, exempt={"run": EVENTS, "run --event": EVENTS}),
+    "ripple": Shape(ripple, 512, WIDE),
     "layers": Shape(layers, 1024, EACH),
     "vectors": Shape(vectors, 128, EACH),
     "quiet": Shape(quiet, 256, EACH),
@@ -402,6 +418,7 @@ SHAPES = {
     "clocks_beside_data": Shape(clocks_beside_data, 256, RUNS),
     "inputs_apart": Shape(inputs_apart, 1024, RUNS),
     "inputs_together": Shape(inputs_together, 2048, RUNS),
+    "reset_beside_inputs": Shape(reset_beside_inputs, 1024, RUNS),
     "words": Shape(words, 512, ("eval",)),
     "changes": Shape(changes, 4096, RUNS),
     "changes_backwards": Shape(changes_backwards, 4096, RUNS),

@@ -1,11 +1,11 @@
 -- Visits that are to come for what isn't settled.
-use Rattle.std.proofs.Common.{◌≡◌, ◌==◌, ℕ, zero, suc, ◌<◌, ◌≤◌, Bool, true, List, [], ◌∷◌, length, get_or, Option, refl, sym, ap, subst, ◌∙◌, arith, ◌⊎◌, inl, inr, Contains}
+use Rattle.std.proofs.Common.{◌≡◌, ◌==◌, ℕ, zero, suc, ◌<◌, ◌≤◌, Bool, true, false, List, [], ◌∷◌, length, get_or, map, Option, refl, sym, ap, subst, ◌∙◌, arith, ◌⊎◌, inl, inr, Contains}
 use Rattle.std.specs.Prelude.{option_map}
 use Rattle.std.proofs.lemmas.Bool.{cases_eq, cases_lt, eq-eqb}
 use Rattle.std.proofs.lemmas.List.{get_or_default}
 use Rattle.std.proofs.lemmas.List.Elements.{Contains-get_or}
 use Rattle.rtl_model.specs.basics.Valuations.{AgreeOn}
-use Rattle.rtl_model.proofs.basics.Lists.{Contains-first, Contains-none}
+use Rattle.rtl_model.proofs.basics.Lists.{Contains-first, Contains-none, get_or-map_within}
 use Rattle.rtl_model.specs.simulation.Netlist.{Edge, HasPlace, IsClockedBy, kind_reset, Netlist, process, ProcessKind, Reset, target}
 use Rattle.rtl_model.specs.simulation.Elaborated.{IsElaborated}
 use Rattle.rtl_model.specs.simulation.NetLevels.{IsDerived}
@@ -19,7 +19,7 @@ use Rattle.rtl_levels.specs.declared.schedule.Schedule.{Schedule}
 use Rattle.rtl_levels.specs.Kept.{IsPlanned}
 use Rattle.rtl_levels.specs.Marks.{Marks}
 use Rattle.rtl_levels.specs.Running.{AgreeOnLooks, DriverLooksAt, IsDerivedAt, IsSettledAt}
-use Rattle.rtl_levels.specs.Visits.{AreNetLevels, AreVisits, DrivesAt, IsFirstAbove, IsMovedBy, IsToCome, IsVisited, is_net, moves, visit_at}
+use Rattle.rtl_levels.specs.Visits.{AreNetLevels, AreVisits, DrivesAt, IsFirstAbove, IsMovedBy, IsToCome, IsVisited, is_net, moves, no_visit, visit_at}
 use Rattle.rtl_levels.proofs.Resets.{no_reset, one_reset, reset_clocks}
 use Rattle.rtl_levels.proofs.Settling.{one_process}
 
@@ -143,6 +143,42 @@ module _ (visits : List Visit) (p level : ℕ) where
           in_order : (T.rank < rank) ⊎ (rank ≤ T.rank) → (visit_at visits rank).level ≤ at
           in_order (inl before) = let le = F.none_before T.rank before (T.of ∙ sym of) in absurd (omega (arith, le, T.at, less))
           in_order (inr le) = let up = V.in_order rank T.rank le T.there in omega (arith, up, T.at)
+
+-- ---- at first
+
+-- where the first visits are marked, each driver that may change its net behind others has one to come
+pub first_to_come : (net : Netlist) (schedule : Schedule) (P : IsPlanned net schedule) (p place : ℕ) → IsDerivedAt net p place → HasPlace net p place
+    → IsToCome schedule.visits.items (map (λ (visit : Visit). visit.first) schedule.visits.items) 0 p (get_or P.nets (target net p place) 0)
+first_to_come net schedule P p place d h = by (first_visit visits p 0 net P.nets V (get_or P.nets (target net p place) 0) visited (omega (arith, one)))
+  where
+    visits : List Visit
+    visits = schedule.visits.items
+
+    V : AreVisits net P.nets visits
+    V = P.schedule.visits_are
+
+    visited : IsVisited visits p (get_or P.nets (target net p place) 0)
+    visited = visited_at net (numbered net P.elaborated P.accepted) P.nets P.nets_are visits V p place d h
+
+    one : 1 ≤ get_or P.nets (target net p place) 0
+    one = P.nets_are.rise.from_one (target net p place) (p, place, h, refl, d)
+
+    by : (rank : ℕ) × (((visit_at visits rank).process ≡ p) × IsFirstAbove visits 0 rank) × ((visit_at visits rank).level ≤ get_or P.nets (target net p place) 0)
+        → IsToCome visits (map (λ (visit : Visit). visit.first) visits) 0 p (get_or P.nets (target net p place) 0)
+    by (rank, (of, F), le) = record {
+      rank = rank;
+      there = F.there;
+      ahead = omega arith;
+      marked = get_or-map_within (λ (visit : Visit). visit.first) visits rank no_visit false F.there ∙ (P.schedule.firsts_are rank F.there).1 none;
+      of = of;
+      within = le;
+    }
+      where
+        none : (k : ℕ) → k < rank → (visit_at visits k).process ≡ (visit_at visits rank).process → ⊥
+        none k less same =
+            let low = F.none_before k less same in
+            let at = (V.visited (visit_at visits k).process (visit_at visits k).level).1 (record { rank = k; there = omega (arith, less, F.there); of = refl; at = refl }) in
+            at.0 (omega (arith, low))
 
 -- ---- what changes
 

@@ -21,12 +21,12 @@ use Rattle.rtl_levels.proofs.Settling.{one_process}
 some_same : {a b : ℕ} → Some a ≡ Some b → a ≡ b
 some_same e = cc
 
-pub all_zero : (many n : ℕ) → ◌≡◌ {A = ℕ} (get_or (replicate many 0) n 0) 0
-all_zero many n = by (cases_lt n many)
+pub all_same : {A : Type 0} (many n : ℕ) (a : A) → get_or (replicate many a) n a ≡ a
+all_same many n a = by (cases_lt n many)
   where
-    by : (n < many) ⊎ (many ≤ n) → ◌≡◌ {A = ℕ} (get_or (replicate many 0) n 0) 0
-    by (inl l) = get_or-replicate many n 0 0 l
-    by (inr past) = get_or_past (replicate many 0) n 0 (rw length-replicate past)
+    by : (n < many) ⊎ (many ≤ n) → get_or (replicate many a) n a ≡ a
+    by (inl l) = get_or-replicate many n a a l
+    by (inr past) = get_or_past (replicate many a) n a (rw length-replicate past)
 
 -- what a process feeds is above it
 level_above : (net : Netlist) (p q a b : ℕ) → Feeds net p q → IsLevel net p a → IsLevel net q b → a < b

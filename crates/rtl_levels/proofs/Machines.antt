@@ -46,7 +46,7 @@ pub changes_there : (flat : FlatNetlist) → IsInRange flat → (cs : List (ℕ 
 changes_there flat R cs inputs u as_many = λ k d l. rw (as_many ∙ R.each_starts) (inputs_there flat R cs inputs k d l)
 
 -- changes of inputs, from a machine whose marks of chunks have been taken off
-module _ (flat : FlatNetlist) (R : IsInRange flat) (schedule : Schedule) (before : List ℕ) (state : State) (woken : List Bool) (K : IsMachine (core_netlist flat) schedule before state woken)
+module _ (flat : FlatNetlist) (R : IsInRange flat) (schedule : Schedule) (before : List ℕ) (state : State) (woken ran : List Bool) (K : IsMachine (core_netlist flat) schedule before state woken ran)
     (cs : List (ℕ × Nine)) (inputs : All (λ (c : ℕ × Nine). Contains flat.inputs c.0) cs) (t : Chunks) (many : t.nets ≡ state.touched.nets) where
   abbrev net : Netlist
   net = core_netlist flat
@@ -92,9 +92,9 @@ module _ (flat : FlatNetlist) (R : IsInRange flat) (schedule : Schedule) (before
         pub is_step : IsStep net v given w.values.items
         is_step = stepping.is_step net schedule K.planned before v K.at_rest given no_race now.values.items w.values.items now_is woken woken' (IsGiven (changes_of cs)) W C
 
-        pub kept : (before' : List ℕ) (woken'' : List Bool) → IsStateOf net schedule w → AreChanged (changes_of cs) before before' → length woken'' ≡ length net.processes
-            → HasNoMark w.dirty.items → HasNoMark woken'' → IsMachine net schedule before' w woken''
-        kept before' woken'' S B each_process none_dirty none_woken = record {
+        pub kept : (before' : List ℕ) (woken'' ran'' : List Bool) → IsStateOf net schedule w → AreChanged (changes_of cs) before before' → length woken'' ≡ length net.processes → length ran'' ≡ length woken''
+            → HasNoMark w.dirty.items → HasNoMark woken'' → HasNoMark ran'' → IsMachine net schedule before' w woken'' ran''
+        kept before' woken'' ran'' S B each_process each_ran none_dirty none_woken none_ran = record {
           planned = K.planned;
           state_is = S;
           at_rest = record {
@@ -108,8 +108,10 @@ module _ (flat : FlatNetlist) (R : IsInRange flat) (schedule : Schedule) (before
                 ∙ sym (is_step.solves.on_inputs n is);
           };
           each_process = each_process;
+          each_ran = each_ran;
           none_dirty = none_dirty;
           none_woken = none_woken;
+          none_ran = none_ran;
         }
 
 -- ---- the first moment
@@ -147,9 +149,9 @@ module _ (net : Netlist) where
       by (inr l) = absurd (clash h (get_or_past (are_clocked net) p false (rw length-map l)))
 
 module _ (net : Netlist) (schedule : Schedule) (P : IsPlanned net schedule) (given : ℕ → ℕ) (now : List ℕ) (now_is : now ≡ with_inputs net given net.start) (in_range : IsValuation net now) where
-  pub kept_first : (state : State) (woken : List Bool) → IsFirst net given state.values.items → IsStateOf net schedule state → length woken ≡ length net.processes → HasNoMark state.dirty.items
-      → HasNoMark woken → IsMachine net schedule now state woken
-  kept_first state woken F S each_process none_dirty none_woken = record {
+  pub kept_first : (state : State) (woken ran : List Bool) → IsFirst net given state.values.items → IsStateOf net schedule state → length woken ≡ length net.processes → length ran ≡ length woken
+      → HasNoMark state.dirty.items → HasNoMark woken → HasNoMark ran → IsMachine net schedule now state woken ran
+  kept_first state woken ran F S each_process each_ran none_dirty none_woken none_ran = record {
     planned = P;
     state_is = S;
     at_rest = record {
@@ -161,6 +163,8 @@ module _ (net : Netlist) (schedule : Schedule) (P : IsPlanned net schedule) (giv
       no_event = λ n is. ap (λ (u : List ℕ). get_or u n 0) now_is ∙ inputs_at net P.elaborated given net.start n is ∙ sym (F.solves.on_inputs n is);
     };
     each_process = each_process;
+    each_ran = each_ran;
     none_dirty = none_dirty;
     none_woken = none_woken;
+    none_ran = none_ran;
   }

@@ -12,7 +12,7 @@ use Rattle.rtl_model.proofs.simulation.Range.{entry_or_below}
 use Rattle.rtl_levels.specs.Marks.{HasNoMark}
 use Rattle.rtl_levels.specs.Running.{TakesOver}
 use Rattle.rtl_levels.specs.Steps.{AllTakeOver, SomeTakeOver}
-use Rattle.rtl_levels.proofs.Awake.{clash}
+use Rattle.rtl_levels.proofs.Awake.{clash, fewer_marks, stays_unmarked}
 use Rattle.rtl_levels.proofs.Settling.{one_process}
 
 module _ (net : Netlist) (entries : ℕ → List (Option ℕ)) where
@@ -29,28 +29,16 @@ module _ (net : Netlist) (entries : ℕ → List (Option ℕ)) where
       → SomeTakeOver net marked (set marked i false) entries v w
   one_takes_over i marked v w there mark O = record {
     as_many = length-set marked i false;
-    fewer = λ p h. fewer p h (cases_eq p i);
+    fewer = λ p h. (fewer_marks marked i there p h).1;
     each_net = O.each_net;
     on_targets = λ p place m f. on_targets p place m f (cases_eq p i);
     on_others = λ n free. O.on_others n (λ place h t. free i place mark (get_or-set_same marked i false false there) h t);
   }
     where
-      fewer : (p : ℕ) → get_or (set marked i false) p false ≡ true → (p ≡ i) ⊎ (p ≡ i → ⊥) → get_or marked p false ≡ true
-      fewer p h (inl e) = ap (λ (k : ℕ). get_or marked k false) e ∙ mark
-      fewer p h (inr ne) = sym (get_or-set_other marked i p false false ne) ∙ h
-
       on_targets : (p place : ℕ) → get_or marked p false ≡ true → get_or (set marked i false) p false ≡ false → (p ≡ i) ⊎ (p ≡ i → ⊥) → HasPlace net p place
           → get_or w (target net p place) 0 ≡ entry_or (get_or (entries p) place None) (get_or v (target net p place) 0)
       on_targets p place m f (inl e) = rw e (λ (h : HasPlace net i place). O.on_targets place h)
       on_targets p place m f (inr ne) = absurd (clash m (sym (get_or-set_other marked i p false false ne) ∙ f))
-
-  -- what isn't marked gets no mark
-  pub stays_off : (marked still : List Bool) (v w : List ℕ) → SomeTakeOver net marked still entries v w → (p : ℕ) → get_or marked p false ≡ false → get_or still p false ≡ false
-  stays_off marked still v w T p off = by (cases_Bool (get_or still p false))
-    where
-      by : (get_or still p false ≡ true) ⊎ (get_or still p false ≡ false) → get_or still p false ≡ false
-      by (inl h) = absurd (clash (T.fewer p h) off)
-      by (inr none) = none
 
   -- and then others
   pub others_take_over : Numbered net → (a b c : List Bool) (u v w : List ℕ) → SomeTakeOver net a b entries u v → SomeTakeOver net b c entries v w → SomeTakeOver net a c entries u w
@@ -59,7 +47,7 @@ module _ (net : Netlist) (entries : ℕ → List (Option ℕ)) where
     fewer = λ p h. T.fewer p (S.fewer p h);
     each_net = S.each_net ∙ T.each_net;
     on_targets = λ p place m f h. on_targets p place m f h (cases_Bool (get_or b p false));
-    on_others = λ n free. S.on_others n (λ q at m f h t. free q at (T.fewer q m) f h t) ∙ T.on_others n (λ q at m f h t. free q at m (stays_off b c v w S q f) h t);
+    on_others = λ n free. S.on_others n (λ q at m f h t. free q at (T.fewer q m) f h t) ∙ T.on_others n (λ q at m f h t. free q at m (stays_unmarked b c S.fewer q f) h t);
   }
     where
       same_mark : (p q at place : ℕ) → HasPlace net q at → HasPlace net p place → target net q at ≡ target net p place → get_or b q false ≡ get_or b p false

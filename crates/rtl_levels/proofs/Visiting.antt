@@ -14,23 +14,6 @@ use Rattle.rtl_levels.specs.Marks.{AllAreReaders, AreBelow, IsReader, HasNoMark,
 
 -- ---- processes
 
--- it is one of the first so many
-abbrev pub IsAmong : (processes : List ℕ) (many p : ℕ) → Type 0
-IsAmong processes many p = (k : ℕ) × (k < many) × (get_or processes k 0 ≡ p)
-
-pub none_among : (processes : List ℕ) (p : ℕ) → IsAmong processes 0 p → ⊥
-none_among processes p (k, l, is) = absurd (omega (arith, l))
-
-pub one_more_among : (processes : List ℕ) (i p : ℕ) → IsAmong processes (i + 1) p → IsAmong processes i p ⊎ (p ≡ get_or processes i 0)
-one_more_among processes i p (k, l, is) = by (cases_lt k i)
-  where
-    by : (k < i) ⊎ (i ≤ k) → IsAmong processes i p ⊎ (p ≡ get_or processes i 0)
-    by (inl less) = inl (k, less, is)
-    by (inr le) = let e : k ≡ i = omega (arith, l, le) in inr (sym is ∙ ap (λ (j : ℕ). get_or processes j 0) e)
-
-pub all_among : (processes : List ℕ) (many : ℕ) → length processes ≤ many → (p : ℕ) → Contains processes p → IsAmong processes many p
-all_among processes many all p (k, l, is) = (k, omega (arith, l, all), get_or_default processes k 0 p l ∙ is)
-
 -- the readers of a net are below what all are below
 pub listed_below : (index : List (List ℕ)) (net below : ℕ) → AreBelow index below → (listed : List ℕ) → listed ≡ get_or index net [] → All (λ (k : ℕ). k < below) listed
 listed_below index net below A listed is k d l =

@@ -1,7 +1,7 @@
 -- What the machine takes from its netlist.
 use Rattle.std.proofs.Common.{◌≡◌, ℕ, ◌<◌, ◌≤◌, true, false, List, [], length, get_or, map, Option, sym, ap, subst, ◌∙◌, arith, ◌⊎◌, inl, inr, All}
 use Rattle.std.proofs.lemmas.Bool.{cases_Bool, cases_lt}
-use Rattle.std.proofs.lemmas.List.Elements.{All-filter, All-map}
+use Rattle.std.proofs.lemmas.List.Elements.{All-map}
 use Rattle.std.proofs.lemmas.List.{get_or-set_same, get_or_default, ext_get_or, get_or_past, length-map}
 use Rattle.rtl_model.specs.bodies.Types.{ElementType, KeepsTypes}
 use Rattle.rtl_model.specs.nets.CoreNetlist.{core_process, part_effect}
@@ -23,9 +23,7 @@ use Rattle.rtl_net.specs.declared.process.Driver.{Driver}
 use Rattle.rtl_net.specs.declared.process.Process.{Process}
 use Rattle.rtl_net.specs.Core.{core}
 use Rattle.rtl_levels.specs.Kept.{MayRun}
-use Rattle.rtl_levels.specs.declared.order.Visit.{Visit}
-use Rattle.rtl_levels.specs.Scheduled.{clocked_wakes, marking_nets, marks}
-use Rattle.rtl_levels.specs.Visits.{moves}
+use Rattle.rtl_levels.specs.Scheduled.{clocked_wakes}
 
 -- what a run of a process has left, and what others had left
 module _ (entries : List (Option ℕ)) (p : ℕ) (old new : List Outcome) (R : HasRunOf entries p old new) where
@@ -41,11 +39,6 @@ module _ (net : NetlistView) where
       by : (p < length (flat net).processes) ⊎ (length (flat net).processes ≤ p) → All (λ n. n < length net.types) (process (core net) p).wakes
       by (inl l) = rw (process-core_net (flat net) p) (process_in_range (flat net) R p l).wakes
       by (inr l) = rw (process-core_net (flat net) p, get_or_past (flat net).processes p no_flat_process l) (λ k d m. absurd (omega (arith, m)))
-
-  pub rows_there : IsInRange (flat net) → (nets : List ℕ) (visits : List Visit) → All (λ (ns : List ℕ). All (λ n. n < length net.types) ns) (map (marking_nets (core net) nets) visits)
-  rows_there R nets visits =
-      All-map (λ (ns : List ℕ). All (λ n. n < length net.types) ns) (marking_nets (core net) nets) visits
-      (λ k d l. All-filter (marks (moves (process (core net) (get_or visits k d).process).kind) nets (get_or visits k d)) (λ n. n < length net.types) (process (core net) (get_or visits k d).process).wakes (wakes_there R (get_or visits k d).process))
 
   pub clocked_there : IsInRange (flat net) → All (λ (nets : List ℕ). All (λ n. n < length net.types) nets) (map clocked_wakes (core net).processes)
   clocked_there R =

@@ -92,12 +92,14 @@ pub record IsAtRest (net : Netlist) (before values : List ℕ) : Type 0 where
   -- no input has an event
   pub no_event : (n : ℕ) → IsInput net n → slice_index before n ≡ slice_index values n
 
--- Between the steps of a machine its values have settled, and no process is to run.
-pub record IsMachine (net : Netlist) (schedule : Schedule) (before : List ℕ) (state : State) (woken : List Bool)
+-- Between the steps of a machine its values have settled, and no process is to run or has just run.
+pub record IsMachine (net : Netlist) (schedule : Schedule) (before : List ℕ) (state : State) (woken ran : List Bool)
     : Type 0 where
   pub planned : IsPlanned net schedule
   pub state_is : IsStateOf net schedule state
   pub at_rest : IsAtRest net before state.values.items
   pub each_process : length woken ≡ length net.processes
+  pub each_ran : length ran ≡ length woken
   pub none_dirty : HasNoMark state.dirty.items
   pub none_woken : HasNoMark woken
+  pub none_ran : HasNoMark ran

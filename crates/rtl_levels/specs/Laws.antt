@@ -48,8 +48,8 @@ EachStartIsTaken =
 pub record EdgeIsTaken (net : Netlist) (v : List ℕ) (inputs : ℕ → ℕ) (w : List ℕ) (p clock : ℕ) (edge : Edge)
     : Type 0 where
   -- Whatever the other nets had before, a run of p leaves what its registers have next, but for the reset in w. It
-  -- reads the new inputs, and so does what is done in v itself: without a race no data input changes at an edge, and
-  -- no branch reads a clock.
+  -- reads the new inputs, and what they have next is told by v's. What the branch reads is the same in both: without a
+  -- race no data input changes at an edge, and no branch reads a clock.
   pub taken : (before : List ℕ) (place : ℕ) → slice_index before clock ≡ slice_index v clock
       → behind_reset net w p place
       (entry_or (slice_index_or ((process net p).effect before (with_inputs net inputs v)) place None)

@@ -1,14 +1,16 @@
 -- Who is run when in a moment, and who is sensitive to which net (IEEE 1076-2008, 14.7.5.3).
-use Rattle.std.specs.List.{filter}
-use Rattle.std.specs.Prelude.{◌≡◌, ℕ, ◌⊎◌, ◌↔◌, Bool, true, false, ◌&&◌, nat_le, nat_lt, List, [], ◌∷◌, length, map, slice_index, Contains, Option, Some, None, if◌then◌else◌}
-use Rattle.rtl_model.specs.simulation.Netlist.{Netlist, Process, process}
+use Rattle.std.specs.List.Sorted.{IsNonDecreasingBy}
+use Rattle.std.specs.Prelude.{◌≡◌, ℕ, ◌<◌, ◌≤◌, ◌⊎◌, ◌↔◌, Bool, true, false, List, [], ◌∷◌, length, map, slice_index}
+use Rattle.std.specs.Prelude.{slice_index_or, Contains, Option, Some, None, if◌then◌else◌}
+use Rattle.rtl_model.specs.simulation.Netlist.{Netlist, Process}
 use Rattle.rtl_model.specs.simulation.Levels.{is_clocked}
 use Rattle.rtl_kernel.specs.wakes.Woken.{IsIndex}
 use Rattle.rtl_body_facts.specs.declared.kinds.ProcessKind.{ProcessKind}
 use Rattle.rtl_body_facts.specs.declared.kinds.ProcessKind.TheVariants.{Clocked, Combinational, Mixed}
 use Rattle.rtl_net_groups.specs.declared.cuts.Cut.{Cut}
 use Rattle.rtl_levels.specs.declared.order.Visit.{Visit}
-use Rattle.rtl_levels.specs.Visits.{AreVisits, DrivesAt, HasFirstVisits, HasLevel, is_net, moves}
+use Rattle.rtl_levels.specs.Visits.{AreVisits, DrivesAt, HasFirstVisits, HasLevel, IsFirstAbove, IsMovedBy, TellsFirst}
+use Rattle.rtl_levels.specs.Visits.{is_net, visit_at}
 
 -- whether each process is clocked
 abbrev pub are_clocked : Netlist → List Bool
@@ -23,6 +25,7 @@ clocked_wakes p = if is_clocked p.kind then p.wakes else []
 pub record IsSchedule (net : Netlist) (nets : List ℕ) (visits : List Visit) (readers clocked : List (List ℕ))
     : Type 0 where
   pub visits_are : AreVisits net nets visits
+  pub firsts_are : (rank : ℕ) → rank < length visits → TellsFirst visits rank
   pub readers_are : HasFirstVisits net nets visits readers
   pub clocked_are : IsIndex (map clocked_wakes net.processes) clocked
 
@@ -36,10 +39,6 @@ AreRanked net nets ranked = (p level : ℕ) → Contains ranked (level, p) ↔ D
 abbrev pub AddsLevels : (targets nets : List ℕ) → (p : ℕ) → (old new : List (ℕ × ℕ)) → Type 0
 AddsLevels targets nets p old new =
     (level q : ℕ) → Contains new (level, q) ↔ (Contains old (level, q) ⊎ ((q ≡ p) × HasLevel targets nets level))
-
--- whether the visit is its process's first above this level
-abbrev pub is_first_above : Visit → (level : ℕ) → Bool
-is_first_above visit level = nat_le visit.previous level && nat_lt level visit.level
 
 -- the targets get this level
 pub record GetLevel (targets : List ℕ) (level : ℕ) (old new : List ℕ) : Type 0 where
@@ -59,14 +58,36 @@ kind_moves Combinational n = true
 kind_moves (Clocked clocking) n = is_net clocking.reset n
 kind_moves Mixed n = false
 
--- whether a change of this net marks a visit, where such changes move its process
-abbrev pub marks : (moving : ℕ → Bool) → (nets : List ℕ) → Visit → (n : ℕ) → Bool
-marks moving nets visit n = moving n && is_first_above visit (slice_index nets n)
+-- a net beside its level
+abbrev pub beside_level : (nets : List ℕ) → (n : ℕ) → ℕ × ℕ
+beside_level nets n = (slice_index nets n, n)
 
--- the nets whose changes mark a visit
-abbrev pub marking_nets : Netlist → (nets : List ℕ) → Visit → List ℕ
-marking_nets net nets visit =
-    let p = process net visit.process in filter (marks (moves p.kind) nets visit) p.wakes
+-- the nets whose changes may move p, each beside its level, in order of levels
+pub record AreMoving (net : Netlist) (nets : List ℕ) (p : ℕ) (moving : List (ℕ × ℕ)) : Type 0 where
+  pub each : (level n : ℕ) → Contains moving (level, n) ↔ (IsMovedBy net p n × (slice_index nets n ≡ level))
+  pub in_order : IsNonDecreasingBy (λ m. m.0) moving
+
+-- of each process
+pub record AllAreMoving (net : Netlist) (nets : List ℕ) (all : List (List (ℕ × ℕ))) : Type 0 where
+  pub each_process : length all ≡ length net.processes
+  pub each : (p : ℕ) → p < length all → AreMoving net nets p (slice_index_or all p [])
+
+-- of each visit the nets whose changes mark it, where these may move processes
+pub record AreMarking (moving : List (List (ℕ × ℕ))) (visits : List Visit) (marking : List (List ℕ)) : Type 0 where
+  pub each_visit : length marking ≡ length visits
+  pub each : (rank n : ℕ) → rank < length visits → Contains (slice_index_or marking rank []) n
+      ↔ ((level : ℕ) × Contains (slice_index_or moving (visit_at visits rank).process []) (level, n)
+      × IsFirstAbove visits level rank)
+
+-- the nets from this place on have been added, up to the first that isn't below the level, or to the end
+pub record AddsBelow (moving : List (ℕ × ℕ)) (from level end : ℕ) (old new : List ℕ) : Type 0 where
+  pub from_on : from ≤ end
+  pub within : end ≤ length moving
+  pub below : (k : ℕ) → from ≤ k → k < end → (slice_index_or moving k (0, 0)).0 < level
+  pub ends : end < length moving → level ≤ (slice_index_or moving end (0, 0)).0
+  pub added : (n : ℕ) → Contains new n
+      ↔ (Contains old n
+      ⊎ ((k : ℕ) × (from ≤ k) × (k < end) × ((slice_index_or moving k (0, 0)).1 ≡ n)))
 
 -- the first net of drivers that are one cut
 abbrev pub whole_first : List Cut → Option ℕ

@@ -11,25 +11,24 @@ abbrev pub IsDrivenByMarked : Netlist → List Bool → (n : ℕ) → Type 0
 IsDrivenByMarked net marked n =
     (p : ℕ) × (place : ℕ) × IsTrue (slice_index_or marked p false) × HasPlace net p place × (target net p place ≡ n)
 
--- Of the marked processes those that still are have run from the values before and v, and left
--- these entries. The others would leave none.
-pub record HaveRun (net : Netlist) (before v : List ℕ)
-    (marked still : List Bool) (entries : ℕ → List (Option ℕ)) : Type 0 where
-  pub fewer : (p : ℕ) → IsTrue (slice_index_or still p false) → IsTrue (slice_index_or marked p false)
-  pub ran : (p : ℕ) → IsTrue (slice_index_or still p false) → entries p ≡ (process net p).effect before v
-  pub asleep : (p place : ℕ) → IsTrue (slice_index_or marked p false) → slice_index_or still p false ≡ false
+-- Of the marked processes these have run from the values before and v, and left these entries. The others would leave
+-- none.
+pub record HaveRun (net : Netlist) (before v : List ℕ) (marked ran : List Bool) (entries : ℕ → List (Option ℕ))
+    : Type 0 where
+  pub fewer : (p : ℕ) → IsTrue (slice_index_or ran p false) → IsTrue (slice_index_or marked p false)
+  pub left : (p : ℕ) → IsTrue (slice_index_or ran p false) → entries p ≡ (process net p).effect before v
+  pub asleep : (p place : ℕ) → IsTrue (slice_index_or marked p false) → slice_index_or ran p false ≡ false
       → slice_index_or ((process net p).effect before v) place None ≡ None
 
--- Of these processes those that still are marked have run from the values before and v, and what
--- had run so before still has. Those that no longer are marked would leave nothing.
-pub record SomeHaveRun (net : Netlist) (before v : List ℕ) (these : ℕ → Type 0) (marked still : List Bool)
-    (was entries : ℕ → List (Option ℕ)) : Type 0 where
-  pub as_many : length still ≡ length marked
-  pub fewer : (p : ℕ) → IsTrue (slice_index_or still p false) → IsTrue (slice_index_or marked p false)
-  pub ran : (p : ℕ) → these p → IsTrue (slice_index_or still p false) → entries p ≡ (process net p).effect before v
-  pub stay : (p : ℕ) → was p ≡ (process net p).effect before v → entries p ≡ (process net p).effect before v
-  pub asleep : (p place : ℕ) → IsTrue (slice_index_or marked p false) → slice_index_or still p false ≡ false
-      → slice_index_or ((process net p).effect before v) place None ≡ None
+-- Of the processes that were marked at first some still are, and others have run and left these entries. The rest would
+-- leave none.
+pub record AreRunning (net : Netlist) (before v : List ℕ) (first marked ran : List Bool)
+    (entries : ℕ → List (Option ℕ)) : Type 0 where
+  pub still : (p : ℕ) → IsTrue (slice_index_or marked p false) → IsTrue (slice_index_or first p false)
+  pub fewer : (p : ℕ) → IsTrue (slice_index_or ran p false) → IsTrue (slice_index_or first p false)
+  pub left : (p : ℕ) → IsTrue (slice_index_or ran p false) → entries p ≡ (process net p).effect before v
+  pub asleep : (p place : ℕ) → IsTrue (slice_index_or first p false) → slice_index_or marked p false ≡ false
+      → slice_index_or ran p false ≡ false → slice_index_or ((process net p).effect before v) place None ≡ None
 
 -- The marked processes' entries, taken over together.
 pub record AllTakeOver (net : Netlist) (marked : List Bool) (entries : ℕ → List (Option ℕ)) (v w : List ℕ)

@@ -20,7 +20,7 @@ pub record AreNetLevels (net : Netlist) (nets : List ℕ) : Type 0 where
 -- ---- visits
 
 abbrev pub no_visit : Visit
-no_visit = record { process = 0; level = 0; previous = 0 }
+no_visit = record { process = 0; level = 0; first = false }
 
 -- a visit's rank is its place among all
 abbrev pub visit_at : List Visit → (rank : ℕ) → Visit
@@ -30,7 +30,7 @@ visit_at visits rank = slice_index_or visits rank no_visit
 abbrev pub HasLevel : (targets nets : List ℕ) → (level : ℕ) → Type 0
 HasLevel targets nets level = (level ≢ 0) × ((n : ℕ) × Contains targets n × (slice_index nets n ≡ level))
 
--- one of the nets that p drives has this level
+-- one of the nets that p drives has this level, which isn't 0
 abbrev pub DrivesAt : Netlist → (nets : List ℕ) → (p level : ℕ) → Type 0
 DrivesAt net nets p level = HasLevel (process net p).drives nets level
 
@@ -50,13 +50,11 @@ pub record AreVisits (net : Netlist) (nets : List ℕ) (visits : List Visit) : T
   pub once : (j k : ℕ) → j < k → k < length visits → (visit_at visits j).process ≡ (visit_at visits k).process
       → (visit_at visits j).level < (visit_at visits k).level
 
--- what a visit says of its process's visits before it: the greatest level of theirs, 0 without any
-pub record TellsPrevious (visits : List Visit) (rank : ℕ) : Type 0 where
-  pub none_above : (k : ℕ) → k < rank → (visit_at visits k).process ≡ (visit_at visits rank).process
-      → (visit_at visits k).level ≤ (visit_at visits rank).previous
-  pub met : ((visit_at visits rank).previous ≡ 0)
-      ⊎ ((k : ℕ) × (k < rank) × ((visit_at visits k).process ≡ (visit_at visits rank).process)
-      × ((visit_at visits k).level ≡ (visit_at visits rank).previous))
+-- whether a visit is its process's first
+abbrev pub TellsFirst : List Visit → (rank : ℕ) → Type 0
+TellsFirst visits rank =
+    IsTrue (visit_at visits rank).first
+    ↔ ((k : ℕ) → k < rank → (visit_at visits k).process ≡ (visit_at visits rank).process → ⊥)
 
 -- ---- marks
 

@@ -1,13 +1,13 @@
 //! The clocked processes of a moment.
 
-ghost use Rattle.std.specs.Prelude.{◌≡◌, ◌<◌, ⊤, false, length, slice_index_or, All, Contains};
+ghost use Rattle.std.specs.Prelude.{◌≡◌, ◌<◌, ⊤, ℕ, Bool, false, length, slice_index_or, All, IsTrue, List};
 ghost use Rattle.rtl_model.specs.simulation.Range.{IsValuation};
 ghost use Rattle.rtl_kernel.specs.wakes.Woken.{wakers_of};
 ghost use Rattle.rtl_net.specs.Core.{core};
 ghost use Rattle.rtl_levels.specs.Kept.{AreRunsOf, AreSensitive, IsPlanned, IsStateOf, MayRun, entries_of};
 ghost use Rattle.rtl_levels.specs.Marks.{HasNoMark};
 ghost use Rattle.rtl_levels.specs.States.{Advances};
-ghost use Rattle.rtl_levels.specs.Steps.{AllTakeOver, HaveRun, SomeHaveRun, SomeTakeOver};
+ghost use Rattle.rtl_levels.specs.Steps.{AllTakeOver, AreRunning, HaveRun, SomeTakeOver};
 
 use crate::entries::take_over;
 use crate::marks::readers_of;
@@ -24,17 +24,18 @@ use vhdl_values::Nine;
 /// one has is near anyway.
 const AHEAD: usize = 1_024;
 
-/// Runs the marked processes, each of which is sensitive to a net of these changes, and takes the
-/// marks off those that would assign nothing since the edge that they act at isn't there. Nothing
-/// is taken over, so each of them reads what was there before any of them ran, and one that is
-/// sensitive to several of these nets leaves the same for each. It takes time for the processes
-/// that are sensitive to these nets, and for no others.
+/// Runs the marked processes, each of which is sensitive to a net of these changes, once each, and
+/// takes their marks off. Those that would assign nothing since the edge that they act at isn't
+/// there don't run; the others are put down in `ran`. Nothing is taken over, so each of them reads
+/// what was there before any of them ran. Besides the runs it takes time for the processes that are
+/// sensitive to these nets, and for no others.
 pub fn run_marked<E: Exec>(
     net: &Net,
     bodies: &[E],
     schedule: &Schedule,
     changes: &[(usize, Nine)],
     marked: &mut Vec<bool>,
+    ran: &mut Vec<bool>,
     before: &[u8],
     values: &[u8],
     runs: &mut Vec<Drives>,
@@ -46,15 +47,19 @@ pub fn run_marked<E: Exec>(
     requires before { IsValuation (core net.now) before.now }
     requires values { IsValuation (core net.now) values.now }
     requires each_process { length marked.old.items ≡ length (core net.now).processes }
+    requires each_ran { length ran.old.items ≡ length marked.old.items }
+    requires none_ran { HasNoMark ran.old.items }
     ensures may { MayRun E.process E.types E.most net.now bodies.now runs.new.items }
     ensures each_process { length marked.new.items ≡ length marked.old.items }
-    ensures ran { HaveRun (core net.now) before.now values.now marked.old.items marked.new.items
+    ensures each_ran { length ran.new.items ≡ length ran.old.items }
+    ensures none_marked { HasNoMark marked.new.items }
+    ensures ran { HaveRun (core net.now) before.now values.now marked.old.items ran.new.items
         (entries_of runs.new.items) }
 {
     for (changed, _value) in changes {
         let processes = readers_of(&schedule.clocked, *changed);
         run_each(
-            net, bodies, schedule, processes, marked, before, values, runs, ahead,
+            net, bodies, schedule, processes, marked, ran, before, values, runs, ahead,
         );
     }
 }
@@ -67,6 +72,7 @@ fn run_each<E: Exec>(
     schedule: &Schedule,
     processes: &[usize],
     marked: &mut Vec<bool>,
+    ran: &mut Vec<bool>,
     before: &[u8],
     values: &[u8],
     runs: &mut Vec<Drives>,
@@ -78,9 +84,18 @@ fn run_each<E: Exec>(
     requires before { IsValuation (core net.now) before.now }
     requires values { IsValuation (core net.now) values.now }
     requires each_process { length marked.old.items ≡ length (core net.now).processes }
+    requires each_ran { length ran.old.items ≡ length marked.old.items }
     ensures may { MayRun E.process E.types E.most net.now bodies.now runs.new.items }
-    ensures ran { SomeHaveRun (core net.now) before.now values.now (Contains processes.now)
-        marked.old.items marked.new.items (entries_of runs.old.items) (entries_of runs.new.items) }
+    ensures each_process { length marked.new.items ≡ length marked.old.items }
+    ensures each_ran { length ran.new.items ≡ length ran.old.items }
+    ensures off { All (λ p. slice_index_or marked.new.items p false ≡ false) processes.now }
+    ensures fewer { (p : ℕ) → IsTrue (slice_index_or marked.new.items p false)
+        → IsTrue (slice_index_or marked.old.items p false) }
+    ensures running { (first : List Bool)
+        → AreRunning (core net.now) before.now values.now first marked.old.items ran.old.items
+        (entries_of runs.old.items)
+        → AreRunning (core net.now) before.now values.now first marked.new.items ran.new.items
+        (entries_of runs.new.items) }
 {
     let mut seen = Look {
         leader: schedule.edges.len(),
@@ -89,11 +104,11 @@ fn run_each<E: Exec>(
     for place in 0..processes.len() {
         let process = processes[place];
         if marked[process] {
+            marked[process] = false;
             let leader = schedule.leaders[process];
             seen = look_at(seen, &schedule.edges, leader, before, values);
-            if seen.asleep {
-                marked[process] = false;
-            } else {
+            if !seen.asleep {
+                ran[process] = true;
                 look_ahead(bodies, runs, processes, place + 1, ahead);
                 run(net, bodies, process, before, values, runs);
             }

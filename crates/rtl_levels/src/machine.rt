@@ -40,9 +40,9 @@ use vhdl_values::Nine;
 /// the clocked processes that are sensitive to what changes, with the new inputs and before
 /// anything else changes, and then visits, in order of levels, each combinational process of which
 /// something that it is sensitive to changes, and each clocked one whose reset does, where a
-/// process drives that: at the first level of the nets that it drives above that of what changes.
-/// A visit sees no event, so of a clocked process it takes its reset's branch alone. `new` and
-/// `leveled` take all memory, and no other call takes any.
+/// process drives that: at the first level of the nets that it drives above that of what changes,
+/// if one is above. A visit sees no event, so of a clocked process it takes its reset's branch
+/// alone. `new` and `leveled` take all memory, and no other call takes any.
 pub struct Machine<'a, E: Exec> {
     net: &'a Net,
     bodies: &'a [E],
@@ -54,13 +54,15 @@ pub struct Machine<'a, E: Exec> {
     runs: Vec<Drives>,
     /// The clocked processes that are to run, by number.
     woken: Vec<bool>,
+    /// Those that have run, until what they assign is taken over.
+    ran: Vec<bool>,
     /// What was read of the clocked process that may run next. Nothing asks for it.
     ahead: usize,
 }
 
 impl<E: Exec> Drop for Machine<'_, E> {
     fn drop(self) {
-        take_apart!(self: { net, bodies, schedule, before, state, runs, woken, ahead });
+        take_apart!(self: { net, bodies, schedule, before, state, runs, woken, ran, ahead });
     }
 }
 
@@ -79,7 +81,7 @@ impl<'a, E: Exec> Model for Machine<'a, E> {
     ghost view = { λ m. record { net = m.net.now; values = m.state.values.items; touched = m.state.touched } };
 
     ghost invariant = { λ m. MayRun E.process E.types E.most m.net.now m.bodies.now m.runs.items
-        × IsMachine (core m.net.now) m.schedule m.before.items m.state m.woken.items };
+        × IsMachine (core m.net.now) m.schedule m.before.items m.state m.woken.items m.ran.items };
 }
 
 impl<'a, E: Exec> Machine<'a, E> {
@@ -129,10 +131,11 @@ impl<'a, E: Exec> Machine<'a, E> {
         let mut woken = clocked_processes(alloc, &kinds)?;
         let schedule = Schedule::new(alloc, net, &kinds, &woken, nets)?;
         let mut runs = fresh_outcomes(alloc, net.processes(), bodies)?;
-        let mut state = State::new(alloc, values, schedule.visits.len())?;
+        let mut state = State::new(alloc, values, &schedule.visits)?;
+        let mut ran = vec![in alloc; false; woken.len()]?;
         let mut ahead = 0;
         come_to_rest(
-            net, bodies, &schedule, &changes, &before, &mut runs, &mut woken, &mut state,
+            net, bodies, &schedule, &changes, &before, &mut runs, &mut woken, &mut ran, &mut state,
             &mut ahead,
         );
         Ok(Machine {
@@ -143,6 +146,7 @@ impl<'a, E: Exec> Machine<'a, E> {
             state,
             runs,
             woken,
+            ran,
             ahead,
         })
     }
@@ -184,6 +188,7 @@ impl<'a, E: Exec> Machine<'a, E> {
             &self.before,
             &mut self.runs,
             &mut self.woken,
+            &mut self.ran,
             &mut self.state,
             &mut self.ahead,
         );
@@ -201,6 +206,7 @@ fn come_to_rest<E: Exec>(
     before: &[u8],
     runs: &mut Vec<Drives>,
     woken: &mut Vec<bool>,
+    ran: &mut Vec<bool>,
     state: &mut State,
     ahead: &mut usize,
 )
@@ -208,6 +214,8 @@ fn come_to_rest<E: Exec>(
     requires planned { IsPlanned (core net.now) schedule.now }
     requires sensitive { AreSensitive (wakers_of schedule.now.clocked) changes.now woken.old.items }
     requires each_process { length woken.old.items ≡ length (core net.now).processes }
+    requires each_ran { length ran.old.items ≡ length woken.old.items }
+    requires none_ran { HasNoMark ran.old.items }
     requires before { IsValuation (core net.now) before.now }
     requires state { IsStateOf (core net.now) schedule.now state.old }
     requires settled { AreSettledOrToCome (core net.now) schedule.now 0 state.old }
@@ -217,7 +225,9 @@ fn come_to_rest<E: Exec>(
         state.old.values.items state.new.values.items }
     ensures touched { Touches state.old.touched state.new.touched state.old.values.items state.new.values.items }
     ensures each_process { length woken.new.items ≡ length woken.old.items }
+    ensures each_ran { length ran.new.items ≡ length ran.old.items }
     ensures none_woken { HasNoMark woken.new.items }
+    ensures none_ran { HasNoMark ran.new.items }
     ensures none_dirty { HasNoMark state.new.dirty.items }
 {
     run_marked(
@@ -226,11 +236,12 @@ fn come_to_rest<E: Exec>(
         schedule,
         changes,
         woken,
+        ran,
         before,
         &state.values,
         runs,
         ahead,
     );
-    take_marked(net, runs, schedule, changes, woken, state);
+    take_marked(net, runs, schedule, changes, ran, state);
     sweep(net, bodies, schedule, runs, state);
 }

@@ -1,12 +1,14 @@
 //! Who is run when.
 
-ghost use Rattle.std.specs.Prelude.{◌≡◌, ◌<◌, ◌++◌, All, length, map, IfOk, OnOk};
+ghost use Rattle.std.specs.Prelude.{◌≡◌, ◌<◌, ◌≤◌, ◌++◌, All, length, map, IfOk, OnOk};
 ghost use Rattle.std.specs.List.{filter};
+ghost use Rattle.std.specs.List.Sorted.{IsNonDecreasingBy};
 ghost use Rattle.rtl_model.specs.simulation.Accepted.{IsAccepted};
 ghost use Rattle.rtl_net.specs.Core.{core};
 ghost use Rattle.rtl_process_kinds.specs.KindViews.{AreKinds};
 ghost use Rattle.rtl_levels.specs.Kept.{IsPlanned};
-ghost use Rattle.rtl_levels.specs.Scheduled.{are_clocked, clocked_wakes, kind_moves, marking_nets, marks};
+ghost use Rattle.rtl_levels.specs.Scheduled.{AddsBelow, AllAreMoving, AreMarking};
+ghost use Rattle.rtl_levels.specs.Scheduled.{are_clocked, beside_level, clocked_wakes, kind_moves};
 ghost use Rattle.rtl_levels.specs.Visits.{AreNetLevels};
 
 use crate::clocking::moves;
@@ -53,7 +55,8 @@ impl Schedule {
     {
         let together = vec![in alloc; 0; net.nets()]?;
         let visits = visits_of(alloc, net, nets)?;
-        let by_rank = marking_nets(alloc, net, kinds, nets, &visits)?;
+        let moving = moving_nets(alloc, net, kinds, nets)?;
+        let by_rank = marking_nets(alloc, &visits, &moving)?;
         let by_process = wakes_of_clocked(alloc, net, clocked)?;
         let readers = Groups::new(alloc, &together, &by_rank)?;
         let clocked = Groups::new(alloc, &together, &by_process)?;
@@ -74,55 +77,96 @@ impl Schedule {
     }
 }
 
-/// Of each visit the nets whose changes mark it.
-fn marking_nets(
+/// Of each process the nets whose changes may move it, beside their levels, in order of these.
+fn moving_nets(
     alloc: Global,
     net: &Net,
     kinds: &[ProcessKind],
     nets: &[u32],
-    visits: &[Visit],
-) -> Result<Lists<usize>, AllocError>
+) -> Result<Lists<(u32, usize)>, AllocError>
     requires kinds { AreKinds (core net.now) kinds.now }
-    requires processes { All (λ visit. visit.process < length net.now.processes) visits.now }
     requires nets { length nets.now ≡ length net.now.types }
-    ensures { IfOk result (λ lists. lists ≡ map (marking_nets (core net.now) nets.now) visits.now) }
+    ensures { IfOk result (AllAreMoving (core net.now) nets.now) }
 {
     net.is_elaborated();
     let processes = net.processes();
     let mut lists = Lists::new(alloc)?;
+    let mut moving = Vec::new(alloc);
+    for number in 0..processes.len() {
+        moving.clear();
+        let wakes = processes[number].wakes.as_slice();
+        push_moving(kinds[number], nets, wakes, &mut moving)?;
+        moving.sort_unstable_by_key(|m| m.0);
+        lists.push(&moving)?;
+    }
+    Ok(lists)
+}
+
+/// Puts those of these nets that may move a process of this kind behind the others, each beside its
+/// level.
+fn push_moving(
+    kind: ProcessKind,
+    nets: &[u32],
+    wakes: &[usize],
+    moving: &mut Vec<(u32, usize)>,
+) -> Result<(), AllocError>
+    requires { All (λ n. n < length nets.now) wakes.now }
+    ensures { OnOk result (moving.new.items
+        ≡ moving.old.items ++ map (beside_level nets.now) (filter (kind_moves kind) wakes.now)) }
+{
+    for net in wakes {
+        if moves(kind, *net) {
+            moving.push((nets[*net], *net))?;
+        }
+    }
+    Ok(())
+}
+
+/// Of each visit the nets whose changes mark it, where these may move processes: of those of its
+/// process the ones that are below the visit's level, and that no visit before it has taken. Each
+/// is taken once.
+fn marking_nets(
+    alloc: Global,
+    visits: &[Visit],
+    moving: &Lists<(u32, usize)>,
+) -> Result<Lists<usize>, AllocError>
+    requires processes { All (λ visit. visit.process < length moving.now) visits.now }
+    requires in_order { All (IsNonDecreasingBy (λ m. m.0)) moving.now }
+    ensures { IfOk result (AreMarking moving.now visits.now) }
+{
+    let mut taken = vec![in alloc; 0; moving.count()]?;
+    let mut lists = Lists::new(alloc)?;
     let mut marking = Vec::new(alloc);
     for visit in visits {
+        let process = visit.process;
         marking.clear();
-        push_marking(
-            kinds[visit.process],
-            nets,
-            *visit,
-            processes[visit.process].wakes.as_slice(),
-            &mut marking,
-        )?;
+        let nets = moving.get(process);
+        let end = push_below(nets, taken[process], visit.level, &mut marking)?;
+        taken[process] = end;
         lists.push(&marking)?;
     }
     Ok(lists)
 }
 
-/// Of these nets those whose changes mark a visit of a process of this kind.
-fn push_marking(
-    kind: ProcessKind,
-    nets: &[u32],
-    visit: Visit,
-    wakes: &[usize],
+/// Puts the nets from this place on, up to the first that isn't below the level, behind the others.
+/// It returns that one's place.
+fn push_below(
+    moving: &[(u32, usize)],
+    from: usize,
+    level: u32,
     marking: &mut Vec<usize>,
-) -> Result<(), AllocError>
-    requires { All (λ n. n < length nets.now) wakes.now }
-    ensures { OnOk result (marking.new.items ≡ marking.old.items
-        ++ filter (marks (kind_moves kind) nets.now visit) wakes.now) }
+) -> Result<usize, AllocError>
+    requires { from ≤ length moving.now }
+    ensures { IfOk result (λ end. AddsBelow moving.now from level end marking.old.items marking.new.items) }
 {
-    for net in wakes {
-        if moves(kind, *net) && visit.is_first_above(nets[*net]) {
-            marking.push(*net)?;
+    for place in from..moving.len() {
+        let (of_net, net) = moving[place];
+        if of_net >= level {
+            return Ok(place);
         }
+        marking.push(net)?;
     }
-    Ok(())
+    Ok(moving.len())
 }
 
 /// Of each process the nets that it is sensitive to, where it is clocked.

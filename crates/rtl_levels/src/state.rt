@@ -1,9 +1,10 @@
 //! The values of the nets, and what their changes mark.
 
-ghost use Rattle.std.specs.Prelude.{◌≡◌, ℕ, ◌<◌, true, false, length, slice_index_or, slice_set, IfOk};
+ghost use Rattle.std.specs.Prelude.{◌≡◌, ◌<◌, length, map, slice_set, IfOk};
 ghost use Rattle.rtl_levels.specs.States.{Advances, GetValues, HaveReaders, StandTogether};
 
 use crate::marks::{mark, mark_readers, readers_of};
+use crate::order::Visit;
 use rtl_net_groups::{Groups, Touched, replace};
 use std::alloc::{AllocError, Global};
 
@@ -17,14 +18,16 @@ pub struct State {
 }
 
 impl State {
-    /// These values, where all of so many visits are to be made.
-    pub fn new(alloc: Global, values: Vec<u8>, ranks: usize) -> Result<State, AllocError>
+    /// These values, where each process's first visit is to be made.
+    pub fn new(alloc: Global, values: Vec<u8>, visits: &[Visit]) -> Result<State, AllocError>
         ensures values { IfOk result (λ s. s.values.items ≡ values.items) }
-        ensures each_rank { IfOk result (λ s. length s.dirty.items ≡ ranks) }
-        ensures all_dirty { IfOk result (λ s. (k : ℕ) → k < ranks → slice_index_or s.dirty.items k false ≡ true) }
+        ensures first_dirty { IfOk result (λ s. s.dirty.items ≡ map (λ visit. visit.first) visits.now) }
         ensures each_chunk { IfOk result (λ s. s.touched.nets ≡ length values.items) }
     {
-        let dirty = vec![in alloc; true; ranks]?;
+        let mut dirty = Vec::with_capacity(alloc, visits.len())?;
+        for visit in visits {
+            dirty.push(visit.first)?;
+        }
         let touched = Touched::new(alloc, values.len())?;
         Ok(State {
             values,

@@ -12,7 +12,8 @@ use Rattle.rtl_net.specs.Nets.{flat}
 use Rattle.rtl_levels.specs.Kept.{entries_of}
 use Rattle.rtl_levels.specs.States.{StateTakesOver}
 use Rattle.rtl_levels.proofs.Advancing.{advances_none, advances_then, advances_wider, have_readers, still_state}
-use Rattle.rtl_levels.proofs.Together.{none_takes_over, one_takes_over, others_take_over, stays_off, taken_in_range}
+use Rattle.rtl_levels.proofs.Awake.{stays_unmarked}
+use Rattle.rtl_levels.proofs.Together.{none_takes_over, one_takes_over, others_take_over, taken_in_range}
 use Rattle.rtl_levels.proofs.Wired.{processes_many}
 use Rattle.rtl_levels.proofs.clocked.take_each.Goals as goal
 use Rattle.rtl_levels.proofs.clocked.take_each.Goals.{then-index, else-index}
@@ -75,7 +76,7 @@ loop-process-preserved c =
           record {
             taken = others_take_over net entries L first marked (set marked p false) v u u' I.taken T;
             off = below_more (λ (k : ℕ). get_or (set marked p false) (get_or processes k 0) false ≡ false) i
-                (λ k l. stays_off net entries marked (set marked p false) u u' T (get_or processes k 0) (I.off k l)) (get_or-set_same marked p false false in_marked);
+                (λ k l. stays_unmarked marked (set marked p false) T.fewer (get_or processes k 0) (I.off k l)) (get_or-set_same marked p false false in_marked);
             state = still_state net schedule (λ n. ⊤) old new I.state F
                 (taken_in_range net p (entries p) u u' O.taken I.state.in_range (λ place x h e. c.requires.runs.in_range p place x (I.taken.fewer p mark) h e));
             advances = advances_then readers (λ n. ⊤) start old new I.advances F;

@@ -8,8 +8,9 @@ use Rattle.rtl_net.specs.Core.{core}
 use Rattle.rtl_levels.specs.Kept.{entries_of}
 use Rattle.rtl_levels.specs.Marks.{IsReader}
 use Rattle.rtl_levels.proofs.Advancing.{advances_none, advances_then}
+use Rattle.rtl_levels.proofs.Awake.{stays_unmarked}
 use Rattle.rtl_levels.proofs.Stepping.{clocked_below}
-use Rattle.rtl_levels.proofs.Together.{all_take_over, none_takes_over, others_take_over, stays_off}
+use Rattle.rtl_levels.proofs.Together.{all_take_over, none_takes_over, others_take_over}
 use Rattle.rtl_levels.proofs.Visiting.{IsComeBy, listed_below, none_come_by, none_left, one_more_come_by}
 use Rattle.rtl_levels.proofs.clocked.take_marked.Goals as goal
 
@@ -54,8 +55,7 @@ loop-changed-preserved c =
     off : (p : ℕ) → IsComeBy index c.args.changes.now c.loop-changed.changed-index p ⊎ IsReader index (get_or c.args.changes.now c.loop-changed.changed-index (0, U)).0 p
         → get_or c.take_each.new.marked.items p false ≡ false
     off p (inl come) =
-        stays_off (core c.args.net.now) (entries_of c.args.runs.now) c.loop-changed.marked.items c.take_each.new.marked.items c.loop-changed.state.values.items c.take_each.new.state.values.items
-        c.take_each.ensures.taken p (c.loop-changed.invariant.off p come)
+        stays_unmarked c.loop-changed.marked.items c.take_each.new.marked.items c.take_each.ensures.taken.fewer p (c.loop-changed.invariant.off p come)
     off p (inr f) =
         All-contains (λ (q : ℕ). get_or c.take_each.new.marked.items q false ≡ false) c.readers_of-processes.result.now p c.take_each.ensures.off
         (subst (λ (xs : List ℕ). Contains xs p) (sym c.readers_of-processes.ensures) f)

@@ -6,7 +6,7 @@ use Rattle.rtl_net.specs.Core.{core}
 use Rattle.rtl_net.specs.Nets.{flat}
 use Rattle.rtl_net.specs.declared.process.Process.{Process}
 use Rattle.rtl_levels.specs.Scheduled.{GetLevel}
-use Rattle.rtl_levels.proofs.Leveling.{all_zero, levels_more, levels_none, levels_skip, net_levels}
+use Rattle.rtl_levels.proofs.Leveling.{all_same, levels_more, levels_none, levels_skip, net_levels}
 use Rattle.rtl_levels.proofs.Wired.{drives_looked_up, processes_many}
 use Rattle.rtl_levels.proofs.levels.levels_of_nets.Goals as goal
 use Rattle.rtl_levels.proofs.levels.levels_of_nets.Goals.{in-Some, in_default}
@@ -18,7 +18,7 @@ loop-process-init c =
     let zeros = c.in_ok-nets.ensures.items_if_clones_equal (λ y e. e) in
     let many : length c.in_ok-nets.nets.items ≡ length net.types = ap length zeros ∙ length-replicate c.nets.result 0 ∙ c.nets.ensures.count in
     levels_none (core net) (connected_is_elaborated (flat net) N.in_range N.connected) c.requires.accepted c.args.levels.now c.in_ok-nets.nets.items
-    (many ∙ sym N.in_range.each_starts) (λ n. ap (λ (xs : List ℕ). get_or xs n 0) zeros ∙ all_zero _ n)
+    (many ∙ sym N.in_range.each_starts) (λ n. ap (λ (xs : List ℕ). get_or xs n 0) zeros ∙ all_same _ n 0)
 
 pub bounds-levels-process : goal.bounds-levels-process
 bounds-levels-process c =

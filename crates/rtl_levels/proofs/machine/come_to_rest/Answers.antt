@@ -31,6 +31,12 @@ run_marked-requires-clause-values g c = rw (c.deref.ensures.value) c.requires.st
 pub run_marked-requires-clause-each_process : goal.run_marked-requires-clause-each_process
 run_marked-requires-clause-each_process g c = c.requires.each_process
 
+pub run_marked-requires-clause-each_ran : goal.run_marked-requires-clause-each_ran
+run_marked-requires-clause-each_ran g c = c.requires.each_ran
+
+pub run_marked-requires-clause-none_ran : goal.run_marked-requires-clause-none_ran
+run_marked-requires-clause-none_ran g c = c.requires.none_ran
+
 pub take_marked-requires-clause-planned : goal.take_marked-requires-clause-planned
 take_marked-requires-clause-planned g c = c.requires.planned
 
@@ -41,10 +47,10 @@ take_marked-requires-clause-runs g c =
     let v = c.args.state.now.values.items in
     let R = c.run_marked.ensures.ran in
     let may = c.run_marked.ensures.may in
-    let ran : (p : ℕ) → get_or c.run_marked.new.marked.items p false ≡ true → entries_of c.deref-2.result.now p ≡ (process net p).effect before v =
-    λ p m. ap (λ os. entries_of os p) c.deref-2.ensures.value ∙ R.ran p m ∙ ap (λ (u : List ℕ). (process net p).effect before u) c.deref.ensures.value in
+    let ran : (p : ℕ) → get_or c.run_marked.new.ran.items p false ≡ true → entries_of c.deref-2.result.now p ≡ (process net p).effect before v =
+    λ p m. ap (λ os. entries_of os p) c.deref-2.ensures.value ∙ R.left p m ∙ ap (λ (u : List ℕ). (process net p).effect before u) c.deref.ensures.value in
     record {
-      each_process = c.run_marked.ensures.each_process ∙ c.requires.each_process;
+      each_process = c.run_marked.ensures.each_ran ∙ c.requires.each_ran ∙ c.requires.each_process;
       each_run = rw (c.deref-2.ensures.value) (runs_many _ _ _ _ _ _ may);
       own = rw (c.deref-2.ensures.value) may.room.own;
       in_range = λ p place x m h e. (keeps_range (flat c.args.net.now) c.requires.may.in_range).effect_in_range p place x before v c.requires.before c.requires.state.in_range h
@@ -73,10 +79,10 @@ sweep-requires-clause-settled g c P p place d has =
     let v = c.args.state.now.values.items in
     let R = c.run_marked.ensures.ran in
     let E = c.take_marked.ensures in
-    stays_to_come net c.args.schedule.now P c.run_marked.new.marked.items
+    stays_to_come net c.args.schedule.now P c.run_marked.new.ran.items
     (λ p m. woken_clocked _ _ c.requires.planned _ _ c.requires.sensitive p (R.fewer p m))
     (entries_of c.deref-2.result.now) before v c.take_marked.new.state.values.items
-    (λ p m. ap (λ os. entries_of os p) c.deref-2.ensures.value ∙ R.ran p m ∙ ap (λ (u : List ℕ). (process net p).effect before u) c.deref.ensures.value) E.taken
+    (λ p m. ap (λ os. entries_of os p) c.deref-2.ensures.value ∙ R.left p m ∙ ap (λ (u : List ℕ). (process net p).effect before u) c.deref.ensures.value) E.taken
     (λ n. ⊤) c.args.state.now.dirty.items c.take_marked.new.state.dirty.items E.advances.marks p place d has (c.requires.settled P p place d has)
 
 pub returns-clause-rest : goal.returns-clause-rest
@@ -88,7 +94,7 @@ returns-clause-rest g c =
     let R = rw (c.deref.ensures.value, ← c.deref-2.ensures.value) at c.run_marked.ensures.ran in
     record {
       between = w;
-      taken = with_asleep net (numbered net P.elaborated P.accepted) c.args.before.now v w c.args.woken.now.items c.run_marked.new.marked.items (entries_of c.deref-2.result.now) R c.take_marked.ensures.taken;
+      taken = with_asleep net (numbered net P.elaborated P.accepted) c.args.before.now v w c.args.woken.now.items c.run_marked.new.ran.items (entries_of c.deref-2.result.now) R c.take_marked.ensures.taken;
       swept = c.sweep.ensures.swept;
     }
 
@@ -102,10 +108,16 @@ pub returns-clause-touched : goal.returns-clause-touched
 returns-clause-touched g c = touches_then _ _ _ _ _ _ c.take_marked.ensures.advances.touched c.sweep.ensures.touched
 
 pub returns-clause-each_process : goal.returns-clause-each_process
-returns-clause-each_process g c = c.take_marked.ensures.each_process ∙ c.run_marked.ensures.each_process
+returns-clause-each_process g c = c.run_marked.ensures.each_process
+
+pub returns-clause-each_ran : goal.returns-clause-each_ran
+returns-clause-each_ran g c = c.take_marked.ensures.each_process ∙ c.run_marked.ensures.each_ran
 
 pub returns-clause-none_woken : goal.returns-clause-none_woken
-returns-clause-none_woken g c = c.take_marked.ensures.none_marked
+returns-clause-none_woken g c = c.run_marked.ensures.none_marked
+
+pub returns-clause-none_ran : goal.returns-clause-none_ran
+returns-clause-none_ran g c = c.take_marked.ensures.none_marked
 
 pub returns-clause-none_dirty : goal.returns-clause-none_dirty
 returns-clause-none_dirty g c = c.sweep.ensures.none_dirty

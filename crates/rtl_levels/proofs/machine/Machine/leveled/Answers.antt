@@ -1,4 +1,4 @@
-use Rattle.std.proofs.Common.{refl, length, ap, sym, subst, ◌∙◌, arith, inr}
+use Rattle.std.proofs.Common.{refl, Bool, false, List, get_or, length, ap, sym, subst, ◌∙◌, arith, inr}
 use Rattle.std.proofs.lemmas.List.{length-map}
 use Rattle.std.proofs.lemmas.Result.{IfOk-from_err}
 use Rattle.rtl_model.proofs.basics.Lists.{in_contains}
@@ -11,9 +11,10 @@ use Rattle.rtl_net.specs.Nets.{flat, process_view}
 use Rattle.rtl_net.specs.Core.{core}
 use Rattle.rtl_levels.specs.Marks.{IsGiven}
 use Rattle.rtl_process_kinds.specs.KindViews.{AreKinds}
-use Rattle.rtl_model.proofs.simulation.Levels.{numbered}
 use Rattle.rtl_levels.proofs.Clocks.{woken_are}
-use Rattle.rtl_levels.proofs.Coming.{visited_at}
+use Rattle.rtl_levels.specs.declared.order.Visit.{Visit}
+use Rattle.rtl_levels.proofs.Coming.{first_to_come}
+use Rattle.rtl_levels.proofs.Leveling.{all_same}
 use Rattle.rtl_levels.proofs.Changed.{first_in_range, inputs_below}
 use Rattle.rtl_levels.proofs.Machines.{clocked_marked, kept_first, marked_follow}
 use Rattle.rtl_levels.proofs.Stepping.{is_first}
@@ -57,10 +58,10 @@ pub come_to_rest-requires-clause-sensitive : goal.come_to_rest-requires-clause-s
 come_to_rest-requires-clause-sensitive g c =
     let net = c.args.net.now in
     record {
-      there = rw (c.deref-6.ensures.value, c.in_ok-schedule.ensures.each_clocked)
+      there = rw (c.deref-7.ensures.value, c.in_ok-schedule.ensures.each_clocked)
           (changes_below net.inputs c.args.initial.now c.requires.initial c.in_ok-changes.changes.items (rw (c.inputs.ensures) at c.in_ok-changes.ensures) (length net.starts)
           (inputs_below (flat net) c.is_elaborated.ensures.in_range));
-      readers = rw (c.deref-6.ensures.value, c.in_ok-changes.ensures, c.inputs.ensures, (woken_are (core c.args.net.now) c.in_ok-woken.woken.items c.deref-3.result.now c.in_ok-kinds.kinds.items c.in_ok-woken.ensures c.deref-3.ensures.value c.in_ok-kinds.ensures))
+      readers = rw (c.deref-7.ensures.value, c.in_ok-changes.ensures, c.inputs.ensures, (woken_are (core c.args.net.now) c.in_ok-woken.woken.items c.deref-3.result.now c.in_ok-kinds.kinds.items c.in_ok-woken.ensures c.deref-3.ensures.value c.in_ok-kinds.ensures))
           (marked_follow (core net) c.in_ok-schedule.schedule c.in_ok-schedule.ensures (IsGiven (each_given net.inputs c.args.initial.now))
           (λ n is. each_is_given net.inputs c.args.initial.now c.requires.initial n (in_contains net.inputs n is)));
     }
@@ -74,7 +75,7 @@ come_to_rest-requires-clause-before g c =
     let N = c.is_elaborated.ensures in
     let now = c.set_inputs.new.values.items in
     let A : AreChanged (each_given c.args.net.now.inputs c.args.initial.now) c.args.net.now.starts now = rw (c.deref.ensures.value, c.in_ok-changes.ensures, c.inputs.ensures, c.in_ok-values.ensures) at c.set_inputs.ensures in
-    rw (c.deref-7.ensures.value, c.in_ok-before.ensures.items, c.deref-2.ensures.value) (first_in_range (flat c.args.net.now) N.in_range N.connected c.args.initial.now now A)
+    rw (c.deref-8.ensures.value, c.in_ok-before.ensures.items, c.deref-2.ensures.value) (first_in_range (flat c.args.net.now) N.in_range N.connected c.args.initial.now now A)
 
 pub come_to_rest-requires-clause-state : goal.come_to_rest-requires-clause-state
 come_to_rest-requires-clause-state g c =
@@ -84,21 +85,19 @@ come_to_rest-requires-clause-state g c =
     let A : AreChanged (each_given c.args.net.now.inputs c.args.initial.now) c.args.net.now.starts now = rw (c.deref.ensures.value, c.in_ok-changes.ensures, c.inputs.ensures, c.in_ok-values.ensures) at c.set_inputs.ensures in
     record {
       in_range = rw (S.values) (first_in_range (flat c.args.net.now) N.in_range N.connected c.args.initial.now now A);
-      each_rank = omega (arith, S.each_rank, c.len.ensures, c.in_ok-schedule.schedule.visits.ok.0);
+      each_rank = ap length S.first_dirty ∙ length-map c.deref-6.result.now (λ (visit : Visit). visit.first) ∙ ap length c.deref-6.ensures.value;
       each_chunk = S.each_chunk ∙ sym (ap length S.values);
     }
 
 pub come_to_rest-requires-clause-settled : goal.come_to_rest-requires-clause-settled
 come_to_rest-requires-clause-settled g c P p place d has =
-    let T = visited_at (core c.args.net.now) (numbered (core c.args.net.now) P.elaborated P.accepted) P.nets P.nets_are _ P.schedule.visits_are p place d has in
-    inr (record {
-      rank = T.rank;
-      there = T.there;
-      ahead = omega arith;
-      marked = c.in_ok-state.ensures.all_dirty T.rank (omega (arith, T.there, c.len.ensures, c.in_ok-schedule.schedule.visits.ok.0));
-      of = T.of;
-      within = omega (arith, T.at);
-    })
+    inr (rw (c.in_ok-state.ensures.first_dirty, c.deref-6.ensures.value) (first_to_come (core c.args.net.now) c.in_ok-schedule.schedule P p place d has))
+
+pub come_to_rest-requires-clause-each_ran : goal.come_to_rest-requires-clause-each_ran
+come_to_rest-requires-clause-each_ran g c = omega (arith, c.in_ok-ran.ensures.len, c.len.ensures, c.in_ok-woken.woken.ok.0, c.in_ok-ran.ran.ok.0)
+
+pub come_to_rest-requires-clause-none_ran : goal.come_to_rest-requires-clause-none_ran
+come_to_rest-requires-clause-none_ran g c = λ k. ap (λ (marks : List Bool). get_or marks k false) (c.in_ok-ran.ensures.items_if_clones_equal (λ y e. e)) ∙ all_same _ k false
 
 pub returns-clause-net : goal.returns-clause-net
 returns-clause-net g c = refl
@@ -112,7 +111,7 @@ returns-clause-first g c =
     is_first (core net) c.in_ok-schedule.schedule c.in_ok-schedule.ensures (initial_inputs (flat net) c.args.initial.now) c.in_ok-woken.woken.items
     (λ p clock edge is. rw ((woken_are (core c.args.net.now) c.in_ok-woken.woken.items c.deref-3.result.now c.in_ok-kinds.kinds.items c.in_ok-woken.ensures c.deref-3.ensures.value c.in_ok-kinds.ensures)) (clocked_marked (core net) p clock edge is))
     now c.come_to_rest.new.state.values.items (first_is (flat net) N.in_range c.args.initial.now now A)
-    (rw (c.deref-7.ensures.value, c.in_ok-before.ensures.items, c.deref-2.ensures.value, c.in_ok-state.ensures.values) at c.come_to_rest.ensures.rest)
+    (rw (c.deref-8.ensures.value, c.in_ok-before.ensures.items, c.deref-2.ensures.value, c.in_ok-state.ensures.values) at c.come_to_rest.ensures.rest)
 
 pub invariant_of-result : goal.invariant_of-result
 invariant_of-result g c =
@@ -126,12 +125,13 @@ invariant_of-result g c =
     let E = c.come_to_rest.ensures in
     let first = is_first (core net) c.in_ok-schedule.schedule P inputs c.in_ok-woken.woken.items
     (λ p clock edge is. rw ((woken_are (core c.args.net.now) c.in_ok-woken.woken.items c.deref-3.result.now c.in_ok-kinds.kinds.items c.in_ok-woken.ensures c.deref-3.ensures.value c.in_ok-kinds.ensures)) (clocked_marked (core net) p clock edge is)) now c.come_to_rest.new.state.values.items now_is
-    (rw (c.deref-7.ensures.value, c.in_ok-before.ensures.items, c.deref-2.ensures.value, c.in_ok-state.ensures.values) at E.rest) in (
+    (rw (c.deref-8.ensures.value, c.in_ok-before.ensures.items, c.deref-2.ensures.value, c.in_ok-state.ensures.values) at E.rest) in (
       E.may,
       rw (c.in_ok-before.ensures.items, c.deref-2.ensures.value)
           (kept_first (core net) c.in_ok-schedule.schedule P inputs now now_is (first_in_range (flat net) N.in_range N.connected c.args.initial.now now A)
-          c.come_to_rest.new.state c.come_to_rest.new.woken.items first E.state
-          (E.each_process ∙ ap length (woken_are (core c.args.net.now) c.in_ok-woken.woken.items c.deref-3.result.now c.in_ok-kinds.kinds.items c.in_ok-woken.ensures c.deref-3.ensures.value c.in_ok-kinds.ensures) ∙ length-map (core c.args.net.now).processes (λ (p : Process). is_clocked p.kind)) E.none_dirty E.none_woken),
+          c.come_to_rest.new.state c.come_to_rest.new.woken.items c.come_to_rest.new.ran.items first E.state
+          (E.each_process ∙ ap length (woken_are (core c.args.net.now) c.in_ok-woken.woken.items c.deref-3.result.now c.in_ok-kinds.kinds.items c.in_ok-woken.ensures c.deref-3.ensures.value c.in_ok-kinds.ensures) ∙ length-map (core c.args.net.now).processes (λ (p : Process). is_clocked p.kind))
+          (E.each_ran ∙ omega (arith, c.in_ok-ran.ensures.len, c.len.ensures, c.in_ok-woken.woken.ok.0, c.in_ok-ran.ran.ok.0) ∙ sym E.each_process) E.none_dirty E.none_woken E.none_ran),
     )
 
 pub returns-in_err-schedule : goal.returns-in_err-schedule
@@ -157,3 +157,6 @@ returns-in_err-woken g c = let e = c.from_residual-in_err-woken.ensures.0 in rec
 
 pub returns-in_err-state : goal.returns-in_err-state
 returns-in_err-state g c = let e = c.from_residual-in_err-state.ensures.0 in record { net = IfOk-from_err _ _ e; first = IfOk-from_err _ _ e }
+
+pub returns-in_err-ran : goal.returns-in_err-ran
+returns-in_err-ran g c = let e = c.from_residual-in_err-ran.ensures.0 in record { net = IfOk-from_err _ _ e; first = IfOk-from_err _ _ e }

@@ -1,4 +1,6 @@
-use Rattle.std.proofs.Common.{◌≡◌, ◌<◌, ℕ, List, Option, All, length, map, ap, sym, subst, ◌∙◌}
+use Rattle.std.proofs.Common.{◌≡◌, ◌<◌, ℕ, List, [], Option, All, length, map, ap, sym, subst, ◌∙◌}
+use Rattle.std.specs.List.Sorted.{IsNonDecreasingBy}
+use Rattle.std.proofs.lemmas.List.Elements.{All-from_get_or}
 use Rattle.std.proofs.lemmas.List.{get_or_default, length-map}
 use Rattle.std.proofs.lemmas.Result.{IfOk-from_err}
 use Rattle.rtl_model.specs.simulation.Netlist.{Process}
@@ -12,31 +14,41 @@ use Rattle.rtl_net.specs.Nets.{flat}
 use Rattle.rtl_awaited_edges.specs.declared.awaited.ClockEdge.{ClockEdge}
 use Rattle.rtl_awaited_edges.specs.Awaiting.{AreLeaders}
 use Rattle.rtl_levels.specs.declared.order.Visit.{Visit}
-use Rattle.rtl_levels.specs.Scheduled.{marking_nets}
+use Rattle.rtl_levels.specs.Scheduled.{AreMarking}
 use Rattle.rtl_levels.specs.Visits.{no_visit}
-use Rattle.rtl_levels.proofs.FirstVisits.{has_first_visits}
+use Rattle.rtl_levels.proofs.FirstVisits.{has_first_visits, marking_there}
 use Rattle.rtl_levels.proofs.Ordering.{visited_there}
-use Rattle.rtl_levels.proofs.Wired.{all_targets_there, clocked_there, drives_of_all, processes_many, rows_there}
+use Rattle.rtl_levels.proofs.Wired.{all_targets_there, clocked_there, drives_of_all, processes_many, wakes_there}
 use Rattle.rtl_levels.proofs.schedule.Schedule.new.Goals as goal
 
 pub marking_nets-requires-clause-processes : goal.marking_nets-requires-clause-processes
 marking_nets-requires-clause-processes c =
-    let net = c.args.net.now in
+    let net = core c.args.net.now in
     let visits = c.in_ok-visits.visits.items in
-    subst (λ (xs : List Visit). All (λ visit. visit.process < length net.processes) xs) (sym c.deref.ensures.value)
-    (λ k d l. subst (λ (x : Visit). x.process < length net.processes) (get_or_default visits k no_visit d l) (rw (← processes_many net) (visited_there (core net) c.args.nets.now visits c.in_ok-visits.ensures.visits k l)))
+    let all = c.in_ok-moving.moving in
+    subst (λ (xs : List Visit). All (λ visit. visit.process < length all) xs) (sym c.deref.ensures.value)
+    (λ k d l. subst (λ (x : Visit). x.process < length all) (get_or_default visits k no_visit d l)
+    (rw (c.in_ok-moving.ensures.each_process) (visited_there net c.args.nets.now visits c.in_ok-visits.ensures.visits k l)))
+
+pub marking_nets-requires-clause-in_order : goal.marking_nets-requires-clause-in_order
+marking_nets-requires-clause-in_order c =
+    All-from_get_or (IsNonDecreasingBy (λ (m : ℕ × ℕ). m.0)) c.in_ok-moving.moving [] (λ p l. (c.in_ok-moving.ensures.each p l).in_order)
+
+pub moving_nets-requires-clause-nets : goal.moving_nets-requires-clause-nets
+moving_nets-requires-clause-nets c = c.requires.nets.each_net ∙ c.nets.ensures.elaborated.in_range.each_starts
 
 pub visits_of-requires : goal.visits_of-requires
 visits_of-requires c = c.requires.nets.each_net ∙ c.nets.ensures.elaborated.in_range.each_starts
-
-pub marking_nets-requires-clause-nets : goal.marking_nets-requires-clause-nets
-marking_nets-requires-clause-nets c = c.requires.nets.each_net ∙ c.nets.ensures.elaborated.in_range.each_starts
 
 pub new-requires : goal.new-requires
 new-requires c =
     let net = c.args.net.now in
     let many : length c.deref-2.result.now ≡ length net.types = c.deref-2.ensures.len ∙ c.in_ok-together.ensures.len ∙ c.nets.ensures.count in
-    rw (c.in_ok-by_rank.ensures, many) (rows_there net c.nets.ensures.elaborated.in_range c.args.nets.now c.deref.result.now)
+    let visits = c.in_ok-visits.visits.items in
+    rw many
+    (marking_there (core net) c.args.nets.now visits c.in_ok-visits.ensures.visits c.in_ok-moving.moving c.in_ok-moving.ensures c.in_ok-by_rank.by_rank
+    (subst (λ (xs : List Visit). AreMarking c.in_ok-moving.moving xs c.in_ok-by_rank.by_rank) c.deref.ensures.value c.in_ok-by_rank.ensures)
+    (length net.types) (wakes_there net c.nets.ensures.elaborated.in_range))
 
 pub new-requires-2 : goal.new-requires-2
 new-requires-2 c =
@@ -64,7 +76,10 @@ returns c =
     let R = c.nets.ensures.elaborated.in_range in
     let nets = c.args.nets.now in
     let visits = c.in_ok-visits.visits.items in
-    let ranks : c.in_ok-by_rank.by_rank ≡ map (marking_nets (core net) nets) visits = c.in_ok-by_rank.ensures ∙ ap (map (marking_nets (core net) nets)) c.deref.ensures.value in
+    let V = c.in_ok-visits.ensures.visits in
+    let all = c.in_ok-moving.moving in
+    let by_rank = c.in_ok-by_rank.by_rank in
+    let marking = subst (λ (xs : List Visit). AreMarking all xs by_rank) c.deref.ensures.value c.in_ok-by_rank.ensures in
     let many : length c.deref-2.result.now ≡ length net.types = c.deref-2.ensures.len ∙ c.in_ok-together.ensures.len ∙ c.nets.ensures.count in
     let many' : length c.deref-3.result.now ≡ length net.types = c.deref-3.ensures.len ∙ c.in_ok-together.ensures.len ∙ c.nets.ensures.count in
     record {
@@ -73,9 +88,11 @@ returns c =
       nets = nets;
       nets_are = c.requires.nets;
       schedule = record {
-        visits_are = c.in_ok-visits.ensures.visits;
-        readers_are = has_first_visits (core net) nets visits c.in_ok-visits.ensures.previous (wakers_of c.in_ok-readers.readers)
-            (rw (← ranks) (groups_index c.in_ok-readers.readers c.deref-2.result.now c.in_ok-by_rank.by_rank (rw (ranks, many) (rows_there net R nets visits)) c.in_ok-readers.ensures));
+        visits_are = V;
+        firsts_are = c.in_ok-visits.ensures.first;
+        readers_are = has_first_visits (core net) nets visits V all c.in_ok-moving.ensures by_rank marking (wakers_of c.in_ok-readers.readers)
+            (groups_index c.in_ok-readers.readers c.deref-2.result.now by_rank
+            (rw many (marking_there (core net) nets visits V all c.in_ok-moving.ensures by_rank marking (length net.types) (wakes_there net R))) c.in_ok-readers.ensures);
         clocked_are = rw (← c.in_ok-by_process.ensures) (groups_index c.in_ok-clocked.clocked c.deref-3.result.now c.in_ok-by_process.by_process (rw (c.in_ok-by_process.ensures, many') (clocked_there net R)) c.in_ok-clocked.ensures);
       };
       each_reader = length-map c.in_ok-readers.readers.of_net _ ∙ c.in_ok-readers.ensures.each_net ∙ many ∙ sym R.each_starts;
@@ -92,6 +109,9 @@ returns-in_err-visits c = IfOk-from_err c.from_residual-in_err-visits.result _ c
 
 pub returns-in_err-together : goal.returns-in_err-together
 returns-in_err-together c = IfOk-from_err c.from_residual.result _ c.from_residual.ensures.0
+
+pub returns-in_err-moving : goal.returns-in_err-moving
+returns-in_err-moving c = IfOk-from_err c.from_residual-in_err-moving.result _ c.from_residual-in_err-moving.ensures.0
 
 pub returns-in_err-by_rank : goal.returns-in_err-by_rank
 returns-in_err-by_rank c = IfOk-from_err c.from_residual-in_err-by_rank.result _ c.from_residual-in_err-by_rank.ensures.0
