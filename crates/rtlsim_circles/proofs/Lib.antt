@@ -1,1 +1,2 @@
+mod Hubs
 mod Paths

@@ -64,7 +64,7 @@ fn is_level(level: u32, other: Option<u32>) -> bool
 }
 
 /// What stands at a place of a list, if something does.
-fn at(list: &[Option<usize>], place: usize) -> Option<usize>
+pub(crate) fn at<T: Copy>(list: &[Option<T>], place: usize) -> Option<T>
     ensures { result ≡ slice_index_or list.now place None }
 {
     if place < list.len() {

@@ -4,6 +4,8 @@ use Rattle.rtl_model.specs.simulation.Accepted.{Fault, TwoDrivers, EdgeNotSensit
 use Rattle.rtl_net.specs.Nets.{NetlistView, label_at}
 use Rattle.rtlsim_findings.specs.Causes.{at_process}
 use Rattle.rtlsim_circles.specs.Circles.{first_or}
+use Rattle.rtlsim_circles.specs.Splits.{split_of}
+use Rattle.rtlsim_circles.specs.declared.splitting.Split.{Split}
 use Rattle.rtlsim_findings.specs.Findings.{FindingView}
 use Rattle.rtlsim_findings.specs.Once.{each_new}
 use Rattle.rtlsim_findings.specs.Sayings.{note_at, note_text}
@@ -13,7 +15,7 @@ use Rattle.fault_rules.specs.declared.report.Subject.TheVariants.{Sources}
 use Rattle.rtlsim_listing.specs.DotText.{driver_in}
 use Rattle.rtlsim_listing.specs.Reports.{report_of}
 use Rattle.rtlsim_notes.specs.Loops.{loop_of}
-use Rattle.rtlsim_notes.specs.Sayings.{connection_text, inside_text, lack_text, look_text, loop_text, read_text, step_text}
+use Rattle.rtlsim_notes.specs.Sayings.{connection_text, inside_text, lack_text, look_text, loop_text, read_text, split_text, step_text}
 use Rattle.rtlsim_notes.specs.Scopes.{child_of, instance_of, names_in, scope_of, scope_of_net}
 use Rattle.rtlsim_notes.specs.declared.noted.Note.{Note}
 use Rattle.vhdl_lexer.specs.declared.token.Token.{Token}
@@ -139,11 +141,16 @@ read_in source net process n =
 abbrev pub read_notes : Read → NetlistView → (process n : ℕ) → List NoteView
 read_notes source net process n = read_note source.text (read_in source net process n)
 
--- ---- the processes of a circle behind the first
+-- ---- a circle: the process that can be split, and the processes behind the first
 
 abbrev pub step_at : Option ℕ → (text : List ℕ) → List NoteView
 step_at None text = []
 step_at (Some at) text = note at text ∷ []
+
+-- at the process that can be split
+abbrev pub split_note : NetlistView → Option Split → List NoteView
+split_note net None = []
+split_note net (Some split) = step_at (at_process net (Some split.process)) (split_text net split)
 
 abbrev pub steps_from : NetlistView → (first before : ℕ) → List ℕ → List NoteView
 steps_from net first before [] = []
@@ -216,7 +223,8 @@ rule_notes source net (TwoDrivers n first second) =
 rule_notes source net (EdgeNotSensitive process n) = list_notes source net process ++ read_notes source net process n
 rule_notes source net (MissingSensitivity process n) = list_notes source net process ++ read_notes source net process n
 rule_notes source net (Loop processes) =
-    step_notes net processes ++ flat_map (list_notes source net) (take 20 processes)
+    split_note net (split_of net processes) ++ step_notes net processes
+    ++ flat_map (list_notes source net) (take 20 processes)
 rule_notes source net (NetLoop nets) = look_notes source net nets
 rule_notes source net _ = []
 

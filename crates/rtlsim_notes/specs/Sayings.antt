@@ -3,6 +3,7 @@ use Rattle.std.specs.Prelude.{ℕ, List, ◌++◌, codes, slice_get}
 use Rattle.rtl_net.specs.Names.{net_name, process_name}
 use Rattle.rtl_net.specs.Nets.{NetlistView}
 use Rattle.rtlsim_circles.specs.Circles.{link_net, name_of_net}
+use Rattle.rtlsim_circles.specs.declared.splitting.Split.{Split}
 use Rattle.vhdl_places.specs.declared.lists.Lack.{Lack}
 use Rattle.vhdl_places.specs.declared.lists.Lack.TheVariants.{Nothing, Reading, EdgeIf, EdgeBranch}
 
@@ -41,6 +42,13 @@ abbrev pub step_text : NetlistView → (before this next : ℕ) → List ℕ
 step_text net before this next =
     process_name net this ++ codes " drives " ++ link_name net before this
     ++ codes ", and is sensitive to " ++ link_name net this next
+
+-- of the process of a circle that can be split
+abbrev pub split_text : NetlistView → Split → List ℕ
+split_text net split =
+    net_name net split.net ++ codes " of " ++ process_name net split.process
+    ++ codes " doesn't look at " ++ net_name net split.next
+    ++ codes ": assign " ++ net_name net split.net ++ codes " in a process of its own"
 
 -- of a net of a circle, where its process reads the next
 abbrev pub look_text : NetlistView → (n next : ℕ) → List ℕ

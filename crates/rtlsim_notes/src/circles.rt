@@ -1,19 +1,37 @@
 //! Notes at the processes of a circle, and where its nets are read.
 
 ghost use Rattle.std.specs.Prelude.{◌≡◌, ◌++◌, map, OnOk};
+ghost use Rattle.rtlsim_circles.specs.Splits as splits;
 ghost use Rattle.rtlsim_notes.specs.Notes as spec;
 ghost use Rattle.rtlsim_notes.specs.Notes.{note_view};
 ghost use Rattle.vhdl_slips.specs.Words.{read_of};
 
 use crate::lists::read_in;
 use crate::noted::{Note, push_note};
-use crate::sayings::{look_text, step_text};
+use crate::sayings::{look_text, split_text, step_text};
 use rtl_net::{Net, NoMemory};
-use rtlsim_circles::first_or;
+use rtlsim_circles::{first_or, split_of};
 use rtlsim_findings::at_process;
 use rtlsim_listing::driver_of;
 use std::alloc::Global;
 use vhdl_slips::Lexed;
+
+/// Appends the note at the process of a circle that can be split, if one can.
+pub(crate) fn push_split(
+    alloc: Global,
+    net: &Net,
+    processes: &[usize],
+    notes: &mut Vec<Note>,
+) -> Result<(), NoMemory>
+    ensures { OnOk result (map note_view notes.new.items
+        ≡ map note_view notes.old.items ++ spec.split_note net.now (splits.split_of net.now processes.now)) }
+{
+    let Some(split) = split_of(alloc, net, processes)? else {
+        return Ok(());
+    };
+    let text = split_text(alloc, net, split)?;
+    push_at(at_process(net, Some(split.process)), text, notes)
+}
 
 /// Appends the notes at the processes of a circle behind the first.
 pub(crate) fn push_steps(

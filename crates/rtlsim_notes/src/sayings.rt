@@ -4,7 +4,7 @@ ghost use Rattle.std.specs.Prelude.{◌≡◌, ◌++◌, IfOk, codes};
 ghost use Rattle.rtlsim_notes.specs.Sayings as spec;
 
 use rtl_net::{Net, NoMemory};
-use rtlsim_circles::{link_net, name_of_net};
+use rtlsim_circles::{Split, link_net, name_of_net};
 use rtlsim_listing::{net_name, process_name};
 use std::alloc::Global;
 use vhdl_places::Lack;
@@ -106,6 +106,22 @@ pub(crate) fn step_text(
     text.extend_from_slice(&link_name(alloc, net, before, this)?)?;
     text.extend_from_slice(b", and is sensitive to ")?;
     text.extend_from_slice(&link_name(alloc, net, this, next)?)?;
+    Ok(text)
+}
+
+/// What is said of the process of a circle that can be split.
+pub(crate) fn split_text(alloc: Global, net: &Net, split: Split) -> Result<Vec<u8>, NoMemory>
+    ensures { IfOk result (λ text. text.items ≡ spec.split_text net.now split) }
+{
+    let driven = net_name(alloc, net, split.net)?;
+    let mut text = Vec::from_slice(alloc, &driven)?;
+    text.extend_from_slice(b" of ")?;
+    text.extend_from_slice(&process_name(alloc, net, split.process)?)?;
+    text.extend_from_slice(b" doesn't look at ")?;
+    text.extend_from_slice(&net_name(alloc, net, split.next)?)?;
+    text.extend_from_slice(b": assign ")?;
+    text.extend_from_slice(&driven)?;
+    text.extend_from_slice(b" in a process of its own")?;
     Ok(text)
 }
 
