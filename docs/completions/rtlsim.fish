@@ -81,7 +81,7 @@ complete -c rtlsim -n '__rtlsim_is run' -l explain -d 'Explains each fault: its 
 complete -c rtlsim -n '__rtlsim_is run' -l wide -d 'Reads more of VHDL; see docs/WIDE.md'
 complete -c rtlsim -n '__rtlsim_is run' -l event -d 'Simulates by events alone, without the checker'
 complete -c rtlsim -n '__rtlsim_is run' -l order -x -a 'forward reverse' -d 'The order in which resumed processes run'
-complete -c rtlsim -n '__rtlsim_is run' -l levels -d 'Runs each process once a moment, in order of level'
+complete -c rtlsim -n '__rtlsim_is run' -l levels -d 'Computes the same without delta cycles, level by level'
 complete -c rtlsim -n '__rtlsim_is run' -l trace -x -d 'Shows this signal, or all below this instance; any number'
 complete -c rtlsim -n '__rtlsim_is run' -l no-trace -d 'Writes no trace'
 complete -c rtlsim -n '__rtlsim_is run' -l expect -r -F -d 'Compares with the values that FILE expects'

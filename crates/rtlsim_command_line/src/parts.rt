@@ -69,7 +69,7 @@ pub const PARTS: [Part<&str>; 18] = [
     part! { "run" Operand "STIM": "The stimulus, or @ for the standard input" },
     part! { "run" Flag "event" without "levels": "Simulates by events alone, without the checker" },
     part! { "run" Order "order" without "levels": "The order in which resumed processes run" },
-    part! { "run" Flag "levels": "Runs each process once a moment, in order of level" },
+    part! { "run" Flag "levels": "Computes the same without delta cycles, level by level" },
     part! { "run" Names "trace": "Shows this signal, or all below this instance; any number" },
     part! { "run" Flag "no-trace" without "trace": "Writes no trace" },
     part! { "run" File "expect": "Compares with the values that FILE expects" },
