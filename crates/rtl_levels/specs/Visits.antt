@@ -1,6 +1,6 @@
 -- By which levels a machine runs, the visits of processes that it may make, and which of them a change of a net marks
 -- (IEEE 1076-2008, 14.7.5.3).
-use Rattle.std.specs.Prelude.{◌≡◌, ◌≢◌, ℕ, ◌<◌, ◌≤◌, ◌⊎◌, ◌↔◌, Bool, true, false, ◌==◌, List, length, slice_index}
+use Rattle.std.specs.Prelude.{◌≡◌, ◌≢◌, ℕ, ◌<◌, ◌≤◌, ◌↔◌, Bool, true, false, ◌==◌, List, length, slice_index}
 use Rattle.std.specs.Prelude.{slice_index_or, Option, option_map, Some, None, Contains, IsTrue}
 use Rattle.rtl_model.specs.simulation.Netlist.{Netlist, ProcessKind, Combinational, Clocked, Mixed, process}
 use Rattle.rtl_model.specs.simulation.NetLevels.{IsDerived, RiseByLooks}

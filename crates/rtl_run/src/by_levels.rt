@@ -18,9 +18,10 @@ use std::alloc::Global;
 
 /// Simulates a netlist under the stimulus that a text says, as the synchronous machine that it is:
 /// at each moment the clocked processes that the inputs wake run, and then the combinational ones
-/// once in order of level. It writes the trace that `run_watched` writes. Nothing is written before
-/// the checker, the stimulus and the search for a race have passed. The watch is told the machine's
-/// valuation at each moment, once the time of the next one is known, until which it stands.
+/// in order of their nets' levels. It writes the trace that `run_watched` writes. Nothing is
+/// written before the checker, the stimulus and the search for a race have passed. The watch is
+/// told the machine's valuation at each moment, once the time of the next one is known, until
+/// which it stands.
 ///
 /// It takes the checker's memory, the stimulus's, the machine's, that of the names' blocks, and a
 /// byte for each net.

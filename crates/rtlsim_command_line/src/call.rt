@@ -27,7 +27,7 @@ pub enum Request {
     /// Prints the trace of a design under a stimulus; with `is_event` by events alone, without the
     /// checker.
     Run { is_event: bool, order: Order },
-    /// Prints the trace of a design under a stimulus, processes run in order of level.
+    /// Prints the trace of a design under a stimulus, processes run in order of their nets' levels.
     Levels,
 }
 

@@ -136,8 +136,8 @@ pub fn run<F: Front, P: Pick, S: Sink>(
 
 /// Simulates the netlist of a source under a stimulus, where `run` does, and writes the trace that
 /// it writes: at each moment the clocked processes that an input wakes run once, and then the
-/// combinational ones in order of level. It answers the number of moments, and the checker's bound.
-/// It takes memory as `run` does.
+/// combinational ones in order of their nets' levels. It answers the number of moments, and the
+/// checker's bound. It takes memory as `run` does.
 ///
 /// # Errors
 ///

@@ -89,7 +89,7 @@ impl<P: Pick> Simulate for RunMachine<'_, P> {
 }
 
 /// `run --levels`: the same trace without delta cycles: at each moment the clocked processes that
-/// an input wakes run, and then the combinational ones in order of level.
+/// an input wakes run, and then the combinational ones in order of their nets' levels.
 #[derive(Drop)]
 pub struct RunLevels<'a> {
     pub stimulus: &'a [u8],

@@ -1,5 +1,5 @@
--- Calm nets: those that a reset may be, since within a moment they don't come to one of the values at which it holds
--- and leave them again (IEEE 1076-2008, 14.7.5.3). Whether a net may do so is told by what it is made of.
+-- Calm nets: those that a reset may be, since within a moment without a race they have one of the values at which it
+-- holds only where the moment begins or ends with one (IEEE 1076-2008, 14.7.5.3). What a net is made of tells it.
 use Rattle.std.specs.Prelude.{◌≡◌, ◌⊎◌, ℕ, Bool, false, [], ◌∷◌, Contains, Some, None, slice_index, IsTrue}
 use Rattle.rtl_model.specs.simulation.Netlist.{Netlist, Driver, Copy, Reset, process, sources_of, reset_of, reset_entry}
 use Rattle.rtl_model.specs.simulation.Netlist.{HasReset, IsCombinational, IsClockOf, IsClock, IsDriven}

@@ -1,4 +1,4 @@
-use Rattle.std.proofs.Common.{◌≡◌, ℕ, true, false, cond, List, [], ◌∷◌, ◌++◌, get_or, map, take, sym, ap, ◌∙◌}
+use Rattle.std.proofs.Common.{ℕ, cond, List, [], ◌∷◌, ◌++◌, get_or, map, take, sym, ap, ◌∙◌}
 use Rattle.std.specs.List.{filter}
 use Rattle.std.proofs.lemmas.List.{append-nil, append_assoc, map_push}
 use Rattle.std.proofs.lemmas.List.Elements.{filter_more}

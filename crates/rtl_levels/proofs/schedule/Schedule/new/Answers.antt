@@ -18,7 +18,7 @@ use Rattle.rtl_levels.specs.Scheduled.{AreMarking}
 use Rattle.rtl_levels.specs.Visits.{no_visit}
 use Rattle.rtl_levels.proofs.FirstVisits.{has_first_visits, marking_there}
 use Rattle.rtl_levels.proofs.Ordering.{visited_there}
-use Rattle.rtl_levels.proofs.Wired.{all_targets_there, clocked_there, drives_of_all, processes_many, wakes_there}
+use Rattle.rtl_levels.proofs.Wired.{all_targets_there, clocked_there, drives_of_all, wakes_there}
 use Rattle.rtl_levels.proofs.schedule.Schedule.new.Goals as goal
 
 pub marking_nets-requires-clause-processes : goal.marking_nets-requires-clause-processes
