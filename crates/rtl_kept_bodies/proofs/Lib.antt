@@ -1,0 +1,9 @@
+pub mod Shapes
+pub mod Sequences
+pub mod Rows
+pub mod Marking
+pub mod Ranks
+pub mod Listing
+pub mod Putting
+pub mod Reading
+pub mod Whole

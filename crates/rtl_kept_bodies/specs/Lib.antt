@@ -1,0 +1,3 @@
+-- In order of reading:
+pub mod Rules
+pub mod Steps
