@@ -1,0 +1,3 @@
+pub mod Kept
+-- for the code's own clauses
+pub mod Steps
