@@ -1,4 +1,4 @@
-//! Elaboration of a design: from the units of a file and its top to its netlist (IEEE
+//! Elaboration of a design: from the units of a file and its top to the parts of its netlist (IEEE
 //! 1076-2008, clause 14).
 //!
 //! `connect` makes the flat netlist of the tree of a design's instances: `number` takes the tree

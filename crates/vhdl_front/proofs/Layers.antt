@@ -1,5 +1,5 @@
 -- From the tree of a source to its netlist.
-use Rattle.std.proofs.Common.{◌≡◌, ◌≢◌, ◌<◌, ◌≤◌, sym, ap, ◌∙◌, subst, ℕ, Bool, true, false, length, List, ◌∷◌, None, Some, Result, Ok, Err, refl, All, arith}
+use Rattle.std.proofs.Common.{◌≡◌, ◌≢◌, ◌<◌, ◌≤◌, sym, ap, subst, ℕ, true, inl, inr, length, List, ◌∷◌, None, Some, Result, Ok, Err, All, arith}
 use Rattle.std.specs.Prelude.{IsTrue, IsErrAnd, IfOk, IfErr, IfSome, Contains}
 use Rattle.std.proofs.lemmas.List.Elements.{All-cons, All-contains, All-weaker}
 use Rattle.vhdl_lexer.specs.declared.language.Language.{Language}
@@ -22,29 +22,28 @@ use Rattle.vhdl_names.specs.Spelled.{IsSpelled}
 use Rattle.vhdl_names.proofs.Spelled.{words}
 use Rattle.vhdl_names.proofs.Written.{units_in_are_sound, ports_in_are_distinct}
 use Rattle.vhdl_names_registers.proofs.Standing.{written_stand}
-use Rattle.vhdl_expand_rules.specs.Elab.{fault_told}
-use Rattle.vhdl_expand_rules.specs.Expansion.{expanded_design}
+use Rattle.vhdl_expand_rules.specs.Elab.{Told, fault_told}
 use Rattle.vhdl_expand_rules.specs.Tops.{Top}
 use Rattle.vhdl_expand_rules.proofs.Steps.{bound, ok}
 use Rattle.vhdl_expand_rules.specs.declared.fault.ElabFault.{ElabFault}
 use Rattle.vhdl_expand_rules.specs.declared.fault.ElabFault.TheVariants as elab
 use Rattle.vhdl_elab_rules.specs.Elaboration.{Elaborated, elaborated_net}
 use Rattle.vhdl_elab_rules.specs.Refused.{MayRefuse}
-use Rattle.vhdl_elab_rules.specs.Shown.{Shown, shown, as_shown, net_shown}
-use Rattle.vhdl_elab_rules.specs.Wiring.{flat_net}
+use Rattle.vhdl_elab_rules.specs.Shown.{Shown, Shows, shown, as_shown, net_shown}
 use Rattle.vhdl_elab_rules.proofs.Nets.{each-has-its-names}
 use Rattle.vhdl_elab_rules.proofs.Ports.{each-has-own-ports}
-use Rattle.vhdl_elab_rules.proofs.laws.Sound.{accepted}
+use Rattle.vhdl_elab_rules.proofs.laws.Scopes.{each-scope-follows}
 use Rattle.vhdl_elab_rules.proofs.laws.Standing.{refusals-stand}
-use Rattle.rtl_net.specs.Nets.{NetlistView}
+use Rattle.rtl_net.specs.Nets.{NetlistView, flat}
 use Rattle.rtl_stim.specs.Ports.{HasOwnPorts}
 use Rattle.vhdl_front_rules.specs.Asking.{Asked}
 use Rattle.vhdl_front_rules.specs.Sources.{IsFileOf}
-use Rattle.vhdl_front_rules.specs.Designs.{IsNetOf}
+use Rattle.vhdl_front_rules.specs.Designs.{HasRoom, IsReadIn, IsNetOf}
 use Rattle.vhdl_front_rules.specs.Faults.{LiesIn, of_name, of_elab}
-use Rattle.vhdl_front_rules.specs.Refusals.{Refuses}
-use Rattle.vhdl_front.specs.Steps.{read_in, ShowsTop, HasNameFault, HasElabFault, GivesNet}
+use Rattle.vhdl_front_rules.specs.Refusals.{IsUndesigned, Refuses}
+use Rattle.vhdl_front.specs.Steps.{ReadsIn, ShowsTop, HasNameFault, HasElabFault, GivesNet}
 use Rattle.vhdl_front.specs.Laws.{EachRefusalLiesInItsSource}
+use Rattle.vhdl_front.proofs.KeptNets.{kept_own_ports}
 use Rattle.vhdl_front_rules.specs.declared.fault.SourceFault.{SourceFault}
 use Rattle.vhdl_front_rules.specs.declared.fault.SourceFault.TheVariants.{Lex, Syntax, Name, Elab, NoMemory}
 
@@ -55,59 +54,70 @@ is_spelled language source file read = record { source = source; tokens = read.t
 
 -- ---- its netlist
 
--- elaboration knows no language
-narrow : (units : u.Units) (top : Top) (x : Elaborated) → elaborated_net units top ≡ Ok x → x.flat.wide ≡ false
-unfolding elaborated_net flat_net
-narrow units top x e =
-    let design = bound (expanded_design units top) _ x e in
-    ap (λ (y : Elaborated). y.flat.wide) (sym (accepted design.x x design.then_gave).is)
+-- what elaboration gives shows a design
+pub record IsDesigned (units : u.Units) (top : Top) (net : NetlistView) : Type 0 where
+  pub design : Elaborated
+  pub is : elaborated_net units top ≡ Ok design
+  pub shows : Shows design net
 
-pub shows_top : (language : Language) (units : u.Units) (top : Top) (net : NetlistView) → as_shown (elaborated_net units top) ≡ Ok (net_shown net) → ShowsTop language units top (read_in language net)
-shows_top language units top net given = by language
+is_designed : (units : u.Units) (top : Top) (net : NetlistView) → as_shown (elaborated_net units top) ≡ Ok (net_shown net) → IsDesigned units top net
+is_designed units top net given =
+    let x = bound (elaborated_net units top) _ (net_shown net) given in
+    record { design = x.x; is = x.gave; shows = sym (ok (shown x.x) (net_shown net) x.then_gave) }
+
+pub gives_net : (language : Language) (units : u.Units) (top : Top) (plain : NetlistView) (answer : Result NetlistView SourceFault) → as_shown (elaborated_net units top) ≡ Ok (net_shown plain)
+    → ReadsIn language plain answer → GivesNet language units top answer
+gives_net language units top plain answer given = by answer
   where
-    x : Elaborated
-    x = (bound (elaborated_net units top) _ (net_shown net) given).x
+    d : IsDesigned units top plain
+    d = is_designed units top plain given
 
-    is : elaborated_net units top ≡ Ok x
-    is = (bound (elaborated_net units top) _ (net_shown net) given).gave
+    same_flat : flat plain ≡ d.design.flat
+    same_flat = ap (λ (s : Shown). s.flat) d.shows
 
-    shows : net_shown net ≡ shown x
-    shows = sym (ok (shown x) (net_shown net) (bound (elaborated_net units top) _ (net_shown net) given).then_gave)
+    by : (answer : Result NetlistView SourceFault) → ReadsIn language plain answer → GivesNet language units top answer
+    by (Ok net) h = record { design = d.design; is = d.is; room = subst (HasRoom language) same_flat h.1; plain = plain; shows = d.shows; read = h.0 }
+    by (Err (Elab (elab.At problem at))) h = inr (record { design = d.design; is = d.is; over = λ room. h.0 (subst (HasRoom language) (sym same_flat) room); as_too_many = ap fault_told h.1 })
+    by (Err (Elab elab.NoMemory)) h = let e = h.1 in absurd cc
+    by (Err NoMemory) h = tt
+    by (Err (Lex fault)) h = absurd h
+    by (Err (Syntax fault)) h = absurd h
+    by (Err (Name fault)) h = absurd h
 
-    is_narrow : net.wide ≡ false
-    is_narrow = ap (λ (s : Shown). s.flat.wide) shows ∙ narrow units top x is
+-- the fault of elaboration is passed on
+pub gives_along : (language : Language) (units : u.Units) (top : Top) (answer : Result NetlistView SourceFault) (fault : ElabFault) → IsErrAnd answer (λ f. f ≡ of_elab fault)
+    → HasElabFault language units top (of_elab fault) → GivesNet language units top answer
+gives_along language units top (Ok net) fault is h = absurd is
+gives_along language units top (Err f) fault is h = rw is h
 
-    shown_narrow : net_shown (record net { wide = false }) ≡ shown x
-    shown_narrow = (λ i. net_shown (record net { wide = sym is_narrow i })) ∙ shows
-
-    by : (language : Language) → ShowsTop language units top (read_in language net)
-    by Profile = record { design = x; is = is; wide = is_narrow; shows = shown_narrow }
-    by Wide = record { design = x; is = is; wide = refl; shows = shown_narrow }
+pub own_along : (answer : Result NetlistView SourceFault) (own : Type 0) → IfOk answer (λ net. own → HasOwnPorts net) → own → IfOk answer HasOwnPorts
+own_along (Ok net) own h g = h g
+own_along (Err fault) own h g = tt
 
 pub opened : (asked : Asked) (file : File) (units : u.Units) (net : NetlistView) → IsFileOf asked.language asked.source file → units_in asked.language file ≡ Some units → IsTrue (are_sound units)
     → ShowsTop asked.language units asked.top net → IsNetOf asked net
 opened asked file units net read typed sound shown = record {
   design = shown.design;
-  has = record { units = units; analysed = record { file = file; read = read; well_typed = typed }; is = shown.is };
-  wide = shown.wide;
+  has = record { units = units; analysed = record { file = file; read = read; well_typed = typed }; is = shown.is; room = shown.room };
+  plain = shown.plain;
   shows = shown.shows;
-  named = let alike = each-has-its-names units asked.top shown.design (record net { wide = false }) sound shown.is shown.shows in record { nets = alike.nets; processes = alike.processes };
+  named = each-has-its-names units asked.top shown.design shown.plain sound shown.is shown.shows;
+  read = shown.read;
 }
 
 -- a netlist has ports of its own, whatever language it was read in
-of_language : (wide : Bool) (net : NetlistView) → HasOwnPorts (record net { wide = wide }) → HasOwnPorts net
-of_language wide net h = record { names = h.names; elements = h.elements }
-
-pub ports_read_in : (language : Language) (net : NetlistView) → HasOwnPorts net → HasOwnPorts (read_in language net)
-ports_read_in Profile net h = h
-ports_read_in Wide net h = of_language net.wide (record net { wide = true }) h
+pub ports_read_in : (language : Language) (plain net : NetlistView) → 0 < length plain.scopes → HasOwnPorts plain → IsReadIn language plain net → HasOwnPorts net
+ports_read_in Profile plain net some own h = subst HasOwnPorts (sym h) own
+ports_read_in Wide plain net some own h = kept_own_ports (record plain { wide = true }) net some h (record { names = own.names; elements = own.elements })
 
 pub own_ports : (asked : Asked) (net : NetlistView) → IsNetOf asked net → HasOwnPorts net
 own_ports asked net h =
     let units = h.has.units in
     let analysed = h.has.analysed in
-    of_language false net (each-has-own-ports units asked.top h.design (record net { wide = false }) (units_in_are_sound asked.language analysed.file units analysed.read.well_formed analysed.well_typed)
+    ports_read_in asked.language h.plain net (subst (λ ss. 0 < length ss) (sym (ap (λ (s : Shown). s.scopes) h.shows)) (each-scope-follows units asked.top h.design h.has.is).some)
+    (each-has-own-ports units asked.top h.design h.plain (units_in_are_sound asked.language analysed.file units analysed.read.well_formed analysed.well_typed)
     (ports_in_are_distinct asked.language analysed.file units (words analysed.file (is_spelled asked.language asked.source analysed.file analysed.read)) analysed.well_typed) h.has.is h.shows)
+    h.read
 
 -- ---- why it has none
 
@@ -135,9 +145,9 @@ untyped_lies language source file (Lex fault) read h = absurd h
 untyped_lies language source file (Syntax fault) read h = absurd h
 untyped_lies language source file (Elab fault) read h = absurd h
 
-pub no_net : (units : u.Units) (top : Top) (fault : ElabFault) → (fault ≢ elab.NoMemory → MayRefuse units top (fault_told fault)) → HasElabFault units top (of_elab fault)
-no_net units top (elab.At problem at) h = h (λ e. absurd cc)
-no_net units top elab.NoMemory h = tt
+pub no_net : (language : Language) (units : u.Units) (top : Top) (fault : ElabFault) → (fault ≢ elab.NoMemory → MayRefuse units top (fault_told fault)) → HasElabFault language units top (of_elab fault)
+no_net language units top (elab.At problem at) h = inl (h (λ e. absurd cc))
+no_net language units top elab.NoMemory h = tt
 
 -- where registers are written anew, no byte is another one
 in_text : (language : Language) (source : List ℕ) (file : File) (units : u.Units) → IsFileOf language source file → units_in language file ≡ Some units
@@ -155,9 +165,13 @@ in_source size bytes at inside c =
     (All-cons (λ b. b ≤ size) 0 bytes (omega arith) (All-weaker (λ b. b < size) (λ b. b ≤ size) (λ b h. omega (arith, h)) bytes inside)) c
 
 pub refusal_lies : EachRefusalLiesInItsSource
-refusal_lies asked problem at r =
-    in_source (length asked.source) (units_bytes r.units) at (in_text asked.language asked.source r.analysed.file r.units r.analysed.read r.analysed.well_typed)
-    (refusals-stand r.units asked.top (problem, at) r.refused)
+refusal_lies asked problem at r = by r.refused
+  where
+    by : IsUndesigned asked.language r.units asked.top (problem, at) → at ≤ length asked.source
+    by (inl h) =
+        in_source (length asked.source) (units_bytes r.units) at (in_text asked.language asked.source r.analysed.file r.units r.analysed.read r.analysed.well_typed)
+        (refusals-stand r.units asked.top (problem, at) h)
+    by (inr h) = let is : at ≡ 0 = ap (λ (t : Told). t.1) h.as_too_many in omega (arith, is)
 
 -- ---- the whole
 

@@ -1,2 +1,3 @@
+mod KeptNets
 pub mod Layers
 pub mod Once

@@ -1,7 +1,9 @@
 -- A source has one tree, and so one of each that follows from it.
 use Rattle.std.proofs.Common.{◌≡◌, ℕ, Bool, true, false, List, Some, Ok, Err, inl, inr, refl, true≢false, sym, ap, ◌∙◌, subst, arith}
 use Rattle.std.specs.Prelude.{IsErr}
+use Rattle.rtl_net.specs.Nets.{NetlistView}
 use Rattle.vhdl_lexer.specs.declared.language.Language.{Language}
+use Rattle.vhdl_lexer.specs.declared.language.Language.TheVariants.{Profile, Wide}
 use Rattle.vhdl_lexer.specs.declared.token.Token.{Token}
 use Rattle.vhdl_parser_rules.specs.Fault.{IsRefusal, IsTooDeep}
 use Rattle.vhdl_parser_rules.specs.declared.fault.SyntaxFault.{SyntaxFault}
@@ -26,8 +28,9 @@ use Rattle.vhdl_elab_rules.specs.Refused.{MayRefuse}
 use Rattle.vhdl_elab_rules.specs.Shown.{shown, net_shown}
 use Rattle.vhdl_front_rules.specs.Sources.{SpellsTokens, IsFileOf, HasSyntaxFault}
 use Rattle.vhdl_front_rules.specs.Asking.{Asked}
-use Rattle.vhdl_front_rules.specs.Designs.{HasUnits, HasDesign}
-use Rattle.vhdl_front_rules.specs.Refusals.{HasNoUnits, HasNoDesign}
+use Rattle.vhdl_front_rules.specs.Designs.{HasUnits, HasDesign, HasRoom, IsReadIn}
+use Rattle.vhdl_front_rules.specs.Refusals.{HasNoUnits, IsUndesigned, HasNoDesign}
+use Rattle.vhdl_front.proofs.KeptNets.{kept_alike}
 use Rattle.vhdl_front.specs.Laws.{EachSourceHasOneDesign, EachSourceHasOneNet, EachRefusedHasNone}
 use Rattle.vhdl_front_rules.specs.declared.fault.SourceFault.TheVariants.{Lex, Syntax, Name, Elab, NoMemory}
 
@@ -46,11 +49,14 @@ one_design asked one other p q =
     let e : elaborated_net p.units asked.top ≡ elaborated_net q.units asked.top = ap (λ (x : Units). elaborated_net x asked.top) (one_units asked.language asked.source p.units q.units p.analysed q.analysed) in
     let both = sym p.is ∙ e ∙ q.is in cc
 
+read_alike : (language : Language) (a b one other : NetlistView) → IsReadIn language a one → IsReadIn language b other → net_shown a ≡ net_shown b → net_shown one ≡ net_shown other
+read_alike Profile a b one other h g e = ap net_shown h ∙ e ∙ sym (ap net_shown g)
+read_alike Wide a b one other h g e =
+    kept_alike (record a { wide = true }) (record b { wide = true }) one other h g (λ i. record (e i) { flat = record ((e i).flat) { wide = true } })
+
 pub one_net : EachSourceHasOneNet
-one_net asked one other p q = λ i. record (shown_alike i) { flat = record ((shown_alike i).flat) { wide = (p.wide ∙ sym q.wide) i } }
-  where
-    shown_alike : net_shown (record one { wide = false }) ≡ net_shown (record other { wide = false })
-    shown_alike = p.shows ∙ ap shown (one_design asked p.design q.design p.has q.has) ∙ sym q.shows
+one_net asked one other p q =
+    read_alike asked.language p.plain q.plain one other p.read q.read (p.shows ∙ ap shown (one_design asked p.design q.design p.has q.has) ∙ sym q.shows)
 
 -- ---- refusals
 
@@ -94,9 +100,16 @@ is_refused units top told (inl (other, e)) = subst (λ (r : Expanded Elaborated)
 is_refused units top told (inr (many, cut)) = not_connected (expanded_design units top) cut.refused
 
 no_design : (asked : Asked) (problem : ElabProblem) (at : ℕ) (design : Elaborated) → HasNoDesign asked problem at → HasDesign asked design → ⊥
-no_design asked problem at design r h =
-    undesigned (elaborated_net r.units asked.top) design (is_refused r.units asked.top (problem, at) r.refused)
-    (ap (λ (x : Units). elaborated_net x asked.top) (one_units asked.language asked.source r.units h.units r.analysed h.analysed) ∙ h.is)
+no_design asked problem at design r h = by r.refused
+  where
+    alike : elaborated_net r.units asked.top ≡ Ok design
+    alike = ap (λ (x : Units). elaborated_net x asked.top) (one_units asked.language asked.source r.units h.units r.analysed h.analysed) ∙ h.is
+
+    by : IsUndesigned asked.language r.units asked.top (problem, at) → ⊥
+    by (inl m) = undesigned (elaborated_net r.units asked.top) design (is_refused r.units asked.top (problem, at) m) alike
+    by (inr o) =
+        let same : o.design ≡ design = (let both = sym o.is ∙ alike in cc) in
+        o.over (subst (λ (x : Elaborated). HasRoom asked.language x.flat) (sym same) h.room)
 
 pub refused : EachRefusedHasNone
 refused asked (Lex x) design behind r h = behind

@@ -1,13 +1,12 @@
 -- What the code's own calls say.
-use Rattle.std.specs.Prelude.{◌≡◌, true, false, None, Some, Result, Ok, Err, IsTrue}
-use Rattle.rtl_net.specs.Nets.{NetlistView}
+use Rattle.std.specs.Prelude.{◌≡◌, None, Some, Result, Ok, Err, IsTrue}
+use Rattle.rtl_net.specs.Nets.{NetlistView, flat}
 use Rattle.vhdl_elab_rules.specs.Elaboration.{Elaborated, elaborated_net}
-use Rattle.vhdl_elab_rules.specs.Refused.{MayRefuse}
 use Rattle.vhdl_expand_rules.specs.Tops.{Top}
 use Rattle.vhdl_expand_rules.specs.declared.fault.ElabFault.TheVariants as elab
+use Rattle.vhdl_expand_rules.specs.declared.fault.ElabProblem.TheVariants.{TooMany}
 use Rattle.vhdl_names_rules.specs.problems.Files as breaks
 use Rattle.vhdl_lexer.specs.declared.language.Language.{Language}
-use Rattle.vhdl_lexer.specs.declared.language.Language.TheVariants.{Profile, Wide}
 use Rattle.vhdl_names_rules.specs.Registers.{units_in}
 use Rattle.vhdl_names_rules.specs.declared.fault.NameFault.TheVariants as names
 use Rattle.vhdl_names_rules.specs.sound.Named.{are_named}
@@ -18,7 +17,8 @@ use Rattle.vhdl_elab_rules.specs.Shown.{Shows}
 use Rattle.vhdl_tree.specs.Tree.{File}
 use Rattle.vhdl_names_units.specs.declared.unit.Units.{Units}
 use Rattle.vhdl_names_units.specs.views.Units.{units_view}
-use Rattle.vhdl_front_rules.specs.Asking.{is_wide}
+use Rattle.vhdl_front_rules.specs.Designs.{HasRoom, IsReadIn}
+use Rattle.vhdl_front_rules.specs.Refusals.{IsUndesigned}
 use Rattle.vhdl_front_rules.specs.declared.fault.SourceFault.{SourceFault}
 use Rattle.vhdl_front_rules.specs.declared.fault.SourceFault.TheVariants.{Name, Elab, NoMemory}
 
@@ -40,25 +40,29 @@ pub record AreReady (units : u.Units) : Type 0 where
   pub named : IsTrue (are_named units)
   pub ports : IsTrue (small_ports_are_distinct units)
 
--- what elaboration gives, as a netlist of a source that was read in this language
-abbrev pub read_in : Language → NetlistView → NetlistView
-read_in Profile net = net
-read_in Wide net = record net { wide = true }
+-- A netlist is had of this one by itself, whose source was read in a language, or its kept variables have no room.
+abbrev pub ReadsIn : Language → (plain : NetlistView) → Result NetlistView SourceFault → Type 0
+ReadsIn language plain (Ok net) = IsReadIn language plain net × HasRoom language (flat plain)
+ReadsIn language plain (Err (Elab fault)) = (HasRoom language (flat plain) → ⊥) × (fault ≡ elab.At TooMany 0)
+ReadsIn language plain (Err NoMemory) = Unit {0}
+ReadsIn language plain (Err _) = ⊥
 
 -- the units, read in this language, have this netlist
 pub record ShowsTop (language : Language) (units : u.Units) (top : Top) (net : NetlistView) : Type 0 where
   pub design : Elaborated
   pub is : elaborated_net units top ≡ Ok design
-  pub wide : net.wide ≡ is_wide language
-  pub shows : Shows design (record net { wide = false })
+  pub room : HasRoom language design.flat
+  pub plain : NetlistView
+  pub shows : Shows design plain
+  pub read : IsReadIn language plain net
 
 -- only a fault of elaboration, only where the units have no design, and with the problem and the byte that may be told
-abbrev pub HasElabFault : u.Units → Top → SourceFault → Type 0
-HasElabFault units top (Elab elab.NoMemory) = ⊥
-HasElabFault units top (Elab (elab.At problem at)) = MayRefuse units top (problem, at)
-HasElabFault units top NoMemory = Unit {0}
-HasElabFault units top _ = ⊥
+abbrev pub HasElabFault : Language → u.Units → Top → SourceFault → Type 0
+HasElabFault language units top (Elab elab.NoMemory) = ⊥
+HasElabFault language units top (Elab (elab.At problem at)) = IsUndesigned language units top (problem, at)
+HasElabFault language units top NoMemory = Unit {0}
+HasElabFault language units top _ = ⊥
 
 abbrev pub GivesNet : Language → u.Units → Top → Result NetlistView SourceFault → Type 0
 GivesNet language units top (Ok net) = ShowsTop language units top net
-GivesNet language units top (Err fault) = HasElabFault units top fault
+GivesNet language units top (Err fault) = HasElabFault language units top fault

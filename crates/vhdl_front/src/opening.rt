@@ -1,6 +1,8 @@
 //! From a source to its netlist.
 
 ghost use Rattle.std.specs.Prelude.{◌≡◌, IfOk, IfErr, length};
+ghost use Rattle.rtl_net.specs.Elaborated.{IsNet};
+ghost use Rattle.rtl_net.specs.Parts.{assembled, IdleAreThere};
 ghost use Rattle.rtl_stim.specs.Ports.{HasOwnPorts};
 ghost use Rattle.vhdl_expand_rules.specs.Tops as tops;
 ghost use Rattle.vhdl_expand_rules.specs.views.Tops.{top_view};
@@ -10,13 +12,13 @@ ghost use Rattle.vhdl_front_rules.specs.Faults.{LiesIn};
 ghost use Rattle.vhdl_front_rules.specs.Refusals.{Refuses};
 ghost use Rattle.vhdl_front_rules.specs.Sources.{IsFileOf};
 ghost use Rattle.vhdl_names.specs.Spelled.{IsSpelled};
-ghost use Rattle.vhdl_front.specs.Steps as steps;
-ghost use Rattle.vhdl_front.specs.Steps.{GivesUnits, AreReady, GivesNet};
+ghost use Rattle.vhdl_front.specs.Steps.{GivesUnits, AreReady, ReadsIn, GivesNet};
 ghost use Rattle.vhdl_tree.specs.View.{file_view};
 ghost use Rattle.vhdl_tree.specs.grammar.Units.{IsFileIn};
 ghost use Rattle.vhdl_names_units.specs.views.Units.{units_view};
 
-use rtl_net::Net;
+use rtl_keeping::keep;
+use rtl_net::{Net, Parts};
 use std::alloc::Global;
 use vhdl_elab::elaborate;
 use vhdl_expand_rules::Top;
@@ -93,19 +95,23 @@ fn net_of(
     ensures given { GivesNet language (units_view units.now) (top_view top.entry) result }
     ensures ports { IfOk result (λ net. HasOwnPorts net) }
 {
-    match elaborate(alloc, units, top) {
-        Ok(net) => Ok(read_in(language, net)),
-        Err(fault) => Err(SourceFault::from(fault)),
-    }
+    let parts = elaborate(alloc, units, top)?;
+    read_in(alloc, language, parts)
 }
 
-/// A netlist that elaboration gives, which knows no language, as one of a source that was read in
-/// this one.
-fn read_in(language: Language, net: Net) -> Net
-    ensures { result ≡ steps.read_in language net }
+/// The netlist of these parts. Elaboration, which gives them, knows no language: the source was
+/// read in this one.
+fn read_in(alloc: Global, language: Language, parts: Parts) -> Result<Net, SourceFault>
+    requires net { IsNet (assembled parts) }
+    requires idle { IdleAreThere parts }
+    ensures given { ReadsIn language (assembled parts) result }
+    ensures ports { IfOk result (λ net. HasOwnPorts (assembled parts) → HasOwnPorts net) }
 {
     match language {
-        Language::Profile => net,
-        Language::Wide => net.widened(),
+        Language::Profile => Ok(Net::new(alloc, parts)?),
+        Language::Wide => {
+            let kept = keep(alloc, parts)?;
+            Ok(Net::new(alloc, kept)?.widened())
+        }
     }
 }

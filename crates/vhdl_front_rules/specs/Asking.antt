@@ -1,14 +1,10 @@
 -- What a front is asked for.
-use Rattle.std.specs.Prelude.{ℕ, Bool, true, false, List}
+use Rattle.std.specs.Prelude.{ℕ, List}
 use Rattle.vhdl_expand_rules.specs.Tops.{Top, plain}
 use Rattle.vhdl_expand_rules.specs.views.Tops.{top_view}
 use Rattle.vhdl_lexer.specs.declared.language.Language.{Language}
 use Rattle.vhdl_lexer.specs.declared.language.Language.TheVariants.{Profile, Wide}
 use Rattle.vhdl_front_rules.specs.declared.asked.Asked as code
-
-abbrev pub is_wide : Language → Bool
-is_wide Profile = false
-is_wide Wide = true
 
 -- the netlist of a source that is read in this language, under this top
 pub record Asked : Type 0 where

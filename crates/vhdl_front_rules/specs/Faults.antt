@@ -1,7 +1,10 @@
 -- What a layer's fault is to the caller of the whole, and the byte at which it is told.
 use Rattle.std.specs.Prelude.{ℕ, ◌≤◌, Option, Some, None, IfSome}
+use Rattle.rtl_kept_bodies.specs.declared.keeping.KeepFault.{KeepFault}
+use Rattle.rtl_kept_bodies.specs.declared.keeping.KeepFault.TheVariants as keep
 use Rattle.vhdl_expand_rules.specs.declared.fault.ElabFault.{ElabFault}
 use Rattle.vhdl_expand_rules.specs.declared.fault.ElabFault.TheVariants as elab
+use Rattle.vhdl_expand_rules.specs.declared.fault.ElabProblem.TheVariants.{TooMany}
 use Rattle.vhdl_lexer.specs.Fault as lexer
 use Rattle.vhdl_lexer.specs.declared.fault.LexFault.{LexFault}
 use Rattle.vhdl_lexer.specs.declared.fault.LexFault.TheVariants as lex
@@ -28,6 +31,10 @@ of_name fault = Name fault
 abbrev pub of_elab : ElabFault → SourceFault
 of_elab elab.NoMemory = NoMemory
 of_elab fault = Elab fault
+
+abbrev pub of_keep : KeepFault → SourceFault
+of_keep keep.TooMany = Elab (elab.At TooMany 0)
+of_keep keep.NoMemory = NoMemory
 
 -- ---- the byte
 

@@ -1,8 +1,12 @@
 -- Why a source has no netlist under a top: the first layer that refuses, each where its own definition does.
-use Rattle.std.specs.Prelude.{◌≡◌, ℕ, List, Some, None}
+use Rattle.std.specs.Prelude.{◌≡◌, ◌⊎◌, ℕ, List, Some, None, Ok}
+use Rattle.vhdl_elab_rules.specs.Elaboration.{Elaborated, elaborated_net}
 use Rattle.vhdl_elab_rules.specs.Refused.{MayRefuse}
 use Rattle.vhdl_expand_rules.specs.declared.fault.ElabFault.TheVariants as elab
 use Rattle.vhdl_expand_rules.specs.declared.fault.ElabProblem.{ElabProblem}
+use Rattle.vhdl_expand_rules.specs.declared.fault.ElabProblem.TheVariants.{TooMany}
+use Rattle.vhdl_expand_rules.specs.Elab.{Told}
+use Rattle.vhdl_expand_rules.specs.Tops.{Top}
 use Rattle.vhdl_lexer.specs.Fault.{HasFault}
 use Rattle.vhdl_lexer.specs.declared.fault.LexFault.TheVariants as lex
 use Rattle.vhdl_lexer.specs.declared.language.Language.{Language}
@@ -14,7 +18,7 @@ use Rattle.vhdl_names_rules.specs.units.Units.{Units}
 use Rattle.vhdl_parser_rules.specs.declared.fault.SyntaxFault.TheVariants as syntax
 use Rattle.vhdl_tree.specs.Tree.{File}
 use Rattle.vhdl_front_rules.specs.Asking.{Asked}
-use Rattle.vhdl_front_rules.specs.Designs.{HasUnits}
+use Rattle.vhdl_front_rules.specs.Designs.{HasUnits, HasRoom}
 use Rattle.vhdl_front_rules.specs.Sources.{IsFileOf, HasSyntaxFault}
 use Rattle.vhdl_front_rules.specs.declared.fault.SourceFault.{SourceFault}
 use Rattle.vhdl_front_rules.specs.declared.fault.SourceFault.TheVariants.{Lex, Syntax, Name, Elab, NoMemory}
@@ -27,12 +31,22 @@ pub record HasNoUnits (language : Language) (source : List ℕ) (problem : NameP
   pub ill_typed : units_in language file ≡ None
   pub broken : breaks.file file ≡ Some (problem, at)
 
+-- The units have a design, but its kept variables have no room.
+pub record IsOverfull (language : Language) (units : Units) (top : Top) (told : Told) : Type 0 where
+  pub design : Elaborated
+  pub is : elaborated_net units top ≡ Ok design
+  pub over : HasRoom language design.flat → ⊥
+  pub as_too_many : told ≡ (TooMany, 0)
+
+abbrev pub IsUndesigned : Language → Units → Top → Told → Type 0
+IsUndesigned language units top told = MayRefuse units top told ⊎ IsOverfull language units top told
+
 -- The source's units have no design with the top, and this problem may be told at this byte: that of the first broken
--- rule, or TooMany where the growth of the design may be cut off before.
+-- rule, or TooMany where the growth of the design may be cut off before, or where its kept variables have no room.
 pub record HasNoDesign (asked : Asked) (problem : ElabProblem) (at : ℕ) : Type 0 where
   pub units : Units
   pub analysed : HasUnits asked.language asked.source units
-  pub refused : MayRefuse units asked.top (problem, at)
+  pub refused : IsUndesigned asked.language units asked.top (problem, at)
 
 -- A layer's want of memory is told as NoMemory alone. No definition says whether TooDeep or Unexpected is told of a
 -- source that has both.

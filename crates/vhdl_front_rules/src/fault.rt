@@ -1,10 +1,13 @@
 //! Why a source has no netlist.
 
 ghost use Rattle.std.specs.Prelude.{◌≡◌};
-ghost use Rattle.vhdl_front_rules.specs.Faults.{of_lex, of_syntax, of_name, of_elab};
+ghost use Rattle.vhdl_front_rules.specs.Faults.{of_lex, of_syntax, of_name, of_elab, of_keep};
+ghost use Rattle.vhdl_front_rules.specs.declared.fault.SourceFault.TheVariants.{NoMemory};
 
+use rtl_keeping::KeepFault;
+use std::alloc::AllocError;
 use thiserror::Error;
-use vhdl_expand_rules::ElabFault;
+use vhdl_expand_rules::{ElabFault, ElabProblem};
 use vhdl_lexer::LexFault;
 use vhdl_names_rules::NameFault;
 use vhdl_parser_rules::SyntaxFault;
@@ -71,5 +74,25 @@ impl From<ElabFault> for SourceFault {
             ElabFault::NoMemory => SourceFault::NoMemory,
             _ => SourceFault::Elab(elab),
         }
+    }
+}
+
+/// The nets of kept variables count among those of the design.
+impl From<KeepFault> for SourceFault {
+    ghost from_gives = { λ keep fault. fault ≡ of_keep keep };
+
+    fn from(keep: KeepFault) -> SourceFault {
+        match keep {
+            KeepFault::TooMany => SourceFault::Elab(ElabProblem::TooMany.at(0)),
+            KeepFault::NoMemory => SourceFault::NoMemory,
+        }
+    }
+}
+
+impl From<AllocError> for SourceFault {
+    ghost from_gives = { λ _ fault. fault ≡ NoMemory };
+
+    fn from(_refused: AllocError) -> SourceFault {
+        SourceFault::NoMemory
     }
 }

@@ -1,7 +1,7 @@
 -- The literals of the type of a signal (IEEE 1076-2008, 5.2.2, 6.2, 6.4.2.3), by the tokens of its source: those of the
 -- last type of the name that stands behind the colon of its declaration, of those declared before it. Such a type is
 -- declared in the architecture of its signals.
-use Rattle.std.specs.Prelude.{ℕ, ◌&&◌, if◌then◌else◌, List, [], drop, map, filter, position, slice_get, Option}
+use Rattle.std.specs.Prelude.{ℕ, ◌&&◌, Bool, false, if◌then◌else◌, List, [], ◌∷◌, drop, map, filter, position, slice_get, Option}
 use Rattle.std.specs.Str.{str_eq_ignore_ascii_case}
 use Rattle.rtl_net.specs.Nets.{SignalView}
 use Rattle.rtl_expect.specs.Expected.{Positions}
@@ -14,9 +14,16 @@ use Rattle.vhdl_slips.specs.Words as words
 use Rattle.vhdl_slips.specs.Words.{Read, text_of, text_of_first}
 use Rattle.vhdl_tree.specs.Lexeme.{same_kind}
 
--- how the mark of the declaration at a byte is written: NAME { , NAME } : MARK
+abbrev pub begins_process : List Token → Bool
+begins_process [] = false
+begins_process (t ∷ ts) = same_kind t.kind k.Process
+
+-- How the mark of the declaration at a byte is written: NAME { , NAME } : MARK. A variable that is kept stands at its
+-- process, which declares others too: it has none.
 abbrev pub mark_at : (at : ℕ) → Read → List ℕ
-mark_at at source = text_of_first source.text (drop 1 (from k.Colon (words.from at source).tokens))
+mark_at at source =
+    if begins_process (words.from at source).tokens then []
+    else text_of_first source.text (drop 1 (from k.Colon (words.from at source).tokens))
 
 -- what stands in the parentheses of the type that a token begins, these behind it, where it has this name: type NAME is
 -- ( LITERAL { , LITERAL } ); else what was found before

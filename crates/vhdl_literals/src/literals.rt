@@ -37,11 +37,25 @@ impl Literals for SourceLiterals<'_> {
     }
 }
 
-/// How the mark of the declaration at a byte is written.
+/// Whether a process begins with these tokens.
+fn begins_process(tokens: &[Token]) -> bool
+    ensures { result ≡ spec.begins_process tokens.now }
+{
+    match tokens {
+        [] => false,
+        [token, ..] => is_same_kind(token.kind, TokenKind::Process),
+    }
+}
+
+/// How the mark of the declaration at a byte is written; of a process, which declares several,
+/// nothing.
 fn mark_at(at: usize, source: Lexed<'_>) -> &[u8]
     ensures { result.now ≡ spec.mark_at at (read_of source.entry) }
 {
     let (_before, declaration) = source.split_at(at);
+    if begins_process(declaration.tokens) {
+        return &[];
+    }
     first_text(Lexed {
         text: source.text,
         tokens: past(1, from(TokenKind::Colon, declaration.tokens)),
