@@ -37,7 +37,7 @@ use std::io;
 use tries::Tries;
 
 /// The tables of calls, in the folder in which the program runs.
-const TABLES: [&str; 29] = [
+const TABLES: [&str; 30] = [
     "values.txt",
     "refused.txt",
     "inputs.txt",
@@ -48,6 +48,7 @@ const TABLES: [&str; 29] = [
     "wide.txt",
     "by_nets.txt",
     "inner_resets.txt",
+    "kept_variables.txt",
     "explain.txt",
     "remarks.txt",
     "net.txt",
