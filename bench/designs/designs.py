@@ -10,6 +10,7 @@ IDLE = "ZZZZ-LHW"  # what a driver that rests gives
 WIDE = False  # whether registers are written as `--wide` reads them
 NETS = False  # whether processes are put together, so that they are loops, in which no net looks at itself
 RESETS = False  # whether resets are made inside, and stand behind the edge
+KEPT = False  # whether clocked processes keep variables
 
 
 class Signal:
@@ -41,6 +42,7 @@ class Design:
     def __init__(self, random_, top, depth=0):
         self.r, self.top, self.depth, self.count = random_, top, depth, 0
         self.known, self.shown, self.faults, self.edges, self.types = [], [], set(), set(), []
+        self.keeping = []  # labels of processes, each with the variables that it keeps
         self.decls, self.body, self.units, self.ins, self.outs = [], [], [], [], []
         self.resets = [("rst", "01")]  # what may reset, and by which values
 
@@ -226,16 +228,20 @@ class Design:
             mine.append(v)
             near = self.of_kind("uv", 2)
             if near and kind in "su" and self.chance(0.5):
-                x = self.r.choice(near)
-                step = (
-                    "{} := {} xor ({}(i) and {}(j));".format(v.name, v.name, x.name, x.name)
-                    if kind == "s"
-                    else "if {}(i) = '1' and {}(j) /= '0' then {} := {} + 1; end if;".format(x.name, x.name, v.name, v.name)
-                )
-                text += f"for i in 0 to {x.width - 1} loop for j in i to {x.width - 1} loop {step} end loop; end loop; "
+                text += self.stepped(v, near) + " "
             elif self.chance(0.5):
                 text += self.statement(v, ":=", 1, False) + " "
         return decls, text, mine
+
+    def stepped(self, v, near):
+        """two loops over a vector's elements that change a variable"""
+        x = self.r.choice(near)
+        step = (
+            "{} := {} xor ({}(i) and {}(j));".format(v.name, v.name, x.name, x.name)
+            if v.kind == "s"
+            else "if {}(i) = '1' and {}(j) /= '0' then {} := {} + 1; end if;".format(x.name, x.name, v.name, v.name)
+        )
+        return f"for i in 0 to {x.width - 1} loop for j in i to {x.width - 1} loop {step} end loop; end loop;"
 
     def label(self):
         return self.fresh("p") + ": " if self.chance(0.4) else ""
@@ -366,7 +372,7 @@ class Design:
                 + "entity {} is generic (w : positive := 2); port (clk : in std_logic; i0 : in unsigned(w - 1 downto 0); z : out unsigned(w - 1 downto 0)); end;\narchitecture r of {} is\n  signal q : unsigned(w - 1 downto 0) := (others => '0');\nbegin\n  process (clk) begin if rising_edge(clk) then q <= q + i0 + w; end if; end process;\n  g: for i in 0 to w - 1 generate z(i) <= q(i) xor i0(w - 1 - i); end generate;\nend;\n".format(
                     name, name
                 ),
-                ("", ""),
+                ("", "", {}),
             )
         )
         self.edges.add(("clk", True))
@@ -492,6 +498,98 @@ class Design:
             return f"if {test} then {set_} elsif {edge} then {text} end if;", net
         return f"if {edge} then {text} end if; if {test} then {set_} end if;", net
 
+    # variables that clocked processes keep
+
+    def kept(self):
+        """declarations of such variables, which are known from here on"""
+        r, mine = self.r, []
+        for k in range(r.randint(1, 4)):
+            kind = r.choice("suuvve" if self.types else "suuvv")
+            words = r.choice(self.types) if kind == "e" else None
+            x = Signal(f"x{k}", kind, 1 if kind in "se" else r.randint(1, 9), self.chance(0.3), words)
+            x.start = self.literal(x)
+            mine.append(x)
+        self.known = self.known + 3 * mine
+        return "".join(f"variable {x.name} : {x.type()} := {x.start}; " for x in mine), mine
+
+    def place(self, x):
+        """a name of a part of a vector, and how wide that is"""
+        n = self.r.randint(1, x.width - 1)
+        return x.slice(self.r.randrange(x.width - n + 1), n), n
+
+    def sets(self, x):
+        """sets a variable, or a part of it, by what it was and what is known beside"""
+        k, near = self.r.random(), self.of_kind("uv", 2)
+        if k < 0.2:
+            return f"if {self.condition()} then {self.sets(x)} {f'else {self.sets(x)} ' if self.chance(0.5) else ''}end if;"
+        if k < 0.3 and near and x.kind in "su":
+            return self.stepped(x, near)
+        if k < 0.7 and x.width > 1:
+            if k < 0.4:
+                return f"{x.element(self.r.randrange(x.width))} := {self.scalar(2)};"
+            if k < 0.55:
+                part, n = self.place(x)
+                return f"{part} := {self.value(Signal('', x.kind, n))};"
+            both = [x.slice(self.r.randrange(2), x.width - 1), f"({self.scalar(1)})"]
+            self.r.shuffle(both)
+            return f"{x.name} := {' & '.join(both)};"
+        return self.statement(x, ":=", 2, False)
+
+    def entry(self, s, sign):
+        """gives a register or a variable a constant, as a reset does; a variable also a part of it"""
+        r, same = self.r, [k.name for k in self.known if k.name[0] == "k" and (k.kind, k.width) == (s.kind, s.width)]
+        if s.kind in "uv" and self.chance(0.3):
+            return f"{s.name} {sign} (others => '{r.choice('01')}');"
+        if same and self.chance(0.5):
+            return f"{s.name} {sign} {r.choice(same)};"
+        if sign == ":=" and s.width > 1 and self.chance(0.3):
+            part, n = self.place(s)
+            return f"{part} := {self.literal(Signal('', s.kind, n))};"
+        return f"{s.name} {sign} {self.literal(s)};"
+
+    def keeps(self, clock, rising, mine):
+        """registers, in any form, in a process that keeps variables; outputs stand before and behind what sets these"""
+        r, turns = self.r, ""
+        if len(mine) == 1 and mine[0].kind in "uv" and self.chance(0.3):
+            turns = f"{self.fresh('g')}: for m in 0 to {mine[0].width - 1} generate "
+            mine = [Signal(f"{mine[0].name}(m)", "s", 1)]
+        edge = [f"{'rising' if rising else 'falling'}_edge({clock})"] if self.chance(0.5) else [f"{clock}'event", f"{clock} = '{rising:d}'"]
+        form = r.choice(["if", "reset", "reset", "behind", "behind", "several", "wait"])
+        decls, vs = self.kept()
+        gates = self.gates() if self.chance(0.4) else []
+        more, first, others = self.variables() if self.chance(0.3) else ("", "", [])
+        parts = [self.statement(s, "<=", 3, False) for s in mine] + [self.sets(x) for x in vs if self.chance(0.9)]
+        parts += [self.sets(r.choice(vs)) for _ in range(r.randint(0, 2))]
+        r.shuffle(parts)
+        net, values = r.choice(self.resets)
+        test, set_ = f"{net} = '{r.choice(values)}'", self.set_by_reset(mine, vs)
+        body = self.in_form(form, edge, gates, first, parts, test, set_)
+        label = self.fresh("p") + ": " if self.chance(0.9) else ""
+        self.keeping += [(label, vs)] if label else []
+        self.known = [s for s in self.known if s not in vs + others]
+        woken = f"{clock}, {net}" if form in ("reset", "behind") else clock
+        woken = "" if form == "wait" else " (all)" if self.chance(0.2) else f" ({woken})"
+        return f"{turns}{label}process{woken} {decls}{more}begin {body}end process;{' end generate;' if turns else ''}"
+
+    def set_by_reset(self, mine, vs):
+        both = [self.entry(s, "<=") for s in mine if self.chance(0.85)] + [self.entry(x, ":=") for x in vs if self.chance(0.7)]
+        self.r.shuffle(both)
+        return " ".join(both) or "null;"
+
+    def in_form(self, form, edge, gates, first, parts, test, set_):
+        """the body of a register in this form; its first statements stand at an edge without conditions"""
+        null = lambda: "null; " if self.chance(0.2) else ""
+        at = self.r.randrange(len(parts)) if form == "several" or (form == "behind" and self.chance(0.3)) else 0
+        whole, gated = f"{first}{' '.join(parts[at:])}", self.joined(edge + ([] if first else gates))
+        if form == "wait":
+            return f"wait until {self.joined(edge)}; {whole} "
+        if form == "reset":
+            return f"{null()}if {test} then {set_} elsif {gated} then {whole} end if; {null()}"
+        text = f"{null()}if {gated} then {whole} end if; {null()}"
+        if at:
+            text += f"if {self.joined(edge + self.gates())} then {' '.join(parts[:at])} end if; {null()}"
+        return text + (f"if {test} then {set_} end if; {null()}" if form == "behind" else "")
+
     # clocked processes, and what breaks a rule
 
     def clocked(self, mine):
@@ -499,6 +597,8 @@ class Design:
         clock = r.choice(["clk", "clk", "ck2"])
         rising = self.chance(0.7)
         self.edges.add((clock, rising))
+        if KEPT and (self.depth == 0 or self.chance(0.7)):
+            return self.keeps(clock, rising, mine)
         if WIDE and self.chance(0.9):
             return self.written(clock, rising, mine)
         edge = r.choice(
@@ -555,7 +655,7 @@ class Design:
                         + "entity {} is port (en : in std_logic; z : out {} := {}); end;\narchitecture r of {} is\nbegin\n  z <= {} when en = '1' else {};\nend;\n".format(
                             name, port.type(), self.literal(port), name, self.literal(port), none
                         ),
-                        ("", ""),
+                        ("", "", {}),
                     )
                 )
                 self.body.append("{}: entity work.{} port map ({}, {});".format(self.fresh("u"), name, self.actual(Signal("", "s", 1)), part))
@@ -601,13 +701,13 @@ class Design:
             for k, q in enumerate((r.choice("svvu") for _ in range(r.randint(0, 4))), 1)
         ]
         self.known = self.in_ports + ([Signal("rst", "s", 1)] if self.chance(0.5) else [])
-        registers = [self.any(False, self.chance(0.8)) for _ in range(r.randint(WIDE and self.depth == 0, 5))]
+        registers = [self.any(False, self.chance(0.8)) for _ in range(r.randint((WIDE or KEPT) and self.depth == 0, 5))]
         for kind in "suv" if self.chance(0.3) else "":
             k = Signal(self.fresh("k"), kind, 1 if kind == "s" else r.randint(1, 9), self.chance(0.3))
             self.decls.append("constant {} : {} := {};".format(k.name, k.type(), self.literal(k)))
             self.known = self.known + [k]
         self.known = self.known + registers
-        if RESETS:
+        if RESETS or (KEPT and self.chance(0.3)):
             self.make_resets()
         for _ in range(r.randint(1, 6 if self.depth == 0 else 3) + 3 * NETS):
             if self.depth < 2 and self.chance(0.25):
@@ -629,7 +729,8 @@ class Design:
         return self.text()
 
     def text(self):
-        """the design's text, and what GHDL needs beside it to show enumerations: declarations and statements"""
+        """the design's text, and what GHDL needs beside it to show enumerations and variables: declarations and statements,
+        and both for variables by their process's label"""
         self.out_ports = []
         for o in self.outs:
             m = re.match(r"(\w+) : out (std_logic_vector|unsigned|std_logic)(?:\((\d+) (to|downto) (\d+)\))?", o)
@@ -647,14 +748,28 @@ class Design:
             self.body.append(f"{s.name} <= resize({x.name}, {s.width}) + n;")
         shadow = [(s.name, len(s.words) - 1, s.words[0]) for s in self.shown]
         wide = lambda count: max(1, (count - 1).bit_length())
-        more = "".join(f"  signal zz_{n} : std_logic_vector({wide(c) - 1} downto 0);\n" for n, c, _ in shadow)
-        show = "".join(f"  zz_{n} <= std_logic_vector(to_unsigned({t}'pos({n}), {wide(c)}));\n" for n, c, t in shadow)
+        number = lambda n, c, t: f"std_logic_vector(to_unsigned({t}'pos({n}), {wide(c)}))"
+        vector = lambda c: f"std_logic_vector({wide(c) - 1} downto 0)"
+        more = "".join(f"  signal zz_{n} : {vector(c)};\n" for n, c, _ in shadow)
+        show = "".join(f"  zz_{n} <= {number(n, c, t)};\n" for n, c, t in shadow)
+        ends = {}
+        for label, x in ((label, x) for label, vs in self.keeping for x in vs):
+            its = (len(x.words) - 1, x.words[0]) if x.kind == "e" else None
+            name, kind, of = f"zz_{label[:-2]}_{x.name}", vector(its[0]) if its else x.type(), lambda n: number(n, *its) if its else n
+            declared, shown = ends.get(label, ("", ""))
+            ends[label] = declared + f"signal {name} : {kind} := {of(x.start)}; ", shown + f"{name} <= {of(x.name)}; "
         return "{}entity {} is {}port ({}); end;\narchitecture r of {} is\n  {}\nbegin\n  {}\nend;\n".format(
             HEAD, self.top, generic, "; ".join(ports), self.top, "\n  ".join(self.decls), "\n  ".join(self.body)
-        ), (more, show)
+        ), (more, show, ends)
 
 
 def beside(unit):
-    text, (more, show) = unit
+    text, (more, show, ends) = unit
+    for label, (declared, shown) in ends.items():
+        at = text.index("end process;", text.index(f" {label}process"))
+        text = text[:at] + shown + text[at:]
+        inside = text.replace(f"generate {label}", f"generate {declared}begin {label}")
+        more += "" if inside != text else f"  {declared}\n"
+        text = inside
     at = text.index("\nbegin\n  ") + 1
     return text[:at] + more + "begin\n" + show + text[at + 6 :]
