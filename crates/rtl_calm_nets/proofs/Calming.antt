@@ -1,12 +1,12 @@
 -- The steps along copies come to a good end just from nets that are made of inputs, and from those that are calm.
 use Rattle.std.proofs.Common.{◌≡◌, ◌↔◌, ℕ, zero, suc, ◌*◌, ◌<◌, ◌≤◌, Bool, true, false, not, ◌||◌, ◌&&◌, nat_lt, List, [], ◌∷◌, length, get_or, map, Some, None, IsTrue, refl, sym, ap, subst, ◌∙◌, arith, ◌⊎◌, inl, inr, Contains}
 use Rattle.std.specs.Prelude.{if◌then◌else◌}
-use Rattle.std.proofs.lemmas.Bool.{cases_Bool, cases_lt, ltb-true, lt-ltb}
+use Rattle.std.proofs.lemmas.Bool.{cases_Bool, cases_lt, ltb-true, lt-ltb, or_cases}
 use Rattle.std.proofs.lemmas.List.{get_or_past}
 use Rattle.rtl_model.specs.simulation.Netlist.{Netlist, Source, Driver, Reset, Copy, reset_of, reset_entry, HasReset}
 use Rattle.rtl_model.specs.simulation.Elaborated.{IsElaborated}
-use Rattle.rtl_model.specs.simulation.Calm.{IsFromOutside, IsRegister, Copies, IsMadeOfInputs, follows, copies_made, StartsQuietly, starts_without, resets_to_these}
-use Rattle.rtl_model.specs.simulation.Calm.{IsCalm, follows_inputs, not_reset, reset_by_inputs, copies_calm}
+use Rattle.rtl_model.specs.simulation.Calm.{IsFromOutside, IsRegister, Copies, IsMadeOfInputs, follows, copies_made, ResetsTo, StartsQuietly, starts_without, resets_to_these}
+use Rattle.rtl_model.specs.simulation.Calm.{IsCalm, follows_inputs, ends_reset, reset_by_inputs, copies_calm}
 use Rattle.rtl_model.specs.bodies.Copies.{passed_on}
 use Rattle.rtl_model.proofs.basics.Lists.{Contains-first}
 use Rattle.rtl_process_kinds.specs.declared.asked.Asked.{Asked}
@@ -104,27 +104,36 @@ module _ (net : Netlist) (T : AreThere net) (origins : List Origin) (O : AreOrig
 
   -- ---- calm
 
+  -- a register that is reset to one of the values, if at all
+  none_value : (p place : ℕ) (asked : Asked) → reset_entry (reset_of net p) place ≡ None → (value : ℕ) → reset_entry (reset_of net p) place ≡ Some value → is_asked asked value ≡ true
+  none_value p place asked e value f = let h : None ≡ Some value = sym e ∙ f in absurd cc
+
+  one_value : (p place v : ℕ) (asked : Asked) → reset_entry (reset_of net p) place ≡ Some v → is_asked asked v ≡ true → (value : ℕ) → reset_entry (reset_of net p) place ≡ Some value → is_asked asked value ≡ true
+  one_value p place v asked e t value f = let h : Some v ≡ Some value = sym e ∙ f in let same : v ≡ value = cc in ap (is_asked asked) (sym same) ∙ t
+
+  resets_if : (n : ℕ) (asked : Asked) → n < length net.start → (x : Origin) → given_at origins n ≡ x → resets_to asked x ≡ true → ResetsTo net n (is_asked asked)
+  resets_if n asked l o.Inputs f t = absurd cc
+  resets_if n asked l (o.Copied c) f t = absurd cc
+  resets_if n asked l o.Unreset f t = let (p, place, is, none) = unreset_if net n (given_at origins n) (O.each n l) f in (p, place, is, none_value p place asked none)
+  resets_if n asked l (o.Reset by v) f t = let (p, place, is, has, one) = reset_if net n (given_at origins n) by v (O.each n l) f in (p, place, is, one_value p place v asked one t)
+  resets_if n asked l o.Other f t = absurd cc
+
+  is_reset_to : (n : ℕ) (asked : Asked) → n < length net.start → ResetsTo net n (is_asked asked) → resets_to asked (given_at origins n) ≡ true
+  is_reset_to n asked l (p, place, is, all) = go (is_register net n (given_at origins n) (O.each n l) p place (register_inside n p place is) is)
+    where
+      go : ((given_at origins n ≡ o.Unreset) × (reset_entry (reset_of net p) place ≡ None)) ⊎ ((r : Reset) × (value : ℕ) × (given_at origins n ≡ o.Reset r.net value) × (reset_of net p ≡ Some r) × (reset_entry (reset_of net p) place ≡ Some value))
+          → resets_to asked (given_at origins n) ≡ true
+      go (inl (e, none)) = ap (resets_to asked) e
+      go (inr (r, value, e, has, one)) = ap (resets_to asked) e ∙ all value one
+
   -- a net that starts quietly
   quiet_to : (n : ℕ) (asked : Asked) → n < length net.start → starts_quietly asked (given_at origins n) (get_or net.start n 0) ≡ true → StartsQuietly net n (is_asked asked)
   quiet_to n asked l e = go (cases_Bool (is_asked asked (get_or net.start n 0))) (given_at origins n) refl e
     where
-      none_value : (p place : ℕ) → reset_entry (reset_of net p) place ≡ None → (value : ℕ) → reset_entry (reset_of net p) place ≡ Some value → is_asked asked value ≡ true
-      none_value p place e value f = let h : None ≡ Some value = sym e ∙ f in absurd cc
-
-      one_value : (p place v : ℕ) → reset_entry (reset_of net p) place ≡ Some v → is_asked asked v ≡ true → (value : ℕ) → reset_entry (reset_of net p) place ≡ Some value → is_asked asked value ≡ true
-      one_value p place v e t value f = let h : Some v ≡ Some value = sym e ∙ f in let same : v ≡ value = cc in ap (is_asked asked) (sym same) ∙ t
-
-      resets : (x : Origin) → given_at origins n ≡ x → resets_to asked x ≡ true → StartsQuietly net n (is_asked asked)
-      resets o.Inputs f t = absurd cc
-      resets (o.Copied c) f t = absurd cc
-      resets o.Unreset f t = let (p, place, is, none) = unreset_if net n (given_at origins n) (O.each n l) f in resets_to_these p place is (none_value p place none)
-      resets (o.Reset by v) f t = let (p, place, is, has, one) = reset_if net n (given_at origins n) by v (O.each n l) f in resets_to_these p place is (one_value p place v one t)
-      resets o.Other f t = absurd cc
-
       go : (is_asked asked (get_or net.start n 0) ≡ true) ⊎ (is_asked asked (get_or net.start n 0) ≡ false) → (x : Origin) → given_at origins n ≡ x
           → starts_quietly asked (given_at origins n) (get_or net.start n 0) ≡ true → StartsQuietly net n (is_asked asked)
       go (inr f) x is t = starts_without f
-      go (inl f) x is t = resets x is (sym (ap (λ (b : Bool). not b || resets_to asked x) f) ∙ (ap (λ (y : Origin). starts_quietly asked y (get_or net.start n 0)) (sym is) ∙ t))
+      go (inl f) x is t = resets_to_these (resets_if n asked l x is (sym (ap (λ (b : Bool). not b || resets_to asked x) f) ∙ (ap (λ (y : Origin). starts_quietly asked y (get_or net.start n 0)) (sym is) ∙ t)))
 
   or_true : (a : Bool) → (a || true) ≡ true
   or_true true = refl
@@ -132,15 +141,7 @@ module _ (net : Netlist) (T : AreThere net) (origins : List Origin) (O : AreOrig
 
   quiet_from : (n : ℕ) (asked : Asked) → n < length net.start → StartsQuietly net n (is_asked asked) → starts_quietly asked (given_at origins n) (get_or net.start n 0) ≡ true
   quiet_from n asked l (starts_without f) = ap (λ (b : Bool). not b || resets_to asked (given_at origins n)) f
-  quiet_from n asked l (resets_to_these p place is all) = go (is_register net n (given_at origins n) (O.each n l) p place (register_inside n p place is) is)
-    where
-      by : resets_to asked (given_at origins n) ≡ true → starts_quietly asked (given_at origins n) (get_or net.start n 0) ≡ true
-      by t = ap (λ (b : Bool). not (is_asked asked (get_or net.start n 0)) || b) t ∙ or_true (not (is_asked asked (get_or net.start n 0)))
-
-      go : ((given_at origins n ≡ o.Unreset) × (reset_entry (reset_of net p) place ≡ None)) ⊎ ((r : Reset) × (value : ℕ) × (given_at origins n ≡ o.Reset r.net value) × (reset_of net p ≡ Some r) × (reset_entry (reset_of net p) place ≡ Some value))
-          → starts_quietly asked (given_at origins n) (get_or net.start n 0) ≡ true
-      go (inl (e, none)) = by (ap (resets_to asked) e)
-      go (inr (r, value, e, has, one)) = by (ap (resets_to asked) e ∙ all value one)
+  quiet_from n asked l (resets_to_these to) = ap (λ (b : Bool). not (is_asked asked (get_or net.start n 0)) || b) (is_reset_to n asked l to) ∙ or_true (not (is_asked asked (get_or net.start n 0)))
 
   -- the condition of a step along a copy
   both_true : (a b : Bool) → (a && b) ≡ true → (a ≡ true) × (b ≡ true)
@@ -176,14 +177,17 @@ module _ (net : Netlist) (T : AreThere net) (origins : List Origin) (O : AreOrig
     ends_calm : (n : ℕ) (asked : Asked) → n < length net.start → (x : Origin) → given_at origins n ≡ x → calm_step origins made net.start x asked ≡ s.Ends true → IsCalm net n (is_asked asked)
     ends_calm n asked l o.Inputs f e = follows_inputs n (is_asked asked) (follows_if net n (given_at origins n) (O.each n l) f)
     ends_calm n asked l (o.Copied c) f e = absurd (copy_ends c.net (asked_through asked c.inverted) (condition c.net (asked_through asked c.inverted)) e)
-    ends_calm n asked l o.Unreset f e = let (p, place, is, none) = unreset_if net n (given_at origins n) (O.each n l) f in not_reset n p place (is_asked asked) is none
-    ends_calm n asked l (o.Reset by v) f e =
-        let t : get_or made by false ≡ true = ends_one e in
-        let (p, place, is, (reset, has, same), one) = reset_if net n (given_at origins n) by v (O.each n l) f in
-        reset_by_inputs n p place (is_asked asked) reset is has (subst (IsMadeOfInputs net) (sym same) ((M.each by (made_there by t)).0 t))
+    ends_calm n asked l o.Unreset f e = ends_reset n (is_asked asked) (resets_if n asked l o.Unreset f refl)
+    ends_calm n asked l (o.Reset by v) f e = go (or_cases (is_asked asked v) (get_or made by false) (ends_one e))
       where
         ends_one : {a b : Bool} → s.Ends a ≡ s.Ends b → a ≡ b
         ends_one e = cc
+
+        go : (is_asked asked v ≡ true) ⊎ (get_or made by false ≡ true) → IsCalm net n (is_asked asked)
+        go (inl t) = ends_reset n (is_asked asked) (resets_if n asked l (o.Reset by v) f t)
+        go (inr t) =
+            let (p, place, is, (reset, has, same), one) = reset_if net n (given_at origins n) by v (O.each n l) f in
+            reset_by_inputs n p place (is_asked asked) reset is has (subst (IsMadeOfInputs net) (sym same) ((M.each by (made_there by t)).0 t))
     ends_calm n asked l o.Other f e = absurd cc
 
     -- a copy of what is calm and starts quietly
@@ -218,24 +222,32 @@ module _ (net : Netlist) (T : AreThere net) (origins : List Origin) (O : AreOrig
     stepped : (n : ℕ) (asked : Asked) (x : Origin) → n < length net.start → given_at origins n ≡ x → step_at steps (place_of n asked) ≡ calm_step origins made net.start x asked
     stepped n asked x l e = S.each n asked (rw O.each_net l) ∙ ap (λ (y : Origin). calm_step origins made net.start y asked) e
 
-    of_register : (n p place : ℕ) (asked : Asked) → n < length net.start → IsRegister net n p place
-        → ((reset : Reset) → reset_of net p ≡ Some reset → reset_entry (reset_of net p) place ≡ None ⊎ IsMadeOfInputs net reset.net) → Comes steps (place_of n asked)
-    of_register n p place asked l is by = go (is_register net n (given_at origins n) (O.each n l) p place (register_inside n p place is) is)
+    -- a register is reset to one of the values, if at all
+    of_resets : (n : ℕ) (asked : Asked) → n < length net.start → ResetsTo net n (is_asked asked) → Comes steps (place_of n asked)
+    of_resets n asked l to = go (given_at origins n) refl (is_reset_to n asked l to)
       where
-        of_reset : (r : Reset) (v : ℕ) → given_at origins n ≡ o.Reset r.net v → reset_of net p ≡ Some r → reset_entry (reset_of net p) place ≡ Some v
-            → reset_entry (reset_of net p) place ≡ None ⊎ IsMadeOfInputs net r.net → Comes steps (place_of n asked)
-        of_reset r v e has one (inl none) = let h : None ≡ Some v = sym none ∙ one in absurd cc
-        of_reset r v e has one (inr made_of) = ends (place_of n asked) (stepped n asked (o.Reset r.net v) l e ∙ ap s.Ends ((M.each r.net (T.resets p r has)).1 made_of))
+        go : (x : Origin) → given_at origins n ≡ x → resets_to asked (given_at origins n) ≡ true → Comes steps (place_of n asked)
+        go o.Unreset e t = ends (place_of n asked) (stepped n asked o.Unreset l e)
+        go (o.Reset by v) e t =
+            let h : is_asked asked v ≡ true = sym (ap (resets_to asked) e) ∙ t in
+            ends (place_of n asked) (stepped n asked (o.Reset by v) l e ∙ ap (λ (b : Bool). s.Ends (b || get_or made by false)) h)
+        go o.Inputs e t = let h : false ≡ true = sym (ap (resets_to asked) e) ∙ t in absurd cc
+        go (o.Copied c) e t = let h : false ≡ true = sym (ap (resets_to asked) e) ∙ t in absurd cc
+        go o.Other e t = let h : false ≡ true = sym (ap (resets_to asked) e) ∙ t in absurd cc
 
+    -- or its reset is made of inputs
+    of_register : (n p place : ℕ) (asked : Asked) → n < length net.start → IsRegister net n p place → ((reset : Reset) → reset_of net p ≡ Some reset → IsMadeOfInputs net reset.net) → Comes steps (place_of n asked)
+    of_register n p place asked l is made_of = go (is_register net n (given_at origins n) (O.each n l) p place (register_inside n p place is) is)
+      where
         go : ((given_at origins n ≡ o.Unreset) × (reset_entry (reset_of net p) place ≡ None)) ⊎ ((r : Reset) × (value : ℕ) × (given_at origins n ≡ o.Reset r.net value) × (reset_of net p ≡ Some r) × (reset_entry (reset_of net p) place ≡ Some value))
             → Comes steps (place_of n asked)
         go (inl (e, none)) = ends (place_of n asked) (stepped n asked o.Unreset l e)
-        go (inr (r, v, e, has, one)) = of_reset r v e has one (by r has)
+        go (inr (r, v, e, has, one)) = ends (place_of n asked) (stepped n asked (o.Reset r.net v) l e ∙ (ap (λ (b : Bool). s.Ends (is_asked asked v || b)) ((M.each r.net (T.resets p r has)).1 (made_of r has)) ∙ ap s.Ends (or_true (is_asked asked v))))
 
     pub calm_from : (n : ℕ) (these : ℕ → Bool) (asked : Asked) → IsCalm net n these → these ≡ is_asked asked → n < length net.start → Comes steps (place_of n asked)
     calm_from n these asked (follows_inputs k those f) same l = ends (place_of k asked) (stepped k asked o.Inputs l (is_inputs net k (given_at origins k) (O.each k l) f))
-    calm_from n these asked (not_reset k p place those is none) same l = of_register k p place asked l is (λ r has. inl none)
-    calm_from n these asked (reset_by_inputs k p place those reset is has made_of) same l = of_register k p place asked l is (λ r also. inr (moved r also))
+    calm_from n these asked (ends_reset k those to) same l = of_resets k asked l (subst (ResetsTo net k) same to)
+    calm_from n these asked (reset_by_inputs k p place those reset is has made_of) same l = of_register k p place asked l is moved
       where
         moved : (r : Reset) → reset_of net p ≡ Some r → IsMadeOfInputs net r.net
         moved r also = let h : Some reset ≡ Some r = sym has ∙ also in let e : reset ≡ r = cc in subst (λ (x : Reset). IsMadeOfInputs net x.net) e made_of

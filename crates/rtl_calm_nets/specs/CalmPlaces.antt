@@ -48,7 +48,7 @@ calm_step origins made starts o.Inputs asked = s.Ends true
 calm_step origins made starts (o.Copied copied) asked =
     copy_step origins starts copied.net (asked_through asked copied.inverted)
 calm_step origins made starts o.Unreset asked = s.Ends true
-calm_step origins made starts (o.Reset by value) asked = s.Ends (slice_index_or made by false)
+calm_step origins made starts (o.Reset by value) asked = s.Ends (is_asked asked value || slice_index_or made by false)
 calm_step origins made starts o.Other asked = s.Ends false
 
 -- the steps of these nets, for each set of values

@@ -93,7 +93,7 @@ fn calm_step(known: Known<'_>, origin: Origin, asked: Asked) -> Step
     match origin {
         Origin::Inputs | Origin::Unreset => Step::Ends(true),
         Origin::Copied(copied) => copy_step(known, copied.net, asked.through(copied.inverted)),
-        Origin::Reset { by, .. } => Step::Ends(is_marked(known.made, by)),
+        Origin::Reset { by, value } => Step::Ends(asked.has(value) || is_marked(known.made, by)),
         Origin::Other => Step::Ends(false),
     }
 }

@@ -8,7 +8,7 @@ use Rattle.rtl_model.specs.nets.FlatNetlist.{FlatNetlist}
 use Rattle.rtl_model.specs.nets.CoreNetlist.{core_netlist}
 use Rattle.rtl_model.specs.simulation.Netlist.{Clocked, Combinational, Copy, Driver, Edge, HasReset, IsCombinational, kind_reset, Netlist, process, Reset, reset_entry, reset_of, Rising, Source, sources_of}
 use Rattle.rtl_model.specs.simulation.Accepted.{IsFault, MixedProcess}
-use Rattle.rtl_model.specs.simulation.Calm.{copies_calm, copies_made, Copies, follows, follows_inputs, FollowsInputs, IsCalm, IsCombinationalNet, IsFromOutside, IsMadeOfInputs, IsRegister, not_reset, reset_by_inputs, resets_to_these, starts_without, StartsQuietly}
+use Rattle.rtl_model.specs.simulation.Calm.{copies_calm, copies_made, Copies, follows, follows_inputs, FollowsInputs, IsCalm, IsCombinationalNet, IsFromOutside, IsMadeOfInputs, IsRegister, ends_reset, reset_by_inputs, resets_to_these, starts_without, StartsQuietly}
 use Rattle.rtl_model.specs.simulation.Elaborated.{IsWired}
 use Rattle.rtl_model.proofs.basics.Lists.{Contains-first, Contains-none}
 use Rattle.rtl_definition_examples.specs.Resets.{inverted, in_turn, of_inputs, of_clock, before_edge, leaves_out}
@@ -68,28 +68,28 @@ module _ (net : FlatNetlist) (fit : fits net ≡ true) where
   not_made n p place clock edge reset is clocked (follows m f) = not_following n p place is clock edge reset clocked f
   not_made n p place clock edge reset is clocked (copies_made m q qp copy c copies made) = not_combinational n p place is clock edge reset clocked q qp c
 
-  -- a register that is reset by what isn't made of inputs
+  -- a register that is reset to another value, by what isn't made of inputs
   register_not_calm : (n p place clock value : ℕ) (edge : Edge) (reset : Reset) (these : ℕ → Bool) → sources_of core n ≡ Driver p place ∷ [] → (process core p).kind ≡ Clocked clock edge (Some reset)
-      → reset_entry (Some reset) place ≡ Some value → (IsMadeOfInputs core reset.net → ⊥) → IsCalm core n these → ⊥
-  register_not_calm n p place clock value edge reset these is clocked entry not (follows_inputs m those f) = not_following n p place is clock edge (Some reset) clocked f
-  register_not_calm n p place clock value edge reset these is clocked entry not (not_reset m q qp those r none) =
+      → reset_entry (Some reset) place ≡ Some value → these value ≡ false → (IsMadeOfInputs core reset.net → ⊥) → IsCalm core n these → ⊥
+  register_not_calm n p place clock value edge reset these is clocked entry other not (follows_inputs m those f) = not_following n p place is clock edge (Some reset) clocked f
+  register_not_calm n p place clock value edge reset these is clocked entry other not (ends_reset m those (q, qp, r, all)) =
       let (a, b) = same n p place is q qp r.1 in
-      let e : reset_entry (reset_of core p) place ≡ None = subst (λ (x : ℕ). reset_entry (reset_of core p) x ≡ None) b (subst (λ (x : ℕ). reset_entry (reset_of core x) qp ≡ None) a none) in
+      let e : reset_entry (reset_of core q) qp ≡ reset_entry (reset_of core p) place = (λ i. reset_entry (reset_of core (a i)) (b i)) in
       let f : reset_of core p ≡ Some reset = ap kind_reset clocked in
-      let g : reset_entry (Some reset) place ≡ None = subst (λ (o : Option Reset). reset_entry o place ≡ None) f e in
+      let g = all value (e ∙ ap (λ (o : Option Reset). reset_entry o place) f ∙ entry) in
       cc
-  register_not_calm n p place clock value edge reset these is clocked entry not (reset_by_inputs m q qp those other r has made) =
-      let f : Some other ≡ Some reset = sym has ∙ ap (λ (x : ℕ). reset_of core x) (same n p place is q qp r.1).0 ∙ ap kind_reset clocked in
-      let e : other ≡ reset = cc in
+  register_not_calm n p place clock value edge reset these is clocked entry other not (reset_by_inputs m q qp those by r has made) =
+      let f : Some by ≡ Some reset = sym has ∙ ap (λ (x : ℕ). reset_of core x) (same n p place is q qp r.1).0 ∙ ap kind_reset clocked in
+      let e : by ≡ reset = cc in
       not (subst (λ (x : Reset). IsMadeOfInputs core x.net) e made)
-  register_not_calm n p place clock value edge reset these is clocked entry not (copies_calm m q qp those copy c copies quiet calm) =
+  register_not_calm n p place clock value edge reset these is clocked entry other not (copies_calm m q qp those copy c copies quiet calm) =
       not_combinational n p place is clock edge (Some reset) clocked q qp c
 
   -- what looks at what isn't from outside is calm by its copy alone
   by_copy : (n p place m : ℕ) (these : ℕ → Bool) → IsCombinational core p → sources_of core n ≡ Driver p place ∷ [] → Contains ((process core p).looks place) m → (IsFromOutside core m → ⊥)
       → ((copy : Copy) → Copies core p place copy → StartsQuietly core copy.net (λ value. these (copy.passed value)) → ⊥) → IsCalm core n these → ⊥
   by_copy n p place m these c is looks not loud (follows_inputs k those f) = not_from_outside n p place is m looks not f
-  by_copy n p place m these c is looks not loud (not_reset k q qp those r none) = not_clocked n p place is c q qp r
+  by_copy n p place m these c is looks not loud (ends_reset k those (q, qp, r, all)) = not_clocked n p place is c q qp r
   by_copy n p place m these c is looks not loud (reset_by_inputs k q qp those other r has made) = not_clocked n p place is c q qp r
   by_copy n p place m these c is looks not loud (copies_calm k q qp those copy d copies quiet calm) =
       let (a, b) = same n p place is q qp d.1 in
@@ -119,7 +119,7 @@ copy_calm start of_reset fit quiet =
 pub copies_as_resets : CopiesAsResets
 copies_as_resets = record {
   calm = copy_calm 0 One refl (starts_without refl);
-  held_by_reset = copy_calm 3 One refl (resets_to_these 0 0 ((0, (Rising, (_, refl))), refl) (λ value e. let same : 3 ≡ value = cc in subst (λ (v : ℕ). IsTrue (passed_on true v == 2)) same refl));
+  held_by_reset = copy_calm 3 One refl (resets_to_these (0, 0, ((0, (Rising, (_, refl))), refl), λ value e. let same : 3 ≡ value = cc in subst (λ (v : ℕ). IsTrue (passed_on true v == 2)) same refl));
   released_at_once = unsteady (inverted 3 Zero) refl 2 (at 4 2 2) refl refl refl (by_copy (inverted 3 Zero) refl 4 1 0 3 (λ value. value == 2) (omega arith, refl) refl (0, omega arith, refl) (not_outside (inverted 3 Zero) refl 3 0 0 refl) loud);
   levels = levels_by (core_netlist (inverted 0 One)) (None ∷ Some 1 ∷ Some 2 ∷ []) (0 ∷ 0 ∷ 0 ∷ 0 ∷ 1 ∷ 2 ∷ []) 2 refl;
   bound_is = refl;
@@ -131,7 +131,7 @@ copies_as_resets = record {
     -- s starts with '1', and is reset to '0'
     of_copy : StartsQuietly net 3 (λ value. passed_on true value == 2) → ⊥
     of_copy (starts_without e) = cc
-    of_copy (resets_to_these p place r all) =
+    of_copy (resets_to_these (p, place, r, all)) =
         let (a, b) = same (inverted 3 Zero) refl 3 0 0 refl p place r.1 in
         let entry : reset_entry (reset_of net p) place ≡ Some 2 = subst (λ (x : ℕ). reset_entry (reset_of net x) place ≡ Some 2) (sym a) (subst (λ (x : ℕ). reset_entry (reset_of net 0) x ≡ Some 2) (sym b) refl) in
         let e = all 2 entry in
@@ -144,9 +144,10 @@ copies_as_resets = record {
 
 pub registers_as_resets : RegistersAsResets
 registers_as_resets = record {
-  no_reset = not_reset 1 0 0 (λ value. value == 3) ((0, (Rising, (None, refl))), refl) refl;
-  is_reset = unsteady in_turn refl 2 (at 2 3 2) refl refl refl
-      (register_not_calm in_turn refl 2 1 0 0 2 Rising (at 1 3 2) (λ value. value == 3) refl refl refl (not_made in_turn refl 1 0 0 0 Rising None refl refl));
+  no_reset = ends_reset 1 (λ value. value == 3) (0, 0, ((0, (Rising, (None, refl))), refl), λ value e. cc);
+  reset_to_another = unsteady (in_turn Zero) refl 2 (at 2 3 2) refl refl refl
+      (register_not_calm (in_turn Zero) refl 2 1 0 0 2 Rising (at 1 3 2) (λ value. value == 3) refl refl refl refl (not_made (in_turn Zero) refl 1 0 0 0 Rising None refl refl));
+  reset_to_it = ends_reset 2 (λ value. value == 3) (1, 0, ((0, (Rising, (_, refl))), refl), λ value e. let same : 3 ≡ value = cc in subst (λ (v : ℕ). IsTrue (v == 3)) same refl);
 }
 
 pub inputs_as_resets : InputsAsResets

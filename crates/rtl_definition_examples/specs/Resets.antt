@@ -40,18 +40,19 @@ pub record CopiesAsResets : Type 0 where
 
 -- ---- a register that a register resets, as a reset; the nets are clk, r, x and q
 
--- at an edge r and x become '1'; x is reset to '0' where r is '1', and q where x is
-abbrev pub in_turn : FlatNetlist
-in_turn = widened (circuit (0 ∷ []) (0 ∷ 2 ∷ 2 ∷ 3 ∷ []) (
+-- at an edge r and x become '1'; x is reset to this value where r is '1', and q to '0' where x is
+abbrev pub in_turn : (of_reset : Nine) → FlatNetlist
+in_turn of_reset = widened (circuit (0 ∷ []) (0 ∷ 2 ∷ 2 ∷ 3 ∷ []) (
     drives_one 1 2 (0 ∷ []) (if_only rising_clk high)
-    ∷ drives_one 2 2 (0 ∷ 1 ∷ []) (if_elsif (is_at 1 One) low rising_clk high)
+    ∷ drives_one 2 2 (0 ∷ 1 ∷ []) (if_elsif (is_at 1 One) (assigned (text (of_reset ∷ []))) rising_clk high)
     ∷ drives_one 3 3 (0 ∷ 2 ∷ []) (if_elsif (is_at 2 One) low rising_clk high) ∷ []))
 
--- x is '0', '1' and '0' within the edge's moment, so that it may not reset q. But r may reset x, since no reset assigns
--- it.
+-- r may reset x, since no reset assigns it. With '0' x is '0', '1' and '0' within the edge's moment, so that it may not
+-- reset q. With '1', at which q is reset, it may.
 pub record RegistersAsResets : Type 0 where
-  pub no_reset : IsCalm (core_netlist in_turn) 1 (λ value. value == 3)
-  pub is_reset : IsFault (core_netlist in_turn) (MixedProcess 2)
+  pub no_reset : IsCalm (core_netlist (in_turn Zero)) 1 (λ value. value == 3)
+  pub reset_to_another : IsFault (core_netlist (in_turn Zero)) (MixedProcess 2)
+  pub reset_to_it : IsCalm (core_netlist (in_turn One)) 2 (λ value. value == 3)
 
 -- ---- resets made of inputs; the nets are clk, rst, ok, n, s and q
 

@@ -62,8 +62,9 @@ pub fn levels_by_nets_come_out()
 {}
 
 /// Which nets may be resets that processes drive: a copy of a register, a register that no reset
-/// assigns or that inputs reset, and not one that another register resets, nor what a clock is in.
-/// And what the registers do that they reset, in front of the edge and behind it.
+/// assigns or that inputs reset, and one that another register resets if that is to a value at
+/// which it resets; and not what a clock is in. And what the registers do that they reset, in front
+/// of the edge and behind it.
 pub fn inner_resets_come_out()
     ensures copies { CopiesAsResets }
     ensures registers { RegistersAsResets }

@@ -13,6 +13,7 @@ pub mod Solution
 pub mod Report
 pub mod Runs
 pub mod Held
+pub mod Beginning
 pub mod Keeping
 pub mod CalmDecided
 pub mod Starting

@@ -6,8 +6,8 @@ use Rattle.std.proofs.lemmas.List.Elements.{Contains-get_or}
 use Rattle.std.proofs.lemmas.Bool.{cases_Bool, cases_eq, cases_lt}
 use Rattle.rtl_model.specs.simulation.Netlist.{Clocked, Combinational, Copy, Driver, Edge, HasReset, Idle, IsClock, IsClockOf, IsCombinational, IsDriven, Mixed, Netlist, no_process, Process, process, ProcessKind, Reset, reset_entry, reset_of, Source, sources_of}
 use Rattle.rtl_model.specs.simulation.Elaborated.{IsElaborated}
-use Rattle.rtl_model.specs.simulation.Calm.{IsFromOutside, IsCombinationalNet, FollowsInputs, Copies, IsMadeOfInputs, follows, copies_made, StartsQuietly, starts_without, resets_to_these}
-use Rattle.rtl_model.specs.simulation.Calm.{IsCalm, follows_inputs, not_reset, reset_by_inputs, copies_calm}
+use Rattle.rtl_model.specs.simulation.Calm.{IsFromOutside, IsCombinationalNet, FollowsInputs, Copies, IsMadeOfInputs, follows, copies_made, ResetsTo, StartsQuietly, starts_without, resets_to_these}
+use Rattle.rtl_model.specs.simulation.Calm.{IsCalm, follows_inputs, ends_reset, reset_by_inputs, copies_calm}
 use Rattle.rtl_model.specs.simulation.Levels.{is_driver}
 use Rattle.rtl_model.specs.simulation.Laws.{CalmIsDecided}
 use Rattle.rtl_model.proofs.basics.Lists.{any_at, Contains-first, Contains-one, get_or_default, none_contained}
@@ -201,19 +201,42 @@ module _ (net : Netlist) (E : IsElaborated net) where
 
   -- ---- what is calm
 
-  -- calm for all values, but for what copies
-  abbrev IsStill : ℕ → Type 0
-  IsStill n =
-      FollowsInputs net n
-      ⊎ ((p : ℕ) × (place : ℕ) × HasSource n p place × (((clock : ℕ) × IsClockOf net p clock) × ((reset_entry (reset_of net p) place ≡ None) ⊎ ((reset : Reset) × HasReset net p reset × IsMadeOfInputs net reset.net))))
+  -- where copies end
+  abbrev IsEnd : ℕ → Type 0
+  IsEnd n = FollowsInputs net n ⊎ ((p : ℕ) × (place : ℕ) × HasSource n p place × ((clock : ℕ) × IsClockOf net p clock))
 
-  still_decided : (n : ℕ) → Decided (IsStill n)
-  still_decided n = either (follows_decided n) (by_source n _ (λ p place. both (clocked_decided p) (either (none p place (reset_entry (reset_of net p) place) refl) (by p (reset_of net p) refl))))
+  end_decided : (n : ℕ) → Decided (IsEnd n)
+  end_decided n = either (follows_decided n) (by_source n (λ p place. (clock : ℕ) × IsClockOf net p clock) (λ p place. clocked_decided p))
+
+  -- the driver of p at this place is reset to one of these values, if at all
+  abbrev Within : (ℕ → Bool) → ℕ → ℕ → Type 0
+  Within these p place = (value : ℕ) → reset_entry (reset_of net p) place ≡ Some value → these value ≡ true
+
+  resets_to_decided : (n : ℕ) (these : ℕ → Bool) → Decided (ResetsTo net n these)
+  resets_to_decided n these = turned (by_source n (λ p place. ((clock : ℕ) × IsClockOf net p clock) × Within these p place) (λ p place. both (clocked_decided p) (within p place (reset_entry (reset_of net p) place) refl)))
     where
-      none : (p place : ℕ) (o : Option ℕ) → reset_entry (reset_of net p) place ≡ o → Decided (reset_entry (reset_of net p) place ≡ None)
-      none p place None e = inl e
-      none p place (Some v) e = inr (λ f. cc)
+      of_value : (p place : ℕ) (v : ℕ) → reset_entry (reset_of net p) place ≡ Some v → (these v ≡ true) ⊎ (these v ≡ false) → Decided (Within these p place)
+      of_value p place v e (inl t) = inl (λ value f. let k : Some v ≡ Some value = sym e ∙ f in let l : v ≡ value = cc in ap these (sym l) ∙ t)
+      of_value p place v e (inr t) = inr (λ all. let k = all v e in cc)
 
+      within : (p place : ℕ) (o : Option ℕ) → reset_entry (reset_of net p) place ≡ o → Decided (Within these p place)
+      within p place None e = inl (λ value f. cc)
+      within p place (Some v) e = of_value p place v e (cases_Bool (these v))
+
+      turned : Decided ((p : ℕ) × (place : ℕ) × HasSource n p place × (((clock : ℕ) × IsClockOf net p clock) × Within these p place)) → Decided (ResetsTo net n these)
+      turned (inl (p, place, e, (c, all))) = inl (p, place, (c, e), all)
+      turned (inr none) = inr (λ (p, place, is, all). none (p, place, is.1, (is.0, all)))
+
+  abbrev ByInputs : ℕ → ℕ → Type 0
+  ByInputs p place = ((clock : ℕ) × IsClockOf net p clock) × ((reset : Reset) × HasReset net p reset × IsMadeOfInputs net reset.net)
+
+  -- calm, but not as a copy
+  abbrev IsStill : ℕ → (ℕ → Bool) → Type 0
+  IsStill n these = FollowsInputs net n ⊎ (ResetsTo net n these ⊎ ((p : ℕ) × (place : ℕ) × HasSource n p place × ByInputs p place))
+
+  still_decided : (n : ℕ) (these : ℕ → Bool) → Decided (IsStill n these)
+  still_decided n these = either (follows_decided n) (either (resets_to_decided n these) (by_source n ByInputs (λ p place. both (clocked_decided p) (by p (reset_of net p) refl))))
+    where
       of_reset : (p : ℕ) (reset : Reset) → reset_of net p ≡ Some reset → Decided (IsMadeOfInputs net reset.net) → Decided ((reset : Reset) × HasReset net p reset × IsMadeOfInputs net reset.net)
       of_reset p reset e (inl h) = inl (reset, e, h)
       of_reset p reset e (inr h) = inr (λ (other, f, g). h (subst (λ (r : Reset). IsMadeOfInputs net r.net) (let k : Some other ≡ Some reset = sym f ∙ e in let l : other ≡ reset = cc in l) g))
@@ -222,64 +245,79 @@ module _ (net : Netlist) (E : IsElaborated net) where
       by p None e = inr (λ (reset, f, g). cc)
       by p (Some reset) e = of_reset p reset e (made_decided reset.net)
 
-  still_calm : (n : ℕ) (these : ℕ → Bool) → IsStill n → IsCalm net n these
+  still_calm : (n : ℕ) (these : ℕ → Bool) → IsStill n these → IsCalm net n these
   still_calm n these (inl f) = follows_inputs n these f
-  still_calm n these (inr (p, place, e, (c, inl none))) = not_reset n p place these (c, e) none
-  still_calm n these (inr (p, place, e, (c, inr (reset, has, made)))) = reset_by_inputs n p place these reset (c, e) has made
+  still_calm n these (inr (inl to)) = ends_reset n these to
+  still_calm n these (inr (inr (p, place, e, (c, (reset, has, made))))) = reset_by_inputs n p place these reset (c, e) has made
 
   quiet_decided : (n : ℕ) (these : ℕ → Bool) → Decided (StartsQuietly net n these)
-  quiet_decided n these = go (cases_Bool (these (get_or net.start n 0))) (by_source n (λ p place. ((clock : ℕ) × IsClockOf net p clock) × ((value : ℕ) → reset_entry (reset_of net p) place ≡ Some value → these value ≡ true)) (λ p place. both (clocked_decided p) (within p place (reset_entry (reset_of net p) place) refl)))
+  quiet_decided n these = go (cases_Bool (these (get_or net.start n 0))) (resets_to_decided n these)
     where
-      of_value : (p place : ℕ) (v : ℕ) → reset_entry (reset_of net p) place ≡ Some v → (these v ≡ true) ⊎ (these v ≡ false) → Decided ((value : ℕ) → reset_entry (reset_of net p) place ≡ Some value → these value ≡ true)
-      of_value p place v e (inl t) = inl (λ value f. let k : Some v ≡ Some value = sym e ∙ f in let l : v ≡ value = cc in ap these (sym l) ∙ t)
-      of_value p place v e (inr t) = inr (λ all. let k = all v e in cc)
-
-      within : (p place : ℕ) (o : Option ℕ) → reset_entry (reset_of net p) place ≡ o → Decided ((value : ℕ) → reset_entry (reset_of net p) place ≡ Some value → these value ≡ true)
-      within p place None e = inl (λ value f. cc)
-      within p place (Some v) e = of_value p place v e (cases_Bool (these v))
-
-      never : these (get_or net.start n 0) ≡ true → ((p : ℕ) × (place : ℕ) × HasSource n p place × (((clock : ℕ) × IsClockOf net p clock) × ((value : ℕ) → reset_entry (reset_of net p) place ≡ Some value → these value ≡ true)) → ⊥) → StartsQuietly net n these → ⊥
+      never : these (get_or net.start n 0) ≡ true → (ResetsTo net n these → ⊥) → StartsQuietly net n these → ⊥
       never t none (starts_without f) = cc
-      never t none (resets_to_these p place is all) = none (p, place, is.1, (is.0, all))
+      never t none (resets_to_these to) = none to
 
-      go : (these (get_or net.start n 0) ≡ true) ⊎ (these (get_or net.start n 0) ≡ false)
-          → Decided ((p : ℕ) × (place : ℕ) × HasSource n p place × (((clock : ℕ) × IsClockOf net p clock) × ((value : ℕ) → reset_entry (reset_of net p) place ≡ Some value → these value ≡ true))) → Decided (StartsQuietly net n these)
+      go : (these (get_or net.start n 0) ≡ true) ⊎ (these (get_or net.start n 0) ≡ false) → Decided (ResetsTo net n these) → Decided (StartsQuietly net n these)
       go (inr f) d = inl (starts_without f)
-      go (inl t) (inl (p, place, e, (c, all))) = inl (resets_to_these p place (c, e) all)
+      go (inl t) (inl to) = inl (resets_to_these to)
       go (inl t) (inr none) = inr (never t none)
 
   -- what is calm without being still copies what is calm
-  unless_still : (n : ℕ) (these : ℕ → Bool) → (IsStill n → ⊥) → (p place : ℕ) (copy : Copy) → CopyOf n p place copy → IsCalm net n these
-      → StartsQuietly net copy.net (λ value. these (copy.passed value)) × IsCalm net copy.net (λ value. these (copy.passed value))
-  unless_still n these not p place copy h (follows_inputs m those f) = absurd (not (inl f))
-  unless_still n these not p place copy h (not_reset m q qp those is none) = absurd (not (inr (q, qp, is.1, (is.0, inl none))))
-  unless_still n these not p place copy h (reset_by_inputs m q qp those reset is has made) = absurd (not (inr (q, qp, is.1, (is.0, inr (reset, has, made)))))
-  unless_still n these not p place copy h (copies_calm m q qp those other is copies quiet calm) =
-      subst (λ (c : Copy). StartsQuietly net c.net (λ value. these (c.passed value)) × IsCalm net c.net (λ value. these (c.passed value))) (same_copy n q qp p place other copy (is, copies) h) (quiet, calm)
+  unless_still : (n : ℕ) (these : ℕ → Bool) → (IsStill n these → ⊥) → IsCalm net n these
+      → (p : ℕ) × (place : ℕ) × (copy : Copy) × CopyOf n p place copy × (StartsQuietly net copy.net (λ value. these (copy.passed value)) × IsCalm net copy.net (λ value. these (copy.passed value)))
+  unless_still n these not (follows_inputs m those f) = absurd (not (inl f))
+  unless_still n these not (ends_reset m those to) = absurd (not (inr (inl to)))
+  unless_still n these not (reset_by_inputs m p place those reset is has made) = absurd (not (inr (inr (p, place, is.1, (is.0, (reset, has, made))))))
+  unless_still n these not (copies_calm m p place those copy is copies quiet calm) = (p, place, copy, (is, copies), (quiet, calm))
 
-  -- a walk to what is still decides
-  along : (many n : ℕ) (these : ℕ → Bool) → Walks Steps IsStill many n → Decided (IsCalm net n these)
-  along zero n these still = inl (still_calm n these still)
-  along (suc many) n these (m, (p, place, copy, h, e), w) = go (still_decided n) (quiet_decided copy.net (λ value. these (copy.passed value))) (along many copy.net (λ value. these (copy.passed value)) (subst (λ (x : ℕ). Walks Steps IsStill many x) (sym e) w))
+  -- a copy ends copies by following inputs alone
+  end_still : (n : ℕ) (these : ℕ → Bool) → IsEnd n → IsCalm net n these → IsStill n these
+  end_still n these (inl f) calm = inl f
+  end_still n these (inr (p, place, e, (clock, (edge, (reset, k))))) calm = go (still_decided n these)
     where
-      go : Decided (IsStill n) → Decided (StartsQuietly net copy.net (λ value. these (copy.passed value))) → Decided (IsCalm net copy.net (λ value. these (copy.passed value))) → Decided (IsCalm net n these)
+      clocked : (q qp : ℕ) (copy : Copy) → CopyOf n q qp copy → ⊥
+      clocked q qp copy (c, h) =
+          let same = one_source n p place q qp e c.1 in
+          let a : p ≡ q = cc in
+          let d = subst (λ (x : ℕ). (process net x).kind ≡ Combinational) (sym a) c.0.1 in
+          cc
+
+      go : Decided (IsStill n these) → IsStill n these
+      go (inl still) = still
+      go (inr not) = let (q, qp, copy, is, more) = unless_still n these not calm in absurd (clocked q qp copy is)
+
+  -- a walk to an end decides
+  along : (many n : ℕ) (these : ℕ → Bool) → Walks Steps IsEnd many n → Decided (IsCalm net n these)
+  along zero n these end' = go (still_decided n these)
+    where
+      go : Decided (IsStill n these) → Decided (IsCalm net n these)
+      go (inl still) = inl (still_calm n these still)
+      go (inr not) = inr (λ calm. not (end_still n these end' calm))
+  along (suc many) n these (m, (p, place, copy, h, e), w) = go (still_decided n these) (quiet_decided copy.net (λ value. these (copy.passed value))) (along many copy.net (λ value. these (copy.passed value)) (subst (λ (x : ℕ). Walks Steps IsEnd many x) (sym e) w))
+    where
+      copied : (IsStill n these → ⊥) → IsCalm net n these → StartsQuietly net copy.net (λ value. these (copy.passed value)) × IsCalm net copy.net (λ value. these (copy.passed value))
+      copied not calm =
+          let (q, qp, other, is, both) = unless_still n these not calm in
+          subst (λ (c : Copy). StartsQuietly net c.net (λ value. these (c.passed value)) × IsCalm net c.net (λ value. these (c.passed value))) (same_copy n q qp p place other copy is h) both
+
+      go : Decided (IsStill n these) → Decided (StartsQuietly net copy.net (λ value. these (copy.passed value))) → Decided (IsCalm net copy.net (λ value. these (copy.passed value))) → Decided (IsCalm net n these)
       go (inl still) q c = inl (still_calm n these still)
       go (inr not) (inl q) (inl c) = inl (copies_calm n p place these copy h.0 h.1 q c)
-      go (inr not) (inr q) c = inr (λ calm. q (unless_still n these not p place copy h calm).0)
-      go (inr not) (inl q) (inr c) = inr (λ calm. c (unless_still n these not p place copy h calm).1)
+      go (inr not) (inr q) c = inr (λ calm. q (copied not calm).0)
+      go (inr not) (inl q) (inr c) = inr (λ calm. c (copied not calm).1)
 
-  calm_walks : (n : ℕ) (these : ℕ → Bool) → IsCalm net n these → (many : ℕ) × Walks Steps IsStill many n
+  calm_walks : (n : ℕ) (these : ℕ → Bool) → IsCalm net n these → (many : ℕ) × Walks Steps IsEnd many n
   calm_walks n these (follows_inputs m those f) = (0, inl f)
-  calm_walks n these (not_reset m p place those is none) = (0, inr (p, place, is.1, (is.0, inl none)))
-  calm_walks n these (reset_by_inputs m p place those reset is has made) = (0, inr (p, place, is.1, (is.0, inr (reset, has, made))))
+  calm_walks n these (ends_reset m those (p, place, is, all)) = (0, inr (p, place, is.1, is.0))
+  calm_walks n these (reset_by_inputs m p place those reset is has made) = (0, inr (p, place, is.1, is.0))
   calm_walks n these (copies_calm m p place those copy is copies quiet calm) =
       let (many, w) = calm_walks copy.net (λ value. these (copy.passed value)) calm in
       (suc many, (copy.net, (p, place, copy, (is, copies), refl), w))
 
   decided : (n : ℕ) (these : ℕ → Bool) → Decided (IsCalm net n these)
-  decided n these = go (some_walk_or_none Steps IsStill (length net.start) (steps IsStill still_decided) n)
+  decided n these = go (some_walk_or_none Steps IsEnd (length net.start) (steps IsEnd end_decided) n)
     where
-      go : ((many : ℕ) × Walks Steps IsStill many n) ⊎ ((many : ℕ) → Walks Steps IsStill many n → ⊥) → Decided (IsCalm net n these)
+      go : ((many : ℕ) × Walks Steps IsEnd many n) ⊎ ((many : ℕ) → Walks Steps IsEnd many n → ⊥) → Decided (IsCalm net n these)
       go (inl (many, w)) = along many n these w
       go (inr none) = inr (λ calm. let (many, w) = calm_walks n these calm in none many w)
 

@@ -1,57 +1,25 @@
 -- A calm net that has one of its values in a moment has one of them at the moment's beginning or at its end.
-use Rattle.std.proofs.Common.{◌≡◌, ℕ, zero, suc, ◌<◌, ◌≤◌, Bool, true, false, not, ◌&&◌, ◌||◌, ◌==◌, List, [], ◌∷◌, length, get_or, Option, Some, None, refl, sym, ap, ◌∙◌, subst, arith, ◌⊎◌, inl, inr, Contains}
+use Rattle.std.proofs.Common.{◌≡◌, ℕ, zero, suc, ◌<◌, ◌≤◌, Bool, true, false, not, ◌&&◌, ◌||◌, ◌==◌, List, [], ◌∷◌, length, get_or, Option, Some, None, refl, sym, ap, ◌∙◌, subst, arith, ◌⊎◌, inl, inr, Contains, IsSome}
 use Rattle.std.specs.List.{list_any}
 use Rattle.std.proofs.lemmas.List.{get_or_past}
 use Rattle.std.proofs.lemmas.Bool.{cases_Bool, cases_lt}
-use Rattle.rtl_model.specs.basics.Valuations.{clocked_entry, entry_where, or_else}
-use Rattle.rtl_model.specs.simulation.Netlist.{Combinational, Copy, Driver, Edge, holds_back, HasPlace, HasReset, IsClock, IsClockedBy, IsCombinational, IsDriven, IsInput, Netlist, process, Reset, reset_entry, reset_of, resets, Source, sources_of, target}
+use Rattle.rtl_model.specs.basics.Valuations.{clocked_entry, entry_where}
+use Rattle.rtl_model.specs.simulation.Netlist.{Copy, Driver, Edge, holds_back, HasPlace, HasReset, IsClock, IsClockedBy, IsCombinational, IsDriven, IsInput, Netlist, process, Reset, reset_entry, reset_of, resets, Source, sources_of, target}
 use Rattle.rtl_model.specs.simulation.Cycle.{is_quiet, State}
-use Rattle.rtl_model.specs.simulation.Calm.{IsFromOutside, IsCombinationalNet, IsRegister, FollowsInputs, Copies, IsMadeOfInputs, follows, copies_made, StartsQuietly, starts_without, resets_to_these}
-use Rattle.rtl_model.specs.simulation.Calm.{IsCalm, follows_inputs, not_reset, reset_by_inputs, copies_calm}
+use Rattle.rtl_model.specs.simulation.Calm.{IsFromOutside, IsCombinationalNet, FollowsInputs, Copies, IsMadeOfInputs, follows, copies_made, StartsQuietly, starts_without, resets_to_these}
+use Rattle.rtl_model.specs.simulation.Calm.{IsCalm, follows_inputs, ends_reset, reset_by_inputs, copies_calm}
 use Rattle.rtl_model.specs.simulation.Accepted.{ClockAsData, IsAccepted, MixedProcess}
 use Rattle.rtl_model.specs.simulation.Machine.{entry_or}
-use Rattle.rtl_model.proofs.basics.Lists.{Contains-first, Contains-one}
-use Rattle.rtl_model.proofs.simulation.Numbered.{Numbered, driven_or_not}
+use Rattle.rtl_model.proofs.basics.Lists.{Contains-first}
+use Rattle.rtl_model.proofs.simulation.Numbered.{Numbered, copy_rises, driven_or_not, some_same}
 use Rattle.rtl_model.proofs.simulation.Rows.{out, value, quiet_at}
 use Rattle.rtl_model.proofs.simulation.Deltas.{after, after_delta}
-use Rattle.rtl_model.proofs.simulation.Held.{after_holds, entry_twice, input_not_driven, Holds, IsLaidOver, IsSeen, no_edge_entry, updated_driven, updated_value}
-
--- what no cycle of the moment before has left to do
-abbrev pub IsSettled : Netlist → List ℕ → Type 0
-IsSettled net old = (p place : ℕ) → IsCombinational net p → HasPlace net p place → get_or ((process net p).effect old old) place None ≡ Some (get_or old (target net p place) 0)
-
--- A moment begins: old are the values before it, edge_comes says which edges of which nets come with it, r is what drivers
--- have after its first cycle, and s the state then.
-pub record Begins (net : Netlist) (edge_comes : (clock : ℕ) → Edge → Bool) (r : ℕ → ℕ → ℕ) (old : List ℕ) (s : State) : Type 0 where
-  pub first_out : (p place : ℕ) → out s p place ≡ r p place
-  pub driven : (p place : ℕ) → HasPlace net p place → get_or s.now (target net p place) 0 ≡ get_or old (target net p place) 0
-  pub registers : (p place clock : ℕ) (edge : Edge) → IsClockedBy net p clock edge → HasPlace net p place
-      → r p place
-      ≡ entry_or
-      (clocked_entry (resets (reset_of net p) (λ n. get_or s.now n 0)) (edge_comes clock edge && not (holds_back (reset_of net p) (λ n. get_or s.now n 0))) (reset_entry (reset_of net p) place) (get_or ((process net p).acting_effect old) place None))
-      (get_or old (target net p place) 0)
-  -- where a process has its edge, nets from outside are as they were
-  pub steady : (p clock : ℕ) (edge : Edge) → IsClockedBy net p clock edge → edge_comes clock edge ≡ true → (n : ℕ) → IsFromOutside net n → get_or s.now n 0 ≡ get_or old n 0
-  pub settled : IsSettled net old ⊎ ((old ≡ net.start) × ((clock : ℕ) (edge : Edge) → edge_comes clock edge ≡ false))
+use Rattle.rtl_model.proofs.simulation.Beginning.{Begins, IsSettled, laid_out}
+use Rattle.rtl_model.proofs.simulation.Held.{after_holds, entry_twice, input_not_driven, Holds, IsLaidOver, IsSeen, no_edge_entry, none_or_some, updated_driven, updated_value}
 
 pub after_more : (net : Netlist) (k : ℕ) (s : State) → after net (suc k) s ≡ after_delta net (after net k s)
 after_more net zero s = refl
 after_more net (suc k) s = after_more net k (after_delta net s)
-
-some_same : (a b : ℕ) → Some a ≡ Some b → a ≡ b
-some_same a b e = cc
-
--- what a register has in the end, by what it had after the first cycle
-laid_out : (a rest : Option ℕ) (before end' : Bool) (x first old : ℕ) → first ≡ entry_or (or_else (entry_where before a) rest) old → (x ≡ first) ⊎ ((x ≡ entry_or a first) × ((before ≡ true) ⊎ (end' ≡ true)))
-    → (end' ≡ true → x ≡ entry_or a first) → x ≡ entry_or (or_else (entry_where (before || end') a) rest) old
-laid_out a rest true end' x first old e (inl same) laid = same ∙ e
-laid_out (Some v) rest true end' x first old e (inr (over, held)) laid = over
-laid_out None rest true end' x first old e (inr (over, held)) laid = over ∙ e
-laid_out (Some v) rest false true x first old e o laid = laid refl
-laid_out None rest false true x first old e o laid = laid refl ∙ e
-laid_out a rest false false x first old e (inl same) laid = same ∙ e
-laid_out a rest false false x first old e (inr (over, inl held)) laid = absurd cc
-laid_out a rest false false x first old e (inr (over, inr held)) laid = absurd cc
 
 module _ (net : Netlist) (L : Numbered net) (A : IsAccepted net) (inputs : ℕ → ℕ) (edge_comes : ℕ → Edge → Bool) (r : ℕ → ℕ → ℕ) (old : List ℕ) (s : State) (B : Begins net edge_comes r old s) (H : Holds net inputs r (IsSeen net s) s) (last : ℕ) (Q : is_quiet (after net last s) ≡ true) where
   abbrev now : ℕ → List ℕ
@@ -62,6 +30,9 @@ module _ (net : Netlist) (L : Numbered net) (A : IsAccepted net) (inputs : ℕ �
 
   abbrev resets_at : ℕ → ℕ → Bool
   resets_at k p = resets (reset_of net p) (at k)
+
+  abbrev ResetKeeps : ℕ → Type 0
+  ResetKeeps p = (k : ℕ) → resets_at k p ≡ true → (resets_at 0 p ≡ true) ⊎ (resets_at last p ≡ true)
 
   hold : (k : ℕ) → Holds net inputs r (IsSeen net s) (after net k s)
   hold k = after_holds net L inputs r (IsSeen net s) k s (λ j. (j, refl)) H
@@ -125,6 +96,9 @@ module _ (net : Netlist) (L : Numbered net) (A : IsAccepted net) (inputs : ℕ �
 
   -- ---- registers
 
+  held_at : (u : State) (p place : ℕ) (o : IsLaidOver net r (IsSeen net s) u p place) → resets_at o.seen.0 p ≡ true
+  held_at u p place o = ap (λ (v : List ℕ). resets (reset_of net p) (λ n. get_or v n 0)) (sym o.seen.1) ∙ o.held
+
   module _ (p place clock : ℕ) (edge : Edge) (is : IsClockedBy net p clock edge) (h : HasPlace net p place) where
     abbrev entry : Option ℕ
     entry = reset_entry (reset_of net p) place
@@ -153,7 +127,7 @@ module _ (net : Netlist) (L : Numbered net) (A : IsAccepted net) (inputs : ℕ �
         go (inr o) = o.laid
 
     -- without its edge, and where its reset keeps, it changes once
-    without_once : edge_comes clock edge ≡ false → ((j : ℕ) → resets_at j p ≡ true → (resets_at 0 p ≡ true) ⊎ (resets_at last p ≡ true)) → Once (target net p place)
+    without_once : edge_comes clock edge ≡ false → ResetKeeps p → Once (target net p place)
     without_once none keeps = go (cases_Bool (resets_at 0 p))
       where
         first_is : (b : Bool) → resets_at 0 p ≡ b → r p place ≡ entry_or (entry_where b entry) (get_or old (target net p place) 0)
@@ -167,11 +141,15 @@ module _ (net : Netlist) (L : Numbered net) (A : IsAccepted net) (inputs : ℕ �
           where
             by_out : (out (after net k s) p place ≡ r p place) ⊎ IsLaidOver net r (IsSeen net s) (after net k s) p place → (at (suc k) (target net p place) ≡ at 0 (target net p place)) ⊎ (at (suc k) (target net p place) ≡ at last (target net p place))
             by_out (inl e) = inl (next_value k p place h ∙ e ∙ first_is false f ∙ sym (B.driven p place h))
-            by_out (inr o) = by_reset (keeps o.seen.0 (ap (λ (v : List ℕ). resets (reset_of net p) (λ n. get_or v n 0)) (sym o.seen.1) ∙ o.held))
+            by_out (inr o) = by_reset (keeps o.seen.0 (held_at (after net k s) p place o))
               where
                 by_reset : (resets_at 0 p ≡ true) ⊎ (resets_at last p ≡ true) → (at (suc k) (target net p place) ≡ at 0 (target net p place)) ⊎ (at (suc k) (target net p place) ≡ at last (target net p place))
                 by_reset (inl t) = absurd cc
                 by_reset (inr t) = inr (next_value k p place h ∙ o.laid ∙ sym (last_value p place h ∙ laid_last t))
+
+    -- a reset that holds in the beginning lays nothing new over it
+    kept_first : resets_at 0 p ≡ true → entry_or entry (r p place) ≡ r p place
+    kept_first t = ap (entry_or entry) (sym (B.first_out p place)) ∙ H.reset_kept p place clock edge is h t ∙ B.first_out p place
 
     -- where the reset is as in the beginning throughout, it changes once
     steady_once : ((j : ℕ) → resets_at j p ≡ resets_at 0 p) → Once (target net p place)
@@ -183,13 +161,45 @@ module _ (net : Netlist) (L : Numbered net) (A : IsAccepted net) (inputs : ℕ �
             by_out : (out (after net k s) p place ≡ r p place) ⊎ IsLaidOver net r (IsSeen net s) (after net k s) p place → out (after net k s) p place ≡ r p place
             by_out (inl e) = e
             by_out (inr o) =
-                let t : resets_at o.seen.0 p ≡ true = ap (λ (v : List ℕ). resets (reset_of net p) (λ n. get_or v n 0)) (sym o.seen.1) ∙ o.held in
+                let t = held_at (after net k s) p place o in
                 let e = same o.seen.0 in
                 absurd cc
 
         go : (resets_at 0 p ≡ true) ⊎ (resets_at 0 p ≡ false) → Once (target net p place)
-        go (inl t) k = same_once (ap (entry_or entry) (sym (B.first_out p place)) ∙ H.reset_kept p place clock edge is h t ∙ B.first_out p place) k
+        go (inl t) k = same_once (kept_first t) k
         go (inr f) k = inr (next_value k p place h ∙ never f k ∙ sym (last_value p place h ∙ never f last))
+
+    -- what is reset to one of these values, if at all, ends with one where the first cycle gave it one
+    last_within : (these : ℕ → Bool) → ((v : ℕ) → entry ≡ Some v → these v ≡ true) → these (r p place) ≡ true → these (out (after net last s) p place) ≡ true
+    last_within these within t = go entry refl ((hold last).on_clocked p place clock edge is h)
+      where
+        go : (a : Option ℕ) → entry ≡ a → (out (after net last s) p place ≡ r p place) ⊎ IsLaidOver net r (IsSeen net s) (after net last s) p place → these (out (after net last s) p place) ≡ true
+        go a e (inl same) = ap these same ∙ t
+        go None e (inr o) = ap these (o.laid ∙ ap (λ (x : Option ℕ). entry_or x (r p place)) e) ∙ t
+        go (Some v) e (inr o) = ap these (o.laid ∙ ap (λ (x : Option ℕ). entry_or x (r p place)) e) ∙ within v e
+
+    -- and it keeps these values, where its reset keeps
+    within_keeps : (these : ℕ → Bool) → ((v : ℕ) → entry ≡ Some v → these v ≡ true) → (IsSome entry → ResetKeeps p) → Keeps (target net p place) these
+    within_keeps these within keeps zero t = inl t
+    within_keeps these within keeps (suc k) t = inr (ap these (last_value p place h) ∙ by_out ((hold k).on_clocked p place clock edge is h))
+      where
+        has : these (out (after net k s) p place) ≡ true
+        has = ap these (sym (next_value k p place h)) ∙ t
+
+        from_first : out (after net k s) p place ≡ r p place → these (out (after net last s) p place) ≡ true
+        from_first e = last_within these within (ap these (sym e) ∙ has)
+
+        by_reset : out (after net k s) p place ≡ entry_or entry (r p place) → (resets_at 0 p ≡ true) ⊎ (resets_at last p ≡ true) → these (out (after net last s) p place) ≡ true
+        by_reset laid (inl f) = from_first (laid ∙ kept_first f)
+        by_reset laid (inr f) = ap these (laid_last f ∙ sym laid) ∙ has
+
+        by_entry : IsLaidOver net r (IsSeen net s) (after net k s) p place → (entry ≡ None) ⊎ IsSome entry → these (out (after net last s) p place) ≡ true
+        by_entry o (inl none) = from_first (o.laid ∙ ap (λ (x : Option ℕ). entry_or x (r p place)) none)
+        by_entry o (inr some) = by_reset o.laid (keeps some o.seen.0 (held_at (after net k s) p place o))
+
+        by_out : (out (after net k s) p place ≡ r p place) ⊎ IsLaidOver net r (IsSeen net s) (after net k s) p place → these (out (after net last s) p place) ≡ true
+        by_out (inl e) = from_first e
+        by_out (inr o) = by_entry o (none_or_some entry)
 
   -- ---- nets made of inputs
 
@@ -227,26 +237,20 @@ module _ (net : Netlist) (L : Numbered net) (A : IsAccepted net) (inputs : ℕ �
 
   quiet_last : (n : ℕ) (these : ℕ → Bool) → old ≡ net.start → ((clock : ℕ) (edge : Edge) → edge_comes clock edge ≡ false) → IsDriven net n → StartsQuietly net n these → these (at 0 n) ≡ true → these (at last n) ≡ true
   quiet_last n these start none driven (starts_without f) h = let e = ap these (at_start n start driven) in absurd cc
-  quiet_last n these start none driven (resets_to_these p place ((clock, (edge, is)), e) within) h =
+  quiet_last n these start none driven (resets_to_these (p, place, ((clock, (edge, is)), e), within)) h =
       let (l, t) = at_source n p place e in
-      subst (λ (m : ℕ). these (at last m) ≡ true) t (at_last l t (reset_entry (reset_of net p) place) refl (cases_Bool (resets_at 0 p)) ((hold last).on_clocked p place clock edge is l))
+      subst (λ (m : ℕ). these (at last m) ≡ true) t (ap these (last_value p place l) ∙ last_within p place clock edge is l these within (first_these l t (reset_entry (reset_of net p) place) refl (resets_at 0 p) refl))
     where
       begun : HasPlace net p place → target net p place ≡ n → these (get_or old (target net p place) 0) ≡ true
       begun l t = ap these (sym (B.driven p place l)) ∙ subst (λ (m : ℕ). these (at 0 m) ≡ true) (sym t) h
 
-      first_these : HasPlace net p place → target net p place ≡ n → (o : Option ℕ) → reset_entry (reset_of net p) place ≡ o → (resets_at 0 p ≡ true) ⊎ (resets_at 0 p ≡ false) → these (r p place) ≡ true
-      first_these l t o a b = ap these (first_without p place clock edge is l (none clock edge)) ∙ by o a b
+      first_these : HasPlace net p place → target net p place ≡ n → (o : Option ℕ) → reset_entry (reset_of net p) place ≡ o → (b : Bool) → resets_at 0 p ≡ b → these (r p place) ≡ true
+      first_these l t o a b f = ap these (first_without p place clock edge is l (none clock edge)) ∙ ((λ i. these (entry_or (entry_where (f i) (a i)) (get_or old (target net p place) 0))) ∙ by o a b)
         where
-          by : (o : Option ℕ) → reset_entry (reset_of net p) place ≡ o → (resets_at 0 p ≡ true) ⊎ (resets_at 0 p ≡ false) → these (entry_or (entry_where (resets_at 0 p) (reset_entry (reset_of net p) place)) (get_or old (target net p place) 0)) ≡ true
-          by None a (inl b) = (λ i. these (entry_or (entry_where (b i) (a i)) (get_or old (target net p place) 0))) ∙ begun l t
-          by (Some v) a (inl b) = (λ i. these (entry_or (entry_where (b i) (a i)) (get_or old (target net p place) 0))) ∙ within v a
-          by o a (inr b) = (λ i. these (entry_or (entry_where (b i) (a i)) (get_or old (target net p place) 0))) ∙ begun l t
-
-      at_last : HasPlace net p place → target net p place ≡ n → (o : Option ℕ) → reset_entry (reset_of net p) place ≡ o → (resets_at 0 p ≡ true) ⊎ (resets_at 0 p ≡ false)
-          → (out (after net last s) p place ≡ r p place) ⊎ IsLaidOver net r (IsSeen net s) (after net last s) p place → these (at last (target net p place)) ≡ true
-      at_last l t o a b (inl e) = ap these (last_value p place l ∙ e) ∙ first_these l t o a b
-      at_last l t None a b (inr o) = ap these (last_value p place l ∙ o.laid ∙ ap (λ (x : Option ℕ). entry_or x (r p place)) a) ∙ first_these l t None a b
-      at_last l t (Some v) a b (inr o) = ap these (last_value p place l ∙ o.laid ∙ ap (λ (x : Option ℕ). entry_or x (r p place)) a) ∙ within v a
+          by : (o : Option ℕ) → reset_entry (reset_of net p) place ≡ o → (b : Bool) → these (entry_or (entry_where b o) (get_or old (target net p place) 0)) ≡ true
+          by (Some v) a true = within v a
+          by None a true = begun l t
+          by o a false = begun l t
 
   copy_keeps : (n p place : ℕ) (these : ℕ → Bool) (copy : Copy) → IsCombinationalNet net n p place → Copies net p place copy → StartsQuietly net copy.net (λ v. these (copy.passed v)) → Keeps copy.net (λ v. these (copy.passed v)) → Keeps n these
   copy_keeps n p place these copy made copies quiet keeps zero h = inl h
@@ -282,45 +286,6 @@ module _ (net : Netlist) (L : Numbered net) (A : IsAccepted net) (inputs : ℕ �
 
   -- ---- calm nets
 
-  -- what is made of inputs is no register
-  no_register : (n p place q qp : ℕ) → IsCombinationalNet net n p place → IsRegister net n q qp → ⊥
-  no_register n p place q qp ((l, c), e) ((clock, (edge, is)), f) =
-      let same = Contains-one (Driver p place) (Driver q qp) (subst (λ (xs : List Source). Contains xs (Driver q qp)) (sym f ∙ e) (Contains-first (Driver q qp) [])) in
-      let p_is : p ≡ q = cc in
-      let k : (process net q).kind ≡ Combinational = subst (λ (m : ℕ). (process net m).kind ≡ Combinational) p_is c in
-      let k' = is.1 in
-      cc
-
-  not_register : (n q qp : ℕ) → IsMadeOfInputs net n → IsRegister net n q qp → ⊥
-  not_register n q qp (follows m (inl g)) (is, f) = let (h, t) = at_source n q qp f in g.0 (q, qp, h, t)
-  not_register n q qp (follows m (inr (p, place, made, looks))) is = no_register n p place q qp made is
-  not_register n q qp (copies_made m p place copy made copies more) is = no_register n p place q qp made is
-
-  made_keeps : (n : ℕ) (these : ℕ → Bool) → IsMadeOfInputs net n → IsCalm net n these → Keeps n these
-  made_keeps n these made (follows_inputs m those f) = once_keeps n these (follows_once n f)
-  made_keeps n these made (not_reset m p place those is none) = absurd (not_register n p place made is)
-  made_keeps n these made (reset_by_inputs m p place those reset is has by) = absurd (not_register n p place made is)
-  made_keeps n these made (copies_calm m p place those copy is copies quiet calm) = go (λ more. made_keeps copy.net (λ v. these (copy.passed v)) more calm) made
-    where
-      source_same : (q qp : ℕ) → IsCombinationalNet net n q qp → Driver q qp ≡ Driver p place
-      source_same q qp (c, e) = Contains-one (Driver q qp) (Driver p place) (subst (λ (xs : List Source). Contains xs (Driver p place)) (sym is.1 ∙ e) (Contains-first (Driver p place) []))
-
-      net_same : (q qp : ℕ) (other : Copy) → Driver q qp ≡ Driver p place → (process net q).copies qp ≡ Some other → other.net ≡ copy.net
-      net_same q qp other e c =
-          let a : q ≡ p = cc in
-          let b : qp ≡ place = cc in
-          let d : (process net q).copies qp ≡ (process net p).copies place = (λ i. (process net (a i)).copies (b i)) in
-          let f : Some other ≡ Some copy = sym c ∙ d ∙ copies in
-          let g : other ≡ copy = cc in
-          ap (λ (x : Copy). x.net) g
-
-      go : (IsMadeOfInputs net copy.net → Keeps copy.net (λ v. these (copy.passed v))) → IsMadeOfInputs net n → Keeps n these
-      go deeper (follows x f) = once_keeps n these (follows_once n f)
-      go deeper (copies_made x q qp other made' copies' more) = copy_keeps n p place these copy is copies quiet (deeper (subst (λ (m : ℕ). IsMadeOfInputs net m) (net_same q qp other (source_same q qp made') copies') more))
-
-  abbrev ResetKeeps : ℕ → Type 0
-  ResetKeeps p = (k : ℕ) → resets_at k p ≡ true → (resets_at 0 p ≡ true) ⊎ (resets_at last p ≡ true)
-
   -- a reset keeps if it does where it is calm
   by_calm : (p : ℕ) (reset : Reset) → HasReset net p reset → (IsCalm net reset.net (λ v. v == reset.value) → Keeps reset.net (λ v. v == reset.value)) → ResetKeeps p
   by_calm p reset has keeps k t = go (cases_Bool (resets_at 0 p)) (cases_Bool (resets_at last p))
@@ -349,8 +314,8 @@ module _ (net : Netlist) (L : Numbered net) (A : IsAccepted net) (inputs : ℕ �
       go (inr a) (inr b) = absurd (never a b (L.elaborated.bodies.resets_are_narrow p reset has))
 
   -- a register whose reset is made of inputs changes once
-  set_once : (p place clock : ℕ) (edge : Edge) (reset : Reset) → IsClockedBy net p clock edge → HasPlace net p place → HasReset net p reset → IsMadeOfInputs net reset.net → Once (target net p place)
-  set_once p place clock edge reset is h has made = go (cases_Bool (edge_comes clock edge))
+  set_once : (p place clock : ℕ) (edge : Edge) (reset : Reset) → IsClockedBy net p clock edge → HasPlace net p place → HasReset net p reset → IsMadeOfInputs net reset.net → (IsSome (reset_entry (reset_of net p) place) → ResetKeeps p) → Once (target net p place)
+  set_once p place clock edge reset is h has made keeps = go (cases_Bool (edge_comes clock edge)) (none_or_some (reset_entry (reset_of net p) place))
     where
       same : edge_comes clock edge ≡ true → (j : ℕ) → resets_at j p ≡ resets_at 0 p
       same comes j =
@@ -358,26 +323,58 @@ module _ (net : Netlist) (L : Numbered net) (A : IsAccepted net) (inputs : ℕ �
           ∙ ap (λ (x : ℕ). x == reset.value) (made_steady p clock edge is comes reset.net made j ∙ sym (made_steady p clock edge is comes reset.net made 0))
           ∙ sym (ap (λ (o : Option Reset). resets o (at 0)) has)
 
-      go : (edge_comes clock edge ≡ true) ⊎ (edge_comes clock edge ≡ false) → Once (target net p place)
-      go (inl comes) = steady_once p place clock edge is h (same comes)
-      go (inr none) = without_once p place clock edge is h none (by_calm p reset has (made_keeps reset.net (λ v. v == reset.value) made))
+      go : (edge_comes clock edge ≡ true) ⊎ (edge_comes clock edge ≡ false) → (reset_entry (reset_of net p) place ≡ None) ⊎ IsSome (reset_entry (reset_of net p) place) → Once (target net p place)
+      go (inl comes) some = steady_once p place clock edge is h (same comes)
+      go (inr none) (inl e) = same_once p place clock edge is h (ap (λ (o : Option ℕ). entry_or o (r p place)) e)
+      go (inr none) (inr some) = without_once p place clock edge is h none (keeps some)
 
-  pub calm_keeps : (n : ℕ) (these : ℕ → Bool) → IsCalm net n these → Keeps n these
-  calm_keeps n these (follows_inputs m those f) = once_keeps n these (follows_once n f)
-  calm_keeps n these (not_reset x p place those ((clock, (edge, is)), e) none) =
-      let (h, t) = at_source n p place e in
-      once_keeps n these (subst (λ (m : ℕ). Once m) t (same_once p place clock edge is h (ap (λ (o : Option ℕ). entry_or o (r p place)) none)))
-  calm_keeps n these (reset_by_inputs x p place those reset ((clock, (edge, is)), e) has made) =
-      let (h, t) = at_source n p place e in
-      once_keeps n these (subst (λ (m : ℕ). Once m) t (set_once p place clock edge reset is h has made))
-  calm_keeps n these (copies_calm x p place those copy is copies quiet calm) = copy_keeps n p place these copy is copies quiet (calm_keeps copy.net (λ v. these (copy.passed v)) calm)
+  -- A net keeps its values if it is calm for them: by the numbers along which nets are copied and reset.
+  abbrev CalmKeeps : ℕ → Type 0
+  CalmKeeps many = (n : ℕ) (these : ℕ → Bool) → L.of_net n < many → IsCalm net n these → Keeps n these
 
-  pub reset_keeps : (p : ℕ) → ResetKeeps p
-  reset_keeps p = go (reset_of net p) refl
+  each_reset_keeps : (p : ℕ) → ((reset : Reset) → HasReset net p reset → IsCalm net reset.net (λ v. v == reset.value) → Keeps reset.net (λ v. v == reset.value)) → ResetKeeps p
+  each_reset_keeps p keeps = go (reset_of net p) refl
     where
       go : (o : Option Reset) → reset_of net p ≡ o → ResetKeeps p
-      go None e k t = let f = ap (λ (o : Option Reset). resets o (at k)) e in absurd cc
-      go (Some reset) e k t = by_calm p reset e (calm_keeps reset.net (λ v. v == reset.value)) k t
+      go None e = λ k t. let f = ap (λ (o : Option Reset). resets o (at k)) e in absurd cc
+      go (Some reset) e = by_calm p reset e (keeps reset e)
+
+  reset_below : (many p place : ℕ) → HasPlace net p place → L.of_net (target net p place) < suc many → CalmKeeps many → IsSome (reset_entry (reset_of net p) place) → ResetKeeps p
+  reset_below many p place h l more some = each_reset_keeps p (λ reset has. of_net reset has (driven_or_not net L reset.net))
+    where
+      of_net : (reset : Reset) → HasReset net p reset → IsDriven net reset.net ⊎ (IsDriven net reset.net → ⊥) → IsCalm net reset.net (λ v. v == reset.value) → Keeps reset.net (λ v. v == reset.value)
+      of_net reset has (inl driven) calm =
+          let rises = L.resets_rise p place reset.net (((reset, has, refl), driven), some) h in
+          more reset.net (λ v. v == reset.value) (omega arith) calm
+      of_net reset has (inr free) calm = once_keeps reset.net (λ v. v == reset.value) (λ k. inl (undriven_same (suc k) 0 reset.net free))
+
+  copied_below : (many n p place : ℕ) (these : ℕ → Bool) (copy : Copy) → L.of_net n < suc many → IsCombinationalNet net n p place → Copies net p place copy
+      → (L.of_net copy.net < many → Keeps copy.net (λ v. these (copy.passed v))) → Keeps copy.net (λ v. these (copy.passed v))
+  copied_below many n p place these copy l (c, e) copies more = let (h, t) = at_source n p place e in go t (copy_rises net L p place copy c h copies)
+    where
+      go : target net p place ≡ n → (L.of_net copy.net < L.of_net (target net p place)) ⊎ ((a b : ℕ) → copy.passed a ≡ copy.passed b) → Keeps copy.net (λ v. these (copy.passed v))
+      go t (inl rises) = let same = ap L.of_net t in more (omega arith)
+      go t (inr one) = λ k has. inr (ap these (one (at last copy.net) (at k copy.net)) ∙ has)
+
+  keeps_below : (many : ℕ) → CalmKeeps many
+  keeps_below zero n these l calm = absurd (omega arith)
+  keeps_below (suc many) n these l (follows_inputs m those f) = once_keeps n these (follows_once n f)
+  keeps_below (suc many) n these l (ends_reset m those (p, place, ((clock, (edge, is)), e), within)) =
+      let (h, t) = at_source n p place e in
+      let below = subst (λ (m : ℕ). L.of_net m < suc many) (sym t) l in
+      subst (λ (m : ℕ). Keeps m these) t (within_keeps p place clock edge is h these within (reset_below many p place h below (keeps_below many)))
+  keeps_below (suc many) n these l (reset_by_inputs m p place those reset ((clock, (edge, is)), e) has made) =
+      let (h, t) = at_source n p place e in
+      let below = subst (λ (m : ℕ). L.of_net m < suc many) (sym t) l in
+      once_keeps n these (subst (λ (m : ℕ). Once m) t (set_once p place clock edge reset is h has made (reset_below many p place h below (keeps_below many))))
+  keeps_below (suc many) n these l (copies_calm m p place those copy is copies quiet calm) =
+      copy_keeps n p place these copy is copies quiet (copied_below many n p place these copy l is copies (λ b. keeps_below many copy.net (λ v. these (copy.passed v)) b calm))
+
+  pub calm_keeps : (n : ℕ) (these : ℕ → Bool) → IsCalm net n these → Keeps n these
+  calm_keeps n these = keeps_below (suc (L.of_net n)) n these (omega arith)
+
+  pub reset_keeps : (p : ℕ) → ResetKeeps p
+  reset_keeps p = each_reset_keeps p (λ reset has. calm_keeps reset.net (λ v. v == reset.value))
 
   -- So what a register has in the end is its reset's entry, where the reset holds in the beginning or in the end, else its
   -- branch's at its edge, where no reset gates it in the beginning, and else what it had.
@@ -394,4 +391,4 @@ module _ (net : Netlist) (L : Numbered net) (A : IsAccepted net) (inputs : ℕ �
       held : (out (after net last s) p place ≡ r p place) ⊎ IsLaidOver net r (IsSeen net s) (after net last s) p place
           → (out (after net last s) p place ≡ r p place) ⊎ ((out (after net last s) p place ≡ entry_or (reset_entry (reset_of net p) place) (r p place)) × ((resets_at 0 p ≡ true) ⊎ (resets_at last p ≡ true)))
       held (inl e) = inl e
-      held (inr o) = inr (o.laid, reset_keeps p o.seen.0 (ap (λ (v : List ℕ). resets (reset_of net p) (λ n. get_or v n 0)) (sym o.seen.1) ∙ o.held))
+      held (inr o) = inr (o.laid, reset_keeps p o.seen.0 (held_at (after net last s) p place o))

@@ -1,8 +1,11 @@
 -- What most proofs about an accepted netlist start from: it was elaborated, has none of the faults but loops, and its
 -- nets and processes are numbered along what they look at.
-use Rattle.std.proofs.Common.{◌≡◌, ℕ, ◌<◌, ◌≤◌, List, [], ◌∷◌, get_or, None, refl, IsSome, ◌⊎◌, inl, inr, subst, sym, Contains}
+use Rattle.std.proofs.Common.{◌≡◌, ℕ, ◌<◌, ◌≤◌, List, [], ◌∷◌, get_or, Some, None, refl, IsSome, ◌⊎◌, inl, inr, subst, sym, Contains, set, replicate, suc, ap, ◌∙◌, arith}
+use Rattle.std.proofs.lemmas.List.{get_or-set_other, get_or-set_same, length-replicate}
+use Rattle.rtl_model.proofs.basics.Search.{is_contained}
+use Rattle.rtl_model.specs.basics.Valuations.{AgreeOn}
 use Rattle.rtl_model.proofs.basics.Lists.{Contains-none, Contains-one, Contains-first, only_source}
-use Rattle.rtl_model.specs.simulation.Netlist.{Driver, HasPlace, HasReset, Idle, IsCombinational, Netlist, process, Reset, Source, sources_of, target, IsDriven}
+use Rattle.rtl_model.specs.simulation.Netlist.{Copy, Driver, HasPlace, HasReset, Idle, IsCombinational, Netlist, process, Reset, Source, sources_of, target, IsDriven}
 use Rattle.rtl_model.specs.simulation.Elaborated.{IsElaborated, IsOnlyPlace}
 use Rattle.rtl_model.specs.simulation.Accepted.{IsResetBy, LooksAt}
 use Rattle.rtl_model.proofs.simulation.Faultless.{Faultless}
@@ -27,6 +30,9 @@ pub record Numbered (net : Netlist) : Type 0 where
   pub greatest : ℕ
   pub net_within : (n : ℕ) → of_net n ≤ greatest
   pub process_within : (p : ℕ) → of_process p ≤ greatest
+
+pub some_same : (a b : ℕ) → Some a ≡ Some b → a ≡ b
+some_same a b e = cc
 
 module _ (net : Netlist) (L : Numbered net) where
   pub sole : (p place : ℕ) → HasPlace net p place → sources_of net (target net p place) ≡ Driver p place ∷ []
@@ -62,3 +68,27 @@ module _ (net : Netlist) (L : Numbered net) where
           let f = L.elaborated.wiring.sources_are_drivers n p place (subst (λ (xs : List Source). Contains xs (Driver p place)) (sym e) (Contains-first (Driver p place) more)) in
           inl (p, place, f.0, f.1)
       go (Idle v ∷ more) e = inr (not (Idle v) (only_source (sources_of net n) (Idle v) (L.faultless.one_source n) (rw e (Contains-first (Idle v) more))) (λ p place q. cc))
+
+  -- what is copied has a lower number than the copy, unless that passes on one value
+  pub copy_rises : (p place : ℕ) (copy : Copy) → IsCombinational net p → HasPlace net p place → (process net p).copies place ≡ Some copy
+      → (L.of_net copy.net < L.of_net (target net p place)) ⊎ ((a b : ℕ) → copy.passed a ≡ copy.passed b)
+  copy_rises p place copy c h copies = go (is_contained ((process net p).looks place) copy.net)
+    where
+      zeros : List ℕ
+      zeros = replicate (suc copy.net) 0
+
+      with_value : ℕ → List ℕ
+      with_value x = set zeros copy.net x
+
+      passes : (x : ℕ) → get_or ((process net p).effect (with_value x) (with_value x)) place None ≡ Some (copy.passed x)
+      passes x = L.elaborated.bodies.copies_pass p place copy (with_value x) (with_value x) h copies
+          ∙ ap (λ (v : ℕ). Some (copy.passed v)) (get_or-set_same zeros copy.net x 0 (subst (λ (k : ℕ). copy.net < k) (sym (length-replicate {A = ℕ} (suc copy.net) 0)) (omega arith)))
+
+      agree : (Contains ((process net p).looks place) copy.net → ⊥) → (a b : ℕ) → AgreeOn ((process net p).looks place) (with_value a) (with_value b)
+      agree not a b n looks =
+          let other : n ≡ copy.net → ⊥ = λ e. not (subst (λ (m : ℕ). Contains ((process net p).looks place) m) e looks) in
+          get_or-set_other zeros copy.net n a 0 other ∙ sym (get_or-set_other zeros copy.net n b 0 other)
+
+      go : Contains ((process net p).looks place) copy.net ⊎ (Contains ((process net p).looks place) copy.net → ⊥) → (L.of_net copy.net < L.of_net (target net p place)) ⊎ ((a b : ℕ) → copy.passed a ≡ copy.passed b)
+      go (inl looks) = inl (L.rises p place copy.net c h looks)
+      go (inr not) = inr (λ a b. some_same _ _ (sym (passes a) ∙ (L.elaborated.bodies.entry_looks p place (with_value a) (with_value a) (with_value b) (with_value b) c h (agree not a b) ∙ passes b)))

@@ -24,7 +24,8 @@ use Rattle.rtl_model.proofs.simulation.Numbered.{Numbered}
 use Rattle.rtl_model.proofs.simulation.Runs.{Machine, Machine-run}
 use Rattle.rtl_model.proofs.simulation.Held.{Holds, IsAbove, IsSeen, after_holds, no_edge_entry, quiet_after}
 use Rattle.rtl_model.specs.simulation.Calm.{IsCalm}
-use Rattle.rtl_model.proofs.simulation.Keeping.{Begins, calm_keeps, register_settled}
+use Rattle.rtl_model.proofs.simulation.Beginning.{Begins}
+use Rattle.rtl_model.proofs.simulation.Keeping.{calm_keeps, register_settled}
 use Rattle.rtl_model.proofs.simulation.Starting.{first, start_holds, start_begins, start_asleep}
 use Rattle.rtl_model.proofs.simulation.Stepping.{next_holds, next_begins}
 

@@ -16,7 +16,7 @@ use Rattle.rtl_model.proofs.simulation.Order.{finished, waits, row_after}
 use Rattle.rtl_model.proofs.simulation.Faultless.{place_in_range}
 use Rattle.rtl_model.proofs.simulation.Solution.{get_or-table, length-table}
 use Rattle.rtl_model.proofs.simulation.Rows.{transaction, value, out, get_or-map, no_entries}
-use Rattle.rtl_model.proofs.simulation.Keeping.{Begins}
+use Rattle.rtl_model.proofs.simulation.Beginning.{Begins}
 use Rattle.rtl_model.proofs.simulation.Held.{entry_twice, no_edge_entry, reset_awake, Holds, IsSeen, IsFresh, input_not_driven, none_or_some, no_edge_same, combinational_awake, who_ran}
 
 pub inputs_at : (net : Netlist) (E : IsElaborated net) (inputs : ℕ → ℕ) (old : List ℕ) (n : ℕ) → IsInput net n → get_or (with_inputs net inputs old) n 0 ≡ inputs n

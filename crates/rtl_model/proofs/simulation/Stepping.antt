@@ -15,7 +15,7 @@ use Rattle.rtl_model.proofs.simulation.Faultless.{place_in_range}
 use Rattle.rtl_model.proofs.simulation.Solution.{length-table}
 use Rattle.rtl_model.proofs.simulation.Rows.{value, out, quiet_at, resumed_at, differs_event}
 use Rattle.rtl_model.specs.simulation.Calm.{IsFromOutside}
-use Rattle.rtl_model.proofs.simulation.Keeping.{Begins}
+use Rattle.rtl_model.proofs.simulation.Beginning.{Begins}
 use Rattle.rtl_model.proofs.simulation.Held.{clocked_awake, no_edge_entry, over_branch, ran_asleep, reset_asleep, reset_awake, Holds, IsSeen, IsFresh, no_edge_same, combinational_ran}
 use Rattle.rtl_model.proofs.simulation.Starting.{inputs_at, others_at, target_no_input}
 

@@ -1,6 +1,6 @@
 -- Calm nets: those that a reset may be, since within a moment without a race they have one of the values at which it
 -- holds only where the moment begins or ends with one (IEEE 1076-2008, 14.7.5.3). What a net is made of tells it.
-use Rattle.std.specs.Prelude.{◌≡◌, ◌⊎◌, ℕ, Bool, false, [], ◌∷◌, Contains, Some, None, slice_index, IsTrue}
+use Rattle.std.specs.Prelude.{◌≡◌, ◌⊎◌, ℕ, Bool, false, [], ◌∷◌, Contains, Some, slice_index, IsTrue}
 use Rattle.rtl_model.specs.simulation.Netlist.{Netlist, Driver, Copy, Reset, process, sources_of, reset_of, reset_entry}
 use Rattle.rtl_model.specs.simulation.Netlist.{HasReset, IsCombinational, IsClockOf, IsClock, IsDriven}
 
@@ -33,21 +33,24 @@ pub data IsMadeOfInputs (net : Netlist) : (n : ℕ) → Type 0 where
   copies_made : (n p place : ℕ) (copy : Copy) → IsCombinationalNet net n p place → Copies net p place copy
       → IsMadeOfInputs net copy.net → IsMadeOfInputs net n
 
+-- n is a register that is reset to one of these values, if at all
+abbrev pub ResetsTo : Netlist → (n : ℕ) → (these : ℕ → Bool) → Type 0
+ResetsTo net n these =
+    (p : ℕ) × (place : ℕ) × IsRegister net n p place
+    × ((value : ℕ) → reset_entry (reset_of net p) place ≡ Some value → IsTrue (these value))
+
 -- A copy of n changes twice at the start, where it doesn't start as a copy of n's start. That does no harm if n starts
 -- with none of these values, or is a register that is reset to one of them, if at all.
 pub data StartsQuietly (net : Netlist) (n : ℕ) (these : ℕ → Bool) : Type 0 where
   starts_without : these (slice_index net.start n) ≡ false → StartsQuietly net n these
-  resets_to_these : (p place : ℕ) → IsRegister net n p place
-      → ((value : ℕ) → reset_entry (reset_of net p) place ≡ Some value → IsTrue (these value))
-      → StartsQuietly net n these
+  resets_to_these : ResetsTo net n these → StartsQuietly net n these
 
--- n is calm for these values
+-- n is calm for these values, where each reset is calm for its own
 pub data IsCalm (net : Netlist) : (n : ℕ) → (these : ℕ → Bool) → Type 0 where
   -- it follows inputs;
   follows_inputs : (n : ℕ) (these : ℕ → Bool) → FollowsInputs net n → IsCalm net n these
-  -- it is a register that no reset assigns,
-  not_reset : (n p place : ℕ) (these : ℕ → Bool) → IsRegister net n p place
-      → reset_entry (reset_of net p) place ≡ None → IsCalm net n these
+  -- it is a register that is reset to one of them, if at all: once its reset has come, it ends with that;
+  ends_reset : (n : ℕ) (these : ℕ → Bool) → ResetsTo net n these → IsCalm net n these
   -- or one whose reset is made of inputs;
   reset_by_inputs : (n p place : ℕ) (these : ℕ → Bool) (reset : Reset) → IsRegister net n p place
       → HasReset net p reset → IsMadeOfInputs net reset.net → IsCalm net n these
