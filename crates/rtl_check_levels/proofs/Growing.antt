@@ -1,11 +1,11 @@
 -- The search goes on: what stays.
-use Rattle.std.proofs.Common.{◌≡◌, ℕ, zero, suc, ◌+◌, ◌*◌, ◌<◌, ◌≤◌, ◌⊎◌, inl, inr, List, [], ◌∷◌, length, get_or, Option, Some, None, refl, sym, ap, subst, arith, Contains, All}
+use Rattle.std.proofs.Common.{◌≡◌, ℕ, zero, suc, ◌+◌, ◌*◌, ◌<◌, ◌≤◌, ◌⊎◌, inl, inr, List, [], ◌∷◌, length, get_or, Option, Some, None, refl, sym, ap, subst, arith}
 use Rattle.std.specs.Prelude.{IsSome}
 use Rattle.std.specs.Global.{Vec}
 use Rattle.rtl_check_levels.specs.Feeding.{Table, Feeds}
 use Rattle.rtl_check_levels.specs.Levels.{level_of}
 use Rattle.rtl_check_levels.specs.declared.finding.Finding.{Finding}
-use Rattle.rtl_check_levels.specs.Finding.{Grows, IsRanked, AreReleased, waiters, work_left, open_count}
+use Rattle.rtl_check_levels.specs.Finding.{Grows, IsRanked, IsWaiting, IsAmong, AreReleased, work_left, open_count}
 
 -- ---- options
 
@@ -27,9 +27,14 @@ some_within (x ∷ xs) (suc q) h = let l = some_within xs q h in omega arith
 
 -- ---- growing
 
+pub grows_not : (a : Finding) → Grows a a
+grows_not a = record { levels = λ p level e. e; longer = omega arith; among = λ last q s. s; waits = λ p q w. w; less = omega arith }
+
 pub grows_on : (a b c : Finding) → Grows a b → Grows b c → Grows a c
 grows_on a b c g h = record {
   levels = λ p level e. h.levels p level (g.levels p level e);
+  longer = let x = g.longer in let y = h.longer in omega arith;
+  among = λ last q s. h.among last q (g.among last q s);
   waits = λ p q w. h.waits p q (g.waits p q w);
   less = let x : work_left b ≤ work_left a = g.less in let y : work_left c ≤ work_left b = h.less in le_on x y;
 }
@@ -40,24 +45,21 @@ grows_on a b c g h = record {
 pub placed_grows : (table : Table) (a b : Finding) (q : ℕ) → Grows a b → IsRanked table a q → IsRanked table b q
 placed_grows table a b q g h inside unplaced = go (cases_of (level_of a.levels.items q))
   where
-    go : (level_of a.levels.items q ≡ None) ⊎ ((x : ℕ) × (level_of a.levels.items q ≡ Some x)) → (p : ℕ) × Contains (waiters b.waiting.items p) q × Feeds table p q
+    go : (level_of a.levels.items q ≡ None) ⊎ ((x : ℕ) × (level_of a.levels.items q ≡ Some x)) → (p : ℕ) × IsWaiting b p q × Feeds table p q
     go (inl e) = let (p, c, k) = h inside e in (p, g.waits p q c, k)
     go (inr (x, e)) = let k = g.levels q x e in absurd cc
 
 -- ---- those that are released
 
-module _ (table : Table) (old mid new : Finding) (released : List ℕ) (r : ℕ) (a : AreReleased old mid released) (g : Grows mid new) where
-  pub released_placed : All (IsRanked table new) released → IsRanked table old r → IsRanked table new r
+module _ (table : Table) (old mid new : Finding) (last r : ℕ) (a : AreReleased old mid last) (g : Grows mid new) where
+  pub released_placed : ((q : ℕ) → IsAmong mid.waits.items last q → IsRanked table new q) → IsRanked table old r → IsRanked table new r
   released_placed all h inside unplaced = go (cases_of (level_of old.levels.items r))
     where
-      listed : Contains released r → (p : ℕ) × Contains (waiters new.waiting.items p) r × Feeds table p r
-      listed (k, l, e) = subst (IsRanked table new) e (all k r l) inside unplaced
-
-      moved : (p : ℕ) → Feeds table p r → Contains (waiters mid.waiting.items p) r ⊎ Contains released r → (p : ℕ) × Contains (waiters new.waiting.items p) r × Feeds table p r
+      moved : (p : ℕ) → Feeds table p r → IsWaiting mid p r ⊎ IsAmong mid.waits.items last r → (p : ℕ) × IsWaiting new p r × Feeds table p r
       moved p k (inl c) = (p, g.waits p r c, k)
-      moved p k (inr c) = listed c
+      moved p k (inr c) = all r c inside unplaced
 
-      go : (level_of old.levels.items r ≡ None) ⊎ ((x : ℕ) × (level_of old.levels.items r ≡ Some x)) → (p : ℕ) × Contains (waiters new.waiting.items p) r × Feeds table p r
+      go : (level_of old.levels.items r ≡ None) ⊎ ((x : ℕ) × (level_of old.levels.items r ≡ Some x)) → (p : ℕ) × IsWaiting new p r × Feeds table p r
       go (inl e) = let (p, c, k) = h inside e in moved p k (a.waits p r c)
       go (inr (x, e)) =
           let m : level_of mid.levels.items r ≡ Some x = subst (λ (ls : Vec (Option ℕ)). level_of ls.items r ≡ Some x) (sym a.levels) e in

@@ -1,63 +1,60 @@
 -- Who waits for whom.
-use Rattle.std.proofs.Common.{◌≡◌, ℕ, zero, suc, ◌<◌, ◌≤◌, ◌⊎◌, inl, inr, List, [], ◌∷◌, ◌++◌, length, get_or, set, Option, Some, None, refl, sym, ap, subst, ◌∙◌, arith, Contains}
-use Rattle.std.specs.Global.{Vec}
+use Rattle.std.proofs.Common.{◌≡◌, ℕ, suc, ◌+◌, ◌<◌, ◌≤◌, ◌⊎◌, inl, inr, List, [], ◌∷◌, ◌++◌, length, get_or, set, Option, Some, None, refl, sym, ap, subst, ◌∙◌, arith, Contains}
 use Rattle.std.specs.Prelude.{IsSome}
 use Rattle.std.proofs.Math.ListN.{length-set}
-use Rattle.std.proofs.lemmas.Bool.{cases_eq}
-use Rattle.std.proofs.lemmas.List.{get_or-set_same, get_or-set_other}
+use Rattle.std.proofs.lemmas.Bool.{cases_eq, cases_lt}
+use Rattle.std.proofs.lemmas.List.{get_or-set_same, get_or-set_other, get_or_append_left, get_or_push, length_push}
 use Rattle.std.proofs.lemmas.List.Elements.{Contains-push, Contains-push_cases, Contains-append_left}
+use Rattle.rtl_check_levels.specs.declared.finding.Wait.{Wait}
 use Rattle.rtl_check_levels.specs.Feeding.{Table, feeders_of}
 use Rattle.rtl_check_levels.specs.Levels.{level_of}
-use Rattle.rtl_check_levels.specs.Finding.{waiters, WaitingSoFar}
+use Rattle.rtl_check_levels.specs.Finding.{wait_at, IsAmong, itself, earlier, WaitingSoFar}
 use Rattle.rtl_check_levels.proofs.Growing.{cases_of, some_has, none_lacks}
 
-cases_lt : (a b : ℕ) → (a < b) ⊎ (b ≤ a)
-cases_lt zero zero = inr (omega arith)
-cases_lt zero (suc b) = inl (omega arith)
-cases_lt (suc a) zero = inr (omega arith)
-cases_lt (suc a) (suc b) = elim (cases_lt a b) [ inl l ↦ inl (omega arith) | inr l ↦ inr (omega arith) ]
+-- ---- one more wait
 
-pub waiters_read : (ws : List (Vec ℕ)) (p : ℕ) (v : Vec ℕ) → p < length ws → v ≡ get_or ws p v → waiters ws p ≡ v.items
-waiters_read [] p v l e = absurd (omega arith)
-waiters_read (w ∷ ws) zero v l e = ap (λ (u : Vec ℕ). u.items) (sym e)
-waiters_read (w ∷ ws) (suc p) v l e = waiters_read ws p v (omega arith) e
+abbrev no_wait : Wait
+no_wait = record { row = 0; before = 0 }
 
-pub waiters_set : (ws : List (Vec ℕ)) (p : ℕ) (v : Vec ℕ) → p < length ws → waiters (set ws p v) p ≡ v.items
-waiters_set [] p v l = absurd (omega arith)
-waiters_set (w ∷ ws) zero v l = refl
-waiters_set (w ∷ ws) (suc p) v l = waiters_set ws p v (omega arith)
+pub wait_kept : (ws : List Wait) (w : Wait) (i : ℕ) → i < length ws → wait_at (ws ++ w ∷ []) i ≡ wait_at ws i
+wait_kept ws w i l = get_or_append_left ws (w ∷ []) no_wait i l
 
-pub waiters_other : (ws : List (Vec ℕ)) (p r : ℕ) (v : Vec ℕ) → (r ≡ p → ⊥) → waiters (set ws p v) r ≡ waiters ws r
-waiters_other [] p r v ne = refl
-waiters_other (w ∷ ws) zero zero v ne = absurd (ne refl)
-waiters_other (w ∷ ws) zero (suc r) v ne = refl
-waiters_other (w ∷ ws) (suc p) zero v ne = refl
-waiters_other (w ∷ ws) (suc p) (suc r) v ne = waiters_other ws p r v (λ e. ne (ap suc e))
+pub wait_new : (ws : List Wait) (w : Wait) → wait_at (ws ++ w ∷ []) (length ws) ≡ w
+wait_new ws w = get_or_push ws w no_wait (length ws) refl
 
-pub pushed_empty : (ws : List (Vec ℕ)) (v : Vec ℕ) → ((p : ℕ) → waiters ws p ≡ []) → v.items ≡ [] → (p : ℕ) → waiters (ws ++ v ∷ []) p ≡ []
-pushed_empty [] v h e zero = e
-pushed_empty [] v h e (suc p) = refl
-pushed_empty (w ∷ ws) v h e zero = h 0
-pushed_empty (w ∷ ws) v h e (suc p) = pushed_empty ws v (λ r. h (suc r)) e p
+pub still_among : (ws : List Wait) (w : Wait) (last q : ℕ) → IsAmong ws last q → IsAmong (ws ++ w ∷ []) last q
+still_among ws w _ q (itself i _ l e) = itself i q (let n = length_push ws w in omega arith) (ap (λ (v : Wait). v.row) (wait_kept ws w i l) ∙ e)
+still_among ws w _ q (earlier i _ l a) =
+    let b : IsAmong (ws ++ w ∷ []) (wait_at ws i).before q = still_among ws w (wait_at ws i).before q a in
+    earlier i q (let n = length_push ws w in omega arith) (subst (λ (v : Wait). IsAmong (ws ++ w ∷ []) v.before q) (sym (wait_kept ws w i l)) b)
+
+pub now_among : (ws : List Wait) (w : Wait) → IsAmong (ws ++ w ∷ []) (suc (length ws)) w.row
+now_among ws w = itself (length ws) w.row (let n = length_push ws w in omega arith) (ap (λ (v : Wait). v.row) (wait_new ws w))
+
+pub behind_it : (ws : List Wait) (w : Wait) (q : ℕ) → IsAmong ws w.before q → IsAmong (ws ++ w ∷ []) (suc (length ws)) q
+behind_it ws w q a = earlier (length ws) q (let n = length_push ws w in omega arith)
+    (subst (λ (v : Wait). IsAmong (ws ++ w ∷ []) v.before q) (sym (wait_new ws w)) (still_among ws w w.before q a))
 
 -- ---- the steps
 
-module _ (table : Table) (levels : List (Option ℕ)) (waiting : List (Vec ℕ)) (ready passed : List ℕ) (h : WaitingSoFar table levels waiting ready passed) where
+module _ (table : Table) (levels : List (Option ℕ)) (waits : List Wait) (last ready passed : List ℕ) (h : WaitingSoFar table levels waits last ready passed) where
   -- q gets its level
   pub waiting_settled : (later : List (Option ℕ)) (q : ℕ) → q < length table
       → ((p : ℕ) → (p ≡ q → ⊥) → level_of later p ≡ level_of levels p) → ((p level : ℕ) → level_of levels p ≡ Some level → level_of later p ≡ Some level)
-      → WaitingSoFar table later waiting (ready ++ q ∷ []) passed
+      → WaitingSoFar table later waits last (ready ++ q ∷ []) passed
   waiting_settled later q within old_at grow = record {
-    each_waiting = h.each_waiting;
+    each_last = h.each_last;
     each_passed = h.each_passed;
     idle = λ p s. idle p s (cases_eq p q);
-    those = h.those;
+    last_there = h.last_there;
+    rows_there = h.rows_there;
+    in_order = h.in_order;
     ready_there = λ p c. there p (Contains-push_cases ready q p c);
     passed_most = h.passed_most;
     passed_have = λ r k l. still _ (h.passed_have r k l);
   }
     where
-      idle : (p : ℕ) → IsSome (level_of later p) → (p ≡ q) ⊎ (p ≡ q → ⊥) → Contains (ready ++ q ∷ []) p ⊎ (waiters waiting p ≡ [])
+      idle : (p : ℕ) → IsSome (level_of later p) → (p ≡ q) ⊎ (p ≡ q → ⊥) → Contains (ready ++ q ∷ []) p ⊎ (get_or last p 0 ≡ 0)
       idle p s (inl same) = inl (subst (Contains (ready ++ q ∷ [])) (sym same) (Contains-push ready q))
       idle p s (inr ne) = elim (h.idle p (subst IsSome (old_at p ne) s)) [ inl c ↦ inl (Contains-append_left ready (q ∷ []) p c) | inr e ↦ inr e ]
 
@@ -75,12 +72,14 @@ module _ (table : Table) (levels : List (Option ℕ)) (waiting : List (Vec ℕ))
   -- more of those that feed q are known to have levels
   pub waiting_passed : (q at : ℕ) → q < length table → at ≤ length (feeders_of table q)
       → ((k : ℕ) → get_or passed q 0 ≤ k → k < at → IsSome (level_of levels (get_or (feeders_of table q) k 0)))
-      → WaitingSoFar table levels waiting ready (set passed q at)
+      → WaitingSoFar table levels waits last ready (set passed q at)
   waiting_passed q at within most have = record {
-    each_waiting = h.each_waiting;
+    each_last = h.each_last;
     each_passed = length-set passed q at ∙ h.each_passed;
     idle = h.idle;
-    those = h.those;
+    last_there = h.last_there;
+    rows_there = h.rows_there;
+    in_order = h.in_order;
     ready_there = h.ready_there;
     passed_most = λ r. most_of r (cases_eq r q);
     passed_have = λ r k l. have_of r k l (cases_eq r q);
@@ -108,94 +107,123 @@ module _ (table : Table) (levels : List (Option ℕ)) (waiting : List (Vec ℕ))
       have_of r k l (inr ne) = h.passed_have r k (subst (λ (s : ℕ). k < s) (old_is r ne) l)
 
   -- q waits for p, which has no level
-  pub waiting_more : (p q : ℕ) (v : Vec ℕ) → p < length table → q < length table → level_of levels p ≡ None
-      → v.items ≡ waiters waiting p ++ q ∷ [] → WaitingSoFar table levels (set waiting p v) ready passed
-  waiting_more p q v there within none_yet items = record {
-    each_waiting = length-set waiting p v ∙ h.each_waiting;
+  pub waiting_more : (p q : ℕ) → p < length table → q < length table → level_of levels p ≡ None
+      → WaitingSoFar table levels (waits ++ record { row = q; before = get_or last p 0 } ∷ []) (set last p (length (waits ++ record { row = q; before = get_or last p 0 } ∷ []))) ready passed
+  waiting_more p q there within none_yet = record {
+    each_last = length-set last p (length more) ∙ h.each_last;
     each_passed = h.each_passed;
     idle = λ r s. idle r s (cases_eq r p);
-    those = λ r x c. those r x c (cases_eq r p);
+    last_there = λ r. last_there r (cases_eq r p);
+    rows_there = λ i l. row_there i l (cases_lt i (length waits));
+    in_order = λ i l. order i l (cases_lt i (length waits));
     ready_there = h.ready_there;
     passed_most = h.passed_most;
     passed_have = h.passed_have;
   }
     where
-      in_waiting : p < length waiting
-      in_waiting = let e = h.each_waiting in omega arith
+      new : Wait
+      new = record { row = q; before = get_or last p 0 }
 
-      idle : (r : ℕ) → IsSome (level_of levels r) → (r ≡ p) ⊎ (r ≡ p → ⊥) → Contains ready r ⊎ (waiters (set waiting p v) r ≡ [])
+      more : List Wait
+      more = waits ++ new ∷ []
+
+      longer : length more ≡ length waits + 1
+      longer = length_push waits new
+
+      in_last : p < length last
+      in_last = let e = h.each_last in omega arith
+
+      other : (r : ℕ) → (r ≡ p → ⊥) → get_or (set last p (length more)) r 0 ≡ get_or last r 0
+      other r ne = get_or-set_other last p r (length more) 0 ne
+
+      idle : (r : ℕ) → IsSome (level_of levels r) → (r ≡ p) ⊎ (r ≡ p → ⊥) → Contains ready r ⊎ (get_or (set last p (length more)) r 0 ≡ 0)
       idle r s (inl same) = absurd (none_lacks (level_of levels p) none_yet (subst (λ (x : ℕ). IsSome (level_of levels x)) same s))
-      idle r s (inr ne) = elim (h.idle r s) [ inl c ↦ inl c | inr e ↦ inr (waiters_other waiting p r v ne ∙ e) ]
+      idle r s (inr ne) = elim (h.idle r s) [ inl c ↦ inl c | inr e ↦ inr (other r ne ∙ e) ]
 
-      of_p : (x : ℕ) → Contains (waiters waiting p) x ⊎ (q ≡ x) → x < length table
-      of_p x (inl c) = h.those p x c
-      of_p x (inr e) = omega arith
+      last_there : (r : ℕ) → (r ≡ p) ⊎ (r ≡ p → ⊥) → get_or (set last p (length more)) r 0 ≤ length more
+      last_there r (inl same) = subst (λ (s : ℕ). get_or (set last p (length more)) s 0 ≤ length more) (sym same) (let e = get_or-set_same last p (length more) 0 in_last in omega arith)
+      last_there r (inr ne) = let e = other r ne in let l = h.last_there r in let n = longer in omega arith
 
-      those : (r x : ℕ) → Contains (waiters (set waiting p v) r) x → (r ≡ p) ⊎ (r ≡ p → ⊥) → x < length table
-      those r x c (inl same) =
-          let d : Contains (waiters (set waiting p v) p) x = subst (λ (y : ℕ). Contains (waiters (set waiting p v) y) x) same c in
-          let e : Contains (waiters waiting p ++ q ∷ []) x = subst (λ (ys : List ℕ). Contains ys x) (waiters_set waiting p v in_waiting ∙ items) d in
-          of_p x (Contains-push_cases (waiters waiting p) q x e)
-      those r x c (inr ne) = h.those r x (subst (λ (ys : List ℕ). Contains ys x) (waiters_other waiting p r v ne) c)
+      row_there : (i : ℕ) → i < length more → (i < length waits) ⊎ (length waits ≤ i) → (wait_at more i).row < length table
+      row_there i l (inl old) = subst (λ (w : Wait). w.row < length table) (sym (wait_kept waits new i old)) (h.rows_there i old)
+      row_there i l (inr past) =
+          let is : length waits ≡ i = (let n = longer in omega arith) in
+          subst (λ (k : ℕ). (wait_at more k).row < length table) is (subst (λ (w : Wait). w.row < length table) (sym (wait_new waits new)) within)
 
-  -- whoever waited waits
-  pub more_wait : (p q : ℕ) (v : Vec ℕ) → p < length table → v.items ≡ waiters waiting p ++ q ∷ []
-      → (r x : ℕ) → Contains (waiters waiting r) x → Contains (waiters (set waiting p v) r) x
-  more_wait p q v there items r x c = go (cases_eq r p)
+      order : (i : ℕ) → i < length more → (i < length waits) ⊎ (length waits ≤ i) → (wait_at more i).before ≤ i
+      order i l (inl old) = subst (λ (w : Wait). w.before ≤ i) (sym (wait_kept waits new i old)) (h.in_order i old)
+      order i l (inr past) =
+          let is : length waits ≡ i = (let n = longer in omega arith) in
+          subst (λ (k : ℕ). (wait_at more k).before ≤ k) is (subst (λ (w : Wait). w.before ≤ length waits) (sym (wait_new waits new)) (h.last_there p))
+
+-- whoever waited waits, and q waits for p
+module _ (waits : List Wait) (last : List ℕ) (p q : ℕ) (in_last : p < length last) where
+  abbrev new : Wait
+  new = record { row = q; before = get_or last p 0 }
+
+  abbrev more : List Wait
+  more = waits ++ new ∷ []
+
+  abbrev later : List ℕ
+  later = set last p (length more)
+
+  at_p : get_or later p 0 ≡ suc (length waits)
+  at_p =
+      let n : length more ≡ suc (length waits) = (let l = length_push waits new in omega arith) in
+      get_or-set_same last p (length more) 0 in_last ∙ n
+
+  pub one_waits : IsAmong more (get_or later p 0) q
+  one_waits = subst (λ (l : ℕ). IsAmong more l q) (sym at_p) (now_among waits new)
+
+  pub more_wait : (r x : ℕ) → IsAmong waits (get_or last r 0) x → IsAmong more (get_or later r 0) x
+  more_wait r x a = go (cases_eq r p)
     where
-      in_waiting : p < length waiting
-      in_waiting = let e = h.each_waiting in omega arith
-
-      go : (r ≡ p) ⊎ (r ≡ p → ⊥) → Contains (waiters (set waiting p v) r) x
+      go : (r ≡ p) ⊎ (r ≡ p → ⊥) → IsAmong more (get_or later r 0) x
       go (inl same) =
-          let d : Contains (waiters waiting p) x = subst (λ (y : ℕ). Contains (waiters waiting y) x) same c in
-          let e : Contains (waiters waiting p ++ q ∷ []) x = Contains-append_left (waiters waiting p) (q ∷ []) x d in
-          let f : Contains (waiters (set waiting p v) p) x = subst (λ (ys : List ℕ). Contains ys x) (sym (waiters_set waiting p v in_waiting ∙ items)) e in
-          subst (λ (y : ℕ). Contains (waiters (set waiting p v) y) x) (sym same) f
-      go (inr ne) = subst (λ (ys : List ℕ). Contains ys x) (sym (waiters_other waiting p r v ne)) c
-
-  pub one_waits : (p q : ℕ) (v : Vec ℕ) → p < length table → v.items ≡ waiters waiting p ++ q ∷ [] → Contains (waiters (set waiting p v) p) q
-  one_waits p q v there items =
-      let l : p < length waiting = (let e = h.each_waiting in omega arith) in
-      subst (λ (ys : List ℕ). Contains ys q) (sym (waiters_set waiting p v l ∙ items)) (Contains-push (waiters waiting p) q)
+          let b : IsAmong waits (get_or last p 0) x = subst (λ (y : ℕ). IsAmong waits (get_or last y 0) x) same a in
+          subst (λ (y : ℕ). IsAmong more (get_or later y 0) x) (sym same) (subst (λ (l : ℕ). IsAmong more l x) (sym at_p) (behind_it waits new x b))
+      go (inr ne) = subst (λ (l : ℕ). IsAmong more l x) (sym (get_or-set_other last p r (length more) 0 ne)) (still_among waits new (get_or last r 0) x a)
 
 -- those that wait for p are taken, which was the last that is ready
-pub waiting_released : (table : Table) (levels : List (Option ℕ)) (waiting : List (Vec ℕ)) (ready passed : List ℕ) (p : ℕ) (v : Vec ℕ)
-    → WaitingSoFar table levels waiting (ready ++ p ∷ []) passed → v.items ≡ [] → WaitingSoFar table levels (set waiting p v) ready passed
-waiting_released table levels waiting ready passed p v h items = record {
-  each_waiting = length-set waiting p v ∙ h.each_waiting;
+pub waiting_released : (table : Table) (levels : List (Option ℕ)) (waits : List Wait) (last ready passed : List ℕ) (p : ℕ)
+    → WaitingSoFar table levels waits last (ready ++ p ∷ []) passed → WaitingSoFar table levels waits (set last p 0) ready passed
+waiting_released table levels waits last ready passed p h = record {
+  each_last = length-set last p 0 ∙ h.each_last;
   each_passed = h.each_passed;
   idle = λ r s. idle r s (cases_eq r p);
-  those = λ r x c. those r x c (cases_eq r p);
+  last_there = λ r. last_there r (cases_eq r p);
+  rows_there = h.rows_there;
+  in_order = h.in_order;
   ready_there = λ r c. h.ready_there r (Contains-append_left ready (p ∷ []) r c);
   passed_most = h.passed_most;
   passed_have = h.passed_have;
 }
   where
-    in_waiting : p < length waiting
-    in_waiting = let l = h.ready_there p (Contains-push ready p) in let e = h.each_waiting in omega arith
+    in_last : p < length last
+    in_last = let l = h.ready_there p (Contains-push ready p) in let e = h.each_last in omega arith
 
-    ready_or : (r : ℕ) → (r ≡ p → ⊥) → Contains ready r ⊎ (p ≡ r) → Contains ready r ⊎ (waiters (set waiting p v) r ≡ [])
+    other : (r : ℕ) → (r ≡ p → ⊥) → get_or (set last p 0) r 0 ≡ get_or last r 0
+    other r ne = get_or-set_other last p r 0 0 ne
+
+    now : get_or (set last p 0) p 0 ≡ 0
+    now = get_or-set_same last p 0 0 in_last
+
+    ready_or : (r : ℕ) → (r ≡ p → ⊥) → Contains ready r ⊎ (p ≡ r) → Contains ready r ⊎ (get_or (set last p 0) r 0 ≡ 0)
     ready_or r ne (inl c) = inl c
     ready_or r ne (inr e) = absurd (ne (sym e))
 
-    idle : (r : ℕ) → IsSome (level_of levels r) → (r ≡ p) ⊎ (r ≡ p → ⊥) → Contains ready r ⊎ (waiters (set waiting p v) r ≡ [])
-    idle r s (inl same) = inr (subst (λ (x : ℕ). waiters (set waiting p v) x ≡ []) (sym same) (waiters_set waiting p v in_waiting ∙ items))
-    idle r s (inr ne) = elim (h.idle r s) [ inl c ↦ ready_or r ne (Contains-push_cases ready p r c) | inr e ↦ inr (waiters_other waiting p r v ne ∙ e) ]
+    idle : (r : ℕ) → IsSome (level_of levels r) → (r ≡ p) ⊎ (r ≡ p → ⊥) → Contains ready r ⊎ (get_or (set last p 0) r 0 ≡ 0)
+    idle r s (inl same) = inr (subst (λ (x : ℕ). get_or (set last p 0) x 0 ≡ 0) (sym same) now)
+    idle r s (inr ne) = elim (h.idle r s) [ inl c ↦ ready_or r ne (Contains-push_cases ready p r c) | inr e ↦ inr (other r ne ∙ e) ]
 
-    those : (r x : ℕ) → Contains (waiters (set waiting p v) r) x → (r ≡ p) ⊎ (r ≡ p → ⊥) → x < length table
-    those r x c (inl same) =
-        let d : Contains (waiters (set waiting p v) p) x = subst (λ (y : ℕ). Contains (waiters (set waiting p v) y) x) same c in
-        let e : Contains [] x = subst (λ (ys : List ℕ). Contains ys x) (waiters_set waiting p v in_waiting ∙ items) d in
-        absurd (let l : e.0 < 0 = e.1 in omega arith)
-    those r x c (inr ne) = h.those r x (subst (λ (ys : List ℕ). Contains ys x) (waiters_other waiting p r v ne) c)
+    last_there : (r : ℕ) → (r ≡ p) ⊎ (r ≡ p → ⊥) → get_or (set last p 0) r 0 ≤ length waits
+    last_there r (inl same) = subst (λ (s : ℕ). get_or (set last p 0) s 0 ≤ length waits) (sym same) (let e = now in omega arith)
+    last_there r (inr ne) = let e = other r ne in let l = h.last_there r in omega arith
 
-pub released_or_wait : (waiting : List (Vec ℕ)) (p : ℕ) (v w : Vec ℕ) → w.items ≡ waiters waiting p
-    → (r x : ℕ) → Contains (waiters waiting r) x → Contains (waiters (set waiting p v) r) x ⊎ Contains w.items x
-released_or_wait waiting p v w items r x c = go (cases_eq r p)
+pub released_or_wait : (waits : List Wait) (last : List ℕ) (p : ℕ) (r x : ℕ) → IsAmong waits (get_or last r 0) x
+    → IsAmong waits (get_or (set last p 0) r 0) x ⊎ IsAmong waits (get_or last p 0) x
+released_or_wait waits last p r x a = go (cases_eq r p)
   where
-    go : (r ≡ p) ⊎ (r ≡ p → ⊥) → Contains (waiters (set waiting p v) r) x ⊎ Contains w.items x
-    go (inl same) =
-        let d : Contains (waiters waiting p) x = subst (λ (y : ℕ). Contains (waiters waiting y) x) same c in
-        inr (subst (λ (ys : List ℕ). Contains ys x) (sym items) d)
-    go (inr ne) = inl (subst (λ (ys : List ℕ). Contains ys x) (sym (waiters_other waiting p r v ne)) c)
+    go : (r ≡ p) ⊎ (r ≡ p → ⊥) → IsAmong waits (get_or (set last p 0) r 0) x ⊎ IsAmong waits (get_or last p 0) x
+    go (inl same) = inr (subst (λ (y : ℕ). IsAmong waits (get_or last y 0) x) same a)
+    go (inr ne) = inl (subst (λ (l : ℕ). IsAmong waits l x) (sym (get_or-set_other last p r 0 0 ne)) a)

@@ -1,15 +1,23 @@
 //! The search for levels: a row gets its level as soon as all that feed it have theirs.
 
-ghost use Rattle.std.specs.Prelude.{◌≡◌, ◌≢◌, ℕ, ◌+◌, ◌<◌, ◌^◌, List, [], ◌∷◌, ◌++◌, All, length, None, Some, IsSome, IfOk, OnOk, IfSome, IfNone};
+ghost use Rattle.std.specs.Prelude.{◌≡◌, ℕ, ◌<◌, ◌≤◌, ◌^◌, [], All, length, None, Some, IsSome, IfOk, OnOk, IfSome, IfNone};
 ghost use Rattle.rtl_check_levels.specs.declared.counting.Counting.{Counting};
 ghost use Rattle.rtl_check_levels.specs.Feeding.{IsClosed, IsIn, feeders_of};
 ghost use Rattle.rtl_check_levels.specs.Levels.{level_of};
-ghost use Rattle.rtl_check_levels.specs.Finding.{IsFinding, Grows, IsRanked, AreReleased};
+ghost use Rattle.rtl_check_levels.specs.Finding.{IsFinding, IsAmong, Grows, IsRanked, AreReleased, Waits};
 
 use crate::counting::Counting;
 use crate::highest::{first_open, highest_of};
 use std::alloc::{AllocError, Global};
 use std::mem;
+
+/// A row that waits for another, and the one that began to wait for the same before it.
+#[derive(Clone, Copy)]
+pub struct Wait {
+    pub row: usize,
+    /// How many waits there are up to that one; 0 where there is none.
+    pub before: usize,
+}
 
 /// What is found so far.
 #[derive(Drop)]
@@ -21,8 +29,11 @@ pub struct Finding {
     pub from: Vec<Option<usize>>,
     /// The greatest level.
     pub greatest: u32,
-    /// For each row without a level those that wait for it.
-    pub waiting: Vec<Vec<usize>>,
+    /// Whoever has waited, in order of time.
+    pub waits: Vec<Wait>,
+    /// For each row without a level how many waits there are up to the last of those for it; 0
+    /// where none waits.
+    pub last: Vec<usize>,
     /// Of those that feed a row, how many from the first on are known to have levels.
     pub passed: Vec<usize>,
     /// The rows whose level was found since those that waited for them were looked at.
@@ -32,17 +43,15 @@ pub struct Finding {
 impl Finding {
     /// Nothing is found yet.
     fn new(alloc: Global, table: &[Option<Vec<usize>>]) -> Result<Self, AllocError>
-        ensures { (counting : Counting) → IfOk result (λ f. IsFinding counting table.now f) }
+        ensures sound { (counting : Counting) → IfOk result (λ f. IsFinding counting table.now f) }
+        ensures none_ready { IfOk result (λ f. f.ready.items ≡ []) }
     {
-        let mut waiting = Vec::new(alloc);
-        for _row in table {
-            waiting.push(Vec::new(alloc))?;
-        }
         Ok(Finding {
             levels: vec![in alloc; None; table.len()]?,
             from: vec![in alloc; None; table.len()]?,
             greatest: 0,
-            waiting,
+            waits: Vec::new(alloc),
+            last: vec![in alloc; 0; table.len()]?,
             passed: vec![in alloc; 0; table.len()]?,
             ready: Vec::new(alloc),
         })
@@ -103,50 +112,81 @@ impl Finding {
         if at == feeders.len() {
             return self.settle(counting, table, q, feeders);
         }
-        self.waiting[feeders[at]].push(q)?;
+        self.wait(q, feeders[at])?;
         Ok(())
     }
 
-    /// The same for each of these.
+    /// Lets row q wait for row p.
+    fn wait(&mut self, q: usize, p: usize) -> Result<(), AllocError>
+        requires { p < length self.old.last.items }
+        ensures { OnOk result (Waits q p self.old self.new) }
+    {
+        let before = self.last[p];
+        self.waits.push(Wait { row: q, before })?;
+        self.last[p] = self.waits.len();
+        Ok(())
+    }
+
+    /// Places each of those that began to wait for the same row, up to the last of them: so many
+    /// waits there are up to it.
     fn place_all(
         &mut self,
         counting: Counting<'_>,
         table: &[Option<Vec<usize>>],
-        rows: &[usize],
+        last: usize,
     ) -> Result<(), AllocError>
         requires sound { IsFinding counting table.now self.old }
         requires closed { IsClosed table.now }
         requires few { length table.now < 2 ^ 32 }
-        requires there { All (λ q. q < length table.now) rows.now }
+        requires there { last ≤ length self.old.waits.items }
         ensures sound { OnOk result (IsFinding counting.entry table.now self.new) }
         ensures grows { OnOk result (Grows self.old self.new) }
-        ensures placed { OnOk result (All (IsRanked table.now self.new) rows.now) }
+        ensures placed { OnOk result ((q : ℕ) → IsAmong self.old.waits.items last q → IsRanked table.now self.new q) }
     {
-        for &q in rows {
-            self.place(counting, table, q)?;
+        let mut at = last;
+        while at > 0 {
+            let wait = self.waits[at - 1];
+            self.place(counting, table, wait.row)?;
+            at = wait.before;
         }
         Ok(())
     }
 
-    /// Takes those that wait for a row that is ready; none where no row is.
-    fn release(
-        &mut self,
-        alloc: Global,
-        counting: Counting<'_>,
-        table: &[Option<Vec<usize>>],
-    ) -> Option<Vec<usize>>
+    /// Takes those that wait for a row that is ready, by how many waits there are up to the last of
+    /// them; none where no row is ready.
+    fn release(&mut self, counting: Counting<'_>, table: &[Option<Vec<usize>>]) -> Option<usize>
         requires sound { IsFinding counting table.now self.old }
         ensures sound { IsFinding counting.entry table.now self.new }
         ensures done { IfNone result ((self.new.ready.items ≡ []) × (self.new.levels ≡ self.old.levels)
-            × (self.new.waiting ≡ self.old.waiting)) }
-        ensures released { IfSome result (λ waiters. AreReleased self.old self.new waiters.items) }
+            × (self.new.waits ≡ self.old.waits) × (self.new.last ≡ self.old.last)) }
+        ensures released { IfSome result (AreReleased self.old self.new) }
     {
         let p = self.ready.pop()?;
-        Some(mem::replace(&mut self.waiting[p], Vec::new(alloc)))
+        Some(mem::replace(&mut self.last[p], 0))
+    }
+
+    /// Places all that wait for rows that are ready, until none is.
+    fn place_waiting(
+        &mut self,
+        counting: Counting<'_>,
+        table: &[Option<Vec<usize>>],
+    ) -> Result<(), AllocError>
+        requires sound { IsFinding counting table.now self.old }
+        requires closed { IsClosed table.now }
+        requires few { length table.now < 2 ^ 32 }
+        ensures sound { OnOk result (IsFinding counting.entry table.now self.new) }
+        ensures done { OnOk result (self.new.ready.items ≡ []) }
+        ensures ranked { OnOk result ((q : ℕ) → IsRanked table.now self.old q → IsRanked table.now self.new q) }
+    {
+        while let Some(last) = self.release(counting, table) {
+            self.place_all(counting, table, last)?;
+        }
+        Ok(())
     }
 }
 
-/// Gives each row its level that has one; the others wait.
+/// Gives each row its level that has one; the others wait. A row that is behind those that feed it
+/// never waits, since each level that is found goes on at once to those that wait for it.
 pub fn find(
     alloc: Global,
     counting: Counting<'_>,
@@ -161,9 +201,7 @@ pub fn find(
     let mut finding = Finding::new(alloc, table)?;
     for q in 0..table.len() {
         finding.place(counting, table, q)?;
-    }
-    while let Some(waiters) = finding.release(alloc, counting, table) {
-        finding.place_all(counting, table, &waiters)?;
+        finding.place_waiting(counting, table)?;
     }
     Ok(finding)
 }

@@ -79,7 +79,7 @@ impl NetTable {
         requires look { All (λ r. r < 2 ^ 64) (fed_by nets look) }
         ensures { OnOk result (AddsDriver nets net look self.old self.new) }
     {
-        let mut row = Vec::new(alloc);
+        let mut row = Vec::with_capacity(alloc, usize::from(look.is_some()))?;
         if let Some(look) = look {
             push_row(&mut row, nets, look)?;
         }
@@ -166,7 +166,7 @@ impl NetTable {
         ensures { OnOk result (AddsHubs nets hubs.now self.old self.new) }
     {
         for hub in hubs {
-            let mut row = Vec::new(alloc);
+            let mut row = Vec::with_capacity(alloc, 2)?;
             push_row(&mut row, nets, hub.left)?;
             push_row(&mut row, nets, hub.right)?;
             self.rows.push(Some(row))?;

@@ -23,7 +23,7 @@ use Rattle.rtl_looks.specs.declared.statements.Rest.{Rest}
 use Rattle.rtl_looks.specs.declared.statements.Rest.TheVariants as r
 use Rattle.rtl_looks.specs.Denoting.{AreInOrder}
 use Rattle.rtl_looks.specs.Evaluating.{Joins, Sums}
-use Rattle.rtl_looks.specs.Targets.{look_of, was, Means}
+use Rattle.rtl_looks.specs.Targets.{look_of, was, first_at, Means}
 use Rattle.rtl_looks.specs.Parts.{no_end, end_of, Covers, Behind, Finished}
 use Rattle.rtl_looks.specs.Walks.{Walked, decided_of, Parted, Branched, Rounds}
 use Rattle.rtl_looks.specs.Rests.{PartsWalked, Leaves, Rests, Left}
@@ -141,8 +141,8 @@ whole_walked {whole} {old = old} {env = env} {env' = env'} {changes = changes} {
 }
   where
     same : (t : Target) → look_of env' t ≡ look_of env t → was changes env' t ≡ was changes env t
-    same (driver k) e = ap (unwrap_or (get nat_cmp changes.drivers k)) e
-    same (element k) e = ap (unwrap_or (get nat_cmp changes.elements k)) e
+    same (driver k) e = ap (unwrap_or (first_at changes.drivers.items k)) e
+    same (element k) e = ap (unwrap_or (first_at changes.elements.items k)) e
 
 -- ---- branches and alternatives
 

@@ -7,6 +7,7 @@ use Rattle.rtl_model.specs.bodies.Looks.{Sight}
 use Rattle.rtl_looks.specs.declared.hubs.Look.{Look}
 use Rattle.rtl_looks.specs.declared.hubs.Hub.{Hub}
 use Rattle.rtl_looks.specs.declared.ends.End.{End}
+use Rattle.rtl_looks.specs.declared.table.Change.{Change}
 use Rattle.rtl_looks.specs.Denoting.{AreInOrder, Grows, Denotes, sees, look_at}
 use Rattle.rtl_looks.specs.Targets.{was_at}
 use Rattle.rtl_looks.specs.Parts.{no_end, end_at, Covers, Overs, Finishes}
@@ -14,20 +15,20 @@ use Rattle.rtl_looks.proofs.Joining.{later, alike, grows_none, grows_then}
 use Rattle.rtl_looks.proofs.Maps.{Moves, get_empty}
 use Rattle.rtl_looks.proofs.Parting.{covers_later}
 
-module _ (old : List Hub) (parts : ℕ) (looks0 : List (Option Look)) (before0 : BTreeMap ℕ (Option Look)) (ends0 : BTreeMap ℕ End) where
+module _ (old : List Hub) (parts : ℕ) (looks0 : List (Option Look)) (changes0 : List Change) (ends0 : BTreeMap ℕ End) where
   pub record Known (so_far all : ℕ → List Sight) : Type 0 where
     pub some : 0 < parts
     pub covers : (k : ℕ) → Covers old (end_at ends0 k) parts (so_far k) (all k)
     pub now : (k : ℕ) → Denotes old (look_at looks0 k) (so_far k)
 
-  pub record FinishesSome (new : List Hub) (looks : List (Option Look)) (before : BTreeMap ℕ (Option Look)) (ends : BTreeMap ℕ End) : Type 0 where
+  pub record FinishesSome (new : List Hub) (looks : List (Option Look)) (changes : List Change) (ends : BTreeMap ℕ End) : Type 0 where
     pub grows : Grows old new
-    pub restored : (k : ℕ) → was_at before looks k ≡ was_at before0 looks0 k
+    pub restored : (k : ℕ) → was_at changes looks k ≡ was_at changes0 looks0 k
     pub pending : (k : ℕ) → IsSome (get nat_cmp ends k) → (look_at looks k ≡ look_at looks0 k) × (get nat_cmp ends k ≡ get nat_cmp ends0 k)
     pub order : (so_far all : ℕ → List Sight) → Known so_far all → AreInOrder new
     pub finished : (so_far all : ℕ → List Sight) → Known so_far all → (k : ℕ) → get nat_cmp ends k ≡ None → Denotes new (look_at looks k) (all k)
 
-  pub finishes_none : FinishesSome old looks0 before0 ends0
+  pub finishes_none : FinishesSome old looks0 changes0 ends0
   finishes_none = record {
     grows = grows_none old;
     restored = λ k. refl;
@@ -38,13 +39,13 @@ module _ (old : List Hub) (parts : ℕ) (looks0 : List (Option Look)) (before0 :
         alike (all k) (λ n. ap (λ (b : Bool). false || (b && sees n (so_far k))) (sym (lt-ltb 0 parts g.some)) ∙ c.nets n) (g.now k);
   }
 
-  module _ (mid new : List Hub) (looks looks' : List (Option Look)) (before before' : BTreeMap ℕ (Option Look)) (ends ends' : BTreeMap ℕ End)
+  module _ (mid new : List Hub) (looks looks' : List (Option Look)) (changes changes' : List Change) (ends ends' : BTreeMap ℕ End)
       (x : ℕ) (end : End) (look : Option Look) where
-    pub finishes_more : FinishesSome mid looks before ends → get nat_cmp ends x ≡ Some end → Moves ends ends' x None
+    pub finishes_more : FinishesSome mid looks changes ends → get nat_cmp ends x ≡ Some end → Moves ends ends' x None
         → Overs mid new end parts (look_at looks x) look
         → ((k : ℕ) → look_at looks' k ≡ (if x == k then look else look_at looks k))
-        → ((k : ℕ) → was_at before' looks' k ≡ was_at before looks k)
-        → FinishesSome new looks' before' ends'
+        → ((k : ℕ) → was_at changes' looks' k ≡ was_at changes looks k)
+        → FinishesSome new looks' changes' ends'
     finishes_more h value gone o set kept = record {
       grows = grows_then h.grows o.grows;
       restored = λ k. kept k ∙ h.restored k;
@@ -83,9 +84,9 @@ module _ (old : List Hub) (parts : ℕ) (looks0 : List (Option Look)) (before0 :
         finished so_far all g k none (inr ne) =
             subst (λ (w : Option Look). Denotes new w (all k)) (sym (others k ne)) (later o.grows (made so_far all g).order (h.finished so_far all g k (sym (gone.others k ne) ∙ none)))
 
-  pub finishes_all : {new : List Hub} {looks : List (Option Look)} {before : BTreeMap ℕ (Option Look)} {ends : BTreeMap ℕ End} → ends.entries ≡ [] → FinishesSome new looks before ends
-      → Finishes old new parts looks0 looks before0 before ends0
-  finishes_all {new} {looks} {before} {ends} empty h = record {
+  pub finishes_all : {new : List Hub} {looks : List (Option Look)} {changes : List Change} {ends : BTreeMap ℕ End} → ends.entries ≡ [] → FinishesSome new looks changes ends
+      → Finishes old new parts looks0 looks changes0 changes ends0
+  finishes_all {new} {looks} {changes} {ends} empty h = record {
     grows = h.grows;
     restored = h.restored;
     denotes = λ so_far all some c d k. h.finished so_far all (record { some = some; covers = c; now = d }) k (get_empty ends empty k);

@@ -4,6 +4,7 @@ pub mod Operands
 pub mod Decided
 pub mod Shifting
 pub mod Maps
+pub mod Noted
 pub mod Parting
 pub mod Finishing
 pub mod Walking

@@ -1,10 +1,7 @@
 -- Statements walked one after another, and parts one beside another.
-use Rattle.std.proofs.Common.{◌≡◌, ℕ, suc, ◌+◌, ◌<◌, Bool, true, false, if◌then◌else◌, List, [], ◌∷◌, ◌++◌, length, get_or, take, drop, Option, None, unwrap_or, refl, sym, ap, ◌∙◌, subst, arith}
+use Rattle.std.proofs.Common.{◌≡◌, ℕ, suc, ◌+◌, ◌<◌, Bool, true, false, if◌then◌else◌, List, [], ◌∷◌, ◌++◌, length, get_or, take, drop, Option, None, refl, sym, ap, ◌∙◌, subst, arith}
 use Rattle.std.proofs.lemmas.List.{take_more, length-take-le}
-use Rattle.std.specs.Ordering.{nat_cmp}
-use Rattle.std.specs.BTreeMap.{get}
 use Rattle.rtl_model.specs.bodies.Assigns.{Target, driver, element, is_target}
-use Rattle.rtl_model.specs.bodies.Body as m
 use Rattle.rtl_model.specs.bodies.Looks.{Sight, element_kept, Looks, first_looks, replaced, put, stmt_looks, body_looks}
 use Rattle.rtl_net.specs.declared.body.Statement.{Statement}
 use Rattle.rtl_net.specs.Bodies.{statement_view, statements_of}
@@ -13,10 +10,11 @@ use Rattle.rtl_looks.specs.declared.hubs.Hub.{Hub}
 use Rattle.rtl_looks.specs.declared.env.Env.{Env}
 use Rattle.rtl_looks.specs.declared.env.Kind.{Kind}
 use Rattle.rtl_looks.specs.declared.changes.Changes.{Changes}
+use Rattle.rtl_looks.specs.declared.table.Change.{Change}
 use Rattle.rtl_looks.specs.declared.ends.Ends.{Ends}
 use Rattle.rtl_looks.specs.Denoting.{AreInOrder, Grows, Denotes, look_at}
 use Rattle.rtl_looks.specs.Evaluating.{Joins, ElementsMean, Evaluates}
-use Rattle.rtl_looks.specs.Targets.{target_of, look_of, was, Means}
+use Rattle.rtl_looks.specs.Targets.{target_of, look_of, was, was_at, Means}
 use Rattle.rtl_looks.specs.Parts.{end_of, Covers, Behind, Takes, Finishes, Taken, Finished}
 use Rattle.rtl_looks.specs.Walks.{Walked, Parted, Assigned}
 use Rattle.rtl_looks.proofs.Joining.{later, grows_none, grows_then, nothing}
@@ -147,8 +145,8 @@ assigned_walked {values = values} e a = record {
 -- ---- one part
 
 pub taken_both : {old mid new : List Hub} {env env' : Env} {changes : Changes} {ends ends' : Ends}
-    → Takes old mid ends.parts env.drivers.looks.items env'.drivers.looks.items changes.drivers ends.drivers ends'.drivers
-    → Takes mid new ends.parts env.elements.looks.items env'.elements.looks.items changes.elements ends.elements ends'.elements
+    → Takes old mid ends.parts env.drivers.looks.items env'.drivers.looks.items changes.drivers.items ends.drivers ends'.drivers
+    → Takes mid new ends.parts env.elements.looks.items env'.elements.looks.items changes.elements.items ends.elements ends'.elements
     → ends'.parts ≡ ends.parts + 1 → Taken old new env env' changes ends ends'
 taken_both {old} {mid} {new} {env} {env'} {changes} {ends} {ends'} a b is = record {
   grows = grows_then a.grows b.grows;
@@ -173,8 +171,8 @@ taken_both {old} {mid} {new} {env} {env'} {changes} {ends} {ends'} a b is = reco
     each so_far all behind f s (element k) = subst (λ (n : ℕ). Covers new (end_of ends' (element k)) n (so_far (element k)) (all (element k) ++ behind (element k))) (sym is) (s k)
 
 pub finished_both : {old mid new : List Hub} {env env' : Env} {changes changes' : Changes} {ends : Ends}
-    → Finishes old mid ends.parts env.drivers.looks.items env'.drivers.looks.items changes.drivers changes'.drivers ends.drivers
-    → Finishes mid new ends.parts env.elements.looks.items env'.elements.looks.items changes.elements changes'.elements ends.elements
+    → Finishes old mid ends.parts env.drivers.looks.items env'.drivers.looks.items changes.drivers.items changes'.drivers.items ends.drivers
+    → Finishes mid new ends.parts env.elements.looks.items env'.elements.looks.items changes.elements.items changes'.elements.items ends.elements
     → Finished old new env env' changes changes' ends
 finished_both {old} {mid} {new} {env} {env'} {changes} {changes'} {ends} a b = record {
   grows = grows_then a.grows b.grows;
@@ -195,10 +193,10 @@ finished_both {old} {mid} {new} {env} {env'} {changes} {changes'} {ends} a b = r
     each all f s (driver k) = f k
     each all f s (element k) = s k
 
-pub nothing_changed : (changes : Changes) (env : Env) → ((k : ℕ) → get nat_cmp changes.drivers k ≡ None) → ((k : ℕ) → get nat_cmp changes.elements k ≡ None)
+pub nothing_changed : (changes : Changes) (env : Env) → changes.drivers.items ≡ [] → changes.elements.items ≡ []
     → (t : Target) → was changes env t ≡ look_of env t
-nothing_changed changes env a b (driver k) = ap (λ (w : Option (Option Look)). unwrap_or w (look_of env (driver k))) (a k)
-nothing_changed changes env a b (element k) = ap (λ (w : Option (Option Look)). unwrap_or w (look_of env (element k))) (b k)
+nothing_changed changes env a b (driver k) = ap (λ (cs : List Change). was_at cs env.drivers.looks.items k) a
+nothing_changed changes env a b (element k) = ap (λ (cs : List Change). was_at cs env.elements.looks.items k) b
 
 pub parted : {run : List Sight → Looks → Looks} {round : Option Look} {old mid new : List Hub} {env env' env'' : Env} {changes changes' : Changes} {ends ends' : Ends}
     → ((t : Target) → was changes env t ≡ look_of env t) → Walked run round old mid env env' changes changes' → Taken mid new env' env'' changes' ends ends'

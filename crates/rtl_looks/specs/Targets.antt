@@ -1,8 +1,6 @@
 -- What targets look at while a body is walked: the environment has a look for each, and changes have what they looked
 -- at before the part that is walked.
-use Rattle.std.specs.Prelude.{ℕ, List, Option, unwrap_or}
-use Rattle.std.specs.Ordering.{nat_cmp}
-use Rattle.std.specs.BTreeMap.{BTreeMap, get}
+use Rattle.std.specs.Prelude.{ℕ, ◌==◌, if◌then◌else◌, List, [], ◌∷◌, Option, None, Some, unwrap_or}
 use Rattle.rtl_model.specs.bodies.Assigns.{Target, driver, element}
 use Rattle.rtl_model.specs.bodies.Looks.{Looks}
 use Rattle.rtl_looks.specs.declared.hubs.Look.{Look}
@@ -11,6 +9,7 @@ use Rattle.rtl_looks.specs.declared.env.Kind.{Kind}
 use Rattle.rtl_looks.specs.declared.env.Kind.TheVariants as k
 use Rattle.rtl_looks.specs.declared.env.Env.{Env}
 use Rattle.rtl_looks.specs.declared.changes.Changes.{Changes}
+use Rattle.rtl_looks.specs.declared.table.Change.{Change}
 use Rattle.rtl_looks.specs.Denoting.{Denotes, look_at}
 
 abbrev pub target_of : Kind → ℕ → Target
@@ -25,10 +24,15 @@ look_of env (element e) = look_at env.elements.looks.items e
 pub record Means (hubs : List Hub) (env : Env) (so_far : Looks) : Type 0 where
   pub each : (t : Target) → Denotes hubs (look_of env t) (so_far t)
 
--- what a number, or a target, looked at before its first change; one that isn't changed looks at that now
-abbrev pub was_at : BTreeMap ℕ (Option Look) → List (Option Look) → (number : ℕ) → Option Look
-was_at before looks number = unwrap_or (get nat_cmp before number) (look_at looks number)
+-- what a number looked at before its first change, if it is changed
+abbrev pub first_at : List Change → (number : ℕ) → Option (Option Look)
+first_at [] number = None
+first_at (change ∷ more) number = if change.number == number then Some change.before else first_at more number
+
+-- what a number, or a target, looked at before all changes; one that isn't changed looks at that now
+abbrev pub was_at : List Change → List (Option Look) → (number : ℕ) → Option Look
+was_at changes looks number = unwrap_or (first_at changes number) (look_at looks number)
 
 abbrev pub was : Changes → Env → Target → Option Look
-was changes env (driver place) = was_at changes.drivers env.drivers.looks.items place
-was changes env (element e) = was_at changes.elements env.elements.looks.items e
+was changes env (driver place) = was_at changes.drivers.items env.drivers.looks.items place
+was changes env (element e) = was_at changes.elements.items env.elements.looks.items e

@@ -1,29 +1,27 @@
 //! What a part of a body changes.
 
-ghost use Rattle.std.specs.Prelude.{◌≡◌, None, ℕ};
-ghost use Rattle.std.specs.BTreeMap.{get};
-ghost use Rattle.std.specs.Ordering.{nat_cmp};
+ghost use Rattle.std.specs.Prelude.{◌≡◌, []};
 
-use crate::table::Before;
+use crate::table::Change;
 use std::alloc::Global;
-use std::collections::BTreeMap;
 
-/// What targets looked at before a part of a body, of those that it assigns.
+/// The changes that a part of a body makes, in order: of what drivers look at, and elements of
+/// variables.
 #[derive(Drop)]
 pub(crate) struct Changes {
-    pub(crate) drivers: Before,
-    pub(crate) elements: Before,
+    pub(crate) drivers: Vec<Change>,
+    pub(crate) elements: Vec<Change>,
 }
 
 impl Changes {
     /// No changes.
     pub(crate) fn new(alloc: Global) -> Self
-        ensures drivers { (k : ℕ) → get nat_cmp result.drivers k ≡ None }
-        ensures elements { (k : ℕ) → get nat_cmp result.elements k ≡ None }
+        ensures drivers { result.drivers.items ≡ [] }
+        ensures elements { result.elements.items ≡ [] }
     {
         Changes {
-            drivers: BTreeMap::new(alloc),
-            elements: BTreeMap::new(alloc),
+            drivers: Vec::new(alloc),
+            elements: Vec::new(alloc),
         }
     }
 }

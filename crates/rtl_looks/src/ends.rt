@@ -3,12 +3,13 @@
 ghost use Rattle.std.specs.Prelude.{◌≡◌, ◌<◌, ◌+◌, ℕ, None, IfOk, OnOk};
 ghost use Rattle.std.specs.BTreeMap.{get};
 ghost use Rattle.std.specs.Ordering.{nat_cmp};
-ghost use Rattle.rtl_looks.specs.Parts.{Overs, Takes, Finishes, Taken, Finished, end_at};
+ghost use Rattle.rtl_looks.specs.Parts as s;
+ghost use Rattle.rtl_looks.specs.Parts.{Overs, TakesEnd, Takes, Finishes, Taken, Finished, end_at};
 
 use crate::changes::Changes;
 use crate::env::Env;
 use crate::hubs::{Hubs, Look};
-use crate::table::{Before, Table};
+use crate::table::{Change, Table};
 use std::alloc::{AllocError, Global};
 use std::collections::BTreeMap;
 
@@ -18,10 +19,19 @@ pub(crate) struct End {
     pub(crate) look: Option<Look>,
     /// How many parts these are.
     pub(crate) parts: usize,
+    /// Whether one of these parts doesn't assign it.
+    pub(crate) skipped: bool,
 }
 
 impl End {
-    /// What it looks at behind any of so many parts, the later of which don't assign it.
+    /// Whether one of so many parts doesn't assign it.
+    fn skips(self, parts: usize) -> bool
+        ensures { result ≡ s.skips self parts }
+    {
+        self.skipped || self.parts < parts
+    }
+
+    /// What it looks at behind any of so many parts, where this is what it looked at before.
     fn over(
         self,
         parts: usize,
@@ -30,7 +40,7 @@ impl End {
     ) -> Result<Option<Look>, AllocError>
         ensures { IfOk result (λ look. Overs hubs.old.hubs.items hubs.new.hubs.items self parts before look) }
     {
-        if self.parts < parts {
+        if self.skips(parts) {
             hubs.join(self.look, before)
         } else {
             Ok(self.look)
@@ -136,14 +146,40 @@ fn end_at(ends: &EndOf, number: usize) -> End
         None => End {
             look: None,
             parts: 0,
+            skipped: false,
         },
         Some(end) => *end,
     }
 }
 
-/// Takes the ends of one more part's changes, and takes these back.
+/// Takes what a number looks at behind one more part, unless it is taken.
+fn take_end(
+    ends: &mut EndOf,
+    number: usize,
+    parts: usize,
+    look: Option<Look>,
+    hubs: &mut Hubs,
+) -> Result<(), AllocError>
+    requires { parts < usize.MAX }
+    ensures { OnOk result (TakesEnd hubs.old.hubs.items hubs.new.hubs.items number parts look ends.old ends.new) }
+{
+    let end = end_at(ends, number);
+    if end.parts > parts {
+        return Ok(());
+    }
+    let look = hubs.join(end.look, look)?;
+    let end = End {
+        look,
+        parts: parts + 1,
+        skipped: end.skips(parts),
+    };
+    ends.insert(number, end)?;
+    Ok(())
+}
+
+/// Takes the ends of one more part's changes, and takes these back, from the last.
 fn take_each(
-    changes: &mut Before,
+    changes: &mut Vec<Change>,
     parts: usize,
     table: &mut Table,
     ends: &mut EndOf,
@@ -151,18 +187,12 @@ fn take_each(
 ) -> Result<(), AllocError>
     requires { parts < usize.MAX }
     ensures { OnOk result (Takes hubs.old.hubs.items hubs.new.hubs.items parts
-        table.old.looks.items table.new.looks.items changes.old ends.old ends.new) }
+        table.old.looks.items table.new.looks.items changes.old.items ends.old ends.new) }
 {
-    while let Some((number, before)) = changes.pop_first() {
-        let end = end_at(ends, number);
-        let behind = end.over(parts, before, hubs)?;
-        let look = hubs.join(behind, table.at(number))?;
-        let end = End {
-            look,
-            parts: parts + 1,
-        };
-        ends.insert(number, end)?;
-        table.set(number, before)?;
+    while let Some(change) = changes.pop() {
+        let look = table.at(change.number);
+        take_end(ends, change.number, parts, look, hubs)?;
+        table.set(change.number, change.before)?;
     }
     Ok(())
 }
@@ -173,14 +203,14 @@ fn finish_each(
     parts: usize,
     table: &mut Table,
     hubs: &mut Hubs,
-    before: &mut Before,
+    changes: &mut Vec<Change>,
 ) -> Result<(), AllocError>
     ensures { OnOk result (Finishes hubs.old.hubs.items hubs.new.hubs.items parts
-        table.old.looks.items table.new.looks.items before.old before.new ends.old) }
+        table.old.looks.items table.new.looks.items changes.old.items changes.new.items ends.old) }
 {
     while let Some((number, end)) = ends.pop_first() {
         let look = end.over(parts, table.at(number), hubs)?;
-        table.put(number, look, before)?;
+        table.put(number, look, changes)?;
     }
     Ok(())
 }

@@ -37,7 +37,7 @@ impl Env {
         }
     }
 
-    /// Makes a target look at this, and keeps what it looked at before its first change.
+    /// Makes a target look at this, which is noted as a change.
     pub(crate) fn put(
         &mut self,
         kind: Kind,

@@ -1,21 +1,26 @@
 //! What drivers, or elements of variables, look at, by their numbers.
 
-ghost use Rattle.std.specs.Prelude.{◌≡◌, ◌==◌, if◌then◌else◌, ℕ, [], map, replicate, IfOk, OnOk};
+ghost use Rattle.std.specs.Prelude.{◌≡◌, ◌==◌, if◌then◌else◌, IsTrue, IsSome, ℕ, [], map, replicate, IfOk, OnOk};
 ghost use Rattle.rtl_looks.specs.Denoting.{look_at};
-ghost use Rattle.rtl_looks.specs.Targets.{was_at};
+ghost use Rattle.rtl_looks.specs.Targets.{first_at, was_at};
 
 use crate::hubs::Look;
 use std::alloc::{AllocError, Global};
-use std::collections::BTreeMap;
 
 /// What each of some numbers looks at; one past the end looks at nothing.
 #[derive(Drop)]
 pub(crate) struct Table {
     pub(crate) looks: Vec<Option<Look>>,
+    /// Where a change of each number was noted last, in some list of changes.
+    noted: Vec<usize>,
 }
 
-/// What numbers looked at before they were changed.
-pub(crate) type Before = BTreeMap<usize, Option<Look>>;
+/// A change of what a number looks at, by what it looked at before.
+#[derive(Clone, Copy)]
+pub(crate) struct Change {
+    pub(crate) number: usize,
+    pub(crate) before: Option<Look>,
+}
 
 /// The same look so many times.
 pub(crate) fn repeated(
@@ -48,6 +53,7 @@ impl Table {
     {
         Table {
             looks: Vec::new(alloc),
+            noted: Vec::new(alloc),
         }
     }
 
@@ -81,21 +87,47 @@ impl Table {
         Ok(())
     }
 
-    /// The same, and keeps what it looked at before its first change.
+    /// Whether a change of a number stands among these where one was noted last. (It may stand
+    /// elsewhere among them.)
+    fn is_noted(&self, number: usize, changes: &[Change]) -> bool
+        ensures { IsTrue result → IsSome (first_at changes.now number) }
+    {
+        if number >= self.noted.len() {
+            return false;
+        }
+        let place = self.noted[number];
+        place < changes.len() && changes[place].number == number
+    }
+
+    /// Says at which place a change of a number is noted.
+    fn note(&mut self, number: usize, place: usize) -> Result<(), AllocError>
+        ensures { OnOk result (self.new.looks.items ≡ self.old.looks.items) }
+    {
+        while self.noted.len() <= number {
+            self.noted.push(0)?;
+        }
+        self.noted[number] = place;
+        Ok(())
+    }
+
+    /// The same, which is noted as a change, unless it is seen that one is.
     pub(crate) fn put(
         &mut self,
         number: usize,
         look: Option<Look>,
-        before: &mut Before,
+        changes: &mut Vec<Change>,
     ) -> Result<(), AllocError>
         ensures put { OnOk result ((k : ℕ) → look_at self.new.looks.items k
             ≡ (if number == k then look else look_at self.old.looks.items k)) }
-        ensures kept { OnOk result ((k : ℕ) → was_at before.new self.new.looks.items k
-            ≡ was_at before.old self.old.looks.items k) }
+        ensures kept { OnOk result ((k : ℕ) → was_at changes.new.items self.new.looks.items k
+            ≡ was_at changes.old.items self.old.looks.items k) }
     {
-        if !before.contains_key(&number) {
-            before.insert(number, self.at(number))?;
+        if self.is_noted(number, changes) {
+            return self.set(number, look);
         }
+        let before = self.at(number);
+        self.note(number, changes.len())?;
+        changes.push(Change { number, before })?;
         self.set(number, look)
     }
 }

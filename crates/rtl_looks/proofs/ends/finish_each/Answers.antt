@@ -6,7 +6,7 @@ use Rattle.rtl_looks.proofs.Finishing.{finishes_none, finishes_more, finishes_al
 use Rattle.rtl_looks.proofs.ends.finish_each.Goals as goal
 
 pub loop-number-init : goal.loop-number-init
-loop-number-init c = finishes_none c.args.hubs.now.hubs.items c.args.parts c.args.table.now.looks.items c.args.before.now c.args.ends.now
+loop-number-init c = finishes_none c.args.hubs.now.hubs.items c.args.parts c.args.table.now.looks.items c.args.changes.now.items c.args.ends.now
 
 pub loop-number-preserved : goal.loop-number-preserved
 loop-number-preserved c =

@@ -1,27 +1,11 @@
-use Rattle.std.proofs.Common.{◌≡◌, ℕ, zero, suc, ◌<◌, [], List, length, get_or, replicate, Option, Some, None, sym, ap, subst, refl, ◌∙◌, arith, rules, inr, Contains}
+use Rattle.std.proofs.Common.{◌≡◌, ℕ, zero, suc, ◌<◌, [], List, length, get_or, replicate, Option, Some, None, sym, subst, refl, arith, rules, inr, Contains}
 use Rattle.std.proofs.Math.ListN.{length-replicate}
-use Rattle.std.proofs.lemmas.List.{length_push}
 use Rattle.std.specs.Global.{Vec}
 use Rattle.rtl_check_levels.specs.declared.counting.Counting.{Counting}
+use Rattle.rtl_check_levels.specs.declared.finding.Wait.{Wait}
 use Rattle.rtl_check_levels.specs.Feeding.{Table}
-use Rattle.rtl_check_levels.specs.Finding.{IsFinding, LevelsSoFar, WaitingSoFar, waiters}
-use Rattle.rtl_check_levels.proofs.Waiting.{pushed_empty}
+use Rattle.rtl_check_levels.specs.Finding.{IsFinding, LevelsSoFar, WaitingSoFar}
 use Rattle.rtl_check_levels.proofs.finding.Finding.new.Goals as goal
-
-pub loop-row-init : goal.loop-row-init
-loop-row-init c = let e = c.new-waiting.ensures.items in record {
-  each = ap length e;
-  none = λ p. subst (λ (ws : List (Vec ℕ)). waiters ws p ≡ []) (sym e) refl;
-}
-
-pub loop-row-preserved : goal.loop-row-preserved
-loop-row-preserved c =
-    let i = c.in_ok-push.ensures.items in
-    let v = c.loop-row.invariant in
-    record {
-      each = ap length i ∙ (let e = length_push c.loop-row.waiting.items c.new.result in let f = v.each in omega arith);
-      none = λ p. subst (λ (ws : List (Vec ℕ)). waiters ws p ≡ []) (sym i) (pushed_empty c.loop-row.waiting.items c.new.result v.none c.new.ensures.items p);
-    }
 
 apart : {o : Option ℕ} {a : ℕ} → o ≡ None → o ≡ Some a → ⊥
 apart a b = cc
@@ -48,13 +32,14 @@ no_levels counting table = record {
   small = λ q level e. absurd (apart (all_none {X = ℕ} (length table) q) e);
 }
 
-none_wait : (table : Table) (waiting : List (Vec ℕ)) → length waiting ≡ length table → ((p : ℕ) → waiters waiting p ≡ [])
-    → WaitingSoFar table (replicate {A = Option ℕ} (length table) None) waiting [] (replicate {A = ℕ} (length table) 0)
-none_wait table waiting e none = record {
-  each_waiting = e;
+none_wait : (table : Table) → WaitingSoFar table (replicate {A = Option ℕ} (length table) None) [] (replicate {A = ℕ} (length table) 0) [] (replicate {A = ℕ} (length table) 0)
+none_wait table = record {
+  each_last = length-replicate {A = ℕ} (length table) 0;
   each_passed = length-replicate {A = ℕ} (length table) 0;
-  idle = λ p s. inr (none p);
-  those = λ p q c. absurd (nothing q (subst (λ (ys : List ℕ). Contains ys q) (none p) c));
+  idle = λ p s. inr (all_zero (length table) p);
+  last_there = λ p. rw (all_zero (length table) p) (omega arith);
+  rows_there = λ i l. absurd (omega arith);
+  in_order = λ i l. absurd (omega arith);
   ready_there = λ p c. absurd (nothing p c);
   passed_most = λ q. rw (all_zero (length table) q) (omega arith);
   passed_have = λ q k l. absurd (let m : k < 0 = subst (λ (n : ℕ). k < n) (all_zero (length table) q) l in omega arith);
@@ -63,21 +48,17 @@ none_wait table waiting e none = record {
     nothing : (x : ℕ) → Contains [] x → ⊥
     nothing x c = let l : c.0 < 0 = c.1 in omega arith
 
-made : (counting : Counting) (table : Table) (levels : Vec (Option ℕ)) (from : Vec (Option ℕ)) (waiting : Vec (Vec ℕ)) (passed ready : Vec ℕ)
+made : (counting : Counting) (table : Table) (levels from : Vec (Option ℕ)) (waits : Vec Wait) (last passed ready : Vec ℕ)
     → levels.items ≡ replicate {A = Option ℕ} (length table) None → from.items ≡ replicate {A = Option ℕ} (length table) None
-    → length waiting.items ≡ length table → ((p : ℕ) → waiters waiting.items p ≡ []) → passed.items ≡ replicate {A = ℕ} (length table) 0 → ready.items ≡ []
-    → IsFinding counting table (record { levels = levels; from = from; greatest = 0; waiting = waiting; passed = passed; ready = ready })
-made counting table levels from waiting passed ready a b n none d e = record {
+    → waits.items ≡ [] → last.items ≡ replicate {A = ℕ} (length table) 0 → passed.items ≡ replicate {A = ℕ} (length table) 0 → ready.items ≡ []
+    → IsFinding counting table (record { levels = levels; from = from; greatest = 0; waits = waits; last = last; passed = passed; ready = ready })
+made counting table levels from waits last passed ready a b n z d e = record {
   levels = subst (λ (xs : List (Option ℕ)). LevelsSoFar counting table xs from.items 0) (sym a) (subst (λ (ys : List (Option ℕ)). LevelsSoFar counting table (replicate {A = Option ℕ} (length table) None) ys 0) (sym b) (no_levels counting table));
-  waiting = rw (a, d, e) (none_wait table waiting.items n none);
+  waiting = rw (a, n, z, d, e) (none_wait table);
 }
 
-pub returns : goal.returns
-returns c counting =
-    let table = c.args.table.now in
-    let v = c.loop-row.invariant in
-    let n : length c.loop-row.waiting.items ≡ length table = (let e = v.each in let f = c.loop-row-test.false in let g = c.loop-row.auto._row-index-end in omega arith) in
-    let levels = c.in_ok-vec.ensures.items_if_clones_equal (search rules) in
-    let from = c.in_ok-vec-2.ensures.items_if_clones_equal (search rules) in
-    let passed = c.in_ok-vec-3.ensures.items_if_clones_equal (λ y e. e) in
-    made counting table c.in_ok-vec.field-0 c.in_ok-vec-2.field-0 c.loop-row.waiting c.in_ok-vec-3.field-0 c.new-2.result levels from n v.none passed c.new-2.ensures.items
+pub returns-clause-sound : goal.returns-clause-sound
+returns-clause-sound c counting =
+    made counting c.args.table.now c.in_ok-vec.field-0 c.in_ok-vec-2.field-0 c.new.result c.in_ok-vec-3.field-0 c.in_ok-vec-4.field-0 c.new-2.result
+    (c.in_ok-vec.ensures.items_if_clones_equal (search rules)) (c.in_ok-vec-2.ensures.items_if_clones_equal (search rules))
+    c.new.ensures.items (c.in_ok-vec-3.ensures.items_if_clones_equal (λ y e. e)) (c.in_ok-vec-4.ensures.items_if_clones_equal (λ y e. e)) c.new-2.ensures.items

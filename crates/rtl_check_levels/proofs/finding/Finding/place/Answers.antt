@@ -3,7 +3,7 @@ use Rattle.std.specs.Prelude.{IsSome}
 use Rattle.std.proofs.lemmas.List.{get_or_read}
 use Rattle.rtl_check_levels.specs.Feeding.{feeders_of}
 use Rattle.rtl_check_levels.specs.Levels.{level_of}
-use Rattle.rtl_check_levels.proofs.Placing.{there, feeders_are, later_sound, later_waits, waits_now}
+use Rattle.rtl_check_levels.proofs.Placing.{there, feeders_are, feeder, feeder_in, feeder_there, passed_sound, waits_sound, waits_grows, waits_now}
 use Rattle.rtl_check_levels.proofs.finding.Finding.place.Goals as goal
 
 pub first_open-at-requires-clause-there : goal.first_open-at-requires-clause-there
@@ -17,17 +17,13 @@ first_open-at-requires-clause-there c k d l =
     let o = ap length c.deref-2.ensures.value in
     omega arith
 
-pub index_mut-requires-2 : goal.index_mut-requires-2
-index_mut-requires-2 c =
+pub wait-requires : goal.wait-requires
+wait-requires c =
     let table = c.args.table.now in
     let q = c.args.q in
     let f = feeders_are table q c.index-table-q.result c.in-Some.feeders c.requires.there c.index-table-q.is c.in-Some.is in
     let within : c.first_open-at.result < length c.in-Some.feeders.items = omega (arith, c.first_open-at.ensures.within, c.if-at-len.false, c.len.ensures, c.deref.ensures.len, c.in-Some.feeders.ok) in
-    let m = subst (λ (xs : List ℕ). All (λ p. p < length table) xs) f (there table q c.requires.closed) c.first_open-at.result c.index-3.result.now within in
-    let n = c.requires.sound.waiting.each_waiting in
-    let o = c.args.self.now.waiting.ok in
-    let i = c.index-3.ensures in
-    omega arith
+    feeder_in table c.args.self.now q c.first_open-at.result c.index-3.result.now c.in-Some.feeders.items c.requires.closed f within c.index-3.ensures c.requires.sound.waiting.each_last
 
 pub returns-clause-sound : goal.returns-clause-sound
 returns-clause-sound c =
@@ -52,28 +48,32 @@ returns-clause-sound c =
     let has : (k : ℕ) → get_or s.passed.items q 0 ≤ k → k < at → IsSome (level_of s.levels.items (get_or fs k 0))
     = (λ k l m. subst (λ (xs : List ℕ). IsSome (level_of s.levels.items (get_or xs k 0))) v
     (subst (λ (ls : List (Option ℕ)). IsSome (level_of ls (get_or c.deref.result.now k 0))) w (c.first_open-at.ensures.passed k (subst (λ (n : ℕ). n ≤ k) old l) m))) in
-    record {
+    waits_sound q p _ c.wait.new.self c.in_ok-wait.ensures c.args.counting table (record {
       levels = c.requires.sound.levels;
-      waiting = later_sound table s q at p fs c.push.new.self c.index_mut-2.result.now c.requires.sound.waiting c.requires.closed c.requires.there f within c.index-3.ensures
-          c.index_mut-2.ensures.value c.in_ok-push.ensures.items (subst (λ (x : ℕ). level_of s.levels.items x ≡ None) is_p open_at) has;
-    }
+      waiting = passed_sound table s q at p fs c.requires.closed f within c.index-3.ensures c.requires.sound.waiting there_q has;
+    }) (feeder_there table s q at p fs c.requires.closed f within c.index-3.ensures) there_q
+    (subst (λ (x : ℕ). level_of s.levels.items x ≡ None) is_p open_at)
 
 pub returns-clause-grows : goal.returns-clause-grows
 returns-clause-grows c =
     let table = c.args.table.now in
-    let f = feeders_are table c.args.q c.index-table-q.result c.in-Some.feeders c.requires.there c.index-table-q.is c.in-Some.is in
+    let s = c.args.self.now in
+    let q = c.args.q in
+    let p = c.index-3.result.now in
+    let f = feeders_are table q c.index-table-q.result c.in-Some.feeders c.requires.there c.index-table-q.is c.in-Some.is in
     let within : c.first_open-at.result < length c.in-Some.feeders.items = omega (arith, c.first_open-at.ensures.within, c.if-at-len.false, c.len.ensures, c.deref.ensures.len, c.in-Some.feeders.ok) in
-    record {
-      levels = λ p level h. h;
-      waits = later_waits table c.args.self.now c.args.q c.first_open-at.result c.index-3.result.now c.in-Some.feeders.items c.push.new.self c.index_mut-2.result.now c.requires.sound.waiting
-          c.requires.closed c.requires.there f within c.index-3.ensures c.index_mut-2.ensures.value c.in_ok-push.ensures.items;
-      less = omega arith;
-    }
+    let l = feeder_in table s q c.first_open-at.result p c.in-Some.feeders.items c.requires.closed f within c.index-3.ensures c.requires.sound.waiting.each_last in
+    let g = waits_grows q p _ c.wait.new.self c.in_ok-wait.ensures l in
+    record { levels = g.levels; longer = g.longer; among = g.among; waits = g.waits; less = g.less }
 
 pub returns-clause-placed : goal.returns-clause-placed
 returns-clause-placed c =
     let table = c.args.table.now in
-    let f = feeders_are table c.args.q c.index-table-q.result c.in-Some.feeders c.requires.there c.index-table-q.is c.in-Some.is in
+    let s = c.args.self.now in
+    let q = c.args.q in
+    let p = c.index-3.result.now in
+    let fs = c.in-Some.feeders.items in
+    let f = feeders_are table q c.index-table-q.result c.in-Some.feeders c.requires.there c.index-table-q.is c.in-Some.is in
     let within : c.first_open-at.result < length c.in-Some.feeders.items = omega (arith, c.first_open-at.ensures.within, c.if-at-len.false, c.len.ensures, c.deref.ensures.len, c.in-Some.feeders.ok) in
-    λ _ _. waits_now table c.args.self.now c.args.q c.first_open-at.result c.index-3.result.now c.in-Some.feeders.items c.push.new.self c.index_mut-2.result.now c.requires.sound.waiting
-    c.requires.closed c.requires.there f within c.index-3.ensures c.index_mut-2.ensures.value c.in_ok-push.ensures.items
+    let l = feeder_in table s q c.first_open-at.result p fs c.requires.closed f within c.index-3.ensures c.requires.sound.waiting.each_last in
+    λ _ _. (p, waits_now q p _ c.wait.new.self c.in_ok-wait.ensures l, feeder table s q c.first_open-at.result p fs c.requires.closed f within c.index-3.ensures)

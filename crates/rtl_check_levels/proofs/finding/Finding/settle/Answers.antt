@@ -1,4 +1,4 @@
-use Rattle.std.proofs.Common.{◌≡◌, ℕ, ◌+◌, ◌<◌, List, length, set, Option, Some, sym, ap, subst, ◌∙◌, arith}
+use Rattle.std.proofs.Common.{◌≡◌, ℕ, ◌+◌, ◌<◌, List, length, set, Option, Some, sym, subst, arith}
 use Rattle.rtl_check_levels.specs.declared.counting.Counting.{Counting}
 use Rattle.rtl_check_levels.specs.Feeding.{feeders_of, counts_in}
 use Rattle.rtl_check_levels.specs.Levels.{IsHighest, IsSeen, level_of}
@@ -44,7 +44,7 @@ returns-clause-sound c =
     record {
       levels = (let n = settled_levels counting table levels from c.args.self.now.greatest q below.level more below.row s.levels c.requires.inside c.requires.unsettled c.as_level.ensures h in
           subst (λ (g : ℕ). LevelsSoFar counting table later (set from q below.row) g) (sym m) n);
-      waiting = subst (λ (r : List ℕ). WaitingSoFar table later c.args.self.now.waiting.items r c.args.self.now.passed.items) (sym items)
-          (waiting_settled table levels c.args.self.now.waiting.items c.args.self.now.ready.items c.args.self.now.passed.items s.waiting later q l
+      waiting = subst (λ (r : List ℕ). WaitingSoFar table later c.args.self.now.waits.items c.args.self.now.last.items r c.args.self.now.passed.items) (sym items)
+          (waiting_settled table levels c.args.self.now.waits.items c.args.self.now.last.items c.args.self.now.ready.items c.args.self.now.passed.items s.waiting later q l
           (λ p ne. level_other levels q (below.level + more) within p ne) (levels_grow levels q (below.level + more) within c.requires.unsettled));
     }
