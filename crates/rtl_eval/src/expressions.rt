@@ -14,7 +14,7 @@ use vhdl_values::Vec9;
 
 /// The value of an expression.
 #[cycle(expression)]
-pub(crate) fn value(expr: &Expr, seen: SeenValues<'_>) -> Vec9
+pub fn value(expr: &Expr, seen: SeenValues<'_>) -> Vec9
     requires { Within (seen_of seen) (λ scope. FitsExpr scope (expr_view expr.now)) }
     ensures { result ≡ elements_of (seen_of seen.entry) (expr_view expr.now) }
 {

@@ -21,7 +21,7 @@ pub use assigning::{assign, assign_codes, assign_combined, assign_made, set};
 pub use combining::are_digits;
 pub use evaluated::{Evaluated, are_same, is_chosen};
 pub use exec::Exec;
-pub use expressions::{gathered, operate};
+pub use expressions::{gathered, operate, value};
 pub use seen::{SeenValues, Valuations, seeing};
 pub use tests::{is_edge, logical, nine};
 pub use tree::{Tree, trees};

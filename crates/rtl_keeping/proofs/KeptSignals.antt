@@ -125,7 +125,7 @@ has_of p number (v ∷ vs) net n l m =
 -- ---- of all processes
 
 own_alike : (p : Process) → NamedAlike p p
-own_alike p = record { wakes = refl; variables = refl; scope = refl; generates = refl; label = refl; at = refl }
+own_alike p = record { wakes = refl; variables = refl; scope = refl; generates = refl; label = refl; at = refl; bytes = refl }
 
 marked_signals : (p : Process) (number net : ℕ) → signals_of p number net (marked (marks_of p) p.variables.items) ≡ variables_kept p number 0 net p.variables.items
 marked_signals p number net = signals_marked p p (own_alike p) number p.variables.items 0 net

@@ -5,5 +5,7 @@ pub mod Marking
 pub mod Ranks
 pub mod Listing
 pub mod Putting
+pub mod Knowing
+pub mod Evaluating
 pub mod Reading
 pub mod Whole

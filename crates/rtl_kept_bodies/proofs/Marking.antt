@@ -1,28 +1,29 @@
 -- Marks of elements, some more at a time.
-use Rattle.std.proofs.Common.{◌≡◌, ℕ, zero, suc, ◌+◌, ◌<◌, ◌≤◌, ◌==◌, Bool, true, false, ◌&&◌, ◌||◌, List, [], ◌∷◌, ◌++◌, length, get_or, take, map, refl, sym, ap, ◌∙◌, subst, arith}
+use Rattle.std.proofs.Common.{◌≡◌, ℕ, ◌+◌, ◌<◌, ◌==◌, Bool, true, false, ◌&&◌, ◌||◌, List, [], ◌∷◌, length, get_or, take, map, refl, sym, ap, ◌∙◌, arith, Vec, Some, None, Global}
+use Rattle.std.specs.Prelude.{is_some}
 use Rattle.std.specs.List.{list_any, range_with_len}
 use Rattle.std.proofs.lemmas.Bool.{and_parts}
-use Rattle.std.proofs.lemmas.List.{get_or_default, take_more, take_all}
+use Rattle.std.proofs.lemmas.List.{get_or_default}
 use Rattle.std.proofs.lemmas.List.FromFn.{get_or-map-range_with_len, length-map-range_with_len}
-use Rattle.rtl_model.specs.bodies.Assigns.{driver, is_element, stmt_must_assign, must_assign}
-use Rattle.rtl_model.specs.bodies.Body.{Stmts, done}
+use Rattle.rtl_model.specs.bodies.Assigns.{is_element, must_assign}
+use Rattle.rtl_model.specs.bodies.Body as bodies
+use Rattle.rtl_model.specs.bodies.Body.{null_of, assign, set as set_of, if_of, case_of, Stmts, done, step}
+use Rattle.rtl_model.specs.bodies.Kinds.{clocking}
 use Rattle.rtl_model.specs.bodies.Stored.{stores_element}
+use Rattle.rtl_net.specs.declared.body.Alternative.{Alternative}
+use Rattle.rtl_net.specs.declared.body.Branch.{Branch}
 use Rattle.rtl_net.specs.declared.body.Statement.{Statement}
 use Rattle.rtl_net.specs.declared.body.Statement.TheVariants as vs
 use Rattle.rtl_net.specs.declared.body.Value.{Value}
-use Rattle.rtl_net.specs.declared.indices.Indices.{Indices}
-use Rattle.rtl_net.specs.Indices.{numbers}
-use Rattle.rtl_net.specs.Bodies.{statement_view, statements_of}
+use Rattle.rtl_net.specs.Bodies.{statement_view, statements_of, branches_of, alternatives_of}
+use Rattle.rtl_net.proofs.Rows.{view_if, view_case}
 use Rattle.rtl_body_facts.proofs.Anys.{or_assoc, or_none}
 use Rattle.rtl_body_facts.proofs.EveryPath.{any_append, any_more}
+use Rattle.rtl_variable_registers.specs.Bodies.{is_register, without_reset, keeps_element, reset_branch}
+use Rattle.rtl_variable_registers.specs.Known as known
+use Rattle.rtl_variable_registers.proofs.Straight.{gives_straight, straight_sets}
 use Rattle.rtl_kept_bodies.proofs.Ranks.{range_more}
-use Rattle.std.specs.Prelude.{is_some}
-use Rattle.rtl_model.specs.basics.Lists.{is_empty}
-use Rattle.rtl_model.specs.bodies.Kinds.{clocking}
-use Rattle.rtl_model.specs.bodies.Leaves.{leaves}
-use Rattle.rtl_variable_registers.specs.Bodies.{is_register, gives_constants, with_branches, keeps_element, reset_branch}
-use Rattle.rtl_kept_bodies.proofs.Sequences.{constants_are}
-use Rattle.rtl_kept_bodies.specs.Steps.{Marked, Marks, is_plain, are_plain}
+use Rattle.rtl_kept_bodies.specs.Steps.{Marked, Marks, branch_sets, alternative_sets}
 
 pub marked_none : (ms : List Bool) → Marked (λ e. false) ms ms
 marked_none ms = record { same_length = refl; each = λ e. or_none (get_or ms e true) }
@@ -57,68 +58,63 @@ listed_more xs i a b c l m n =
     at : (i : ℕ) (xs : List ℕ) → i < length xs → get_or xs i 0 ≡ get_or xs i (get_or xs i 0)
     at i xs l = get_or_default xs i 0 (get_or xs i 0) l
 
--- ---- marks of assignments
+-- ---- marks of what is set
 
-must_append : (f : ℕ) (xs ys : List Statement) → must_assign (is_element f) (statements_of (xs ++ ys))
-    ≡ (must_assign (is_element f) (statements_of xs) || must_assign (is_element f) (statements_of ys))
-must_append f [] ys = refl
-must_append f (x ∷ xs) ys =
-    ap (λ (b : Bool). stmt_must_assign (is_element f) (statement_view x) || b) (must_append f xs ys)
-    ∙ sym (or_assoc (stmt_must_assign (is_element f) (statement_view x)) (must_assign (is_element f) (statements_of xs)) (must_assign (is_element f) (statements_of ys)))
+module _ (e : ℕ) where
+  sets_any : (xs : List Statement) → known.sets_element e (statements_of xs) ≡ list_any (λ (x : Statement). known.stmt_sets e (statement_view x)) xs
+  sets_any [] = refl
+  sets_any (x ∷ xs) = ap (λ (b : Bool). known.stmt_sets e (statement_view x) || b) (sets_any xs)
 
-pub set_more : (xs : List Statement) (i : ℕ) (x : Statement) (a b c : List Bool) → i < length xs → x ≡ get_or xs i x
-    → Marked (λ e. must_assign (is_element e) (statements_of (take i xs))) a b
-    → Marked (λ e. stmt_must_assign (is_element e) (statement_view x)) b c
-    → Marked (λ e. must_assign (is_element e) (statements_of (take (i + 1) xs))) a c
-set_more xs i x a b c l at m n = marked_as _ _ a c same (marked_both _ _ a b c m n)
-  where
-    same : (e : ℕ) → (must_assign (is_element e) (statements_of (take i xs)) || stmt_must_assign (is_element e) (statement_view x))
-        ≡ must_assign (is_element e) (statements_of (take (i + 1) xs))
-    same e =
-        ap (λ (z : Bool). must_assign (is_element e) (statements_of (take i xs)) || z) (or_none (stmt_must_assign (is_element e) (statement_view x)))
-        ∙ sym (ap (λ (ys : List Statement). must_assign (is_element e) (statements_of ys)) (take_more xs i x l ∙ ap (λ (y : Statement). take i xs ++ y ∷ []) (sym at))
-        ∙ must_append e (take i xs) (x ∷ []))
+  pub sets_more : (xs : List Statement) (i : ℕ) (x : Statement) → i < length xs → x ≡ get_or xs i x
+      → (known.sets_element e (statements_of (take i xs)) || known.stmt_sets e (statement_view x)) ≡ known.sets_element e (statements_of (take (i + 1) xs))
+  sets_more xs i x l at =
+      ap (λ (b : Bool). b || known.stmt_sets e (statement_view x)) (sets_any (take i xs))
+      ∙ sym (sets_any (take (i + 1) xs) ∙ any_more (λ (y : Statement). known.stmt_sets e (statement_view y)) xs i x l at)
 
-pub set_all : (xs : List Statement) (i : ℕ) (a b : List Bool) → length xs ≤ i → Marked (λ e. must_assign (is_element e) (statements_of (take i xs))) a b
-    → Marked (λ e. must_assign (is_element e) (statements_of xs)) a b
-set_all xs i a b l m = subst (λ (ys : List Statement). Marked (λ e. must_assign (is_element e) (statements_of ys)) a b) (take_all i xs l) m
+  branches_any : (last : bodies.Branches) (bs : List Branch) → known.branches_set e (branches_of last bs) ≡ (list_any (branch_sets e) bs || known.branches_set e last)
+  branches_any last [] = refl
+  branches_any last (b ∷ bs) = ap (λ (c : Bool). branch_sets e b || c) (branches_any last bs) ∙ sym (or_assoc (branch_sets e b) (list_any (branch_sets e) bs) (known.branches_set e last))
 
-pub plain_here : (xs : List Statement) (i : ℕ) (x : Statement) → are_plain (statements_of xs) ≡ true → i < length xs → x ≡ get_or xs i x
-    → is_plain (statement_view x) ≡ true
-plain_here [] i x h l at = absurd (omega arith)
-plain_here (y ∷ ys) zero x h l at = ap (λ (z : Statement). is_plain (statement_view z)) at ∙ (and_parts (is_plain (statement_view y)) (are_plain (statements_of ys)) h).0
-plain_here (y ∷ ys) (suc i) x h l at = plain_here ys i x (and_parts (is_plain (statement_view y)) (are_plain (statements_of ys)) h).1 (omega arith) at
+  alternatives_any : (last : Stmts) (bs : List Alternative) → known.alternatives_set e (alternatives_of last bs) ≡ (list_any (alternative_sets e) bs || known.sets_element e last)
+  alternatives_any last [] = refl
+  alternatives_any last (b ∷ bs) =
+      ap (λ (c : Bool). alternative_sets e b || c) (alternatives_any last bs) ∙ sym (or_assoc (alternative_sets e b) (list_any (alternative_sets e) bs) (known.sets_element e last))
+
+  pub if_sets : (x : Statement) (at : ℕ) (branches : Vec Branch Global) (v : Vec Statement Global) → x ≡ vs.If at branches (Some v)
+      → (list_any (branch_sets e) branches.items || known.sets_element e (statements_of v.items)) ≡ known.stmt_sets e (statement_view x)
+  if_sets x at branches v is =
+      sym (ap (λ (y : Statement). known.stmt_sets e (statement_view y)) is
+      ∙ (ap (known.stmt_sets e) (view_if at branches (Some v)) ∙ branches_any (bodies.otherwise (statements_of v.items)) branches.items))
+
+  pub if_alone_sets : (x : Statement) (at : ℕ) (branches : Vec Branch Global) → x ≡ vs.If at branches None → list_any (branch_sets e) branches.items ≡ known.stmt_sets e (statement_view x)
+  if_alone_sets x at branches is =
+      sym (ap (λ (y : Statement). known.stmt_sets e (statement_view y)) is
+      ∙ (ap (known.stmt_sets e) (view_if at branches None) ∙ (branches_any bodies.no_else branches.items ∙ sym (or_none (list_any (branch_sets e) branches.items)))))
+
+  pub case_sets : (x : Statement) (at : ℕ) (selector : Value) (alternatives : Vec Alternative Global) (others : Vec Statement Global) → x ≡ vs.Case at selector alternatives others
+      → (list_any (alternative_sets e) alternatives.items || known.sets_element e (statements_of others.items)) ≡ known.stmt_sets e (statement_view x)
+  case_sets x at selector alternatives others is =
+      sym (ap (λ (y : Statement). known.stmt_sets e (statement_view y)) is
+      ∙ (ap (known.stmt_sets e) (view_case at selector alternatives others) ∙ alternatives_any (statements_of others.items) alternatives.items))
 
 -- ---- the elements that are kept
 
+pub register_gives : (body : Stmts) → is_register body ≡ true → known.gives_constants (known.never_set body) (reset_branch body) ≡ true
+register_gives body reg =
+    (and_parts (is_some (clocking true [] (without_reset body))) (known.gives_constants (known.never_set body) (reset_branch body)) reg).1
+
+-- what a register's reset sets is set on every path
+pub reset_sets : (body : Stmts) → is_register body ≡ true → (e : ℕ) → known.sets_element e (reset_branch body) ≡ must_assign (is_element e) (reset_branch body)
+reset_sets body reg e =
+    straight_sets (reset_branch body) e (gives_straight (known.never_set body) (reset_branch body) (register_gives body reg))
+
 pub kept_marks : (body : Stmts) (many : ℕ) (stored marks : List Bool) → is_register body ≡ true
-    → stored ≡ map (λ e. stores_element e body) (range_with_len 0 many)
+    → stored ≡ map (λ e. stores_element e (without_reset body)) (range_with_len 0 many)
     → Marked (λ e. must_assign (is_element e) (reset_branch body)) stored marks → Marks many (keeps_element body) marks
 kept_marks body many stored marks reg is m = record {
-  length_is = m.same_length ∙ (ap length is ∙ length-map-range_with_len (λ e. stores_element e body) 0 many);
+  length_is = m.same_length ∙ (ap length is ∙ length-map-range_with_len (λ e. stores_element e (without_reset body)) 0 many);
   each = λ e l. m.each e
       ∙ ap (λ (x : Bool). x || must_assign (is_element e) (reset_branch body))
-      (ap (λ (xs : List Bool). get_or xs e true) is ∙ get_or-map-range_with_len (λ d. stores_element d body) 0 many e e true l (let z : 0 + e ≡ e = omega arith in z))
-      ∙ ap (λ (x : Bool). x && (stores_element e body || must_assign (is_element e) (reset_branch body))) (sym reg);
+      (ap (λ (xs : List Bool). get_or xs e true) is ∙ get_or-map-range_with_len (λ d. stores_element d (without_reset body)) 0 many e e true l (let z : 0 + e ≡ e = omega arith in z))
+      ∙ ap (λ (x : Bool). x && (stores_element e (without_reset body) || must_assign (is_element e) (reset_branch body))) (sym reg);
 }
-
-pub register_plain : (b r : Stmts) → is_register b ≡ true → r ≡ reset_branch b → are_plain r ≡ true
-register_plain b r reg is =
-    ap are_plain is
-    ∙ (and_parts (are_plain (reset_branch b)) (is_empty (leaves (reset_branch b)))
-    (sym (constants_are (reset_branch b)) ∙ (and_parts (is_some (clocking true [] (with_branches (λ a. done) (λ s. s) b))) (gives_constants (reset_branch b)) reg).1)).0
-
-quiet : (s : Statement) → is_plain (statement_view s) ≡ true → ((es : Indices) (v : Value) → s ≡ vs.Set es v → ⊥) → (e : ℕ) → false ≡ stmt_must_assign (is_element e) (statement_view s)
-quiet vs.Null h n e = refl
-quiet (vs.Assign places v) h n e = none (numbers places)
-  where
-    none : (ps : List ℕ) → false ≡ list_any (λ place. is_element e (driver place)) ps
-    none [] = refl
-    none (q ∷ qs) = none qs
-quiet (vs.Set es v) h n e = absurd (n es v refl)
-quiet (vs.If' at shape branches otherwise) h n e = absurd cc
-quiet (vs.Case' at selector shape alternatives shape_of_others others) h n e = absurd cc
-
-pub sets_none : (s : Statement) (ms : List Bool) → is_plain (statement_view s) ≡ true → ((es : Indices) (v : Value) → s ≡ vs.Set es v → ⊥)
-    → Marked (λ e. stmt_must_assign (is_element e) (statement_view s)) ms ms
-sets_none s ms h n = marked_as (λ e. false) _ ms ms (quiet s h n) (marked_none ms)

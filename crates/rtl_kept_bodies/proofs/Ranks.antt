@@ -144,7 +144,7 @@ held_is : (t : ElementType) (net len : ℕ) → ((literals : ℕ) → t ≡ enum
 held_is nine_valued net len one = refl
 held_is (enumeration literals) net len one = sym (ap (λ m. position_of (slice_index (range_with_len net m) 0)) (one literals refl))
 
-had_is : (t : ElementType) (element len : ℕ) → ((literals : ℕ) → t ≡ enumeration literals → len ≡ 1) → had_by t element len ≡ spec.of_elements t (range_with_len element len)
+had_is : (t : ElementType) (element len : ℕ) → ((literals : ℕ) → t ≡ enumeration literals → len ≡ 1) → had_by t element len ≡ spec.variable_value t (range_with_len element len)
 had_is nine_valued element len one = refl
 had_is (enumeration literals) element len one = sym (ap (λ m. position_in (slice_index (range_with_len element m) 0)) (one literals refl))
 
@@ -192,8 +192,8 @@ module _ (first base : ℕ) where
       let behind = remembers (pre ++ es) (k.element + k.len) (net + k.len) (place + k.len) ks (skips_more lo k.element k.len pre l skips)
       (longer pre k first net hn) (longer pre k base place hp) rest (λ i d m. one (suc i) d (omega arith)) in
       ap (λ v. step (assign (range_with_len k.place k.len) v) (remember_all ks)) (had_is (element_type k.kind) k.element k.len (one 0 k (omega arith)))
-      ∙ ap (λ ns. step (assign ns (spec.of_elements (element_type k.kind) es)) (remember_all ks)) (sym here)
-      ∙ ap (step (assign (map (place_in (pre ++ (es ++ elements_of ks))) es) (spec.of_elements (element_type k.kind) es))) (behind ∙ ap (λ zs. spec.remembered (net_in zs) (place_in zs) (map kept_view ks)) (append_assoc pre es (elements_of ks)))
+      ∙ ap (λ ns. step (assign ns (spec.variable_value (element_type k.kind) es)) (remember_all ks)) (sym here)
+      ∙ ap (step (assign (map (place_in (pre ++ (es ++ elements_of ks))) es) (spec.variable_value (element_type k.kind) es))) (behind ∙ ap (λ zs. spec.remembered (net_in zs) (place_in zs) (map kept_view ks)) (append_assoc pre es (elements_of ks)))
 
 -- ---- drivers
 

@@ -114,31 +114,35 @@ module _ (n : ℕ) where
       ∙ ap (λ b. b || is_in n ((test_reads r ++ (as' ++ [])) ++ [])) (ap (λ ns. is_in n (test_reads t ++ ns)) (append-nil xs) ∙ in_append n (test_reads t) xs)
       ∙ ap (λ b. (is_in n (test_reads t) || is_in n xs) || b) (alone_parts r as')
 
-  module _ (f g : Stmts → Stmts) (nets : List ℕ) (same : (s : Stmts) → reads (f s) ≡ reads s) (besides : (s : Stmts) → reads (g s) ≡ nets ++ reads s) where
+  module _ (f g : Stmts → Stmts) (nets : List ℕ) (besides : (s : Stmts) → reads (g s) ≡ nets ++ reads s) where
+    -- the reset's branch reads the same
+    abbrev ReadsSame : Stmts → Type 0
+    ReadsSame a = reads (f a) ≡ reads a
+
     edge_parts : (s : Stmts) → is_in n (reads (g s)) ≡ (is_in n nets || is_in n (reads s))
     edge_parts s = ap (is_in n) (besides s) ∙ in_append n nets (reads s)
 
-    of_shape : (b : Stmts) (k : Form) → Shape b k → (k ≡ Other → ⊥) → is_in n (reads (spec.with_branches f g b)) ≡ (is_in n (reads b) || is_in n nets)
-    of_shape b Alone (alone t s is) some =
+    of_shape : (b : Stmts) (k : Form) → ReadsSame (spec.reset_branch b) → Shape b k → (k ≡ Other → ⊥) → is_in n (reads (spec.with_branches f g b)) ≡ (is_in n (reads b) || is_in n nets)
+    of_shape b Alone same (alone t s is) some =
         ap (λ x. is_in n (reads (spec.with_branches f g x))) is ∙ alone_parts t (reads (g s)) ∙ ap (λ c. is_in n (test_reads t) || c) (edge_parts s)
         ∙ or_two (is_in n (test_reads t)) (is_in n (reads s)) (is_in n nets)
         ∙ sym (ap (λ x. is_in n (reads x) || is_in n nets) is ∙ ap (λ c. c || is_in n nets) (alone_parts t (reads s)))
-    of_shape b ResetFirst (reset_first r a t s is) some =
+    of_shape b ResetFirst same (reset_first r a t s is) some =
         ap (λ x. is_in n (reads (spec.with_branches f g x))) is ∙ first_parts r (reads (f a)) t (reads (g s))
-        ∙ ap (λ ns. is_in n (test_reads r) || (is_in n ns || (is_in n (test_reads t) || is_in n (reads (g s))))) (same a)
+        ∙ ap (λ ns. is_in n (test_reads r) || (is_in n ns || (is_in n (test_reads t) || is_in n (reads (g s))))) (subst ReadsSame (ap spec.reset_branch is) same)
         ∙ ap (λ c. is_in n (test_reads r) || (is_in n (reads a) || (is_in n (test_reads t) || c))) (edge_parts s)
         ∙ or_four (is_in n (test_reads r)) (is_in n (reads a)) (is_in n (test_reads t)) (is_in n (reads s)) (is_in n nets)
         ∙ sym (ap (λ x. is_in n (reads x) || is_in n nets) is ∙ ap (λ c. c || is_in n nets) (first_parts r (reads a) t (reads s)))
-    of_shape b ResetBehind (reset_behind t s r a is) some =
+    of_shape b ResetBehind same (reset_behind t s r a is) some =
         ap (λ x. is_in n (reads (spec.with_branches f g x))) is ∙ behind_parts t (reads (g s)) r (reads (f a))
-        ∙ ap (λ ns. (is_in n (test_reads t) || is_in n (reads (g s))) || (is_in n (test_reads r) || is_in n ns)) (same a)
+        ∙ ap (λ ns. (is_in n (test_reads t) || is_in n (reads (g s))) || (is_in n (test_reads r) || is_in n ns)) (subst ReadsSame (ap spec.reset_branch is) same)
         ∙ ap (λ c. (is_in n (test_reads t) || c) || (is_in n (test_reads r) || is_in n (reads a))) (edge_parts s)
         ∙ or_pairs (is_in n (test_reads t)) (is_in n (reads s)) (is_in n (test_reads r)) (is_in n (reads a)) (is_in n nets)
         ∙ sym (ap (λ x. is_in n (reads x) || is_in n nets) is ∙ ap (λ c. c || is_in n nets) (behind_parts t (reads s) r (reads a)))
-    of_shape b Other s some = absurd (some refl)
+    of_shape b Other same s some = absurd (some refl)
 
-    pub changed_reads : (b : Stmts) → (form_of b ≡ Other → ⊥) → is_in n (reads (spec.with_branches f g b)) ≡ (is_in n (reads b) || is_in n nets)
-    changed_reads b some = of_shape b (form_of b) (shape b) some
+    pub changed_reads : (b : Stmts) → ReadsSame (spec.reset_branch b) → (form_of b ≡ Other → ⊥) → is_in n (reads (spec.with_branches f g b)) ≡ (is_in n (reads b) || is_in n nets)
+    changed_reads b same some = of_shape b (form_of b) same (shape b) some
 
 -- ---- the list of nets
 

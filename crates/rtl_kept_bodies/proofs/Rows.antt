@@ -1,5 +1,5 @@
 -- The branches of an if, as its view has them.
-use Rattle.std.proofs.Common.{◌≡◌, ℕ, zero, suc, ◌<◌, ◌≤◌, ◌==◌, ◌⊎◌, inl, inr, false, List, [], ◌∷◌, length, get_or, set, Option, Some, None, Vec, Global, refl, sym, ap, ◌∙◌, arith}
+use Rattle.std.proofs.Common.{◌≡◌, ℕ, zero, suc, ◌<◌, ◌≤◌, ◌==◌, ◌⊎◌, inl, inr, false, List, [], ◌∷◌, length, map, get_or, set, Option, Some, None, Vec, Global, refl, sym, ap, ◌∙◌, arith}
 use Rattle.std.specs.Prelude.{option_map}
 use Rattle.std.specs.Vec.{with_items}
 use Rattle.std.proofs.lemmas.Bool.{cases_eq, eq-eqb, ne_eqb}
@@ -10,6 +10,7 @@ use Rattle.rtl_net.specs.declared.body.Statement.{Statement}
 use Rattle.rtl_net.specs.declared.body.Statement.TheVariants as vs
 use Rattle.rtl_net.proofs.Rows.{view_if}
 use Rattle.rtl_net.specs.Bodies.{test_view, statement_view, statements_of, branches_of, otherwise_of}
+use Rattle.rtl_kept_bodies.specs.Rules.{byte_of}
 use Rattle.rtl_kept_bodies.specs.Steps.{are_branches, is_if_of, put_at, taken_at, with_branch, branch_at}
 
 same_suc : (m n : ℕ) → (m == n) ≡ (suc m == suc n)
@@ -94,3 +95,17 @@ module _ (x : Statement) (at : ℕ) (bs : Vec Branch Global) (o : Option (Vec St
         → z ≡ branch_at n r (statement_view x)
     if_taken ys z same h =
         h (items-of o) ∙ ap (λ zs. taken_at n r (branches_of (otherwise_of (items-of o)) zs)) same ∙ sym (ap (branch_at n r) (if_is x at bs o is))
+
+-- ---- bytes
+
+byte_if : (at : ℕ) (bs : Vec Branch Global) (o : Option (Vec Statement Global)) → byte_of (vs.If at bs o) ≡ at
+byte_if at bs None = refl
+byte_if at bs (Some v) = refl
+
+pub own_byte : (x : Statement) (at : ℕ) (bs : Vec Branch Global) (o : Option (Vec Statement Global)) → x ≡ vs.If at bs o → at ≡ byte_of x
+own_byte x at bs o is = sym (byte_if at bs o) ∙ sym (ap byte_of is)
+
+pub bytes_stay : (xs : List Statement) (n : ℕ) (x y : Statement) → x ≡ get_or xs n x → byte_of y ≡ byte_of x → map byte_of (set xs n y) ≡ map byte_of xs
+bytes_stay [] n x y at h = refl
+bytes_stay (z ∷ zs) zero x y at h = ap (λ b. b ∷ map byte_of zs) (h ∙ ap byte_of at)
+bytes_stay (z ∷ zs) (suc n) x y at h = ap (λ bs. byte_of z ∷ bs) (bytes_stay zs n x y at h)

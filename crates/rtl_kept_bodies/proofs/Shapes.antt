@@ -6,7 +6,8 @@ use Rattle.rtl_model.specs.bodies.Body.{Test, Stmt, null_of, assign, set as set_
 use Rattle.rtl_model.specs.bodies.Kinds.{clocking}
 use Rattle.std.specs.Prelude.{is_some, None}
 use Rattle.std.proofs.lemmas.Bool.{and_parts}
-use Rattle.rtl_variable_registers.specs.Bodies.{reset_branch, with_branches, gives_constants, is_register}
+use Rattle.rtl_variable_registers.specs.Bodies.{reset_branch, with_branches, is_register}
+use Rattle.rtl_variable_registers.specs.Known.{gives_constants, never_set}
 use Rattle.rtl_kept_bodies.specs.declared.forms.Form.{Form}
 use Rattle.rtl_kept_bodies.specs.declared.forms.Form.TheVariants.{Alone, ResetFirst, ResetBehind, Other}
 use Rattle.rtl_kept_bodies.specs.Steps.{is_if_of, form_of, with_branch, branch_at, edge_branch}
@@ -231,6 +232,6 @@ register_form b reg e = go (subst (λ (f : Form). Shape b f) e (shape b))
   where
     go : Shape b Other → ⊥
     go (no_register same r x none) =
-        let clocked = (and_parts (is_some (clocking true [] (with_branches (λ a. done) (λ s. s) b))) (gives_constants (reset_branch b)) reg).0 in
+        let clocked = (and_parts (is_some (clocking true [] (with_branches (λ a. done) (λ s. s) b))) (gives_constants (never_set b) (reset_branch b)) reg).0 in
         let not_clocked : is_some (clocking true [] (with_branches (λ a. done) (λ s. s) b)) ≡ false = ap (λ x. is_some (clocking true [] x)) (same (λ a. done) (λ s. s)) ∙ ap is_some none in
         let k : true ≡ false = sym clocked ∙ not_clocked in cc

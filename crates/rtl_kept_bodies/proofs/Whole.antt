@@ -19,12 +19,15 @@ use Rattle.rtl_net.specs.declared.process.Process.{Process}
 use Rattle.rtl_net.specs.declared.process.Variable.{Variable}
 use Rattle.rtl_net.specs.Nets.{driver_view, variable_view, process_view, body_of}
 use Rattle.rtl_variable_registers.specs.Bodies as spec
+use Rattle.rtl_variable_registers.specs.Known as known
+use Rattle.rtl_variable_registers.proofs.Known.{reads_stay}
 use Rattle.rtl_variable_registers.specs.Processes.{kept_variables, kept_elements, kept_starts, rank_in, drivers_from, with_nets, kept_process}
 use Rattle.rtl_kept_bodies.specs.declared.kept.Kept.{Kept}
 use Rattle.rtl_kept_bodies.specs.Rules.{keeps_each, HasRoom, NamedAlike}
 use Rattle.rtl_kept_bodies.specs.Steps.{kept_count, kept_from, recall_all, remember_all, placed_by, all_at_reset, all_drivers_of, AreKept}
 use Rattle.rtl_kept_bodies.proofs.Ranks.{stand, kept_view, elements_of, elements_viewed, views_are, counted, are_within, places_are, recalls, remembers, drivers_are}
 use Rattle.rtl_kept_bodies.proofs.Listing.{elements_in}
+use Rattle.rtl_kept_bodies.proofs.Marking.{register_gives}
 use Rattle.rtl_kept_bodies.proofs.Putting.{at_reset_is}
 use Rattle.rtl_kept_bodies.proofs.Reading.{are_one, reads_by, remember_reads, reset_reads, changed_reads}
 use Rattle.rtl_kept_bodies.proofs.Shapes.{register_form}
@@ -79,20 +82,24 @@ module _ (first : ℕ) (p : FlatProcess) (ks : List Kept) (h : AreKept first p k
   abbrev pub place_of : ℕ → ℕ
   place_of e = length p.drivers + rank_in (kept_elements p) e
 
+  abbrev pub constants : Stmts → Stmts
+  constants a = known.with_constants (known.at_start (element_starts p.variables)) a
+
   pub body_is : (P : ℕ → ℕ) → ((e : ℕ) → P e ≡ placed_by ks (length p.drivers + length (kept_elements p)) e)
-      → spec.with_branches (all_at_reset P) (λ s. followed_by (recall_all ks) (followed_by s (remember_all ks))) p.body
-      ≡ spec.kept_body (λ e. first + rank_in (kept_elements p) e) (λ e. length p.drivers + rank_in (kept_elements p) e) (kept_variables p) p.body
+      → spec.with_branches (λ a. all_at_reset P (constants a)) (λ s. followed_by (recall_all ks) (followed_by s (remember_all ks))) p.body
+      ≡ spec.kept_body (λ e. first + rank_in (kept_elements p) e) (λ e. length p.drivers + rank_in (kept_elements p) e) (element_starts p.variables) (kept_variables p) p.body
   body_is P same =
       let places : P ≡ place_of = (λ i e. (same e ∙ h.places e) i) in
-      let resets : all_at_reset place_of ≡ spec.at_reset net_of place_of = (λ i s. at_reset_is net_of place_of s i) in
-      ap (λ f. spec.with_branches (all_at_reset f) (λ s. followed_by (recall_all ks) (followed_by s (remember_all ks))) p.body) places
+      let told : Stmts → Stmts = (λ a. spec.at_reset net_of place_of (constants a)) in
+      let resets : (λ a. all_at_reset place_of (constants a)) ≡ (λ a. spec.at_reset net_of place_of (constants a)) = (λ i a. at_reset_is net_of place_of (constants a) i) in
+      ap (λ f. spec.with_branches (λ a. all_at_reset f (constants a)) (λ s. followed_by (recall_all ks) (followed_by s (remember_all ks))) p.body) places
       ∙ ap (λ f. spec.with_branches f (λ s. followed_by (recall_all ks) (followed_by s (remember_all ks))) p.body) resets
-      ∙ ap (λ r. spec.with_branches (spec.at_reset net_of place_of) (λ s. followed_by r (followed_by s (remember_all ks))) p.body) h.recall
-      ∙ ap (λ m. spec.with_branches (spec.at_reset net_of place_of) (λ s. followed_by (spec.recalled net_of place_of (kept_variables p)) (followed_by s m)) p.body) h.remember
+      ∙ ap (λ r. spec.with_branches told (λ s. followed_by r (followed_by s (remember_all ks))) p.body) h.recall
+      ∙ ap (λ m. spec.with_branches told (λ s. followed_by (spec.recalled net_of place_of (kept_variables p)) (followed_by s m)) p.body) h.remember
 
   pub process_is : (ds : List FlatDriver) (ws : List ℕ) (vs : List FlatVariable) (b : Stmts) → spec.is_register p.body ≡ true
       → ds ≡ p.drivers ++ all_drivers_of (element_starts p.variables) ks → ws ≡ p.wakes → vs ≡ p.variables
-      → b ≡ spec.kept_body (λ e. first + rank_in (kept_elements p) e) (λ e. length p.drivers + rank_in (kept_elements p) e) (kept_variables p) p.body
+      → b ≡ spec.kept_body (λ e. first + rank_in (kept_elements p) e) (λ e. length p.drivers + rank_in (kept_elements p) e) (element_starts p.variables) (kept_variables p) p.body
       → record { drivers = ds; wakes = ws; variables = vs; body = b } ≡ kept_process first p
   process_is ds ws vs b reg hd hw hv hb =
       ap (λ x. record { drivers = x; wakes = ws; variables = vs; body = b }) (hd ∙ ap (λ zs. p.drivers ++ zs) h.drivers)
@@ -120,7 +127,7 @@ none_kept body e (v ∷ vs) h =
     none : (es : List ℕ) → list_any (spec.keeps_element body) es ≡ false
     none [] = refl
     none (d ∷ ds) =
-        ap (λ b. (b && (stores_element d body || must_assign (is_element d) (spec.reset_branch body))) || list_any (spec.keeps_element body) ds) h ∙ none ds
+        ap (λ b. (b && (stores_element d (spec.without_reset body) || must_assign (is_element d) (spec.reset_branch body))) || list_any (spec.keeps_element body) ds) h ∙ none ds
 
 -- flags by marks are those by what is kept
 pub flags_are : (f g : ℕ → Bool) (many e : ℕ) (vs : List Variable) → ((d : ℕ) → d < many → f d ≡ g d) → e + elements_in vs ≤ many
@@ -171,11 +178,14 @@ pub kept_reads : (first many : ℕ) (p : FlatProcess) (ks : List Kept) → AreKe
     → (n : ℕ) → is_in n (reads (kept_process first p).body) ≡ (is_in n (reads p.body) || is_in n (range_with_len first many))
 kept_reads first many p ks h reg nets n =
     ap (λ x. is_in n (reads (if x then with_nets first p else p).body)) reg
-    ∙ changed_reads n (spec.at_reset (net_of first p ks h) (place_of first p ks h)) (spec.at_edge (net_of first p ks h) (place_of first p ks h) (kept_variables p)) (range_with_len first many)
-    same besides p.body (register_form p.body reg)
+    ∙ changed_reads n (λ a. spec.at_reset (net_of first p ks h) (place_of first p ks h) (constants first p ks h a)) (spec.at_edge (net_of first p ks h) (place_of first p ks h) (kept_variables p)) (range_with_len first many)
+    besides p.body same (register_form p.body reg)
   where
-    same : (s : Stmts) → reads (spec.at_reset (net_of first p ks h) (place_of first p ks h) s) ≡ reads s
-    same s = sym (ap reads (at_reset_is (net_of first p ks h) (place_of first p ks h) s)) ∙ reset_reads (place_of first p ks h) s
+    same : reads (spec.at_reset (net_of first p ks h) (place_of first p ks h) (constants first p ks h (spec.reset_branch p.body))) ≡ reads (spec.reset_branch p.body)
+    same =
+        let a = constants first p ks h (spec.reset_branch p.body) in
+        sym (ap reads (at_reset_is (net_of first p ks h) (place_of first p ks h) a)) ∙ reset_reads (place_of first p ks h) a
+        ∙ reads_stay (known.never_set p.body) (known.at_start (element_starts p.variables)) (spec.reset_branch p.body) (register_gives p.body reg)
 
     besides : (s : Stmts) → reads (spec.at_edge (net_of first p ks h) (place_of first p ks h) (kept_variables p) s) ≡ range_with_len first many ++ reads s
     besides s =

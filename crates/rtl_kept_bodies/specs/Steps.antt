@@ -1,14 +1,23 @@
 -- The steps of `keep`: the forms of bodies, the elements that are marked, and what is put for each variable.
-use Rattle.std.specs.Prelude.{◌≡◌, ℕ, zero, suc, ◌+◌, ◌-◌, ◌≤◌, ◌<◌, ◌^◌, Bool, true, false, ◌&&◌, ◌||◌, nat_le, nat_lt, if◌then◌else◌, All, List, [], ◌∷◌, length, map, flat_map, slice_index, slice_index_or}
-use Rattle.std.specs.List.{range_with_len}
+use Rattle.std.specs.Prelude.{◌≡◌, ℕ, zero, suc, ◌+◌, ◌-◌, ◌≤◌, ◌<◌, ◌==◌, ◌^◌, Bool, true, false, ◌&&◌, ◌||◌, nat_le, nat_lt, if◌then◌else◌, All, List, [], ◌∷◌, length, map, flat_map, slice_index, slice_index_or}
+use Rattle.std.specs.List.{list_any, range_with_len}
 use Rattle.rtl_model.specs.bodies.Body.{Stmt, null_of, assign, set, if_of, Stmts, done, step, Branches, no_else, otherwise, branch}
-use Rattle.rtl_model.specs.bodies.Body.{Value, elements, position_in, position_of, signal, variable}
-use Rattle.rtl_model.specs.bodies.Types.{ElementType, nine_valued, enumeration}
+use Rattle.rtl_model.specs.bodies.Body.{Value, elements, position, position_in, position_of, signal, variable, constant}
+use Rattle.rtl_model.specs.bodies.Fits.{Scope, FitsAs, Fits}
+use Rattle.rtl_model.specs.bodies.Reads.{value_reads}
+use Rattle.rtl_model.specs.bodies.Types.{ElementType, nine_valued, enumeration, KeepsTypes}
 use Rattle.rtl_model.specs.nets.FlatNetlist.{FlatDriver, FlatProcess, element_starts}
+use Rattle.rtl_eval.specs.declared.evaluated.Evaluated.{Evaluated}
+use Rattle.rtl_eval.specs.declared.evaluated.Evaluated.TheVariants as evaluated
+use Rattle.rtl_net.specs.Bodies.{statements_of}
 use Rattle.rtl_net.specs.Nets.{element_type}
+use Rattle.rtl_net.specs.declared.body.Branch.{Branch}
+use Rattle.rtl_net.specs.declared.body.Alternative.{Alternative}
 use Rattle.rtl_net.specs.declared.process.Variable.{Variable}
 use Rattle.rtl_variable_registers.specs.Bodies as spec
+use Rattle.rtl_variable_registers.specs.Known as known
 use Rattle.rtl_variable_registers.specs.Processes.{kept_variables, kept_elements, kept_starts, rank_in, drivers_from}
+use Rattle.rtl_kept_bodies.specs.declared.constants.Known.{Known}
 use Rattle.rtl_kept_bodies.specs.declared.forms.Form.{Form}
 use Rattle.rtl_kept_bodies.specs.declared.forms.Form.TheVariants.{Alone, ResetFirst, ResetBehind, Other}
 use Rattle.rtl_kept_bodies.specs.declared.kept.Kept.{Kept}
@@ -60,18 +69,6 @@ edge_branch (step (if_of (branch r a (branch t s no_else))) done) = s
 edge_branch (step (if_of (branch t s no_else)) (step (if_of (branch r a no_else)) done)) = s
 edge_branch _ = done
 
--- ---- statements without others in them
-
-abbrev pub is_plain : Stmt → Bool
-is_plain null_of = true
-is_plain (assign places v) = true
-is_plain (set es v) = true
-is_plain _ = false
-
-abbrev pub are_plain : Stmts → Bool
-are_plain done = true
-are_plain (step s rest) = is_plain s && are_plain rest
-
 -- ---- marks of elements
 
 -- These are marked besides.
@@ -83,6 +80,70 @@ pub record Marked (these : ℕ → Bool) (old new : List Bool) : Type 0 where
 pub record Marks (many : ℕ) (these : ℕ → Bool) (marks : List Bool) : Type 0 where
   pub length_is : length marks ≡ many
   pub each : (e : ℕ) → e < many → slice_index_or marks e true ≡ these e
+
+-- ---- what is set
+
+-- a branch of an if, and an alternative of a case
+abbrev pub branch_sets : (element : ℕ) → Branch → Bool
+branch_sets element b = known.sets_element element (statements_of b.statements.items)
+
+abbrev pub alternative_sets : (element : ℕ) → Alternative → Bool
+alternative_sets element a = known.sets_element element (statements_of a.statements.items)
+
+-- what is set is among so many elements
+abbrev pub SetsWithin : (many : ℕ) → Stmts → Type 0
+SetsWithin many s = (e : ℕ) → known.sets_element e s ≡ true → e < many
+
+-- ---- what is known
+
+-- by flags of elements; one that isn't there counts as known
+abbrev pub knows : List Bool → (e : ℕ) → Bool
+knows flags e = slice_index_or flags e true
+
+-- just these are flagged
+abbrev pub Knows : (these : ℕ → Bool) → List Bool → Type 0
+Knows these flags = (e : ℕ) → knows flags e ≡ these e
+
+-- The same is known, and it is noted whether what was looked at is.
+pub record NeedsKnown (is_known : Bool) (old new : Known) : Type 0 where
+  pub same : new.elements ≡ old.elements
+  pub all : new.all ≡ (old.all && is_known)
+
+-- a statement's part in `gives_constants`
+abbrev pub stmt_gives : (these : ℕ → Bool) → Stmt → Bool
+stmt_gives these null_of = true
+stmt_gives these (assign places v) = known.is_known these v
+stmt_gives these (set es v) = known.is_known these v
+stmt_gives these _ = false
+
+abbrev pub known_after : (these : ℕ → Bool) → Stmt → (e : ℕ) → Bool
+known_after these (set es v) e = these e || list_any (λ d. d == e) es
+known_after these s e = these e
+
+-- ---- constants
+
+-- an evaluated value, as a constant
+abbrev pub constant_view : Evaluated → Value
+constant_view (evaluated.Elements values) = elements (constant values)
+constant_view (evaluated.Position at) = position at
+
+-- A value that reads no signal can be evaluated, where the variables have these values.
+pub record CanEvaluate (variables : List ℕ) (v : Value) : Type 0 where
+  pub scope : Scope
+  pub type_of : ElementType
+  pub fits : FitsAs scope type_of v
+  pub reads_none : value_reads v ≡ []
+  pub as_many : length variables ≡ length scope.variables
+  pub typed : KeepsTypes scope.variables variables
+
+-- The values of statements can, one after another: what they look at is known.
+pub record CanCompute (variables : List ℕ) (s : Stmts) : Type 0 where
+  pub scope : Scope
+  pub these : ℕ → Bool
+  pub fits : Fits scope s
+  pub gives : known.gives_constants these s ≡ true
+  pub as_many : length variables ≡ length scope.variables
+  pub typed : KeepsTypes scope.variables variables
 
 -- ---- variables that are kept
 

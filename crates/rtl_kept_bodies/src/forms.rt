@@ -1,10 +1,11 @@
 //! The forms that bodies of registers have, and the branches in them.
 
-ghost use Rattle.std.specs.Prelude.{◌≡◌, List, Option};
+ghost use Rattle.std.specs.Prelude.{◌≡◌, List, Option, map};
 ghost use Rattle.rtl_model.specs.bodies.Body.{step, done};
 ghost use Rattle.rtl_net.specs.Bodies.{statement_view, statements_of, branches_of, otherwise_of};
 ghost use Rattle.rtl_net.specs.declared.body.Statement.{Statement};
 ghost use Rattle.rtl_variable_registers.specs.Bodies.{reset_branch, with_branches};
+ghost use Rattle.rtl_kept_bodies.specs.Rules.{byte_of};
 ghost use Rattle.rtl_kept_bodies.specs.Steps as steps;
 
 use rtl_net::{Branch, Statement};
@@ -103,6 +104,7 @@ fn replace_branch(
         steps.with_branch number (statements_of others.items) (statement_view statement.old) }
     ensures taken { statements_of result.items ≡
         steps.branch_at number (statements_of others.items) (statement_view statement.old) }
+    ensures byte { byte_of statement.new ≡ byte_of statement.old }
 {
     match statement {
         Statement::If {
@@ -135,6 +137,7 @@ pub(crate) fn replace_reset(
         with_branches (λ a. statements_of others.items) (λ s. s) (statements_of body.old) }
     ensures taken { statements_of others.items ≡ done
         → statements_of result.items ≡ reset_branch (statements_of body.old) }
+    ensures bytes { map byte_of body.new ≡ map byte_of body.old }
 {
     match form_of(body) {
         Form::ResetFirst => replace_branch(alloc, &mut body[0], 0, others),
@@ -153,6 +156,7 @@ pub(crate) fn replace_edge(
         with_branches (λ a. a) (λ s. statements_of others.items) (statements_of body.old) }
     ensures taken { statements_of others.items ≡ done
         → statements_of result.items ≡ steps.edge_branch (statements_of body.old) }
+    ensures bytes { map byte_of body.new ≡ map byte_of body.old }
 {
     match form_of(body) {
         Form::Alone => replace_branch(alloc, &mut body[0], 0, others),

@@ -10,18 +10,20 @@ ghost use Rattle.rtl_net.specs.Elaborated.{ReadsOfBody};
 ghost use Rattle.rtl_net.specs.Limits.{most_nets};
 ghost use Rattle.rtl_net.specs.Nets.{variable_view, process_view, body_of};
 ghost use Rattle.rtl_variable_registers.specs.Bodies as spec;
+ghost use Rattle.rtl_variable_registers.specs.Known.{at_start, with_constants};
 ghost use Rattle.rtl_variable_registers.specs.Processes.{kept_elements, kept_process};
 ghost use Rattle.rtl_kept_bodies.specs.declared.keeping.KeepFault.TheVariants.{NoMemory};
-ghost use Rattle.rtl_kept_bodies.specs.Rules.{keeps_each, HasRoom, NamedAlike, Refused};
-ghost use Rattle.rtl_kept_bodies.specs.Steps.{recall_all, remember_all, all_at_reset, place_at, AreKept};
+ghost use Rattle.rtl_kept_bodies.specs.Rules.{byte_of, keeps_each, HasRoom, NamedAlike, Refused};
+ghost use Rattle.rtl_kept_bodies.specs.Steps.{recall_all, remember_all, all_at_reset, place_at, CanCompute, AreKept};
 
 use crate::drivers::{add_all_drivers, add_nets};
 use crate::edge::keep_at_edge;
 use crate::forms::{replace_edge, replace_reset};
 use crate::kept::{Kept, count_kept, flags_of, kept_of, starts_of};
-use crate::marks::kept_elements;
+use crate::marks::{kept_elements, no_flags};
 use crate::registers::is_register;
 use crate::reset::{Places, keep_at_reset};
+use crate::values::make_constants;
 use rtl_net::{Process, Statement};
 use std::alloc::{AllocError, AllocFailed, Global};
 
@@ -51,18 +53,37 @@ impl<T: Drop> From<AllocFailed<T>> for KeepFault {
     }
 }
 
+/// Changes the branch of a reset.
+fn keep_reset(
+    alloc: Global,
+    places: &Places,
+    starts: &[u8],
+    reset: &mut [Statement],
+) -> Result<(), AllocError>
+    requires { CanCompute starts.now (statements_of reset.old) }
+    ensures { OnOk result (statements_of reset.new
+        ≡ all_at_reset (place_at places.now) (with_constants (at_start starts.now) (statements_of reset.old))) }
+{
+    make_constants(alloc, starts, reset)?;
+    keep_at_reset(alloc, places, reset)
+}
+
 /// Changes the branches of a register's body.
 fn keep_body(
     alloc: Global,
     kept: &[Kept],
     places: &Places,
+    starts: &[u8],
     body: &mut [Statement],
 ) -> Result<(), AllocError>
-    ensures { OnOk result (statements_of body.new ≡ spec.with_branches (all_at_reset (place_at places.now))
+    requires { CanCompute starts.now (spec.reset_branch (statements_of body.old)) }
+    ensures body { OnOk result (statements_of body.new ≡ spec.with_branches
+        (λ a. all_at_reset (place_at places.now) (with_constants (at_start starts.now) a))
         (λ s. followed_by (recall_all kept.now) (followed_by s (remember_all kept.now))) (statements_of body.old)) }
+    ensures bytes { OnOk result (map byte_of body.new ≡ map byte_of body.old) }
 {
     let mut reset = replace_reset(alloc, body, Vec::new(alloc));
-    keep_at_reset(alloc, places, &mut reset)?;
+    keep_reset(alloc, places, starts, &mut reset)?;
     let _nothing = replace_reset(alloc, body, reset);
     let mut edge = replace_edge(alloc, body, Vec::new(alloc));
     keep_at_edge(alloc, kept, &mut edge)?;
@@ -81,6 +102,7 @@ fn keep_listed(
 ) -> Result<(), AllocError>
     requires register { spec.is_register (body_of process.old) ≡ true }
     requires kept { AreKept first (process_view process.old) kept.now }
+    requires computes { CanCompute starts.now (spec.reset_branch (body_of process.old)) }
     requires starts { starts.now ≡ element_starts (map variable_view process.old.variables.items) }
     requires many { many ≡ length (kept_elements (process_view process.old)) }
     requires nets { first + many ≤ most_nets }
@@ -91,7 +113,7 @@ fn keep_listed(
 {
     let behind = (process.drives.len() + many) as u32;
     let places = Places::new(alloc, kept, starts.len(), behind)?;
-    keep_body(alloc, kept, &places, &mut process.body)?;
+    keep_body(alloc, kept, &places, starts, &mut process.body)?;
     add_all_drivers(kept, starts, &mut process.drives)?;
     add_nets(first, many, &mut process.reads)?;
     Ok(())
@@ -106,13 +128,6 @@ fn has_room(many: usize, nets: usize, drivers: usize, elements: usize) -> bool
 {
     let word = u32::MAX as usize;
     many <= 1_048_576 - nets && drivers <= word - many && elements <= word
-}
-
-/// So many flags that aren't set.
-fn no_flags(alloc: Global, many: usize) -> Result<Vec<bool>, AllocError>
-    ensures { IfOk result (λ v. v.items ≡ replicate many false) }
-{
-    vec![in alloc; false; many]
 }
 
 /// Whether each variable of a process is kept, of so many elements in all.
@@ -197,7 +212,7 @@ pub fn keep(alloc: Global, process: &mut Process, first: usize) -> Result<Vec<bo
     ensures fault { IfErr result (Refused first (process_view process.old)) }
 {
     let starts = starts_of(alloc, &process.variables)?;
-    let is_register = is_register(alloc, &mut process.body);
+    let is_register = is_register(alloc, &mut process.body, starts.len())?;
     let flags = flags_in(alloc, process, is_register, starts.len())?;
     keep_flagged(alloc, process, is_register, &flags, &starts, first)?;
     Ok(flags)

@@ -13,5 +13,7 @@ mod kept;
 mod marks;
 mod registers;
 mod reset;
+mod sets;
+mod values;
 
 pub use keeping::{KeepFault, keep};

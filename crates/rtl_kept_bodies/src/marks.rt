@@ -1,17 +1,25 @@
 //! Which elements of variables a register's body keeps.
 
-ghost use Rattle.std.specs.Prelude.{◌≡◌, ◌==◌, ◌+◌, ◌<◌, ◌^◌, true, IfOk, OnOk};
+ghost use Rattle.std.specs.Prelude.{◌≡◌, ◌==◌, ◌+◌, ◌<◌, ◌^◌, true, false, map, replicate, IfOk, OnOk};
 ghost use Rattle.std.specs.List.{list_any, range_with_len};
-ghost use Rattle.rtl_model.specs.bodies.Assigns.{is_element, stmt_must_assign, must_assign};
-ghost use Rattle.rtl_net.specs.Bodies.{statement_view, statements_of};
+ghost use Rattle.rtl_net.specs.Bodies.{statements_of};
 ghost use Rattle.rtl_net.specs.Indices.{numbers};
-ghost use Rattle.rtl_variable_registers.specs.Bodies.{is_register, keeps_element, reset_branch};
-ghost use Rattle.rtl_kept_bodies.specs.Steps.{Marked, Marks, are_plain, is_plain};
+ghost use Rattle.rtl_variable_registers.specs.Bodies.{is_register, keeps_element};
+ghost use Rattle.rtl_kept_bodies.specs.Rules.{byte_of};
+ghost use Rattle.rtl_kept_bodies.specs.Steps.{Marked, Marks};
 
 use crate::forms::replace_reset;
+use crate::sets::mark_all_set;
 use rtl_net::{Indices, Statement};
 use rtl_stored::stored_elements;
 use std::alloc::{AllocError, Global};
+
+/// So many flags that aren't set.
+pub(crate) fn no_flags(alloc: Global, many: usize) -> Result<Vec<bool>, AllocError>
+    ensures { IfOk result (λ v. v.items ≡ replicate many false) }
+{
+    vec![in alloc; false; many]
+}
 
 /// Marks the element of this number, if it is there.
 fn mark(element: usize, marks: &mut [bool])
@@ -42,33 +50,12 @@ fn mark_listed(elements: &[u32], marks: &mut [bool])
 }
 
 /// Marks the elements of a name.
-fn mark_named(elements: &Indices, marks: &mut [bool])
+pub(crate) fn mark_named(elements: &Indices, marks: &mut [bool])
     ensures { Marked (λ e. list_any (λ d. d == e) (numbers elements.now)) marks.old marks.new }
 {
     match elements {
         Indices::Run { first, len } => mark_run(*first as usize, *len as usize, marks),
         Indices::List(listed) => mark_listed(listed.as_slice(), marks),
-    }
-}
-
-/// Marks the elements that an assignment sets.
-fn mark_set(statement: &Statement, marks: &mut [bool])
-    requires { is_plain (statement_view statement.now) ≡ true }
-    ensures { Marked (λ e. stmt_must_assign (is_element e) (statement_view statement.now)) marks.old marks.new }
-{
-    match statement {
-        Statement::Set { elements, .. } => mark_named(elements, marks),
-        _ => {}
-    }
-}
-
-/// Marks the elements that assignments set.
-fn mark_all_set(statements: &[Statement], marks: &mut [bool])
-    requires { are_plain (statements_of statements.now) ≡ true }
-    ensures { Marked (λ e. must_assign (is_element e) (statements_of statements.now)) marks.old marks.new }
-{
-    for statement in statements {
-        mark_set(statement, marks);
     }
 }
 
@@ -81,10 +68,11 @@ pub(crate) fn kept_elements(
 ) -> Result<Vec<bool>, AllocError>
     requires { is_register (statements_of body.old) ≡ true }
     ensures same { OnOk result (statements_of body.new ≡ statements_of body.old) }
+    ensures bytes { OnOk result (map byte_of body.new ≡ map byte_of body.old) }
     ensures are { IfOk result (λ v. Marks many (keeps_element (statements_of body.old)) v.items) }
 {
-    let mut marks = stored_elements(alloc, body, many)?;
     let reset = replace_reset(alloc, body, Vec::new(alloc));
+    let mut marks = stored_elements(alloc, body, many)?;
     mark_all_set(&reset, &mut marks);
     let _nothing = replace_reset(alloc, body, reset);
     Ok(marks)

@@ -14,23 +14,26 @@ use Rattle.rtl_model.specs.bodies.Reads.{value_reads, events, test_events}
 use Rattle.rtl_model.specs.bodies.Stored.{stores_element}
 use Rattle.rtl_model.specs.bodies.Types.{ElementType}
 use Rattle.rtl_model.specs.nets.CoreNetlist.{core_process, core_netlist, element_number, raised_by, stores_one}
-use Rattle.rtl_model.specs.nets.FlatNetlist.{FlatVariable, FlatProcess, FlatNetlist, ProcessInRange, element_starts, no_flat_process, process_at}
+use Rattle.rtl_model.specs.nets.FlatNetlist.{FlatVariable, FlatProcess, FlatNetlist, ProcessInRange, element_starts, scope_of, no_flat_process, process_at}
 use Rattle.rtl_model.specs.simulation.Accepted.{IsAccepted, MixedProcess, StoredVariable}
 use Rattle.rtl_model.specs.simulation.Netlist.{Mixed}
 use Rattle.rtl_model.specs.simulation.Netlist as c
 use Rattle.rtl_model.proofs.basics.Lists.{nil_parts}
 use Rattle.rtl_model.proofs.bodies.Clocking.{clocked_is}
 use Rattle.rtl_model.proofs.bodies.EdgeTests.{edge_test_event}
+use Rattle.rtl_model.proofs.bodies.There.{each_read_is_there}
 use Rattle.rtl_model.proofs.nets.Processes.{process-core_net}
-use Rattle.rtl_variable_registers.specs.Bodies.{reset_branch, is_register, keeps_element}
+use Rattle.rtl_variable_registers.specs.Bodies.{reset_branch, without_reset, is_register, keeps_element}
 use Rattle.rtl_variable_registers.specs.Laws.{WhatIsAcceptedStays}
 use Rattle.rtl_variable_registers.specs.Nets.{kept_processes}
 use Rattle.rtl_variable_registers.specs.Processes.{kept_variables, kept_elements, kept_starts, kept_types}
+use Rattle.rtl_variable_registers.proofs.Alike.{without_stores}
 use Rattle.rtl_variable_registers.proofs.InRange.{all_types, all_starts}
 use Rattle.rtl_variable_registers.proofs.Recalling.{all_elements}
 use Rattle.rtl_variable_registers.proofs.Shapes.{AtEdge, edge_alone, reset_first, reset_behind}
 use Rattle.rtl_variable_registers.proofs.Staying.{none_among, keeps_none_stays}
 use Rattle.rtl_variable_registers.proofs.Stored.{or_none}
+use Rattle.rtl_variable_registers.proofs.Tables.{length_types}
 
 -- ---- a reset's branch without variables
 
@@ -101,15 +104,22 @@ module _ (wide : Bool) (inputs : List ℕ) (p : FlatProcess) (quiet : IsQuiet wi
       go None [] e f = absurd (has_events p.body h f)
       go None (n ∷ ns) e f = absurd (quiet.not_mixed (rw (e, f) refl))
 
+  stores_within : (e : ℕ) → e < length (element_starts p.variables) → stores_element e p.body ≡ true → ⊥
+  stores_within e l s = let (v, place, n) = has_number p.variables e l in quiet.stores_none v place (ap (stores_one p.body) n ∙ s)
+
+  stores_nothing : (types : List ElementType) → ProcessInRange types p → (e : ℕ) → stores_element e p.body ≡ false
+  stores_nothing types r e = not_true (stores_element e p.body) (λ s.
+      let l = (each_read_is_there (scope_of types p) p.body r.body).elements e s in
+      stores_within e (omega (arith, length_types p.variables)) s)
+
   keeps_none : (e : ℕ) → e < length (element_starts p.variables) → keeps_element p.body e ≡ false
   keeps_none e l = go (cases_Bool (is_register p.body))
     where
       go : (is_register p.body ≡ true) ⊎ (is_register p.body ≡ false) → keeps_element p.body e ≡ false
       go (inr h) = rw h refl
       go (inl h) =
-          let (v, place, n) = has_number p.variables e l in
-          rw h (or_none (stores_element e p.body) (must_assign (is_element e) (reset_branch p.body))
-          (not_true (stores_element e p.body) (λ s. quiet.stores_none v place (ap (stores_one p.body) n ∙ s)))
+          rw h (or_none (stores_element e (without_reset p.body)) (must_assign (is_element e) (reset_branch p.body))
+          (not_true (stores_element e (without_reset p.body)) (λ s. stores_within e l (without_stores p.body e s)))
           (sets_none (reset_branch p.body) (constants h) e))
 
   pub no_variables : kept_variables p ≡ []
@@ -125,7 +135,7 @@ processes_stay : (wide : Bool) (inputs : List ℕ) (types : List ElementType) (f
     → kept_processes first ps ≡ ps
 processes_stay wide inputs types first [] r h = refl
 processes_stay wide inputs types first (p ∷ ps) r h =
-    λ i. keeps_none_stays types first p (All-head (ProcessInRange types) p ps r) (no_variables wide inputs p h.0) i
+    λ i. keeps_none_stays types first p (All-head (ProcessInRange types) p ps r) (no_variables wide inputs p h.0) (stores_nothing wide inputs p h.0 types (All-head (ProcessInRange types) p ps r)) i
     ∷ processes_stay wide inputs types (first + length (kept_elements p)) ps (All-tail (ProcessInRange types) p ps r) h.1 i
 
 none_flat : (wide : Bool) (inputs : List ℕ) (ps : List FlatProcess) → AreQuiet wide inputs ps → flat_map kept_elements ps ≡ []

@@ -136,7 +136,7 @@ module _ (net : FlatNetlist) (r : IsInRange net) (c : IsConnected net) (others :
       nets = begun;
       rows = length-map kept.processes _ ∙ length-map (kept_flat net).processes (core_process net.wide net.inputs) ∙ as_many_processes (length net.types) net.processes;
       many = length-map net.processes (λ (q : FlatProcess). element_starts q.variables);
-      variables = λ p l. rw (begin_variables p) (record { many = refl; typed = variables_typed (old p).variables (r.processes p no_flat_process l).variables });
+      variables = λ p l. rw (begin_variables p) (record { many = refl; typed = variables_typed (old p).variables (r.processes p no_flat_process l).variables; unset = λ e k. refl });
       elements = λ p e l k. record {
         variable = on_both unwrap_or (begin_none p (place_of p e)) (begin_driver p e l k) ∙ start_of (old p) e k ∙ sym (ap (λ vs. slice_index vs e) (begin_variables p));
         net_is = not_given inputs (kept_flat net).start p e l k ∙ new_start net r p (ranked p e) l (place_within (kept_elements (old p)) e k) ∙ sym (begin_driver p e l k);
@@ -314,15 +314,15 @@ module _ (net : FlatNetlist) (r : IsInRange net) (c : IsConnected net) (others :
             same_row : slice_index_or t1.pending q [] ≡ slice_index_or t.pending q []
             same_row = get_or-set_other t.pending p q (over entries_of (slice_index_or t.pending p [])) [] n
 
-        variables_then : (q : ℕ) → q < length net.processes → HasVariables (old q).variables (variables_of (full_run net p s) q)
+        variables_then : (q : ℕ) → q < length net.processes → HasVariables (old q) (variables_of (full_run net p s) q)
         variables_then q l = go (cases_eq q p)
           where
-            own : (x : ℕ) → x ≡ p → x < length net.processes → HasVariables (old x).variables (variables_of (full_run net p s) x)
+            own : (x : ℕ) → x ≡ p → x < length net.processes → HasVariables (old x) (variables_of (full_run net p s) x)
             own x e b =
-                subst (λ (y : ℕ). y < length net.processes → HasVariables (old y).variables (variables_of (full_run net p s) y)) (sym e)
+                subst (λ (y : ℕ). y < length net.processes → HasVariables (old y) (variables_of (full_run net p s) y)) (sym e)
                 (λ d. rw (left_with d) (variables_left net.types (first_net net p) (old p) (r.processes p no_flat_process d) (λ j. others p j) t.before t.now (variables_of s p) types_kept (h.variables p d) (λ j i. (h.elements p j d i).net_is ∙ held d j i))) b
 
-            go : (q ≡ p) ⊎ (q ≡ p → ⊥) → HasVariables (old q).variables (variables_of (full_run net p s) q)
+            go : (q ≡ p) ⊎ (q ≡ p → ⊥) → HasVariables (old q) (variables_of (full_run net p s) q)
             go (inl e) = own q e l
             go (inr n) = rw (get_or-set_other vs p q (variables_after (seen_by s p) (old p).body) [] n) (h.variables q l)
 

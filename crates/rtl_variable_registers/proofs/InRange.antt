@@ -1,5 +1,5 @@
 -- A process whose variables are kept is in range, among the nets of these.
-use Rattle.std.proofs.Common.{◌≡◌, ℕ, zero, suc, ◌+◌, ◌<◌, ◌≤◌, true, false, ◌==◌, List, [], ◌∷◌, ◌++◌, Option, Some, None, length, map, replicate, flat_map, slice_get, slice_index, slice_index_or, ◌-◌}
+use Rattle.std.proofs.Common.{◌≡◌, ℕ, zero, suc, ◌+◌, ◌<◌, ◌≤◌, Bool, true, false, ◌==◌, List, [], ◌∷◌, ◌++◌, Option, Some, None, length, map, replicate, flat_map, slice_get, slice_index, slice_index_or, ◌-◌}
 use Rattle.std.proofs.Common.{refl, sym, ap, ◌∙◌, subst, arith, ◌⊎◌, inl, inr, All, Contains}
 use Rattle.std.specs.Option.{option_map}
 use Rattle.std.proofs.lemmas.Bool.{and_parts, cases_Bool, cases_eq, cases_lt, eq-eqb}
@@ -8,24 +8,27 @@ use Rattle.std.proofs.lemmas.List.{length-map, length-append, length-replicate, 
 use Rattle.std.proofs.lemmas.List.Elements.{All-map, All-append, All-weaker, All-contains, All-nil, All-cons, All-head, All-tail, All-replicate, Contains-get_or, Contains-append_left, Contains-append_right, Contains-append_cases}
 use Rattle.std.proofs.lemmas.Option.{slice_get-map, slice_get_within, slice_get-get_or, get_or_from_slice_get}
 use Rattle.rtl_model.specs.basics.Lists.{is_empty}
-use Rattle.rtl_model.specs.bodies.Body.{null_of, assign, set, if_of, case_of, Stmts, done, step, no_else, branch, followed_by}
+use Rattle.rtl_model.specs.bodies.Body.{Test, null_of, assign, set, if_of, case_of, Stmts, done, step, no_else, branch, followed_by}
 use Rattle.rtl_model.specs.bodies.Assigns.{is_element, must_assign}
 use Rattle.rtl_model.specs.bodies.Fits.{Scope, DrivesType, FitsStmt, Fits}
 use Rattle.rtl_model.specs.bodies.Leaves.{value_leaves}
 use Rattle.rtl_model.specs.bodies.Types.{ElementType, nine_valued, enumeration, limit_of, IsByte, HasType, KeepsTypes}
+use Rattle.rtl_model.specs.bodies.Values.{Seen}
 use Rattle.rtl_model.specs.nets.FlatNetlist.{FlatDriver, FlatVariable, FlatProcess, ProcessInRange, DriverInRange, VariableInRange, element_starts, element_types, targets, scope_of, FlatNetlist, IsInRange}
 use Rattle.rtl_model.proofs.basics.Lists.{Contains-none, Contains-one, Contains-first, contains_in}
 use Rattle.rtl_model.proofs.bodies.Sequences.{sequences_add_up}
-use Rattle.rtl_variable_registers.specs.Bodies.{KeptVariable, of_nets, of_elements, reset_branch, with_branches, gives_constants, is_register, keeps_element, recalled, remembered, at_edge, at_reset}
+use Rattle.rtl_variable_registers.specs.Bodies.{KeptVariable, of_nets, variable_value, reset_branch, with_branches, is_register, keeps_element, recalled, remembered, at_edge, at_reset}
+use Rattle.rtl_variable_registers.specs.Known.{at_start, with_constants}
 use Rattle.rtl_variable_registers.specs.Nets.{kept_processes, kept_flat}
 use Rattle.rtl_variable_registers.specs.Processes.{kept_variables, kept_elements, kept_starts, kept_types, rank_in, drivers_from, with_nets, kept_process}
 use Rattle.rtl_variable_registers.proofs.Alike.{covered, kept_is}
 use Rattle.rtl_variable_registers.proofs.Fitting.{Extends, test_fits, body_fits, stmt_fits, value_fits}
 use Rattle.rtl_variable_registers.proofs.Putting.{eqb_other}
+use Rattle.rtl_variable_registers.proofs.Known.{are_constants, made_constants, assigns_same, constants_fit}
 use Rattle.rtl_variable_registers.proofs.Recalling.{all_elements}
-use Rattle.rtl_variable_registers.proofs.Resetting.{or_left, or_right}
+use Rattle.rtl_variable_registers.proofs.Resetting.{told, or_left, or_right}
 use Rattle.rtl_variable_registers.proofs.Running.{IsTyped, AreTyped, typed_within}
-use Rattle.rtl_variable_registers.proofs.Shapes.{reset_first, reset_behind}
+use Rattle.rtl_variable_registers.proofs.Shapes.{ByReset, reset_first, reset_behind}
 use Rattle.rtl_variable_registers.proofs.Staying.{no_register_stays}
 use Rattle.rtl_variable_registers.proofs.Tables.{typed_among, place_within}
 
@@ -200,7 +203,7 @@ module _ (types all : List ElementType) (more : (t : ElementType) (n : ℕ) → 
   remembered_fits (v ∷ vs) h c =
       (go v.type_of v.elements (h.0) (λ e k. c e (Contains-append_left v.elements (all_elements vs) e k)), remembered_fits vs h.1 (λ e k. c e (Contains-append_right v.elements (all_elements vs) e k)))
     where
-      go : (t : ElementType) (es : List ℕ) → IsTyped vtypes (record { type_of = t; elements = es }) → ((e : ℕ) → Contains es e → Contains (kept_elements p) e) → FitsStmt large (assign (map place es) (of_elements t es))
+      go : (t : ElementType) (es : List ℕ) → IsTyped vtypes (record { type_of = t; elements = es }) → ((e : ℕ) → Contains es e → Contains (kept_elements p) e) → FitsStmt large (assign (map place es) (variable_value t es))
       go nine_valued es h c = (
         nine_valued,
         (h.width, all_of (HasType vtypes nine_valued) es h.has),
@@ -220,13 +223,13 @@ module _ (types all : List ElementType) (more : (t : ElementType) (n : ℕ) → 
       ((sequences_add_up (recalled net place (kept_variables p)) (followed_by s (remembered net place (kept_variables p)))).fits large).1
       (recalled_fits (kept_variables p) typed (λ e c. c), ((sequences_add_up s (remembered net place (kept_variables p))).fits large).1 (body_fits (scope_of types p) large extends s h, remembered_fits (kept_variables p) typed (λ e c. c)))
 
-  reset_fits : (a : Stmts) → gives_constants a ≡ true → ((e : ℕ) → must_assign (is_element e) a ≡ true → Contains (kept_elements p) e) → Fits (scope_of types p) a → Fits large (at_reset net place a)
+  reset_fits : (a : Stmts) → are_constants a ≡ true → ((e : ℕ) → must_assign (is_element e) a ≡ true → Contains (kept_elements p) e) → Fits (scope_of types p) a → Fits large (at_reset net place a)
   reset_fits done g k h = tt
   reset_fits (step null_of rest) g k h = (tt, reset_fits rest g k h.1)
   reset_fits (step (assign ps v) rest) g k h =
-      (stmt_fits (scope_of types p) large extends (assign ps v) h.0, reset_fits rest (and_parts (is_empty (value_leaves v)) (gives_constants rest) g).1 (λ e c. k e (or_right (list_any (λ q. false) ps) (must_assign (is_element e) rest) c)) h.1)
+      (stmt_fits (scope_of types p) large extends (assign ps v) h.0, reset_fits rest (and_parts (is_empty (value_leaves v)) (are_constants rest) g).1 (λ e c. k e (or_right (list_any (λ q. false) ps) (must_assign (is_element e) rest) c)) h.1)
   reset_fits (step (set es v) rest) g k h =
-      let c = and_parts (is_empty (value_leaves v)) (gives_constants rest) g in (
+      let c = and_parts (is_empty (value_leaves v)) (are_constants rest) g in (
         (
           h.0.0,
           value_fits (scope_of types p) large extends h.0.0 v h.0.1,
@@ -239,14 +242,23 @@ module _ (types all : List ElementType) (more : (t : ElementType) (n : ℕ) → 
   reset_fits (step (if_of bs) rest) g k h = absurd cc
   reset_fits (step (case_of v alts) rest) g k h = absurd cc
 
+  abbrev seen : Seen
+  seen = at_start (element_starts p.variables)
+
+  told_fits : {known : ℕ → Bool} (r : Test) (a : Stmts) → ByReset known r a → ((e : ℕ) → must_assign (is_element e) a ≡ true → Contains (kept_elements p) e) → Fits (scope_of types p) a
+      → Fits large (told net place seen a)
+  told_fits {known} r a x k f =
+      reset_fits (with_constants seen a) (made_constants known seen a x.constants) (λ e i. k e (sym (assigns_same (is_element e) seen a) ∙ i))
+      (constants_fit (scope_of types p) known seen a (variables_typed p.variables in_range.variables) x.constants f)
+
   branches_fit : (body : Stmts) → is_register body ≡ true → ((e : ℕ) → must_assign (is_element e) (reset_branch body) ≡ true → Contains (kept_elements p) e) → Fits (scope_of types p) body
-      → Fits large (with_branches (at_reset net place) (at_edge net place (kept_variables p)) body)
+      → Fits large (with_branches (told net place seen) (at_edge net place (kept_variables p)) body)
   branches_fit (step (if_of (branch t s no_else)) done) h k f = ((test_fits (scope_of types p) large extends t f.0.0, edge_fits s f.0.1, tt), tt)
   branches_fit (step (if_of (branch r a (branch t s no_else))) done) h k f =
-      ((test_fits (scope_of types p) large extends r f.0.0, reset_fits a (reset_first r a t s h).0.constants k f.0.1, (test_fits (scope_of types p) large extends t f.0.2.0, edge_fits s f.0.2.1, tt)), tt)
+      ((test_fits (scope_of types p) large extends r f.0.0, told_fits r a (reset_first r a t s h).0 k f.0.1, (test_fits (scope_of types p) large extends t f.0.2.0, edge_fits s f.0.2.1, tt)), tt)
   branches_fit (step (if_of (branch t s no_else)) (step (if_of (branch r a no_else)) done)) h k f = (
     (test_fits (scope_of types p) large extends t f.0.0, edge_fits s f.0.1, tt),
-    ((test_fits (scope_of types p) large extends r f.1.0.0, reset_fits a (reset_behind t s r a h).0.constants k f.1.0.1, tt), tt),
+    ((test_fits (scope_of types p) large extends r f.1.0.0, told_fits r a (reset_behind t s r a h).0 k f.1.0.1, tt), tt),
   )
   branches_fit body h k f = absurd cc
 

@@ -1,6 +1,7 @@
 pub mod Putting
 pub mod Values
 pub mod Recalling
+pub mod Known
 pub mod Resetting
 pub mod Shapes
 pub mod Running
@@ -8,6 +9,7 @@ pub mod Tables
 pub mod Alike
 pub mod Stored
 pub mod Timing
+pub mod Straight
 pub mod Clocked
 pub mod Staying
 pub mod Fitting

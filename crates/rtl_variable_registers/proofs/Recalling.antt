@@ -9,7 +9,7 @@ use Rattle.rtl_model.specs.bodies.Types.{limit_of}
 use Rattle.rtl_model.specs.bodies.Values.{Seen, value_of}
 use Rattle.rtl_model.specs.bodies.Variables.{values_put, variables_after}
 use Rattle.rtl_model.proofs.basics.Lists.{Contains-none, Contains-first, Contains-one}
-use Rattle.rtl_variable_registers.specs.Bodies.{KeptVariable, of_nets, of_elements, recalled, remembered}
+use Rattle.rtl_variable_registers.specs.Bodies.{KeptVariable, of_nets, variable_value, recalled, remembered}
 use Rattle.rtl_variable_registers.proofs.Putting.{Contains-more, put_is_entry, entry_at_place, no_entry, own_or_none, entry_of_own}
 use Rattle.rtl_variable_registers.proofs.Values.{FitTogether, nets_value, elements_value}
 
@@ -102,13 +102,13 @@ module _ (net place : ℕ → ℕ) where
   remembered_drives_none [] seen q h = refl
   remembered_drives_none (v ∷ vs) seen q h =
       rw (remembered_drives_none vs seen q (λ e c. h e (Contains-append_right v.elements (all_elements vs) e c)))
-      (no_entry (map place v.elements) (value_of seen (of_elements v.type_of v.elements)) q
+      (no_entry (map place v.elements) (value_of seen (variable_value v.type_of v.elements)) q
       (λ p c s. let (e, k, at) = in_mapped place v.elements p c in h e (Contains-append_left v.elements (all_elements vs) e k) (at ∙ s)))
 
   one_entry_at : (seen : Seen) (v : KeptVariable) → IsHeld (slice_index seen.variables) v → (e : ℕ) → ((d : ℕ) → Contains v.elements d → place d ≡ place e → d ≡ e)
-      → entries (map place v.elements) (value_of seen (of_elements v.type_of v.elements)) (place e) ≡ entries v.elements (map (slice_index seen.variables) v.elements) e
+      → entries (map place v.elements) (value_of seen (variable_value v.type_of v.elements)) (place e) ≡ entries v.elements (map (slice_index seen.variables) v.elements) e
   one_entry_at seen v h e apart =
-      of_place v.elements (value_of seen (of_elements v.type_of v.elements)) e apart
+      of_place v.elements (value_of seen (variable_value v.type_of v.elements)) e apart
       ∙ ap (λ (values : List ℕ). entries v.elements values e) (elements_value seen v.type_of v.elements h.fit h.below)
 
   remembered_or_none : (vs : List KeptVariable) (seen : Seen) → AreHeld (slice_index seen.variables) vs → (e : ℕ) → ((d : ℕ) → Contains (all_elements vs) d → place d ≡ place e → d ≡ e)
@@ -119,7 +119,7 @@ module _ (net place : ℕ → ℕ) where
       (remembered_or_none vs seen h.1 e (λ d c. apart d (Contains-append_right v.elements (all_elements vs) d c)))
       (own_or_none (slice_index seen.variables) v.elements e)
     where
-      go : entries (map place v.elements) (value_of seen (of_elements v.type_of v.elements)) (place e) ≡ entries v.elements (map (slice_index seen.variables) v.elements) e
+      go : entries (map place v.elements) (value_of seen (variable_value v.type_of v.elements)) (place e) ≡ entries v.elements (map (slice_index seen.variables) v.elements) e
           → (effect seen (remembered net place vs) (place e) ≡ None) ⊎ (effect seen (remembered net place vs) (place e) ≡ Some (slice_index seen.variables e))
           → (entries v.elements (map (slice_index seen.variables) v.elements) e ≡ None) ⊎ (entries v.elements (map (slice_index seen.variables) v.elements) e ≡ Some (slice_index seen.variables e))
           → (effect seen (remembered net place (v ∷ vs)) (place e) ≡ None) ⊎ (effect seen (remembered net place (v ∷ vs)) (place e) ≡ Some (slice_index seen.variables e))
@@ -138,7 +138,7 @@ module _ (net place : ℕ → ℕ) where
     where
       go : (effect seen (remembered net place vs) (place e) ≡ None) ⊎ (effect seen (remembered net place vs) (place e) ≡ Some (slice_index seen.variables e))
           → (Contains (all_elements vs) e → effect seen (remembered net place vs) (place e) ≡ Some (slice_index seen.variables e))
-          → (Contains v.elements e → entries (map place v.elements) (value_of seen (of_elements v.type_of v.elements)) (place e) ≡ Some (slice_index seen.variables e))
+          → (Contains v.elements e → entries (map place v.elements) (value_of seen (variable_value v.type_of v.elements)) (place e) ≡ Some (slice_index seen.variables e))
           → Contains v.elements e ⊎ Contains (all_elements vs) e → effect seen (remembered net place (v ∷ vs)) (place e) ≡ Some (slice_index seen.variables e)
       go (inr b) rest first c = rw b
       go (inl a) rest first (inl k) = rw a (first k)

@@ -26,11 +26,13 @@ use Rattle.rtl_model.proofs.bodies.Looking.{as_many_after}
 use Rattle.rtl_model.proofs.bodies.LooksRead.{looks_at_reads}
 use Rattle.rtl_model.proofs.bodies.Ranges.{entries_keep_types}
 use Rattle.rtl_model.proofs.bodies.Sequences.{or_else-none, later_replaces, sequences_add_up}
-use Rattle.rtl_variable_registers.specs.Bodies.{KeptVariable, of_elements, recalled, remembered, at_edge, at_reset}
+use Rattle.rtl_variable_registers.specs.Bodies.{KeptVariable, variable_value, recalled, remembered, at_edge}
+use Rattle.rtl_variable_registers.specs.Known.{with_constants}
+use Rattle.rtl_variable_registers.proofs.Known.{are_constants, made_constants, assigns_same, DoesSame, constants_run}
 use Rattle.rtl_variable_registers.proofs.Recalling.{all_elements, AreHeld, length-recalled, recalled_gives, recalled_drives_none, remembered_drives_none, remembered_gives}
-use Rattle.rtl_variable_registers.proofs.Resetting.{unwrapped, same_entries, kept_entries, AreBelow}
+use Rattle.rtl_variable_registers.proofs.Resetting.{told, unwrapped, same_entries, kept_entries, AreBelow}
 use Rattle.rtl_variable_registers.proofs.Shapes.{AtEdge, ByReset, edge_test_reads}
-use Rattle.rtl_variable_registers.proofs.Values.{FitTogether, on_both}
+use Rattle.rtl_variable_registers.proofs.Values.{FitTogether, Agree, on_both}
 
 -- ---- variables that are kept, each of its type
 
@@ -65,7 +67,7 @@ remembered_reads : (net place : ℕ → ℕ) (vs : List KeptVariable) → reads 
 remembered_reads net place [] = refl
 remembered_reads net place (v ∷ vs) = go v.type_of (remembered_reads net place vs)
   where
-    go : (t : ElementType) → reads (remembered net place vs) ≡ [] → reads (step (assign (map place v.elements) (of_elements t v.elements)) (remembered net place vs)) ≡ []
+    go : (t : ElementType) → reads (remembered net place vs) ≡ [] → reads (step (assign (map place v.elements) (variable_value t v.elements)) (remembered net place vs)) ≡ []
     go nine_valued h = h
     go (enumeration n) h = h
 
@@ -73,7 +75,7 @@ pub remembered_events : (net place : ℕ → ℕ) (vs : List KeptVariable) → e
 remembered_events net place [] = refl
 remembered_events net place (v ∷ vs) = remembered_events net place vs
 
-looks_at_own : (t : ElementType) (es : List ℕ) → FitTogether t es → (e : ℕ) → value_looks_at e (of_elements t es) ≡ true → Contains es e
+looks_at_own : (t : ElementType) (es : List ℕ) → FitTogether t es → (e : ℕ) → value_looks_at e (variable_value t es) ≡ true → Contains es e
 looks_at_own nine_valued es fit e h = in_contains es e h
 looks_at_own (enumeration n) es fit e h = (0, (let l = fit.one n refl in omega arith), (let s = eqb-true (slice_index es 0) e h in first es (fit.one n refl) s))
   where
@@ -85,15 +87,15 @@ pub remembered_stores : (net place : ℕ → ℕ) (types : List ElementType) (vs
 remembered_stores net place types [] h e k = absurd cc
 remembered_stores net place types (v ∷ vs) h e k =
     go (λ i. remembered_stores net place types vs h.1 e i)
-    (or_cases (value_looks_at e (of_elements v.type_of v.elements)) (not (stmt_must_assign (is_element e) (assign (map place v.elements) (of_elements v.type_of v.elements))) && stores_element e (remembered net place vs)) k)
+    (or_cases (value_looks_at e (variable_value v.type_of v.elements)) (not (stmt_must_assign (is_element e) (assign (map place v.elements) (variable_value v.type_of v.elements))) && stores_element e (remembered net place vs)) k)
   where
     go : (stores_element e (remembered net place vs) ≡ true → Contains (all_elements vs) e)
-        → (value_looks_at e (of_elements v.type_of v.elements) ≡ true) ⊎ (not (stmt_must_assign (is_element e) (assign (map place v.elements) (of_elements v.type_of v.elements))) && stores_element e (remembered net place vs) ≡ true)
+        → (value_looks_at e (variable_value v.type_of v.elements) ≡ true) ⊎ (not (stmt_must_assign (is_element e) (assign (map place v.elements) (variable_value v.type_of v.elements))) && stores_element e (remembered net place vs) ≡ true)
         → Contains (all_elements (v ∷ vs)) e
     go rest (inl i) = Contains-append_left v.elements (all_elements vs) e (looks_at_own v.type_of v.elements h.0.fit e i)
     go rest (inr i) =
         Contains-append_right v.elements (all_elements vs) e
-        (rest (and_parts (not (stmt_must_assign (is_element e) (assign (map place v.elements) (of_elements v.type_of v.elements)))) (stores_element e (remembered net place vs)) i).1)
+        (rest (and_parts (not (stmt_must_assign (is_element e) (assign (map place v.elements) (variable_value v.type_of v.elements)))) (stores_element e (remembered net place vs)) i).1)
 
 -- ---- two runs
 
@@ -168,9 +170,9 @@ module _ (scope : Scope) (net place : ℕ → ℕ) (vs : List KeptVariable) (lef
       ∙ sym (edge_meets t h.clock h.edge left h.tests)
 
   -- whatever the variables are
-  pub reset_met : (r : Test) (a : Stmts) → ByReset r a → AgreeOn (test_reads r) left.now other.now → (xs ys : List ℕ)
+  pub reset_met : (known : ℕ → Bool) (r : Test) (a : Stmts) → ByReset known r a → AgreeOn (test_reads r) left.now other.now → (xs ys : List ℕ)
       → is_met (record other { variables = xs }) r ≡ is_met (record left { variables = ys }) r
-  reset_met r a h now xs ys =
+  reset_met known r a h now xs ys =
       ap (is_met (record other { variables = xs })) h.is
       ∙ ap (λ (x : ℕ). is_same (value_of_code x) h.v) (sym (now h.net (subst (λ (t : Test). Contains (test_reads t) h.net) (sym h.is) (Contains-first h.net []))))
       ∙ sym (ap (is_met (record left { variables = ys })) h.is)
@@ -239,17 +241,28 @@ module _ (scope : Scope) (net place : ℕ → ℕ) (vs : List KeptVariable) (lef
   abbrev SetsKept : Stmts → Type 0
   SetsKept a = (e : ℕ) → must_assign (is_element e) a ≡ true → IsKept e
 
-  pub reset_alike : (r : Test) (a : Stmts) → ByReset r a → SetsKept a → AreBelow (length scope.targets) a → BodiesAlike (at_reset net place a) a
-  reset_alike r a h sets below = record {
-    entries = λ q l. same_entries (length scope.targets) net place IsKept runs.above runs.apart a h.constants sets left other q l;
-    kept = λ e c. kept_entries (length scope.targets) net place IsKept runs.above runs.apart a h.constants sets below left other e c (let l = within e c in let m = runs.as_many in omega arith);
-  }
+  sets_too : (seen : Seen) (a : Stmts) → SetsKept a → SetsKept (with_constants seen a)
+  sets_too seen a h e k = h e (sym (assigns_same (is_element e) seen a) ∙ k)
 
-  -- behind an if it replaces what that gives, and reads no variable
-  pub behind_alike : (news olds : Branches) → BranchesAlike news olds → (r : Test) (a : Stmts) → ByReset r a → AgreeOn (test_reads r) left.now other.now
-      → SetsKept a → AreBelow (length scope.targets) a
-      → BodiesAlike (step (if_of news) (step (if_of (branch r (at_reset net place a) no_else)) done)) (step (if_of olds) (step (if_of (branch r a no_else)) done))
-  behind_alike news olds h r a x now sets below = record { entries = λ q l. entered q l (is_met other' r) (is_met left' r) met; kept = λ e i. given e i (is_met other' r) (is_met left' r) met }
+  -- by what is known at first, and what is seen of it
+  pub reset_alike : (known : ℕ → Bool) (seen : Seen) (r : Test) (a : Stmts) → ByReset known r a → Agree known left seen → length left.variables ≡ length seen.variables
+      → SetsKept a → AreBelow (length scope.targets) (with_constants seen a) → BodiesAlike (told net place seen a) a
+  reset_alike known seen r a h agree many sets below =
+      let new = with_constants seen a in
+      let all = made_constants known seen a h.constants in
+      let set_too = sets_too seen a sets in
+      let does = constants_run known seen left a h.constants agree many in
+      record {
+        entries = λ q l. same_entries (length scope.targets) net place IsKept runs.above runs.apart new all set_too left other q l ∙ does.entries q;
+        kept = λ e c. kept_entries (length scope.targets) net place IsKept runs.above runs.apart new all set_too below left other e c (let l = within e c in let m = runs.as_many in omega arith)
+            ∙ ap (λ (values : List ℕ). slice_index values e) does.variables;
+      }
+
+  -- behind an if it replaces what that gives, and sees what is known as it was
+  pub behind_alike : (news olds : Branches) → BranchesAlike news olds → (known : ℕ → Bool) (seen : Seen) (r : Test) (a : Stmts) → ByReset known r a → AgreeOn (test_reads r) left.now other.now
+      → Agree known (after_stmt left (if_of olds)) seen → length left.variables ≡ length seen.variables → SetsKept a → AreBelow (length scope.targets) (with_constants seen a)
+      → BodiesAlike (step (if_of news) (step (if_of (branch r (told net place seen a) no_else)) done)) (step (if_of olds) (step (if_of (branch r a no_else)) done))
+  behind_alike news olds h known seen r a x now agree many sets below = record { entries = λ q l. entered q l (is_met other' r) (is_met left' r) met; kept = λ e i. given e i (is_met other' r) (is_met left' r) met }
     where
       other' : Seen
       other' = after_stmt other (if_of news)
@@ -258,23 +271,35 @@ module _ (scope : Scope) (net place : ℕ → ℕ) (vs : List KeptVariable) (lef
       left' = after_stmt left (if_of olds)
 
       met : is_met other' r ≡ is_met left' r
-      met = reset_met r a x now other'.variables left'.variables
+      met = reset_met known r a x now other'.variables left'.variables
+
+      new : Stmts
+      new = with_constants seen a
+
+      all : are_constants new ≡ true
+      all = made_constants known seen a x.constants
+
+      many_left : length left'.variables ≡ length left.variables
+      many_left = as_many_after left (step (if_of olds) done)
+
+      does : DoesSame left' new a
+      does = constants_run known seen left' a x.constants agree (many_left ∙ many)
 
       entered : (q : ℕ) → q < length scope.targets → (b c : Bool) → b ≡ c
-          → or_else (entries_if b (effect other' (at_reset net place a)) no_entries q) (branches_effect other news q) ≡ or_else (entries_if c (effect left' a) no_entries q) (branches_effect left olds q)
-      entered q l true true e = on_both or_else (same_entries (length scope.targets) net place IsKept runs.above runs.apart a x.constants sets left' other' q l) (h.entries q l)
+          → or_else (entries_if b (effect other' (told net place seen a)) no_entries q) (branches_effect other news q) ≡ or_else (entries_if c (effect left' a) no_entries q) (branches_effect left olds q)
+      entered q l true true e = on_both or_else (same_entries (length scope.targets) net place IsKept runs.above runs.apart new all (sets_too seen a sets) left' other' q l ∙ does.entries q) (h.entries q l)
       entered q l false false e = h.entries q l
       entered q l true false e = absurd cc
       entered q l false true e = absurd cc
 
       given : (e : ℕ) → IsKept e → (b c : Bool) → b ≡ c
-          → unwrap_or (or_else (entries_if b (effect other' (at_reset net place a)) no_entries (place e)) (branches_effect other news (place e))) (slice_index left.variables e)
+          → unwrap_or (or_else (entries_if b (effect other' (told net place seen a)) no_entries (place e)) (branches_effect other news (place e))) (slice_index left.variables e)
           ≡ slice_index (cond c (variables_after left' a) left'.variables) e
       given e i true true s =
-          let many = as_many_after left (step (if_of olds) done) in
-          unwrapped (effect other' (at_reset net place a) (place e)) (branches_effect other news (place e)) (slice_index left.variables e)
-          ∙ ap (unwrap_or (effect other' (at_reset net place a) (place e))) (h.kept e i)
-          ∙ kept_entries (length scope.targets) net place IsKept runs.above runs.apart a x.constants sets below left' other' e i (let n = within e i in let m = runs.as_many in omega arith)
+          unwrapped (effect other' (told net place seen a) (place e)) (branches_effect other news (place e)) (slice_index left.variables e)
+          ∙ ap (unwrap_or (effect other' (told net place seen a) (place e))) (h.kept e i)
+          ∙ kept_entries (length scope.targets) net place IsKept runs.above runs.apart new all (sets_too seen a sets) below left' other' e i (let n = within e i in let m = runs.as_many in let k = many_left in omega arith)
+          ∙ ap (λ (values : List ℕ). slice_index values e) does.variables
       given e i false false s = h.kept e i
       given e i true false s = absurd cc
       given e i false true s = absurd cc

@@ -9,7 +9,8 @@ use Rattle.rtl_model.specs.bodies.Kinds.{IsEdgeTest, rising_call, falling_call, 
 use Rattle.rtl_model.specs.bodies.Reads.{events, test_reads}
 use Rattle.rtl_model.proofs.basics.Lists.{Contains-first, is_nil}
 use Rattle.rtl_model.proofs.bodies.EdgeTests.{is_edge_test, is_reset_test}
-use Rattle.rtl_variable_registers.specs.Bodies.{is_register, gives_constants}
+use Rattle.rtl_variable_registers.specs.Bodies.{is_register}
+use Rattle.rtl_variable_registers.specs.Known.{gives_constants, never_set}
 
 -- the last branch of a register
 pub record AtEdge (t : Test) (s : Stmts) : Type 0 where
@@ -29,19 +30,19 @@ edge_alone t s h =
     at_edge_of t s (is_empty (events s)) (edge_test t) None refl refl
     (and_parts (is_some (clocking_of true (is_empty (events s)) (edge_test t) s None)) true h).0
 
--- a register's reset
-pub record ByReset (r : Test) (a : Stmts) : Type 0 where
+-- a register's reset, by what is known at first
+pub record ByReset (known : ℕ → Bool) (r : Test) (a : Stmts) : Type 0 where
   pub plain : Bool
   pub net : ℕ
   pub v : Nine
   pub is : r ≡ level plain net v
-  pub constants : gives_constants a ≡ true
+  pub constants : gives_constants known a ≡ true
 
-module _ (gates : Bool) (r : Test) (a : Stmts) (t : Test) (s : Stmts) where
+module _ (gates : Bool) (known : ℕ → Bool) (r : Test) (a : Stmts) (t : Test) (s : Stmts) where
   abbrev with_edge : Option ResetTest → Bool
   with_edge o = is_some (with_reset gates o true (is_empty (events s)) (edge_test t) done s)
 
-  parts_of : (o : Option ResetTest) → reset_test true [] r ≡ o → with_edge o ≡ true → gives_constants a ≡ true → ByReset r a × AtEdge t s
+  parts_of : (o : Option ResetTest) → reset_test true [] r ≡ o → with_edge o ≡ true → gives_constants known a ≡ true → ByReset known r a × AtEdge t s
   parts_of None h k g = absurd cc
   parts_of (Some x) h k g =
       let i = is_reset_test true [] r x h in (
@@ -49,15 +50,20 @@ module _ (gates : Bool) (r : Test) (a : Stmts) (t : Test) (s : Stmts) where
         at_edge_of t s (is_empty (events s)) (edge_test t) (Some (record { test = x; branch = done; gates = gates })) refl refl k,
       )
 
-  both_parts : with_edge (reset_test true [] r) && gives_constants a ≡ true → ByReset r a × AtEdge t s
-  both_parts h = let (c, g) = and_parts (with_edge (reset_test true [] r)) (gives_constants a) h in parts_of (reset_test true [] r) refl c g
+  both_parts : with_edge (reset_test true [] r) && gives_constants known a ≡ true → ByReset known r a × AtEdge t s
+  both_parts h = let (c, g) = and_parts (with_edge (reset_test true [] r)) (gives_constants known a) h in parts_of (reset_test true [] r) refl c g
 
-pub reset_first : (r : Test) (a : Stmts) (t : Test) (s : Stmts) → is_register (step (if_of (branch r a (branch t s no_else))) done) ≡ true → ByReset r a × AtEdge t s
-reset_first r a t s h = both_parts true r a t s h
+abbrev first_body : (r : Test) (a : Stmts) (t : Test) (s : Stmts) → Stmts
+first_body r a t s = step (if_of (branch r a (branch t s no_else))) done
 
-pub reset_behind : (t : Test) (s : Stmts) (r : Test) (a : Stmts) → is_register (step (if_of (branch t s no_else)) (step (if_of (branch r a no_else)) done)) ≡ true
-    → ByReset r a × AtEdge t s
-reset_behind t s r a h = both_parts false r a t s h
+pub reset_first : (r : Test) (a : Stmts) (t : Test) (s : Stmts) → is_register (first_body r a t s) ≡ true → ByReset (never_set (first_body r a t s)) r a × AtEdge t s
+reset_first r a t s h = both_parts true (never_set (first_body r a t s)) r a t s h
+
+abbrev behind_body : (t : Test) (s : Stmts) (r : Test) (a : Stmts) → Stmts
+behind_body t s r a = step (if_of (branch t s no_else)) (step (if_of (branch r a no_else)) done)
+
+pub reset_behind : (t : Test) (s : Stmts) (r : Test) (a : Stmts) → is_register (behind_body t s r a) ≡ true → ByReset (never_set (behind_body t s r a)) r a × AtEdge t s
+reset_behind t s r a h = both_parts false (never_set (behind_body t s r a)) r a t s h
 
 -- an edge test reads its clock
 pub edge_test_reads : (t : Test) (clock : ℕ) (edge : Edge) → IsEdgeTest t clock edge → Contains (test_reads t) clock

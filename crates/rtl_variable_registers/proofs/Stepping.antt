@@ -20,16 +20,18 @@ use Rattle.rtl_model.proofs.bodies.Ranges.{entries_keep_types}
 use Rattle.rtl_model.proofs.bodies.There.{each_read_is_there}
 use Rattle.rtl_variable_registers.specs.Beside.{HasVariables}
 use Rattle.rtl_variable_registers.specs.Bodies.{is_register}
+use Rattle.rtl_variable_registers.specs.Known.{sets_element}
 use Rattle.rtl_variable_registers.specs.Laws.{RunsAlike}
 use Rattle.rtl_variable_registers.specs.Processes.{kept_elements, kept_process, rank_in}
 use Rattle.rtl_variable_registers.proofs.Alike.{each_runs_alike}
+use Rattle.rtl_variable_registers.proofs.Known.{body_unset, not_set}
 use Rattle.rtl_variable_registers.proofs.Rows.{map_taken}
 use Rattle.rtl_variable_registers.proofs.Staying.{drivers_are, variables_stay, no_register_stays, keeps_if_register}
 
 -- A process p, among nets of these types; the values of all nets before and now, those of the variables' elements, and
 -- the nets of the kept ones from `first` on.
 module _ (types : List ElementType) (first : ℕ) (p : FlatProcess) (in_range : ProcessInRange types p) (none : (e : ℕ) → is_register p.body ≡ false → stores_element e p.body ≡ false)
-    (before now variables : List ℕ) (nets : KeepsTypes types (take (length types) now)) (has : HasVariables p.variables variables)
+    (before now variables : List ℕ) (nets : KeepsTypes types (take (length types) now)) (has : HasVariables p variables)
     (held : (e : ℕ) → Contains (kept_elements p) e → slice_index now (first + rank_in (kept_elements p) e) ≡ slice_index variables e) where
   abbrev by_itself : Seen
   by_itself = record { before = take (length types) before; now = take (length types) now; variables = variables }
@@ -55,6 +57,7 @@ module _ (types : List ElementType) (first : ℕ) (p : FlatProcess) (in_range : 
     before = before_agrees;
     as_many = has.many;
     net_many = ap (λ vs. length (element_starts vs)) (variables_stay first p);
+    unset = λ looks. has.unset;
     kept = held;
   })
 
@@ -84,8 +87,9 @@ module _ (types : List ElementType) (first : ℕ) (p : FlatProcess) (in_range : 
       → unwrap_or (effect by_nets (kept_process first p).body (length p.drivers + rank_in (kept_elements p) e)) (slice_index variables e) ≡ slice_index (variables_after by_itself p.body) e
   element_left e c = (alike (keeps_if_register p e c)).kept e c
 
-  pub variables_left : HasVariables p.variables (variables_after by_itself p.body)
+  pub variables_left : HasVariables p (variables_after by_itself p.body)
   variables_left = record {
     many = as_many_after by_itself p.body ∙ has.many;
     typed = (entries_keep_types (scope_of types p) p.body by_itself in_range.body sees).variables;
+    unset = λ e k. body_unset e p.body by_itself (not_set (sets_element e p.body) k) ∙ has.unset e k;
   }

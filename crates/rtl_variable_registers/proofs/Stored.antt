@@ -11,18 +11,21 @@ use Rattle.rtl_model.specs.bodies.Kinds.{IsEdgeTest, rising_call, falling_call, 
 use Rattle.rtl_model.specs.bodies.Leaves.{value_leaves, leaf_looks_at}
 use Rattle.rtl_model.specs.bodies.Stored.{value_looks_at, test_looks_at, stores_element}
 use Rattle.rtl_model.specs.bodies.Types.{ElementType, nine_valued, enumeration}
-use Rattle.rtl_model.specs.nets.FlatNetlist.{FlatProcess, element_types}
+use Rattle.rtl_model.specs.bodies.Values.{Seen}
+use Rattle.rtl_model.specs.nets.FlatNetlist.{FlatProcess, element_types, element_starts}
 use Rattle.rtl_model.proofs.basics.Lists.{is_in, in_contains, contains_in, Contains-none, is_nil}
 use Rattle.rtl_model.proofs.bodies.Leaves.{leaves_tell}
 use Rattle.rtl_model.proofs.bodies.Sequences.{sequences_add_up}
-use Rattle.rtl_variable_registers.specs.Bodies.{KeptVariable, of_nets, with_branches, gives_constants, is_register, keeps_element, recalled, remembered, at_edge, at_reset}
+use Rattle.rtl_variable_registers.specs.Bodies.{KeptVariable, of_nets, with_branches, is_register, keeps_element, recalled, remembered, at_edge, at_reset}
+use Rattle.rtl_variable_registers.specs.Known.{at_start, with_constants}
 use Rattle.rtl_variable_registers.specs.Laws.{NothingIsStored}
 use Rattle.rtl_variable_registers.specs.Processes.{kept_variables, kept_elements, rank_in}
 use Rattle.rtl_variable_registers.proofs.Alike.{Covered, covered, kept_is}
+use Rattle.rtl_variable_registers.proofs.Known.{are_constants, made_constants}
 use Rattle.rtl_variable_registers.proofs.Recalling.{all_elements}
-use Rattle.rtl_variable_registers.proofs.Resetting.{or_left, or_right}
+use Rattle.rtl_variable_registers.proofs.Resetting.{told, or_left, or_right}
 use Rattle.rtl_variable_registers.proofs.Running.{AreTyped, remembered_stores}
-use Rattle.rtl_variable_registers.proofs.Shapes.{AtEdge, edge_alone, reset_first, reset_behind}
+use Rattle.rtl_variable_registers.proofs.Shapes.{AtEdge, ByReset, edge_alone, reset_first, reset_behind}
 use Rattle.rtl_variable_registers.proofs.Tables.{typed_among}
 
 and_none : (a b : Bool) → b ≡ false → a && b ≡ false
@@ -51,14 +54,14 @@ edge_looks_none t s h e = go h.tests
 constant_looks_none : (v : Value) → is_empty (value_leaves v) ≡ true → (e : ℕ) → value_looks_at e v ≡ false
 constant_looks_none v h e = leaves_tell.value_looks_are e v ∙ ap (list_any (leaf_looks_at e)) (is_nil (value_leaves v) h)
 
-reset_stores_none : (net place : ℕ → ℕ) (a : Stmts) → gives_constants a ≡ true → (e : ℕ) → stores_element e (at_reset net place a) ≡ false
+reset_stores_none : (net place : ℕ → ℕ) (a : Stmts) → are_constants a ≡ true → (e : ℕ) → stores_element e (at_reset net place a) ≡ false
 reset_stores_none net place done g e = refl
 reset_stores_none net place (step null_of rest) g e = reset_stores_none net place rest g e
 reset_stores_none net place (step (assign ps v) rest) g e =
-    let (c, d) = and_parts (is_empty (value_leaves v)) (gives_constants rest) g in
+    let (c, d) = and_parts (is_empty (value_leaves v)) (are_constants rest) g in
     or_none (value_looks_at e v) _ (constant_looks_none v c e) (and_none _ (stores_element e (at_reset net place rest)) (reset_stores_none net place rest d e))
 reset_stores_none net place (step (set es v) rest) g e =
-    let (c, d) = and_parts (is_empty (value_leaves v)) (gives_constants rest) g in
+    let (c, d) = and_parts (is_empty (value_leaves v)) (are_constants rest) g in
     or_none (value_looks_at e v) _ (constant_looks_none v c e) (and_none _ (stores_element e (at_reset net place rest)) (reset_stores_none net place rest d e))
 reset_stores_none net place (step (if_of bs) rest) g e = absurd cc
 reset_stores_none net place (step (case_of v alts) rest) g e = absurd cc
@@ -102,36 +105,39 @@ edge_stores_none net place types vs s typed stored e =
 
 -- ---- bodies
 
-body_stores_none : (net place : ℕ → ℕ) (types : List ElementType) (vs : List KeptVariable) (body : Stmts) → AreTyped types vs → is_register body ≡ true → Covered vs body
-    → (e : ℕ) → stores_element e (with_branches (at_reset net place) (at_edge net place vs) body) ≡ false
-body_stores_none net place types vs (step (if_of (branch t s no_else)) done) typed h c e =
+told_stores_none : (net place : ℕ → ℕ) {known : ℕ → Bool} (seen : Seen) (r : Test) (a : Stmts) → ByReset known r a → (e : ℕ) → stores_element e (told net place seen a) ≡ false
+told_stores_none net place {known} seen r a x e = reset_stores_none net place (with_constants seen a) (made_constants known seen a x.constants) e
+
+body_stores_none : (net place : ℕ → ℕ) (seen : Seen) (types : List ElementType) (vs : List KeptVariable) (body : Stmts) → AreTyped types vs → is_register body ≡ true → Covered vs body
+    → (e : ℕ) → stores_element e (with_branches (told net place seen) (at_edge net place vs) body) ≡ false
+body_stores_none net place seen types vs (step (if_of (branch t s no_else)) done) typed h c e =
     let stored = λ (d : ℕ) (k : stores_element d s ≡ true). c.0 d (or_left (test_looks_at d t || (stores_element d s || false)) _ (or_right (test_looks_at d t) (stores_element d s || false) (or_left (stores_element d s) false k))) in
     or_none (test_looks_at e t || (stores_element e (at_edge net place vs s) || false)) _
     (or_none (test_looks_at e t) _ (edge_looks_none t s (edge_alone t s h) e) (or_none (stores_element e (at_edge net place vs s)) false (edge_stores_none net place types vs s typed stored e) refl))
     (and_none _ false refl)
-body_stores_none net place types vs (step (if_of (branch r a (branch t s no_else))) done) typed h c e =
+body_stores_none net place seen types vs (step (if_of (branch r a (branch t s no_else))) done) typed h c e =
     let (x, y) = reset_first r a t s h in
-    let stored = λ (d : ℕ) (k : stores_element d s ≡ true). c.0 d (or_left (test_looks_at d r || (stores_element d a || (test_looks_at d t || (stores_element d s || false)))) _
-    (or_right (test_looks_at d r) _ (or_right (stores_element d a) _ (or_right (test_looks_at d t) _ (or_left (stores_element d s) false k))))) in
-    or_none (test_looks_at e r || (stores_element e (at_reset net place a) || (test_looks_at e t || (stores_element e (at_edge net place vs s) || false)))) _
+    let stored = λ (d : ℕ) (k : stores_element d s ≡ true). c.0 d (or_left (test_looks_at d r || (test_looks_at d t || (stores_element d s || false))) _
+    (or_right (test_looks_at d r) _ (or_right (test_looks_at d t) _ (or_left (stores_element d s) false k)))) in
+    or_none (test_looks_at e r || (stores_element e (told net place seen a) || (test_looks_at e t || (stores_element e (at_edge net place vs s) || false)))) _
     (or_none (test_looks_at e r) _ (ap (test_looks_at e) x.is)
-    (or_none (stores_element e (at_reset net place a)) _ (reset_stores_none net place a x.constants e)
+    (or_none (stores_element e (told net place seen a)) _ (told_stores_none net place seen r a x e)
     (or_none (test_looks_at e t) _ (edge_looks_none t s y e) (or_none (stores_element e (at_edge net place vs s)) false (edge_stores_none net place types vs s typed stored e) refl))))
     (and_none _ false refl)
-body_stores_none net place types vs (step (if_of (branch t s no_else)) (step (if_of (branch r a no_else)) done)) typed h c e =
+body_stores_none net place seen types vs (step (if_of (branch t s no_else)) (step (if_of (branch r a no_else)) done)) typed h c e =
     let (x, y) = reset_behind t s r a h in
     let stored = λ (d : ℕ) (k : stores_element d s ≡ true). c.0 d (or_left (test_looks_at d t || (stores_element d s || false)) _ (or_right (test_looks_at d t) (stores_element d s || false) (or_left (stores_element d s) false k))) in
     or_none (test_looks_at e t || (stores_element e (at_edge net place vs s) || false)) _
     (or_none (test_looks_at e t) _ (edge_looks_none t s y e) (or_none (stores_element e (at_edge net place vs s)) false (edge_stores_none net place types vs s typed stored e) refl))
-    (and_none _ _ (or_none (test_looks_at e r || (stores_element e (at_reset net place a) || false)) _
-    (or_none (test_looks_at e r) _ (ap (test_looks_at e) x.is) (or_none (stores_element e (at_reset net place a)) false (reset_stores_none net place a x.constants e) refl)) (and_none _ false refl)))
-body_stores_none net place types vs body typed h c e = absurd cc
+    (and_none _ _ (or_none (test_looks_at e r || (stores_element e (told net place seen a) || false)) _
+    (or_none (test_looks_at e r) _ (ap (test_looks_at e) x.is) (or_none (stores_element e (told net place seen a)) false (told_stores_none net place seen r a x e) refl)) (and_none _ false refl)))
+body_stores_none net place seen types vs body typed h c e = absurd cc
 
 pub nothing_is_stored : NothingIsStored
 nothing_is_stored types first p in_range register e =
     let net = λ (d : ℕ). first + rank_in (kept_elements p) d in
     let place = λ (d : ℕ). length p.drivers + rank_in (kept_elements p) d in
     ap (λ (k : FlatProcess). stores_element e k.body) (kept_is first p register)
-    ∙ body_stores_none net place (element_types p.variables) (kept_variables p) p.body
+    ∙ body_stores_none net place (at_start (element_starts p.variables)) (element_types p.variables) (kept_variables p) p.body
     (typed_among (element_types p.variables) (keeps_element p.body) 0 p.variables in_range.variables (λ k. let s : 0 + k ≡ k = omega arith in ap (slice_get (element_types p.variables)) s))
     register (covered types p in_range register) e

@@ -1,5 +1,9 @@
--- Values that look at nothing, and values of nets and of elements.
-use Rattle.std.proofs.Common.{◌≡◌, ℕ, ◌<◌, List, [], ◌∷◌, length, map, replicate, slice_index, slice_index_or, refl, ap, ◌∙◌, arith, Contains}
+-- Values that look at what is known alone, and values of nets and of elements.
+use Rattle.std.proofs.Common.{◌≡◌, ℕ, ◌<◌, Bool, true, false, ◌&&◌, List, [], ◌∷◌, length, map, replicate, slice_index, slice_index_or, refl, sym, ap, ◌∙◌, arith, Contains}
+use Rattle.std.specs.List.{list_all}
+use Rattle.std.proofs.lemmas.Bool.{and_parts}
+use Rattle.std.proofs.lemmas.List.Folds.{list_all-append}
+use Rattle.vhdl_values.specs.declared.scalar.Nine.{Nine}
 use Rattle.vhdl_values.specs.declared.scalar.Nine.TheVariants.{X, Zero}
 use Rattle.vhdl_values.specs.Logic.{not_of_all}
 use Rattle.vhdl_values.specs.Planes.{code_of-value_of_code}
@@ -10,31 +14,50 @@ use Rattle.rtl_model.specs.bodies.Body.{Value, elements, position, position_of, 
 use Rattle.rtl_model.specs.bodies.Leaves.{expr_leaves, value_leaves}
 use Rattle.rtl_model.specs.bodies.Types.{ElementType, nine_valued, enumeration, limit_of}
 use Rattle.rtl_model.specs.bodies.Values.{Seen, element_at, elements_of, value_of, operation_result}
-use Rattle.rtl_model.proofs.basics.Lists.{Contains-first, nil_parts}
-use Rattle.rtl_variable_registers.specs.Bodies.{of_nets, of_elements}
+use Rattle.rtl_model.proofs.basics.Lists.{Contains-first}
+use Rattle.rtl_variable_registers.specs.Bodies.{of_nets, variable_value}
+use Rattle.rtl_variable_registers.specs.Known.{leaf_is_known, is_known}
 use Rattle.rtl_variable_registers.proofs.Putting.{Contains-more}
 
 pub on_both : {A B C : Type 0} (f : A → B → C) {a a' : A} {b b' : B} → a ≡ a' → b ≡ b' → f a b ≡ f a' b'
 on_both f p q i = f (p i) (q i)
 
+-- ---- values that look at what is known alone
+
+-- what is known of the variables is the same in both
+abbrev pub Agree : (known : ℕ → Bool) → (a b : Seen) → Type 0
+Agree known a b = (e : ℕ) → known e ≡ true → slice_index a.variables e ≡ slice_index b.variables e
+
+module _ (known : ℕ → Bool) (a b : Seen) (agree : Agree known a b) where
+  names_known : (es : List ℕ) → list_all known es ≡ true → map (element_at a.variables) es ≡ map (element_at b.variables) es
+  names_known [] h = refl
+  names_known (e ∷ es) h =
+      let (c, d) = and_parts (known e) (list_all known es) h in
+      on_both (λ (x : Nine) (xs : List Nine). x ∷ xs) (ap value_of_code (agree e c)) (names_known es d)
+
+  expr_known : (e : Expr) → list_all (leaf_is_known known) (expr_leaves e) ≡ true → elements_of a e ≡ elements_of b e
+  expr_known (signal nets) h = absurd cc
+  expr_known (variable es) h = names_known es (and_parts (list_all known es) true h).0
+  expr_known (constant vs) h = refl
+  expr_known (inverse e) h = ap not_of_all (expr_known e h)
+  expr_known (filled len e) h = ap (λ vs. replicate len (slice_index_or vs 0 X)) (expr_known e h)
+  expr_known (binary op d e) h =
+      let all = list_all (leaf_is_known known) in
+      let (c, k) = and_parts (all (expr_leaves d)) (all (expr_leaves e)) (sym (list_all-append (leaf_is_known known) (expr_leaves d) (expr_leaves e)) ∙ h) in
+      on_both (operation_result op) (expr_known d c) (expr_known e k)
+  expr_known (counted op count e) h = ap (counted_of Zero op count) (expr_known e h)
+
+  pub value_known : (v : Value) → is_known known v ≡ true → value_of a v ≡ value_of b v
+  value_known (elements e) h = ap (map code_of) (expr_known e h)
+  value_known (position n) h = refl
+  value_known (position_of n) h = absurd cc
+  value_known (position_in e) h =
+      ap (λ (n : ℕ). n ∷ []) (agree e (and_parts (known e) true (and_parts (known e && true) true h).0).0)
+
 -- ---- values that look at nothing
 
-expr_same : (a b : Seen) (e : Expr) → expr_leaves e ≡ [] → elements_of a e ≡ elements_of b e
-expr_same a b (signal nets) h = absurd cc
-expr_same a b (variable es) h = absurd cc
-expr_same a b (constant vs) h = refl
-expr_same a b (inverse e) h = ap not_of_all (expr_same a b e h)
-expr_same a b (filled len e) h = ap (λ vs. replicate len (slice_index_or vs 0 X)) (expr_same a b e h)
-expr_same a b (binary op d e) h =
-    let n = nil_parts (expr_leaves d) (expr_leaves e) h in
-    on_both (operation_result op) (expr_same a b d n.0) (expr_same a b e n.1)
-expr_same a b (counted op count e) h = ap (counted_of Zero op count) (expr_same a b e h)
-
 pub value_same : (a b : Seen) (v : Value) → value_leaves v ≡ [] → value_of a v ≡ value_of b v
-value_same a b (elements e) h = ap (map code_of) (expr_same a b e h)
-value_same a b (position n) h = refl
-value_same a b (position_of n) h = absurd cc
-value_same a b (position_in e) h = absurd cc
+value_same a b v h = value_known (λ e. false) a b (λ e k. absurd cc) v (ap (list_all (leaf_is_known (λ e. false))) h)
 
 -- ---- values of nets and of elements
 
@@ -64,7 +87,7 @@ nets_value seen net (enumeration n) es fit h =
 
 pub elements_value : (seen : Seen) (t : ElementType) (es : List ℕ) → FitTogether t es
     → ((e : ℕ) → Contains es e → slice_index seen.variables e < limit_of t)
-    → value_of seen (of_elements t es) ≡ map (slice_index seen.variables) es
+    → value_of seen (variable_value t es) ≡ map (slice_index seen.variables) es
 elements_value seen nine_valued es fit h = coded (slice_index seen.variables) es h
 elements_value seen (enumeration n) es fit h =
     one_only (slice_index seen.variables) (λ ds. slice_index seen.variables (slice_index ds 0)) es (fit.one n refl) (λ e. refl)

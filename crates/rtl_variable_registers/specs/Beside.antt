@@ -7,7 +7,7 @@ use Rattle.rtl_model.specs.bodies.Types.{KeepsTypes}
 use Rattle.rtl_model.specs.bodies.Values.{Seen}
 use Rattle.rtl_model.specs.bodies.Variables.{variables_after}
 use Rattle.rtl_model.specs.nets.CoreNetlist.{core_netlist}
-use Rattle.rtl_model.specs.nets.FlatNetlist.{FlatVariable, FlatProcess, FlatNetlist, IsInRange, element_starts, element_types, process_at}
+use Rattle.rtl_model.specs.nets.FlatNetlist.{FlatProcess, FlatNetlist, IsInRange, element_starts, element_types, process_at}
 use Rattle.rtl_model.specs.nets.Wiring.{IsConnected}
 use Rattle.rtl_model.specs.simulation.Cycle.{State, over, is_quiet, start_state, after_update, after_inputs, after_run, IsToRun}
 use Rattle.rtl_model.specs.simulation.Laws.{IsConsistent}
@@ -15,6 +15,7 @@ use Rattle.rtl_model.specs.simulation.Moments.{HasNoneToRun}
 use Rattle.rtl_model.specs.simulation.Netlist.{Netlist}
 use Rattle.rtl_model.specs.simulation.Range.{StateInRange}
 use Rattle.rtl_variable_registers.specs.Bodies.{is_register}
+use Rattle.rtl_variable_registers.specs.Known.{never_set}
 use Rattle.rtl_variable_registers.specs.Nets.{kept_flat, first_net}
 use Rattle.rtl_variable_registers.specs.Processes.{kept_elements, rank_in}
 
@@ -91,17 +92,18 @@ pub record IsKeptBy (net : FlatNetlist) (s : FullState) (t : State) (p e rank : 
   pub net_is : slice_index t.now (first_net net p + rank) ≡ driver_at t p (length (process_at net p).drivers + rank)
   pub ready : IsToRun t p → transaction_at t p (length (process_at net p).drivers + rank) ≡ None
 
--- the variables have as many elements, with values of their types
-pub record HasVariables (vs : List FlatVariable) (values : List ℕ) : Type 0 where
-  pub many : length values ≡ length (element_starts vs)
-  pub typed : KeepsTypes (element_types vs) values
+-- A process's variables have as many elements, of their types; what no statement sets has its initial value.
+pub record HasVariables (p : FlatProcess) (values : List ℕ) : Type 0 where
+  pub many : length values ≡ length (element_starts p.variables)
+  pub typed : KeepsTypes (element_types p.variables) values
+  pub unset : (e : ℕ) → IsTrue (never_set p.body e) → slice_index values e ≡ slice_index (element_starts p.variables) e
 
 -- s is a state of the standard's run of the netlist, t one of the netlist whose variables are kept
 pub record IsBeside (net : FlatNetlist) (s : FullState) (t : State) : Type 0 where
   pub nets : s.nets ≡ old_part net t
   pub rows : length t.pending ≡ length net.processes
   pub many : length s.variables ≡ length net.processes
-  pub variables : (p : ℕ) → p < length net.processes → HasVariables (process_at net p).variables (variables_of s p)
+  pub variables : (p : ℕ) → p < length net.processes → HasVariables (process_at net p) (variables_of s p)
   pub elements : (p e : ℕ) → p < length net.processes → Contains (kept_elements (process_at net p)) e
       → IsKeptBy net s t p e (rank_in (kept_elements (process_at net p)) e)
 

@@ -1,12 +1,14 @@
 -- What it is that the variables of processes are kept by nets: each run of a process does what the standard has it do,
 -- whose variables keep their values from the run before (IEEE 1076-2008, 11.3, 14.5.5).
-use Rattle.std.specs.Prelude.{◌≡◌, ℕ, ◌+◌, ◌<◌, Bool, false, Contains, IsTrue, List, [], ◌∷◌, length, take, slice_index, Some, option_map, unwrap_or}
+use Rattle.std.specs.Prelude.{◌≡◌, ℕ, ◌+◌, ◌<◌, Bool, true, false, if◌then◌else◌, Contains, IsTrue, List, [], ◌∷◌, length, take, slice_index}
+use Rattle.std.specs.Prelude.{Some, IsSome, option_map, unwrap_or}
 use Rattle.rtl_model.specs.basics.Valuations.{AgreeOn}
-use Rattle.rtl_model.specs.bodies.Body.{Stmts, done}
+use Rattle.rtl_model.specs.bodies.Assigns.{is_element, must_assign}
+use Rattle.rtl_model.specs.bodies.Body.{null_of, assign, set, Stmts, done, step}
 use Rattle.rtl_model.specs.bodies.Effect.{effect}
 use Rattle.rtl_model.specs.bodies.Kinds.{ResetPart, Clocking, clocking}
 use Rattle.rtl_model.specs.bodies.Laws.{SeesTypes}
-use Rattle.rtl_model.specs.bodies.Leaves.{leaves}
+use Rattle.rtl_model.specs.bodies.Leaves.{Leaf, of_elements, leaves}
 use Rattle.rtl_model.specs.bodies.Reads.{reads, events}
 use Rattle.rtl_model.specs.bodies.Stored.{stores_element}
 use Rattle.rtl_model.specs.bodies.Types.{ElementType}
@@ -17,13 +19,15 @@ use Rattle.rtl_model.specs.nets.FlatNetlist.{FlatProcess, FlatNetlist, ProcessIn
 use Rattle.rtl_model.specs.nets.Wiring.{IsConnected}
 use Rattle.rtl_model.specs.simulation.Accepted.{IsAccepted}
 use Rattle.rtl_model.specs.simulation.Netlist.{Driver}
-use Rattle.rtl_variable_registers.specs.Bodies.{is_register, with_branches}
+use Rattle.rtl_variable_registers.specs.Bodies.{reset_branch, without_reset, is_register}
+use Rattle.rtl_variable_registers.specs.Known.{sets_element, never_set, at_start, with_constants}
 use Rattle.rtl_variable_registers.specs.Nets.{kept_flat, first_net}
 use Rattle.rtl_variable_registers.specs.Processes.{kept_variables, kept_elements, kept_process, rank_in}
 
 -- ---- one run
 
--- One run is that of the process by itself: it sees its variables as the run before left them. The other is that of the
+-- One run is that of the process by itself: it sees its variables as the run before left them. Where the reset's branch
+-- looks at something, the variables that no statement sets have their initial values. The other run is that of the
 -- process whose variables are kept by nets, those from `first` on. It sees the same nets, and has at each kept
 -- element's net the value that the element was left with; its variables begin with any values.
 pub record SeesKept (first : ℕ) (p : FlatProcess) (by_itself by_nets : Seen) : Type 0 where
@@ -31,11 +35,13 @@ pub record SeesKept (first : ℕ) (p : FlatProcess) (by_itself by_nets : Seen) :
   pub before : AgreeOn (events p.body) by_itself.before by_nets.before
   pub as_many : length by_itself.variables ≡ length (element_starts p.variables)
   pub net_many : length by_nets.variables ≡ length (element_starts p.variables)
+  pub unset : (leaves (reset_branch p.body) ≡ [] → ⊥) → (e : ℕ) → IsTrue (never_set p.body e)
+      → slice_index by_itself.variables e ≡ slice_index (element_starts p.variables) e
   pub kept : (e : ℕ) → Contains (kept_elements p) e
       → slice_index by_nets.now (first + rank_in (kept_elements p) e) ≡ slice_index by_itself.variables e
 
 -- Then both have the same entries for the drivers that there were. A kept element's driver has as its entry what the
--- element is left with, and where there is none, the element is left as it was.
+-- element is left with, and where there is none, the element is left as it was. So is what no statement sets.
 pub record RunsAlike (first : ℕ) (p : FlatProcess) (by_itself by_nets : Seen) : Type 0 where
   pub entries : (place : ℕ) → place < length p.drivers
       → effect by_nets (kept_process first p).body place ≡ effect by_itself p.body place
@@ -43,6 +49,8 @@ pub record RunsAlike (first : ℕ) (p : FlatProcess) (by_itself by_nets : Seen) 
       → unwrap_or (effect by_nets (kept_process first p).body (length p.drivers + rank_in (kept_elements p) e))
       (slice_index by_itself.variables e)
       ≡ slice_index (variables_after by_itself p.body) e
+  pub unset : (e : ℕ) → IsTrue (never_set p.body e)
+      → slice_index (variables_after by_itself p.body) e ≡ slice_index by_itself.variables e
 
 -- So it is run by run: the nets begin with what the elements begin with, and a net has its driver's value before any
 -- process runs again (14.7.5.3).
@@ -60,32 +68,66 @@ NothingIsStored =
     (types : List ElementType) (first : ℕ) (p : FlatProcess) → ProcessInRange types p
     → IsTrue (is_register p.body) → (e : ℕ) → stores_element e (kept_process first p).body ≡ false
 
+-- a clocking with other branches
+abbrev pub with_parts : (edge : Stmts) → (reset : Stmts → Stmts) → Clocking → Clocking
+with_parts edge reset c = record {
+  test = c.test;
+  branch = edge;
+  reset = option_map (λ (r : ResetPart). record r { branch = reset r.branch }) c.reset;
+}
+
 -- a clocking, its branches aside
 abbrev pub timing : Clocking → Clocking
-timing c = record {
-  test = c.test;
-  branch = done;
-  reset = option_map (λ (r : ResetPart). record r { branch = done }) c.reset;
-}
+timing c = with_parts done (λ a. done) c
 
 -- It is clocked and reset as its body is, whose reset's branch is left aside.
 abbrev pub EachKeepsItsTiming : Type 0
 EachKeepsItsTiming =
     (wide : Bool) (inputs : List ℕ) (first : ℕ) (p : FlatProcess) → IsTrue (is_register p.body)
     → option_map timing (clocking wide inputs (kept_process first p).body)
-    ≡ option_map timing (clocking wide inputs (with_branches (λ a. done) (λ s. s) p.body))
+    ≡ option_map timing (clocking wide inputs (without_reset p.body))
 
--- What was clocked before is clocked alike, but for the branch at the edge: its reset's branch is what it was.
+-- the branch of a process's reset, with constants in the place of variables where the process is a register
+abbrev pub reset_in : FlatProcess → Stmts → Stmts
+reset_in p a = if is_register p.body then with_constants (at_start (element_starts p.variables)) a else a
+
+-- What was clocked before is clocked alike, but for the branch at the edge, and for these constants: a reset's branch
+-- that looks at no variable is what it was.
 abbrev pub EachClockedIsKept : Type 0
 EachClockedIsKept =
     (wide : Bool) (inputs : List ℕ) (first : ℕ) (p : FlatProcess) (c : Clocking) → clocking wide inputs p.body ≡ Some c
-    → (s : Stmts) × (clocking wide inputs (kept_process first p).body ≡ Some (record c { branch = s }))
+    → (s : Stmts) × (clocking wide inputs (kept_process first p).body ≡ Some (with_parts s (reset_in p) c))
+    × ((r : ResetPart) → c.reset ≡ Some r → leaves r.branch ≡ [] → reset_in p r.branch ≡ r.branch)
 
--- And what is clocked is a register, but where its reset's branch looks at a variable.
+-- A branch looks at what is known: at variables alone, and at no element that some statement of the body sets, where
+-- the branch hasn't assigned it before.
+pub record LooksAtKnown (body a : Stmts) : Type 0 where
+  pub leaves_are : (leaf : Leaf) → Contains (leaves a) leaf → (es : List ℕ) × (leaf ≡ of_elements es)
+  pub stored_are : (e : ℕ) → IsTrue (stores_element e a) → sets_element e body ≡ false
+
+-- And what is clocked is a register, where its reset's branch looks at what is known.
 abbrev pub EachClockedIsRegister : Type 0
 EachClockedIsRegister =
     (wide : Bool) (inputs : List ℕ) (body : Stmts) (c : Clocking) → clocking wide inputs body ≡ Some c
-    → ((r : ResetPart) → c.reset ≡ Some r → leaves r.branch ≡ []) → IsTrue (is_register body)
+    → ((r : ResetPart) → c.reset ≡ Some r → LooksAtKnown body r.branch) → IsTrue (is_register body)
+
+-- nulls and assignments to signals and variables alone
+abbrev pub is_straight : Stmts → Bool
+is_straight done = true
+is_straight (step null_of rest) = is_straight rest
+is_straight (step (assign places v) rest) = is_straight rest
+is_straight (step (set es v) rest) = is_straight rest
+is_straight (step _ rest) = false
+
+-- So is what is clocked without its reset's branch, where that branch may set variables too.
+abbrev pub EachKnownResetIsRegister : Type 0
+EachKnownResetIsRegister =
+    (body : Stmts) → IsSome (clocking true [] (without_reset body)) → IsTrue (is_straight (reset_branch body))
+    → LooksAtKnown body (reset_branch body) → IsTrue (is_register body)
+
+-- Of straight code it's the elements that it sets on every path that it sets.
+abbrev pub EachStraightSets : Type 0
+EachStraightSets = (s : Stmts) (e : ℕ) → IsTrue (is_straight s) → sets_element e s ≡ must_assign (is_element e) s
 
 -- What is no register keeps no variable, and stays as it is.
 abbrev pub WhatIsNoRegisterStays : Type 0
@@ -93,11 +135,11 @@ WhatIsNoRegisterStays =
     (first : ℕ) (p : FlatProcess) → is_register p.body ≡ false
     → (kept_variables p ≡ []) × (kept_process first p ≡ p)
 
--- Where nothing is kept, nothing changes.
+-- Where nothing is kept and nothing is stored, nothing changes.
 abbrev pub WhatKeepsNoneStays : Type 0
 WhatKeepsNoneStays =
     (types : List ElementType) (first : ℕ) (p : FlatProcess) → ProcessInRange types p
-    → kept_variables p ≡ [] → kept_process first p ≡ p
+    → kept_variables p ≡ [] → ((e : ℕ) → stores_element e p.body ≡ false) → kept_process first p ≡ p
 
 -- ---- the netlist
 

@@ -1,4 +1,5 @@
 -- In order of reading:
+pub mod Known
 pub mod Bodies
 pub mod Processes
 pub mod Nets

@@ -45,7 +45,8 @@ with_nets first p =
       drivers = p.drivers ++ drivers_from first (kept_starts p);
       wakes = p.wakes;
       variables = p.variables;
-      body = kept_body (λ e. first + rank e) (λ e. length p.drivers + rank e) (kept_variables p) p.body;
+      body = kept_body (λ e. first + rank e) (λ e. length p.drivers + rank e) (element_starts p.variables)
+          (kept_variables p) p.body;
     }
 
 -- what is no register stays as it is

@@ -4,6 +4,7 @@
 ghost use Rattle.rtl_variable_registers.specs.Laws.{EachRunsAlike, NothingIsStored};
 ghost use Rattle.rtl_variable_registers.specs.Laws.{EachKeepsItsTiming, EachClockedIsKept};
 ghost use Rattle.rtl_variable_registers.specs.Laws.{EachClockedIsRegister};
+ghost use Rattle.rtl_variable_registers.specs.Laws.{EachKnownResetIsRegister, EachStraightSets};
 ghost use Rattle.rtl_variable_registers.specs.Laws.{WhatIsNoRegisterStays, WhatKeepsNoneStays};
 ghost use Rattle.rtl_variable_registers.specs.Laws.{EachStandsWhereItDid, EachIsSoundStill};
 ghost use Rattle.rtl_variable_registers.specs.Laws.{WhatIsAcceptedStays};
@@ -26,14 +27,25 @@ pub fn timing_is_kept()
     ensures { EachKeepsItsTiming }
 {}
 
-/// A process that was clocked is clocked by the same edge, and reset alike.
+/// A process that was clocked is clocked by the same edge, and reset alike, by constants.
 pub fn clocked_is_kept()
     ensures { EachClockedIsKept }
 {}
 
-/// A clocked process is a register, but where its reset looks at a variable.
+/// A clocked process is a register, but where its reset looks at a variable that isn't known.
 pub fn clocked_is_register()
     ensures { EachClockedIsRegister }
+{}
+
+/// So is a process that is clocked but for its reset's branch, where that assigns what is known to
+/// signals and variables, and nothing else.
+pub fn known_reset_is_register()
+    ensures { EachKnownResetIsRegister }
+{}
+
+/// Code without ifs and cases sets an element where it does so on every path.
+pub fn straight_sets()
+    ensures { EachStraightSets }
 {}
 
 /// A process that is no register keeps no variable, and stays as it is.
@@ -41,7 +53,7 @@ pub fn no_register_stays()
     ensures { WhatIsNoRegisterStays }
 {}
 
-/// A process of which no variable is kept stays as it is.
+/// A process of which no variable is kept, and that stores none, stays as it is.
 pub fn keeps_none_stays()
     ensures { WhatKeepsNoneStays }
 {}

@@ -3,7 +3,7 @@ use Rattle.rtl_net.specs.declared.body.Branch.{Branch}
 use Rattle.rtl_net.specs.declared.body.Statement.{Statement}
 use Rattle.rtl_net.specs.declared.body.Statement.TheVariants as vs
 use Rattle.rtl_net.specs.Bodies.{statements_of}
-use Rattle.rtl_kept_bodies.proofs.Rows.{if_left, if_taken}
+use Rattle.rtl_kept_bodies.proofs.Rows.{if_left, if_taken, own_byte}
 use Rattle.rtl_kept_bodies.proofs.forms.replace_branch.Goals as goal
 
 pub returns-in-If-clause-left : goal.returns-in-If-clause-left
@@ -21,3 +21,6 @@ returns-in-If-clause-taken c =
     ∙ ap (λ (o : Option (Vec Statement Global)). vs.If i.at c.replace-whole.result o) (sym (c.replace-last.ensures.value ∙ i.otherwise-is)) in
     if_taken c.args.statement.now i.at c.replace-whole.result c.replace-last.result is c.args.number (statements_of c.args.others.items) _ _
     c.deref_mut.ensures.value c.replace_in-taken.ensures.taken
+
+pub returns-in-If-clause-byte : goal.returns-in-If-clause-byte
+returns-in-If-clause-byte c = let i = c.in-If in i.at-is ∙ own_byte c.args.statement.now i.at i.branches i.otherwise i.is

@@ -1,4 +1,4 @@
-use Rattle.std.proofs.Common.{List, ◌≡◌, length, map, sym, ap, subst, arith, ◌∙◌}
+use Rattle.std.proofs.Common.{ℕ, List, ◌≡◌, length, map, sym, ap, subst, arith, ◌∙◌}
 use Rattle.std.proofs.lemmas.List.{length-map}
 use Rattle.std.specs.List.{range_with_len}
 use Rattle.rtl_model.specs.nets.FlatNetlist.{FlatProcess}
@@ -7,7 +7,9 @@ use Rattle.rtl_net.specs.Nets.{driver_view, variable_view, process_view, body_of
 use Rattle.rtl_model.specs.bodies.Reads.{reads}
 use Rattle.rtl_body_facts.specs.Reading.{is_in}
 use Rattle.rtl_kept_bodies.specs.declared.kept.Kept.{Kept}
-use Rattle.rtl_kept_bodies.specs.Steps.{kept_count, kept_from, recall_all, AreKept}
+use Rattle.rtl_kept_bodies.specs.Steps.{kept_count, kept_from, recall_all, CanCompute, AreKept}
+use Rattle.rtl_variable_registers.specs.Bodies.{reset_branch}
+use Rattle.rtl_kept_bodies.proofs.Knowing.{can_compute}
 use Rattle.rtl_kept_bodies.proofs.Ranks.{stand, counted}
 use Rattle.rtl_kept_bodies.proofs.Reading.{are_one, recall_reads, reads_below, reads_follow}
 use Rattle.rtl_kept_bodies.proofs.Whole.{as_many, count_is, are_kept, room_is, no_room_is, kept_reads, other_process}
@@ -56,6 +58,12 @@ keep_listed-requires-clause-kept c =
     subst (λ (ks : List Kept). AreKept c.args.first (process_view p) ks)
     (sym (c.deref-3.ensures.value ∙ c.in_ok-kept.ensures ∙ ap (λ (xs : List Variable). kept_from 0 c.args.first c.len-drivers.result c.args.flags.now xs) c.deref-2.ensures.value))
     (are_kept p c.args.flags.now c.args.first c.len-drivers.result c.requires.flags ranged.variables at (omega (arith, r.drivers, is, at, all)))
+
+pub keep_listed-requires-clause-computes : goal.keep_listed-requires-clause-computes
+keep_listed-requires-clause-computes c =
+    let p = c.args.process.now in
+    let (types, ranged, few) = c.requires.in_range in
+    subst (λ (vs : List ℕ). CanCompute vs (reset_branch (body_of p))) (sym c.requires.starts) (can_compute types (process_view p) ranged (sym c.requires.register ∙ c.if-not-is_register.false))
 
 pub keep_listed-requires-clause-many : goal.keep_listed-requires-clause-many
 keep_listed-requires-clause-many c =

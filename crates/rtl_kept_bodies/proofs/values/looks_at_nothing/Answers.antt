@@ -2,8 +2,8 @@ use Rattle.std.proofs.Common.{◌≡◌, true, false, not, List, [], ◌∷◌, 
 use Rattle.rtl_model.specs.basics.Lists.{is_empty}
 use Rattle.rtl_model.specs.bodies.Leaves.{Leaf}
 use Rattle.rtl_net.specs.Visits.{Tells}
-use Rattle.rtl_kept_bodies.specs.declared.constants.Looked.{Looked}
-use Rattle.rtl_kept_bodies.proofs.constants.look_at_nothing.Goals as goal
+use Rattle.rtl_kept_bodies.specs.declared.values.Looked.{Looked}
+use Rattle.rtl_kept_bodies.proofs.values.looks_at_nothing.Goals as goal
 
 abbrev Takes : Looked → Leaf → Looked → Type 0
 Takes old leaf new = new.some ≡ true
@@ -17,4 +17,4 @@ told old new [] f h = ap (λ (x : Looked). not x.some) (sym h) ∙ ap not f
 told old new (l ∷ ls) f (mid, is, rest) = ap not (stays mid new ls rest is)
 
 pub returns : goal.returns
-returns c = told (record { some = false }) c.walk_body.new.visitor _ refl c.walk_body.ensures
+returns c = told (record { some = false }) c.walk_value.new.visitor _ refl c.walk_value.ensures
