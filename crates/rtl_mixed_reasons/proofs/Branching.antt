@@ -20,13 +20,13 @@ use Rattle.rtl_body_facts.specs.Reading.{some}
 use Rattle.rtl_mixed_reasons.specs.Edges.{is_gated, has_two}
 use Rattle.rtl_mixed_reasons.specs.declared.edges.Events.{Events}
 use Rattle.rtl_mixed_reasons.specs.declared.reason.Reason.{Reason}
-use Rattle.rtl_mixed_reasons.specs.declared.reason.ReasonKind.TheVariants.{GatedEdge, ResetBehind, BehindEdge, EdgeInside, NoEdge}
+use Rattle.rtl_mixed_reasons.specs.declared.reason.ReasonKind.TheVariants.{GatedEdge, ResetBehind, BehindEdge}
 use Rattle.rtl_model.specs.bodies.Reads.{events, test_events}
 use Rattle.rtl_net.specs.declared.process.Process.{Process}
 use Rattle.rtl_net.specs.Nets.{NetlistView}
 use Rattle.rtl_mixed_reasons.specs.declared.ifs.EdgeIf.{EdgeIf}
 use Rattle.rtl_mixed_reasons.specs.declared.reads.First.{First}
-use Rattle.rtl_mixed_reasons.specs.Reasons.{plain, naming, at_or, at_of, branches_of_if, if_branches, conditions, branch_of, edge_branch, has_else, tests_of, inner_events, head_of, gated_edge, elsewhere, elsewhere_in, reset_net, sole_reset, reset_behind, first_that_fits, own_reasons, reset_reason, other_before, computes, assigns_alike}
+use Rattle.rtl_mixed_reasons.specs.Reasons.{plain, naming, at_or, at_of, branches_of_if, if_branches, conditions, branch_of, edge_branch, has_else, tests_of, inner_events, head_of, gated_edge, edge_if, elsewhere, elsewhere_in, told_elsewhere, kind_at, reset_net, sole_reset, reset_behind, first_that_fits, own_reasons, reset_reason, other_before, computes, assigns_alike}
 
 -- ---- ifs
 
@@ -81,14 +81,13 @@ gated-is x at branches last is =
     ap (λ (ts : List bodies.Test). if list_any is_gated ts then Some (plain GatedEdge at) else None) (sym (conditions-are (option_map (λ v. v.items) last) branches.items))
     ∙ sym (of-if (λ (a : ℕ) (bs : bodies.Branches). if list_any is_gated (conditions bs) then Some (plain GatedEdge a) else None) x at branches last is)
 
-pub elsewhere-is : (x : Statement) (r : Reason) → some (events (statements_of (x ∷ []))) ≡ true → elsewhere_in (at_of x) (if_branches x) ≡ r → Some r ≡ elsewhere x
-elsewhere-is x r e k =
-    sym (ap (λ (b : Bool). if b then Some (elsewhere_in (at_of x) (if_branches x)) else None) e ∙ ap (λ (a : Reason). Some a) k)
-
-pub elsewhere-if : (x : Statement) (at : ℕ) (branches : Vec Branch Global) (last : Option (Vec Statement Global)) → x ≡ vs.If at branches last
-    → elsewhere_in (at_of x) (if_branches x) ≡ plain (if some (inner_events (whole branches last)) then EdgeInside else NoEdge) at
-elsewhere-if x at branches last is =
-    ap (elsewhere_in (at_of x)) (if-branches x at branches last is) ∙ ap (λ (a : ℕ). elsewhere_in a (Some (whole branches last))) (if-at x at branches last is)
+pub elsewhere-if : (x : Statement) (at : ℕ) (branches : Vec Branch Global) (last : Option (Vec Statement Global)) (inner edge : Bool) → x ≡ vs.If at branches last
+    → some (events (statements_of (x ∷ []))) ≡ true → some (inner_events (whole branches last)) ≡ inner → is_some (edge_if 0 x) ≡ edge
+    → Some (plain (kind_at inner edge) at) ≡ elsewhere x
+elsewhere-if x at branches last inner edge is there e k =
+    sym (ap (λ (b : Bool). if b then Some (told_elsewhere x) else None) there
+    ∙ ((λ j. Some (elsewhere_in (if-at x at branches last is j) (k j) (if-branches x at branches last is j)))
+    ∙ (λ j. Some (plain (kind_at (e j) edge) at))))
 
 -- ---- the branches of an if, told by its list of them
 
@@ -107,14 +106,14 @@ module _ (p : Process) (edge : ℕ → Bool) where
 
   -- an if with one branch and no else
   pub sole-one : (last : Option (Vec Statement Global)) (bs : List Branch) (b : Branch) (so : Bool) → length bs ≡ 1 → is_some last ≡ false → b ≡ get_or bs 0 b
-      → (is_none (computes 0 (statements_of b.statements.items)) && assigns_alike p edge (statements_of b.statements.items)) ≡ so
+      → (is_none (computes false 0 (statements_of b.statements.items)) && assigns_alike p edge (statements_of b.statements.items)) ≡ so
       → (if so then reset_net (test_view b.test) else None) ≡ sole_reset p edge (branches_of (otherwise_of (option_map (λ v. v.items) last)) bs)
   sole-one (Some v) bs b so one none is e = absurd (let k : true ≡ false = none in cc)
   sole-one None [] b so one none is e = absurd (omega arith)
   sole-one None (x ∷ y ∷ bs) b so one none is e = absurd (omega arith)
   sole-one None (x ∷ []) b so one none is e =
       sym (ap (λ (a : Bool). if a then reset_net (test_view b.test) else None) e)
-      ∙ ap (λ (y : Branch). if is_none (computes 0 (statements_of y.statements.items)) && assigns_alike p edge (statements_of y.statements.items) then reset_net (test_view y.test) else None) is
+      ∙ ap (λ (y : Branch). if is_none (computes false 0 (statements_of y.statements.items)) && assigns_alike p edge (statements_of y.statements.items) then reset_net (test_view y.test) else None) is
 
   pub behind-is : (x : Statement) (at : ℕ) (branches : Vec Branch Global) (last : Option (Vec Statement Global)) → x ≡ vs.If at branches last
       → option_map (naming ResetBehind at) (sole_reset p edge (whole branches last)) ≡ reset_behind p edge x

@@ -14,9 +14,10 @@ use Rattle.rtl_net.specs.Bodies.{statement_view, statements_of}
 use Rattle.rtl_net.specs.Core.{core as core_of}
 use Rattle.rtl_net.specs.Nets.{NetlistView, process_view, body_of}
 use Rattle.rtl_body_facts.specs.Reading.{some}
+use Rattle.rtl_copy_ends.specs.Ends.{kind_in}
 use Rattle.rtl_mixed_reasons.specs.declared.reason.Reason.{Reason}
-use Rattle.rtl_mixed_reasons.specs.Reasons.{first_in, gated_edge, edge_reason, first_edge, elsewhere, elsewhere_in, at_of, if_branches, first_that_fits, is_mixed, reason_of_body}
-use Rattle.rtl_mixed_reasons.specs.Unsteady.{kind_in, unsteady_of, unsteady, reason_at, reason_of}
+use Rattle.rtl_mixed_reasons.specs.Reasons.{first_in, gated_edge, edge_reason, first_edge, elsewhere, told_elsewhere, first_that_fits, is_mixed, reason_of_body}
+use Rattle.rtl_mixed_reasons.specs.Unsteady.{unsteady_of, unsteady, reason_at, reason_of}
 use Rattle.rtl_mixed_reasons.specs.Laws.{EachMixedHasAReason}
 
 -- ---- a body with an edge or `'event` has a reason
@@ -33,7 +34,7 @@ elsewhere-there (x ∷ xs) h =
   where
     go : (b : Bool) → (some (stmt_events (statement_view x)) || some (events (statements_of xs))) ≡ true → b ≡ (some (stmt_events (statement_view x)) || false)
         → (some (events (statements_of xs)) ≡ true → is_some (first_in elsewhere xs) ≡ true)
-        → is_some (if is_some (if b then Some (elsewhere_in (at_of x) (if_branches x)) else None) then (if b then Some (elsewhere_in (at_of x) (if_branches x)) else None) else first_in elsewhere xs) ≡ true
+        → is_some (if is_some (if b then Some (told_elsewhere x) else None) then (if b then Some (told_elsewhere x) else None) else first_in elsewhere xs) ≡ true
     go true k e behind = refl
     go false k e behind = behind (rest (some (stmt_events (statement_view x))) (some (events (statements_of xs))) k (sym e))
       where

@@ -2,4 +2,4 @@ mod Searches
 mod Branching
 mod Driven
 mod Law
-mod Walking
+mod MixedKinds

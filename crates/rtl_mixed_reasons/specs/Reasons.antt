@@ -6,20 +6,19 @@ use Rattle.std.specs.Prelude.{ℕ, zero, suc, ◌+◌, Bool, true, false, not, �
 use Rattle.std.specs.List.{list_any}
 use Rattle.vhdl_values.specs.declared.kinds.Edge.{Edge}
 use Rattle.vhdl_values.specs.declared.kinds.Edge.TheVariants.{Rising, Falling, To1, To0}
-use Rattle.rtl_model.specs.bodies.Body.{Test, level, Stmt, null_of, assign, if_of, Stmts, done, step, Branches, no_else, otherwise, branch}
+use Rattle.rtl_model.specs.bodies.Body.{Test, level, Value, Stmt, null_of, assign, set, if_of, Stmts, done, step, Branches, no_else, otherwise, branch}
 use Rattle.rtl_model.specs.bodies.Kinds.{edge_to, clocking}
 use Rattle.rtl_model.specs.bodies.Reads.{value_reads, events}
-use Rattle.rtl_model.specs.nets.FlatNetlist.{flat_sources}
-use Rattle.rtl_model.specs.simulation.Netlist.{Source, Driver}
 use Rattle.rtl_net.specs.declared.body.Statement.{Statement}
 use Rattle.rtl_net.specs.declared.body.Statement.TheVariants as s
 use Rattle.rtl_net.specs.declared.body.Branch.{Branch}
 use Rattle.rtl_net.specs.declared.process.Process.{Process}
 use Rattle.rtl_net.specs.Bodies.{test_view, statement_view, statements_of}
-use Rattle.rtl_net.specs.Nets.{NetlistView, flat, body_of}
+use Rattle.rtl_net.specs.Nets.{NetlistView, body_of}
 use Rattle.rtl_latches.specs.Omissions.{stmts_assign}
 use Rattle.rtl_body_facts.specs.Paths.{driven, to_net}
 use Rattle.rtl_body_facts.specs.Reading.{is_in, some}
+use Rattle.rtl_copy_ends.specs.Ends.{driven_by}
 use Rattle.rtl_mixed_reasons.specs.Edges.{edge_of, is_gated}
 use Rattle.rtl_mixed_reasons.specs.declared.body.Alone.{Alone}
 use Rattle.rtl_mixed_reasons.specs.declared.body.Alone.TheVariants.{Gated, Elsewhere}
@@ -136,19 +135,24 @@ abbrev pub reset_of : (before : ℕ) → List Test → Option ℕ
 reset_of before ts = if before == 1 then first_reset ts else None
 
 -- what a reset's branch has beside assignments of constants to signals: told of what comes first, a net that it
--- reads, or an if, a case or an assignment of a variable
+-- reads, or an if, a case or, where the netlist isn't wide, an assignment of a variable
 abbrev pub head_of : List ℕ → Option ℕ
 head_of [] = None
 head_of (n ∷ ns) = Some n
 
-abbrev pub computes_in : (at : ℕ) → Stmt → Option Reason
-computes_in at null_of = None
-computes_in at (assign places v) = option_map (naming ResetReads at) (head_of (value_reads v))
-computes_in at _ = Some (plain ResetComputes at)
+abbrev pub reads_in : (at : ℕ) → Value → Option Reason
+reads_in at v = option_map (naming ResetReads at) (head_of (value_reads v))
 
-abbrev pub computes : (at : ℕ) → Stmts → Option Reason
-computes at done = None
-computes at (step s rest) = if is_some (computes_in at s) then computes_in at s else computes at rest
+abbrev pub computes_in : (wide : Bool) → (at : ℕ) → Stmt → Option Reason
+computes_in wide at null_of = None
+computes_in wide at (assign places v) = reads_in at v
+computes_in wide at (set es v) = if wide then reads_in at v else Some (plain ResetComputes at)
+computes_in wide at _ = Some (plain ResetComputes at)
+
+abbrev pub computes : (wide : Bool) → (at : ℕ) → Stmts → Option Reason
+computes wide at done = None
+computes wide at (step s rest) =
+    if is_some (computes_in wide at s) then computes_in wide at s else computes wide at rest
 
 -- ---- 1. An edge beside another condition, without a further event in it
 
@@ -196,21 +200,19 @@ assigns_alike p edge s =
     is_some (first_net p (assigns p s)) && is_none (first_net p (λ n. assigns p s n && not (edge n)))
 
 abbrev pub sole_reset : Process → (edge : ℕ → Bool) → Branches → Option ℕ
-sole_reset p edge (branch t s no_else) = if is_none (computes 0 s) && assigns_alike p edge s then reset_net t else None
+sole_reset p edge (branch t s no_else) =
+    if is_none (computes false 0 s) && assigns_alike p edge s then reset_net t else None
 sole_reset p edge _ = None
 
 abbrev pub reset_behind : Process → (edge : ℕ → Bool) → Statement → Option Reason
 reset_behind p edge x = option_map (naming ResetBehind (at_of x)) (option_and_then (sole_reset p edge) (if_branches x))
 
+-- a wide netlist has registers with their reset there, so that something else stands in the way
+abbrev pub first_behind : NetlistView → Process → (edge : ℕ → Bool) → List Statement → Option Reason
+first_behind net p edge xs = if net.wide then None else first_in (reset_behind p edge) xs
+
 -- ---- 4. The reset is no in port of the top, as it has to be where the netlist isn't wide: told with the first process
 -- that drives it, if one does
-
-abbrev pub driver_of : List Source → Option ℕ
-driver_of (Driver process place ∷ sources) = Some process
-driver_of _ = None
-
-abbrev pub driven_by : NetlistView → (n : ℕ) → Option ℕ
-driven_by net n = if nat_lt n (length net.types) then driver_of (flat_sources (flat net) n) else None
 
 abbrev pub made_by : (at reset : ℕ) → (driver : Option ℕ) → Reason
 made_by at reset None = naming ResetNoInput at reset
@@ -260,20 +262,27 @@ beside_reasons p i edge =
     ∷ first_in (stands_beside i.at) (statements_beside p i.number)
     ∷ []
 
--- ---- What is left, of the first statement with an edge or `'event` in it: it stands in a condition, which is then no
--- edge, or deeper, under one of any kind or in a case.
+-- ---- What is left, of the first statement with an edge or `'event` in it: it stands deeper, under a condition of any
+-- kind or in a case, or in a condition. Where that is an edge, a wide netlist's reset sets variables, and looks at one
+-- whose value isn't known; else the condition is no edge.
 
 abbrev pub inner_events : Branches → List ℕ
 inner_events no_else = []
 inner_events (otherwise s) = events s
 inner_events (branch t s bs) = events s ++ inner_events bs
 
-abbrev pub elsewhere_in : (at : ℕ) → Option Branches → Reason
-elsewhere_in at None = plain EdgeInside at
-elsewhere_in at (Some bs) = plain (if some (inner_events bs) then EdgeInside else NoEdge) at
+abbrev pub kind_at : (inner edge : Bool) → ReasonKind
+kind_at inner edge = if inner then EdgeInside else if edge then ResetComputes else NoEdge
+
+abbrev pub elsewhere_in : (at : ℕ) → (edge : Bool) → Option Branches → Reason
+elsewhere_in at edge None = plain EdgeInside at
+elsewhere_in at edge (Some bs) = plain (kind_at (some (inner_events bs)) edge) at
+
+abbrev pub told_elsewhere : Statement → Reason
+told_elsewhere x = elsewhere_in (at_of x) (is_some (edge_if 0 x)) (if_branches x)
 
 abbrev pub elsewhere : Statement → Option Reason
-elsewhere x = if some (events (statements_of (x ∷ []))) then Some (elsewhere_in (at_of x) (if_branches x)) else None
+elsewhere x = if some (events (statements_of (x ∷ []))) then Some (told_elsewhere x) else None
 
 -- ---- what is told of a statement, whatever stands beside it
 
@@ -292,7 +301,7 @@ first_that_fits (r ∷ rs) = if is_some r then r else first_that_fits rs
 abbrev pub reset_reason : NetlistView → EdgeIf → List Test → (first : Stmts) → Option Reason
 reset_reason net i ts first = first_that_fits
     (option_and_then (made_inside net i.at) (reset_of i.before ts)
-    ∷ (if is_some (reset_of i.before ts) then computes i.at first else None)
+    ∷ (if is_some (reset_of i.before ts) then computes net.wide i.at first else None)
     ∷ [])
 
 abbrev pub own_reasons : NetlistView → EdgeIf → Branches → List (Option Reason)
@@ -309,7 +318,7 @@ own_reason net i x = option_and_then (λ bs. first_that_fits (own_reasons net i 
 abbrev pub edge_reasons : NetlistView → Process → EdgeIf → Statement → List (Option Reason)
 edge_reasons net p i x =
     first_in (second_if p x i) (drop (i.number + 1) p.body.items)
-    ∷ first_in (reset_behind p (assigns p (edge_branch i.before (if_branches x)))) (drop (i.number + 1) p.body.items)
+    ∷ first_behind net p (assigns p (edge_branch i.before (if_branches x))) (drop (i.number + 1) p.body.items)
     ∷ own_reason net i x
     ∷ first_that_fits (beside_reasons p i (assigns_in p x))
     ∷ []

@@ -1,35 +1,24 @@
 //! The first reason that fits a process.
 
-ghost use Rattle.std.specs.Prelude.{◌≡◌, ◌<◌, ◌||◌, nat_lt, drop, length, is_some, Some, option_map, IfOk};
+ghost use Rattle.std.specs.Prelude.{◌≡◌, ◌<◌, ◌||◌, nat_lt, drop, length, is_some, Some, option_map, true, IfOk};
 ghost use Rattle.rtl_model.specs.bodies.Body.{no_else};
 ghost use Rattle.rtl_net.specs.Bodies.{statements_of, branches_of, otherwise_of};
 ghost use Rattle.rtl_body_facts.specs.Reading.{some};
+ghost use Rattle.rtl_copy_ends.specs.Steps.{AreWalks};
 ghost use Rattle.rtl_mixed_reasons.specs.Reasons as spec;
 ghost use Rattle.rtl_mixed_reasons.specs.Unsteady.{reason_of};
 
 use crate::beside::beside_edge;
-use crate::ifs::{EdgeIf, first_edge, gated_if, second_edge};
+use crate::ifs::{EdgeIf, edge_if, first_edge, gated_if, second_edge};
 use crate::nets::nets_of;
 use crate::reason::{Reason, ReasonKind};
-use crate::resets::{computes, other_before, reset_behind, reset_of};
-use crate::unsteady::{kind_in, unsteady};
+use crate::resets::{computes, first_behind, other_before, reset_of};
+use crate::unsteady::unsteady;
 use rtl_body_facts::{ProcessKind, body_has_event, contains_rising};
-use rtl_net::{Branch, Net, Process, Source, Statement};
+use rtl_copy_ends::{Walks, driven_by, kind_in};
+use rtl_net::{Branch, Net, Process, Statement};
 use std::alloc::{AllocError, Global};
 use std::slice;
-
-/// The first process that drives a net.
-pub(crate) fn driven_by(net: &Net, number: usize) -> Option<usize>
-    ensures { result ≡ spec.driven_by net.now number }
-{
-    if number >= net.nets() {
-        return None;
-    }
-    match net.sources(number) {
-        [Source::Driven { process, .. }, ..] => Some(*process),
-        _ => None,
-    }
-}
 
 /// What is told of a reset that this process drives, or none.
 fn made_by(at: u32, reset: usize, driver: Option<usize>) -> Reason
@@ -72,7 +61,7 @@ fn reset_reason(net: &Net, found: EdgeIf, branches: &[Branch]) -> Option<Reason>
     if let Some(reason) = made_inside(net, found.at, reset) {
         return Some(reason);
     }
-    computes(found.at, &branches[0].statements)
+    computes(net.is_wide(), found.at, &branches[0].statements)
 }
 
 /// Whether an elsif or an else stands behind an edge.
@@ -151,7 +140,7 @@ fn edge_reason(
         return Ok(second);
     }
     let edge = nets_of(alloc, process, branch_of(statement, found.before))?;
-    let reset = reset_behind(alloc, process, &edge, behind)?;
+    let reset = first_behind(alloc, net, process, &edge, behind)?;
     if reset.is_some() {
         return Ok(reset);
     }
@@ -192,6 +181,9 @@ fn event_in(statement: &Statement) -> Option<Reason>
         } => {
             if has_inner(branches, otherwise) {
                 return Some(Reason::plain(ReasonKind::EdgeInside, *at));
+            }
+            if edge_if(0, statement).is_some() {
+                return Some(Reason::plain(ReasonKind::ResetComputes, *at));
             }
             Some(Reason::plain(ReasonKind::NoEdge, *at))
         }
@@ -263,16 +255,22 @@ fn is_mixed(net: &Net, process: &Process) -> bool
 /// isn't there, is combinational or has no reset, and where what drives the reset has a fault of
 /// its own. It is to be asked of a process that has a fault: it finds reasons, not whether a reset
 /// is calm. It takes time in proportion to its drivers and to its body times how deep it is nested,
-/// but for the logarithms of sorted lists, or to the copies that its reset is made by, and memory
-/// for the nets that it assigns.
-pub fn reason_of(alloc: Global, net: &Net, process: usize) -> Result<Option<Reason>, AllocError>
+/// but for the logarithms of sorted lists, and memory for the nets that it assigns. Where the
+/// copies end that its reset is made by is in the walks, which serve all processes.
+pub fn reason_of(
+    alloc: Global,
+    net: &Net,
+    walks: &Walks,
+    process: usize,
+) -> Result<Option<Reason>, AllocError>
+    requires { net.now.wide ≡ true → AreWalks net.now walks.now }
     ensures { IfOk result (λ reason. reason ≡ reason_of net.now process) }
 {
     let Some(process) = net.processes().get(process) else {
         return Ok(None);
     };
     if !is_mixed(net, process) {
-        return Ok(unsteady(net, process));
+        return Ok(unsteady(net, walks, process));
     }
     reason_of_body(alloc, net, process)
 }

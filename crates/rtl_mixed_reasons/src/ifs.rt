@@ -42,7 +42,7 @@ fn edge_in(number: usize, at: u32, branches: &[Branch]) -> Option<EdgeIf>
 }
 
 /// The statement of this number, if it is an if with an edge.
-fn edge_if(number: usize, statement: &Statement) -> Option<EdgeIf>
+pub(crate) fn edge_if(number: usize, statement: &Statement) -> Option<EdgeIf>
     ensures { result ≡ spec.edge_if number statement.now }
 {
     match statement {

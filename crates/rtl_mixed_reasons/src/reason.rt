@@ -27,7 +27,8 @@ pub enum ReasonKind {
     ResetNoInput,
     /// The branch of the reset reads the net.
     ResetReads,
-    /// An if, a case or an assignment of a variable stands in the branch of the reset.
+    /// An if or a case stands in the branch of the reset, or an assignment of a variable: where the
+    /// netlist is wide, one beside a value that looks at a variable that isn't known.
     ResetComputes,
     /// A condition before the edge isn't the test of a reset.
     NoResetTest,
@@ -48,9 +49,10 @@ pub enum ReasonKind {
     /// The reset may pulse: a process that reads the second net makes the net, which is the reset's
     /// or one that it copies, as below.
     UnsteadyGate,
-    /// It may, and a process that reads a clock makes the net.
+    /// It may, and a process that reads a clock, the second net, makes the net.
     UnsteadyClock,
-    /// It may, and the net is a register that the second net resets.
+    /// It may, and the net is a register that the second net resets, to a value at which the reset
+    /// doesn't hold.
     UnsteadyRegister,
     /// It may: the net is copied, and starts with a value at which the reset holds, to leave it at
     /// once.

@@ -3,7 +3,7 @@
 ghost use Rattle.std.specs.Prelude.{◌≡◌, not, take, option_map, IfOk};
 ghost use Rattle.std.specs.List.{list_any};
 ghost use Rattle.std.specs.List.Sorted.{IsStrictlyIncreasing};
-ghost use Rattle.rtl_net.specs.Bodies.{test_view, statement_view, statements_of, branches_of, otherwise_of};
+ghost use Rattle.rtl_net.specs.Bodies.{test_view, value_view, statement_view, statements_of, branches_of, otherwise_of};
 ghost use Rattle.rtl_body_facts.specs.Reading.{is_in};
 ghost use Rattle.rtl_mixed_reasons.specs.Reasons as spec;
 
@@ -11,7 +11,7 @@ use crate::edges::edge_to;
 use crate::nets::{are_among, nets_of};
 use crate::reads::first_read;
 use crate::reason::{Reason, ReasonKind};
-use rtl_net::{Branch, Process, Statement, Test};
+use rtl_net::{Branch, Net, Process, Statement, Test, Value};
 use std::alloc::{AllocError, Global};
 
 /// The net of a reset's test.
@@ -68,28 +68,39 @@ pub(crate) fn other_before(at: u32, before: usize, branches: &[Branch]) -> Optio
     None
 }
 
+/// What is told of a value in a reset's branch that reads a net.
+fn reads_in(at: u32, value: &Value) -> Option<Reason>
+    ensures { result ≡ spec.reads_in at (value_view value.now) }
+{
+    let net = first_read(value)?;
+    Some(Reason::naming(ReasonKind::ResetReads, at, net))
+}
+
 /// What a statement of a reset's branch is but an assignment of a constant.
-fn computes_in(at: u32, statement: &Statement) -> Option<Reason>
-    ensures { result ≡ spec.computes_in at (statement_view statement.now) }
+fn computes_in(wide: bool, at: u32, statement: &Statement) -> Option<Reason>
+    ensures { result ≡ spec.computes_in wide at (statement_view statement.now) }
 {
     match statement {
         Statement::Null => None,
-        Statement::Assign { value, .. } => {
-            let net = first_read(value)?;
-            Some(Reason::naming(ReasonKind::ResetReads, at, net))
+        Statement::Assign { value, .. } => reads_in(at, value),
+        Statement::Set { value, .. } => {
+            if wide {
+                return reads_in(at, value);
+            }
+            Some(Reason::plain(ReasonKind::ResetComputes, at))
         }
-        Statement::Set { .. } => Some(Reason::plain(ReasonKind::ResetComputes, at)),
         Statement::If { .. } => Some(Reason::plain(ReasonKind::ResetComputes, at)),
         Statement::Case { .. } => Some(Reason::plain(ReasonKind::ResetComputes, at)),
     }
 }
 
-/// What stands in a reset's branch but assignments of constants.
-pub(crate) fn computes(at: u32, statements: &[Statement]) -> Option<Reason>
-    ensures { result ≡ spec.computes at (statements_of statements.now) }
+/// What stands in a reset's branch but assignments of constants: to variables too, where the
+/// netlist is wide.
+pub(crate) fn computes(wide: bool, at: u32, statements: &[Statement]) -> Option<Reason>
+    ensures { result ≡ spec.computes wide at (statements_of statements.now) }
 {
     for statement in statements {
-        if let Some(reason) = computes_in(at, statement) {
+        if let Some(reason) = computes_in(wide, at, statement) {
             return Some(reason);
         }
     }
@@ -131,7 +142,7 @@ fn sole_reset(
         return Ok(None);
     }
     let branch = &branches[0];
-    if computes(0, &branch.statements).is_some() {
+    if computes(false, 0, &branch.statements).is_some() {
         return Ok(None);
     }
     if !assigns_alike(alloc, process, edge, &branch.statements)? {
@@ -167,7 +178,7 @@ fn reset_if(
 }
 
 /// What is told of the first such if.
-pub(crate) fn reset_behind(
+fn reset_behind(
     alloc: Global,
     process: &Process,
     edge: &[usize],
@@ -184,4 +195,22 @@ pub(crate) fn reset_behind(
         }
     }
     Ok(None)
+}
+
+/// The same where the netlist isn't wide: a wide one has registers with their reset there.
+pub(crate) fn first_behind(
+    alloc: Global,
+    net: &Net,
+    process: &Process,
+    edge: &[usize],
+    statements: &[Statement],
+) -> Result<Option<Reason>, AllocError>
+    requires { IsStrictlyIncreasing edge.now }
+    ensures { IfOk result (λ reason. reason
+        ≡ spec.first_behind net.now process.now (λ n. is_in n edge.now) statements.now) }
+{
+    if net.is_wide() {
+        return Ok(None);
+    }
+    reset_behind(alloc, process, edge, statements)
 }

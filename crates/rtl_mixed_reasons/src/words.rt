@@ -150,15 +150,15 @@ pub const UNSTEADY_GATE: Note<&str> = Note {
 /// A reset made by a process that reads a clock.
 pub const UNSTEADY_CLOCK: Note<&str> = Note {
     opening: "the reset may pulse within a moment: the process that makes ",
-    middle: " reads a clock; make that net of other in ports, or give it a register of its own",
-    closing: "",
+    middle: " reads the clock ",
+    closing: "; make that net of other in ports, or give it a register of its own",
 };
 
-/// A register that is reset itself, as the reset of another.
+/// A register that is reset itself, to a value at which it doesn't reset the other.
 pub const UNSTEADY_REGISTER: Note<&str> = Note {
     opening: "the reset may pulse within a moment: the register ",
-    middle: " is itself reset, by ",
-    closing: "; reset both by one, or make that reset of in ports alone and start the register with its reset's value",
+    middle: " is reset by ",
+    closing: ", but not to the value at which it resets; reset it to that value, or both by one, or make that reset of in ports alone and start the register with its reset's value",
 };
 
 /// A reset that copies a net which leaves its starting value at once.

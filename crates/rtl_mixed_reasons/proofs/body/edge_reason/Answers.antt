@@ -9,7 +9,7 @@ use Rattle.rtl_net.specs.Nets.{NetlistView}
 use Rattle.rtl_body_facts.specs.Reading.{is_in}
 use Rattle.rtl_mixed_reasons.specs.declared.ifs.EdgeIf.{EdgeIf}
 use Rattle.rtl_mixed_reasons.specs.declared.reason.Reason.{Reason}
-use Rattle.rtl_mixed_reasons.specs.Reasons.{first_in, first_that_fits, assigns, assigns_in, edge_branch, if_branches, reset_behind, second_if, own_reason, beside_reasons, edge_reasons}
+use Rattle.rtl_mixed_reasons.specs.Reasons.{first_in, first_that_fits, assigns, assigns_in, edge_branch, if_branches, first_behind, second_if, own_reason, beside_reasons, edge_reasons}
 use Rattle.rtl_mixed_reasons.proofs.Searches.{first-fits, later-fits, only-fits, behind-is}
 use Rattle.rtl_mixed_reasons.proofs.body.edge_reason.Goals as goal
 
@@ -21,7 +21,7 @@ module _ (net : NetlistView) (p : Process) (i : EdgeIf) (x : Statement) (there :
   second-of = first_in (second_if p x i) (drop (i.number + 1) p.body.items)
 
   abbrev reset-of : Option Reason
-  reset-of = first_in (reset_behind p (assigns p (edge_branch i.before (if_branches x)))) (drop (i.number + 1) p.body.items)
+  reset-of = first_behind net p (assigns p (edge_branch i.before (if_branches x))) (drop (i.number + 1) p.body.items)
 
   abbrev beside-of : Option Reason
   beside-of = first_that_fits (beside_reasons p i (assigns_in p x))
@@ -51,7 +51,7 @@ returns-then-is_some-2 c =
     let behind = behind-is (i.number + 1) _ p.body.items c.deref.ensures.value in
     of-reset c.args.net.now p i x c.requires c.index-statement.ensures _ _ (c.in_ok-second.ensures ∙ ap (first_in (second_if p x i)) behind) (sym c.is_some.ensures ∙ c.if-is_some.false)
     (c.in_ok-reset.ensures
-    ∙ (λ j. first_in (reset_behind p (λ (m : ℕ). (ap (is_in m) c.deref-2.ensures.value ∙ (c.in_ok-edge.ensures.are m ∙ ap (λ (s : Stmts). assigns p s m) c.branch_of.ensures)) j)) (behind j)))
+    ∙ (λ j. first_behind c.args.net.now p (λ (m : ℕ). (ap (is_in m) c.deref-2.ensures.value ∙ (c.in_ok-edge.ensures.are m ∙ ap (λ (s : Stmts). assigns p s m) c.branch_of.ensures)) j) (behind j)))
     (sym c.is_some-2.ensures ∙ c.if-is_some-2.true)
 
 pub returns-in-Some : goal.returns-in-Some
@@ -62,7 +62,7 @@ returns-in-Some c =
     let behind = behind-is (i.number + 1) _ p.body.items c.deref.ensures.value in
     of-own c.args.net.now p i x c.requires c.index-statement.ensures _ _ _ (c.in_ok-second.ensures ∙ ap (first_in (second_if p x i)) behind) (sym c.is_some.ensures ∙ c.if-is_some.false)
     (c.in_ok-reset.ensures
-    ∙ (λ j. first_in (reset_behind p (λ (m : ℕ). (ap (is_in m) c.deref-2.ensures.value ∙ (c.in_ok-edge.ensures.are m ∙ ap (λ (s : Stmts). assigns p s m) c.branch_of.ensures)) j)) (behind j)))
+    ∙ (λ j. first_behind c.args.net.now p (λ (m : ℕ). (ap (is_in m) c.deref-2.ensures.value ∙ (c.in_ok-edge.ensures.are m ∙ ap (λ (s : Stmts). assigns p s m) c.branch_of.ensures)) j) (behind j)))
     (sym c.is_some-2.ensures ∙ c.if-is_some-2.false) (sym c.in-Some.is ∙ c.own_reason.ensures)
 
 pub returns : goal.returns
@@ -74,5 +74,5 @@ returns c =
     IfOk-weaker c.beside_edge.result _ _
     (λ r e. of-beside c.args.net.now p i x c.requires c.index-statement.ensures _ _ r (c.in_ok-second.ensures ∙ ap (first_in (second_if p x i)) behind) (sym c.is_some.ensures ∙ c.if-is_some.false)
     (c.in_ok-reset.ensures
-    ∙ (λ j. first_in (reset_behind p (λ (m : ℕ). (ap (is_in m) c.deref-2.ensures.value ∙ (c.in_ok-edge.ensures.are m ∙ ap (λ (s : Stmts). assigns p s m) c.branch_of.ensures)) j)) (behind j)))
+    ∙ (λ j. first_behind c.args.net.now p (λ (m : ℕ). (ap (is_in m) c.deref-2.ensures.value ∙ (c.in_ok-edge.ensures.are m ∙ ap (λ (s : Stmts). assigns p s m) c.branch_of.ensures)) j) (behind j)))
     (sym c.is_some-2.ensures ∙ c.if-is_some-2.false) (sym c.in_default.is ∙ c.own_reason.ensures) e) c.beside_edge.ensures

@@ -2,7 +2,7 @@ use Rattle.std.proofs.Common.{sym, ◌∙◌}
 use Rattle.rtl_model.specs.bodies.Kinds.{clocking}
 use Rattle.rtl_model.specs.bodies.Reads.{events}
 use Rattle.rtl_net.specs.Nets.{body_of}
-use Rattle.rtl_mixed_reasons.proofs.Walking.{of_combinational, of_clocked, of_mixed}
+use Rattle.rtl_mixed_reasons.proofs.MixedKinds.{of_combinational, of_clocked, of_mixed}
 use Rattle.rtl_mixed_reasons.proofs.body.is_mixed.Goals as goal
 
 pub returns-in-Combinational : goal.returns-in-Combinational

@@ -1,4 +1,4 @@
-use Rattle.std.proofs.Common.{List, ap, sym, ◌∙◌}
+use Rattle.std.proofs.Common.{ap, sym, ◌∙◌}
 use Rattle.rtl_body_facts.specs.Paths.{driven}
 use Rattle.rtl_body_facts.specs.Reading.{is_in}
 use Rattle.rtl_mixed_reasons.proofs.Driven.{find-none, no-length}

@@ -27,8 +27,8 @@ returns c =
     let edge : ℕ → Bool = λ n. is_in n c.args.edge.now in
     let one : length c.args.branches.now ≡ 1 = c.if-branches-ne1.false in
     let none : is_some c.args.otherwise.now ≡ false = sym c.is_some.ensures ∙ c.if-is_some.false in
-    let constant : is_none (computes 0 (statements_of b.statements.items)) ≡ true =
-    none-is _ (ap (λ (xs : List Statement). is_some (computes 0 (statements_of xs))) (sym c.deref.ensures.value) ∙ (ap is_some (sym c.computes.ensures) ∙ (sym c.is_some-2.ensures ∙ c.if-is_some-2.false))) in
+    let constant : is_none (computes false 0 (statements_of b.statements.items)) ≡ true =
+    none-is _ (ap (λ (xs : List Statement). is_some (computes false 0 (statements_of xs))) (sym c.deref.ensures.value) ∙ (ap is_some (sym c.computes.ensures) ∙ (sym c.is_some-2.ensures ∙ c.if-is_some-2.false))) in
     let alike : assigns_alike p edge (statements_of b.statements.items) ≡ true =
     ap (λ (xs : List Statement). assigns_alike p edge (statements_of xs)) (sym c.deref-2.ensures.value) ∙ (sym c.in_ok-assigns_alike.ensures ∙ c.if-not-branch.false) in
     let is : b ≡ get_or c.args.branches.now 0 b = c.index-branches-0.is in

@@ -1,6 +1,6 @@
 use Rattle.std.proofs.Common.{◌≡◌, length}
-use Rattle.rtl_mixed_reasons.specs.Unsteady.{first_driven}
-use Rattle.rtl_mixed_reasons.proofs.unsteady.first_driven.Given as goal
+use Rattle.rtl_copy_ends.specs.Ends.{first_driven}
+use Rattle.rtl_copy_ends.proofs.known.first_driven.Given as goal
 
 abbrev pub invariant-loop-left : goal.invariant-loop-left
 invariant-loop-left l = first_driven l.net l.left ≡ first_driven l.net l.numbers

@@ -1,0 +1,3 @@
+pub mod Stepping
+pub mod Tables
+pub mod Walking

@@ -1,0 +1,118 @@
+//! Walks down copies, from all nets.
+
+ghost use Rattle.std.specs.Prelude.{◌≡◌, ◌<◌, ◌*◌, ◌^◌, All, IfOk, true, length, map};
+ghost use Rattle.rtl_copy_ends.specs.Clocks.{clock_behind};
+ghost use Rattle.rtl_copy_ends.specs.Ends as spec;
+ghost use Rattle.rtl_copy_ends.specs.Steps.{AreSteps, AreWalks, next, place_of, standing_at};
+
+use crate::clocks::clock_in;
+use crate::known::{Known, all_known, driven_by};
+use crate::sight::{End, Sight, Standing, look};
+use crate::table::after;
+use rtl_net::Net;
+use rtl_process_kinds::Asked;
+use std::alloc::{AllocError, Global};
+
+/// Where the walks from all nets down copies stand one step before their last, and what is known of
+/// all processes: where a walk ends is found by it in constant time.
+#[derive(Drop)]
+pub struct Walks {
+    known: Vec<Known>,
+    far: Vec<usize>,
+}
+
+impl Walks {
+    /// Those of a netlist, which is wide: of another there are none. It takes time in proportion to
+    /// its processes with their bodies, and to its nets times the logarithm of how many processes
+    /// it has, and memory for each of its processes and nets.
+    pub fn of(alloc: Global, net: &Net) -> Result<Walks, AllocError>
+        ensures { IfOk result (λ walks. net.now.wide ≡ true → AreWalks net.now walks) }
+    {
+        if !net.is_wide() {
+            return Ok(Walks {
+                known: Vec::new(alloc),
+                far: Vec::new(alloc),
+            });
+        }
+        let known = all_known(alloc, net)?;
+        let steps = first_steps(alloc, net, &known)?;
+        let between = net.processes().len().saturating_sub(2);
+        let far = after(alloc, &steps, between)?;
+        Ok(Walks { known, far })
+    }
+
+    /// What stands where the walk ends that begins here.
+    pub fn end_of(&self, net: &Net, from: Standing) -> End
+        requires are { AreWalks net.now self.now }
+        requires some { 0 < length net.now.processes }
+        ensures { result ≡ spec.end_of net.now from }
+    {
+        net.is_elaborated();
+        let copied = match look(net, &self.known, from) {
+            Sight::Ends(end) => return end,
+            Sight::Copies(copied) => copied,
+        };
+        if net.processes().len() < 2 {
+            return End::Circle { net: copied.net };
+        }
+        let last = standing_at(self.far[place_of(copied)]);
+        match look(net, &self.known, last) {
+            Sight::Ends(end) => end,
+            Sight::Copies(copied) => End::Circle { net: copied.net },
+        }
+    }
+
+    /// The clock that the process reads which drives this net: that of the first process whose
+    /// clock is among what it reads.
+    pub fn clock_behind(&self, net: &Net, number: usize) -> Option<usize>
+        requires { AreWalks net.now self.now }
+        ensures { result ≡ clock_behind net.now number }
+    {
+        let driver = driven_by(net, number)?;
+        let process = net.processes().get(driver)?;
+        clock_in(&self.known, &process.reads)
+    }
+}
+
+/// The number of the place of a net that is copied, and of a set of its values.
+fn place_of(standing: Standing) -> usize
+    requires { standing.net < 2 ^ 60 }
+    ensures { result ≡ place_of standing }
+{
+    4 * standing.net + standing.asked.number()
+}
+
+/// What has this place.
+fn standing_at(place: usize) -> Standing
+    ensures { result ≡ standing_at place }
+{
+    Standing {
+        net: place / 4,
+        asked: Asked::numbered(place % 4),
+        copied: true,
+    }
+}
+
+/// Where a step leads from a place: nowhere, where a walk ends there.
+fn next_place(net: &Net, known: &[Known], place: usize) -> usize
+    requires { known.now ≡ map (spec.known_of net.now) net.now.processes }
+    ensures { result ≡ next net.now place }
+{
+    net.is_elaborated();
+    match look(net, known, standing_at(place)) {
+        Sight::Ends(_) => place,
+        Sight::Copies(standing) => place_of(standing),
+    }
+}
+
+/// Where a step leads from each place.
+fn first_steps(alloc: Global, net: &Net, known: &[Known]) -> Result<Vec<usize>, AllocError>
+    requires { known.now ≡ map (spec.known_of net.now) net.now.processes }
+    ensures { IfOk result (λ steps. AreSteps net.now steps.items) }
+{
+    let mut steps = Vec::new(alloc);
+    for place in 0..4 * net.nets() {
+        steps.push(next_place(net, known, place))?;
+    }
+    Ok(steps)
+}
