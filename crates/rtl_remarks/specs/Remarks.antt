@@ -96,11 +96,12 @@ on_net net _ n = []
 
 -- ---- processes
 
+-- of a reset that keeps the branch under the edge from running
 abbrev pub branch_of_reset : Option ResetPart → Option Stmts
 branch_of_reset None = None
-branch_of_reset (Some r) = Some r.branch
+branch_of_reset (Some r) = if r.gates then Some r.branch else None
 
--- the branch that a clocked process runs while its reset holds
+-- the only branch that a clocked process runs while its reset holds
 abbrev pub reset_branch : Option Clocking → Option Stmts
 reset_branch None = None
 reset_branch (Some c) = branch_of_reset c.reset

@@ -23,7 +23,8 @@ fn has_reset(wide: bool, inputs: &[usize], process: &Process) -> Option<bool>
     }
 }
 
-/// The branch that a clocked process runs while its reset holds, or at the edge, where it has none.
+/// The branch that a clocked process runs alone while its reset holds, or at the edge, where it has
+/// no reset. Of a reset that stands behind the edge, which holds nothing back, there is none.
 pub(crate) fn guarded<'a>(
     wide: bool,
     inputs: &[usize],
@@ -38,6 +39,9 @@ pub(crate) fn guarded<'a>(
         return None;
     };
     if has != reset {
+        return None;
+    }
+    if process.body.len() != 1 {
         return None;
     }
     Some(reset_branch(&process.body))
