@@ -12,7 +12,8 @@
 //! opens a source, `specs/Served.antt` and `specs/Told.antt` what it leaves on both outputs, and
 //! `specs/Unsettled.antt` what is told of nets that still change;
 //! `specs/Wider.antt` says how far the wider language reads a source that is refused, and
-//! `specs/Freed.antt` which of the checker's rules a source doesn't break in it.
+//! `specs/Freed.antt` which of the checker's rules a source doesn't break in it, and which process
+//! of a loop can be split.
 #![tactic(auto)]
 
 mod both;

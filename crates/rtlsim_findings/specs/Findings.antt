@@ -1,29 +1,36 @@
 -- The findings of a rejection: each fault joins the first finding of its cause, or begins one. A clock that is read as
 -- data is left out where it is told that it is no clock that may be.
-use Rattle.std.specs.Prelude.{ℕ, ◌==◌, ◌||◌, Bool, false, if◌then◌else◌, List, [], ◌∷◌, ◌++◌, map}
+use Rattle.std.specs.Prelude.{ℕ, ◌==◌, ◌||◌, Bool, false, if◌then◌else◌, List, [], ◌∷◌, ◌++◌, map, Option}
 use Rattle.rtl_check.specs.Views.{fault_view}
 use Rattle.rtl_check.specs.declared.fault.CheckFault.{CheckFault}
 use Rattle.rtl_model.specs.simulation.Accepted.{Fault, ClockNotInput, ClockAsData}
 use Rattle.rtl_net.specs.Nets.{NetlistView}
+use Rattle.rtl_mixed_reasons.specs.declared.reason.Reason.{Reason}
 use Rattle.rtlsim_findings.specs.Causes.{cause_of, is_same}
+use Rattle.rtlsim_findings.specs.Mixed.{why}
 use Rattle.rtlsim_findings.specs.declared.cause.Cause.{Cause}
 use Rattle.rtlsim_findings.specs.declared.finding.Finding.{Finding}
 
--- the faults of one cause, in order
+-- the faults of one cause, in order, with the reason of the first
 pub record FindingView : Type 0 where
   pub cause : Cause
+  pub reason : Option Reason
   pub first : Fault
   pub others : List Fault
 
 abbrev pub finding_view : Finding → FindingView
-finding_view f =
-    record { cause = f.cause; first = fault_view f.first.now; others = map (λ o. fault_view o.now) f.others.items }
+finding_view f = record {
+  cause = f.cause;
+  reason = f.reason;
+  first = fault_view f.first.now;
+  others = map (λ o. fault_view o.now) f.others.items;
+}
 
 abbrev pub begun : NetlistView → Fault → FindingView
-begun net fault = record { cause = cause_of net fault; first = fault; others = [] }
+begun net fault = record { cause = cause_of net fault; reason = why net fault; first = fault; others = [] }
 
 abbrev pub with_other : FindingView → Fault → FindingView
-with_other f fault = record { cause = f.cause; first = f.first; others = f.others ++ fault ∷ [] }
+with_other f fault = record f { others = f.others ++ fault ∷ [] }
 
 abbrev pub joined : NetlistView → List FindingView → Fault → List FindingView
 joined net [] fault = begun net fault ∷ []

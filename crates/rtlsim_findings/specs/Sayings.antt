@@ -1,11 +1,12 @@
 -- What a finding says: its sentence, with the processes and nets of its first fault, the other instances that have it,
 -- and the note that stands beside it.
-use Rattle.std.specs.Prelude.{ℕ, ◌||◌, Bool, true, false, if◌then◌else◌, List, [], ◌∷◌, ◌++◌, bytes_eq, flat_map, map, Option, Some, None, codes}
+use Rattle.std.specs.Prelude.{ℕ, ◌||◌, Bool, true, false, if◌then◌else◌, List, [], ◌∷◌, ◌++◌, bytes_eq, nat_lt, flat_map, map, Option, Some, None, codes}
 use Rattle.rtl_latches.specs.Omissions as omissions
 use Rattle.rtl_latches.specs.declared.omission.Omission.{Omission}
 use Rattle.rtl_model.specs.simulation.Accepted.{Fault, Latch}
 use Rattle.rtl_net.specs.Names.{net_name, process_name}
 use Rattle.rtl_net.specs.Nets.{NetlistView}
+use Rattle.rtl_mixed_reasons.specs.Notes.{number_of}
 use Rattle.rtl_mixed_reasons.specs.declared.reason.Reason.{Reason}
 use denote.Bor.{Bor}
 use Rattle.fault_rules.specs.Rules.{Text}
@@ -15,11 +16,12 @@ use Rattle.fault_rules.specs.declared.words.Words.{Words}
 use Rattle.rtlsim_findings.specs.Causes.{is_of, second_process}
 use Rattle.rtlsim_circles.specs.Circles.{circle_text}
 use Rattle.rtlsim_findings.specs.Findings.{FindingView}
-use Rattle.rtlsim_findings.specs.Mixed.{why, reason_text}
+use Rattle.rtlsim_findings.specs.Mixed.{reason_text}
 use Rattle.rtlsim_findings.specs.Omitted.{said}
 use Rattle.rtlsim_findings.specs.Once.{each_new}
 use Rattle.rtlsim_findings.specs.Ranges.{follows, range_text}
 use Rattle.rtlsim_findings.specs.declared.cause.Obstacle.{Obstacle}
+use Rattle.rtlsim_findings.specs.declared.saying.TheConstants.{UNSTEADY_RESET}
 use Rattle.rtlsim_listing.specs.CheckText.{source_name, variable_name}
 use Rattle.rtlsim_listing.specs.Reports.{CircleView, Processes, Nets, report_of, circle_of, words_for}
 
@@ -95,8 +97,17 @@ sentence words culprits nets = words.opening.now ++ culprits ++ words.middle.now
 abbrev pub said_by : Words (Bor (List ℕ)) → (culprits nets : List ℕ) → List ℕ
 said_by words culprits nets = words.opening.now ++ culprits ++ words.middle.now ++ nets ++ words.closing.now
 
+-- from 17 on reasons are of resets that aren't calm
+abbrev pub is_unsteady : Option Reason → Bool
+is_unsteady None = false
+is_unsteady (Some reason) = nat_lt 16 (number_of reason.kind)
+
+-- its process is a register then, so that other words are true of it than its rule's
+abbrev pub words_in : FindingView → Words Text
+words_in f = if is_unsteady f.reason then UNSTEADY_RESET else words_for f.first
+
 abbrev pub message : NetlistView → FindingView → List ℕ
-message net f = sentence (words_for f.first) (culprits net f.first) (listed (ranges_of net f))
+message net f = sentence (words_in f) (culprits net f.first) (listed (ranges_of net f))
 
 -- ---- the other instances
 
@@ -159,4 +170,4 @@ note_of net latch None None (Some reason) = reason_text net reason
 note_of net latch None None None = unassigned_text latch
 
 abbrev pub note_text : NetlistView → FindingView → List ℕ
-note_text net f = note_of net (is_latch f.first) (second_process f.first) f.cause.omission (why net f.first)
+note_text net f = note_of net (is_latch f.first) (second_process f.first) f.cause.omission f.reason

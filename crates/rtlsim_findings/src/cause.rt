@@ -3,9 +3,9 @@
 ghost use Rattle.std.specs.Prelude.{◌≡◌, slice_get, option_map, IfOk, OnOk};
 ghost use Rattle.rtl_check.specs.Views.{fault_view};
 ghost use Rattle.rtlsim_findings.specs.Causes as spec;
+ghost use Rattle.rtlsim_findings.specs.Mixed.{why};
 ghost use Rattle.rtlsim_findings.specs.steps.Walked.{AreOf};
 
-use crate::mixed::why;
 use crate::omitted::Omissions;
 use fault_rules::{Place, Subject};
 use rtl_check::CheckFault;
@@ -39,25 +39,26 @@ pub struct Cause {
     pub obstacle: Option<Obstacle>,
 }
 
-/// The cause of a fault.
+/// The cause of a fault that has this reason.
 pub(crate) fn cause_of(
     alloc: Global,
     net: &Net,
     fault: &CheckFault,
+    reason: Option<Reason>,
     walked: &mut Omissions,
 ) -> Result<Cause, NoMemory>
-    requires { AreOf net.now walked.old }
+    requires reason { reason ≡ why net.now (fault_view fault.now) }
+    requires are { AreOf net.now walked.old }
     ensures is { IfOk result (λ cause. cause ≡ spec.cause_of net.now (fault_view fault.now)) }
     ensures are { OnOk result (AreOf net.now walked.new) }
 {
     let omission = walked.left_out(alloc, net, fault)?;
-    let obstacle = obstacle_of(why(alloc, net, fault)?);
     Ok(Cause {
         number: report_of(fault).rule.words().number,
         first: at_process(net, told_at(net, fault)),
         second: at_process(net, second_process(fault)),
         omission,
-        obstacle,
+        obstacle: obstacle_of(reason),
     })
 }
 

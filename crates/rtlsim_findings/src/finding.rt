@@ -1,8 +1,9 @@
 //! Findings: the faults of one cause.
 
-ghost use Rattle.std.specs.Prelude.{◌≡◌, ◌||◌, ℕ, map, IfOk, OnOk};
+ghost use Rattle.std.specs.Prelude.{◌≡◌, ◌||◌, ℕ, map, true, IfOk, OnOk};
 ghost use Rattle.std.specs.List.Sorted.{IsStrictlyIncreasing};
 ghost use Rattle.rtl_check.specs.Views.{fault_view};
+ghost use Rattle.rtl_copy_ends.specs.Steps.{AreWalks};
 ghost use Rattle.rtl_body_facts.specs.Reading.{is_in};
 ghost use Rattle.rtlsim_findings.specs.Findings as spec;
 ghost use Rattle.rtlsim_findings.specs.Findings.{finding_view};
@@ -10,10 +11,13 @@ ghost use Rattle.rtlsim_findings.specs.steps.Joining.{causes_of};
 ghost use Rattle.rtlsim_findings.specs.steps.Walked.{AreOf};
 
 use crate::cause::{Cause, cause_of};
+use crate::mixed::why;
 use crate::omitted::Omissions;
 use indexmap::IndexSet;
 use rtl_body_facts::{contains_rising, sort_once};
 use rtl_check::CheckFault;
+use rtl_copy_ends::Walks;
+use rtl_mixed_reasons::Reason;
 use rtl_net::{Net, NoMemory};
 use std::alloc::Global;
 
@@ -22,6 +26,9 @@ use std::alloc::Global;
 pub struct Finding<'a> {
     /// What they have in common.
     pub cause: Cause,
+    /// Why the process of the first is neither clocked nor combinational, or its reset not calm,
+    /// where it tells that.
+    pub reason: Option<Reason>,
     /// The first of them.
     pub first: &'a CheckFault,
     /// The others, in order.
@@ -29,8 +36,9 @@ pub struct Finding<'a> {
 }
 
 /// The findings of a rejection with these faults. It takes memory for each fault and for the body
-/// of one process at a time, which is walked over once while its latches follow each other; and
-/// time in proportion to these, but for the logarithms of sorted lists.
+/// of one process at a time, which is walked over once while its latches follow each other, and in
+/// a wide netlist for each process and net; and time in proportion to these, but for the
+/// logarithms of sorted lists and of the number of processes.
 pub fn findings<'a>(
     alloc: Global,
     net: &Net,
@@ -39,13 +47,22 @@ pub fn findings<'a>(
     ensures { IfOk result (λ found. map finding_view found.items ≡ spec.findings net.now faults.now) }
 {
     let gated = gated_nets(alloc, faults)?;
+    let walks = Walks::of(alloc, net)?;
     let mut walked = Omissions::new(alloc, net);
     let mut causes = IndexSet::new(alloc);
     let mut found = Vec::new(alloc);
     let mut left = faults;
     while let [fault, rest @ ..] = left {
         if !is_left_out(&gated, fault) {
-            join(alloc, net, fault, &mut walked, &mut causes, &mut found)?;
+            join(
+                alloc,
+                net,
+                &walks,
+                fault,
+                &mut walked,
+                &mut causes,
+                &mut found,
+            )?;
         }
         left = rest;
     }
@@ -56,11 +73,13 @@ pub fn findings<'a>(
 fn join<'a>(
     alloc: Global,
     net: &Net,
+    walks: &Walks,
     fault: &'a CheckFault,
     walked: &mut Omissions,
     causes: &mut IndexSet<Cause>,
     found: &mut Vec<Finding<'a>>,
 ) -> Result<(), NoMemory>
+    requires walks { net.now.wide ≡ true → AreWalks net.now walks.now }
     requires are { AreOf net.now walked.old }
     requires causes { causes.old.keys ≡ causes_of (map finding_view found.old.items) }
     ensures are { OnOk result (AreOf net.now walked.new) }
@@ -68,7 +87,8 @@ fn join<'a>(
     ensures is { OnOk result (map finding_view found.new.items
         ≡ spec.joined net.now (map finding_view found.old.items) (fault_view fault.now)) }
 {
-    let cause = cause_of(alloc, net, fault, walked)?;
+    let reason = why(alloc, net, walks, fault)?;
+    let cause = cause_of(alloc, net, fault, reason, walked)?;
     let (number, _) = causes.insert_full(cause)?;
     if number < found.len() {
         let finding = &mut found[number];
@@ -78,6 +98,7 @@ fn join<'a>(
     let others = Vec::new(alloc);
     found.push(Finding {
         cause,
+        reason,
         first: fault,
         others,
     })?;

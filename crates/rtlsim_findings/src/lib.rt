@@ -21,4 +21,4 @@ pub use finding::{Finding, findings};
 pub use naming::{all_ranges_of, culprits, ranges_of};
 pub use ranges::{follows, push_range};
 pub use remarked::{RemarkFinding, remark_findings, remark_message, remark_process, remark_report};
-pub use saying::{also, message, note_at, note_text, processes};
+pub use saying::{also, message, note_at, note_text, processes, words_in};

@@ -1,10 +1,12 @@
 //! Why the process of a fault is neither clocked nor combinational, or its reset not calm.
 
-ghost use Rattle.std.specs.Prelude.{◌≡◌, IfOk};
+ghost use Rattle.std.specs.Prelude.{◌≡◌, true, IfOk};
 ghost use Rattle.rtl_check.specs.Views.{fault_view};
+ghost use Rattle.rtl_copy_ends.specs.Steps.{AreWalks};
 ghost use Rattle.rtlsim_findings.specs.Mixed as spec;
 
 use rtl_check::CheckFault;
+use rtl_copy_ends::Walks;
 use rtl_mixed_reasons::{Reason, reason_of};
 use rtl_net::{Net, NoMemory};
 use rtlsim_circles::name_of_net;
@@ -13,11 +15,17 @@ use std::alloc::Global;
 
 /// Why the process is neither clocked nor combinational, or its reset not calm, where a fault tells
 /// that.
-pub(crate) fn why(alloc: Global, net: &Net, fault: &CheckFault) -> Result<Option<Reason>, NoMemory>
+pub(crate) fn why(
+    alloc: Global,
+    net: &Net,
+    walks: &Walks,
+    fault: &CheckFault,
+) -> Result<Option<Reason>, NoMemory>
+    requires { net.now.wide ≡ true → AreWalks net.now walks.now }
     ensures { IfOk result (λ reason. reason ≡ spec.why net.now (fault_view fault.now)) }
 {
     match fault {
-        CheckFault::Mixed { process } => reason_of(alloc, net, *process),
+        CheckFault::Mixed { process } => reason_of(alloc, net, walks, *process),
         _ => Ok(None),
     }
 }

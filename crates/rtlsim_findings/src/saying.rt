@@ -2,6 +2,7 @@
 
 ghost use Rattle.std.specs.Prelude.{◌≡◌, if◌then◌else◌, [], ◌∷◌, ◌++◌, codes, flat_map, map, IfOk, OnOk};
 ghost use Rattle.rtl_check.specs.Views.{fault_view};
+ghost use Rattle.fault_rules.specs.Rules.{AreWords};
 ghost use Rattle.rtl_net.specs.Names.{process_name};
 ghost use Rattle.rtlsim_findings.specs.Findings.{finding_view};
 ghost use Rattle.rtlsim_listing.specs.Reports.{circle_view};
@@ -10,15 +11,48 @@ ghost use Rattle.rtlsim_findings.specs.steps.Pairs as steps;
 
 use crate::cause::{first_process, second_process};
 use crate::finding::Finding;
-use crate::mixed::{reason_text, why};
+use crate::mixed::reason_text;
 use crate::naming::{culprits, ranges_of};
 use crate::omitted::said;
 use fault_rules::{Subject, Words};
 use indexmap::IndexSet;
 use rtl_check::CheckFault;
+use rtl_mixed_reasons::Reason;
 use rtl_net::{Net, NoMemory};
 use rtlsim_listing::{Circle, circle_of, process_name, report_of, words_for};
 use std::alloc::Global;
+
+/// What is said of a process whose reset isn't calm, in place of what its rule says.
+static UNSTEADY_RESET: Words<&str> = Words {
+    layer: "fault",
+    number: 2,
+    name: "Mixed",
+    opening: "process ",
+    middle: " has a reset that may come and go within a moment",
+    closing: "",
+    help: "reset it by an in port that is no clock, by what one process makes of such alone, or by a register that one \
+        of these resets, if any, to the value with which it starts",
+};
+
+/// Whether a reason is one of a reset that isn't calm.
+fn is_unsteady(reason: Option<Reason>) -> bool
+    ensures { result ≡ spec.is_unsteady reason }
+{
+    match reason {
+        Some(reason) => reason.kind.number() > 16,
+        None => false,
+    }
+}
+
+/// What is said of a finding.
+pub fn words_in(finding: &Finding<'_>) -> &'static Words<&'static str>
+    ensures { AreWords (spec.words_in (finding_view finding.now)) result.now }
+{
+    if is_unsteady(finding.reason) {
+        return &UNSTEADY_RESET;
+    }
+    words_for(finding.first)
+}
 
 /// The sentence of a finding.
 pub fn message(alloc: Global, net: &Net, finding: &Finding<'_>) -> Result<Vec<u8>, NoMemory>
@@ -27,7 +61,7 @@ pub fn message(alloc: Global, net: &Net, finding: &Finding<'_>) -> Result<Vec<u8
     let ranges = ranges_of(alloc, net, finding)?;
     let nets = listed(alloc, &ranges)?;
     let culprits = culprits(alloc, net, finding.first)?;
-    sentence(alloc, words_for(finding.first), &culprits, &nets)
+    sentence(alloc, words_in(finding), &culprits, &nets)
 }
 
 /// The sentence of these words, with its processes and nets.
@@ -208,8 +242,7 @@ pub fn note_text(alloc: Global, net: &Net, finding: &Finding<'_>) -> Result<Vec<
     ensures { IfOk result (λ text. text.items ≡ spec.note_text net.now (finding_view finding.now)) }
 {
     let second = second_process(finding.first);
-    let reason = why(alloc, net, finding.first)?;
-    match (second, finding.cause.omission, reason) {
+    match (second, finding.cause.omission, finding.reason) {
         (Some(process), _, _) => too_text(alloc, net, process),
         (None, Some(omission), _) => said(alloc, omission),
         (None, None, Some(reason)) => reason_text(alloc, net, reason),

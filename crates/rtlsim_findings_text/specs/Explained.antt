@@ -13,9 +13,9 @@ use Rattle.fault_rules.specs.declared.report.Subject.TheVariants.{Element}
 use Rattle.rtlsim_refusals.specs.Explained.{help_line}
 use Rattle.vhdl_source_files.specs.Files.{FileView}
 use Rattle.rtlsim_findings.specs.Findings.{FindingView, findings}
-use Rattle.rtlsim_findings.specs.Sayings.{message, culprits, another, also}
+use Rattle.rtlsim_findings.specs.Sayings.{message, culprits, another, also, words_in}
 use Rattle.rtlsim_listing.specs.CheckText.{title_text}
-use Rattle.rtlsim_listing.specs.Reports.{report_of, words_for}
+use Rattle.rtlsim_listing.specs.Reports.{report_of}
 use Rattle.rtlsim_notes.specs.Notes.{NoteView, notes}
 use Rattle.vhdl_slips.specs.Words.{Read, with_tokens}
 use Rattle.rtlsim_findings_text.specs.Placed.{place_text, shown_text}
@@ -25,8 +25,8 @@ abbrev pub rule_words : FindingView → Words Text
 rule_words f = words_of (report_of f.first).rule
 
 -- what a designer does about it
-abbrev pub help_for : Fault → List ℕ
-help_for fault = (words_for fault).help.now
+abbrev pub help_for : FindingView → List ℕ
+help_for f = (words_in f).help.now
 
 -- the place, what is found, and the line of the place
 unfoldable pub told_text : List FileView → NetlistView → FindingView → List ℕ
@@ -55,7 +55,7 @@ also_text net (fault ∷ faults) = codes "also in " ++ culprits net fault ++ oth
 unfoldable pub paragraph : List FileView → (source : Read) → NetlistView → FindingView → List ℕ
 paragraph files source net f =
     told_text files net f ++ flat_map (noted files) (notes source net f)
-    ++ also_text net (also f) ++ help_line (help_for f.first)
+    ++ also_text net (also f) ++ help_line (help_for f)
 
 -- ---- the end
 

@@ -77,7 +77,7 @@ title_text words =
 
 unfoldable pub said_text : NetlistView → FindingView → List ℕ
 said_text net f =
-    codes ",\"message\":" ++ string_text (message net f) ++ codes ",\"help\":" ++ string_text (help_for f.first)
+    codes ",\"message\":" ++ string_text (message net f) ++ codes ",\"help\":" ++ string_text (help_for f)
 
 unfoldable pub named_text : NetlistView → FindingView → List ℕ
 named_text net f =

@@ -19,9 +19,9 @@ use rtl_net::NoMemory;
 use rtlsim_circles::nets_round;
 use rtlsim_findings::{
     Finding, RemarkFinding, all_ranges_of, at_process, message, processes, remark_message,
-    remark_process, remark_report,
+    remark_process, remark_report, words_in,
 };
-use rtlsim_listing::{circle_of, push_decimal, report_of, words_for};
+use rtlsim_listing::{circle_of, push_decimal, report_of};
 use rtlsim_notes::{Note, notes};
 use rtlsim_refusals::Position;
 use std::alloc::Global;
@@ -70,7 +70,7 @@ fn push_said(site: &Site<'_>, finding: &Finding<'_>, text: &mut Vec<u8>) -> Resu
         &message(site.alloc, site.net, finding)?,
         text,
     )?;
-    let words = words_for(finding.first);
+    let words = words_in(finding);
     push_member(b",\"help\":", words.help.as_bytes(), text)
 }
 

@@ -13,8 +13,8 @@ use crate::places::{MarkedFile, Site, push_place};
 use crate::shown::push_shown;
 use rtl_check::CheckFault;
 use rtl_net::NoMemory;
-use rtlsim_findings::{Finding, also, culprits, message};
-use rtlsim_listing::{push_decimal, push_title, report_of, words_for};
+use rtlsim_findings::{Finding, also, culprits, message, words_in};
+use rtlsim_listing::{push_decimal, push_title, report_of};
 use rtlsim_notes::{Note, notes};
 use vhdl_slips::Lexed;
 
@@ -37,7 +37,7 @@ pub(crate) fn paragraph(
     let notes = notes(site.alloc, source, site.net, finding)?;
     push_notes(site.files, &notes, &mut text)?;
     push_also(site, &also(site.alloc, finding)?, &mut text)?;
-    push_help(finding.first, &mut text)?;
+    push_help(finding, &mut text)?;
     Ok(text)
 }
 
@@ -127,12 +127,12 @@ fn push_more(count: usize, text: &mut Vec<u8>) -> Result<(), NoMemory>
     Ok(())
 }
 
-/// Appends what a designer does about a fault.
-fn push_help(fault: &CheckFault, text: &mut Vec<u8>) -> Result<(), NoMemory>
-    ensures { OnOk result (text.new.items ≡ text.old.items ++ help_line (spec.help_for (fault_view fault.now))) }
+/// Appends what a designer does about a finding.
+fn push_help(finding: &Finding<'_>, text: &mut Vec<u8>) -> Result<(), NoMemory>
+    ensures { OnOk result (text.new.items ≡ text.old.items ++ help_line (spec.help_for (finding_view finding.now))) }
 {
     text.extend_from_slice(b"help: ")?;
-    text.extend_from_slice(words_for(fault).help.as_bytes())?;
+    text.extend_from_slice(words_in(finding).help.as_bytes())?;
     text.extend_from_slice(b"\n")?;
     Ok(())
 }

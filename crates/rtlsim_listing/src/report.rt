@@ -21,7 +21,8 @@ static NET_LOOP: Words<&str> = Words {
     closing: "",
     help: "see where each of these nets is assigned whether the right signal is read, as state for next_state; a value \
         that adds up in steps does so in a variable, as v := v + a(i), which is assigned at the end; a value that is \
-        to be kept is assigned under rising_edge(clk)",
+        to be kept is assigned under rising_edge(clk); registers that reset one another are reset by a net that none of \
+        them makes, or under rising_edge(clk)",
 };
 
 /// The circle that a fault is told of.

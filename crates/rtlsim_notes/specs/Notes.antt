@@ -1,11 +1,14 @@
 -- The notes of a finding: its own first, and then those of its rule, of each byte the first.
-use Rattle.std.specs.Prelude.{ℕ, ◌-◌, ◌==◌, Bool, false, if◌then◌else◌, List, [], ◌∷◌, ◌++◌, slice_get, take, Option, Some, None, flat_map}
+use Rattle.std.specs.Prelude.{ℕ, ◌-◌, ◌==◌, Bool, false, if◌then◌else◌, List, [], ◌∷◌, ◌++◌, length, slice_get, take, Option, Some, None, flat_map, option_and_then}
 use Rattle.rtl_model.specs.simulation.Accepted.{Fault, TwoDrivers, EdgeNotSensitive, MissingSensitivity, Loop, NetLoop}
-use Rattle.rtl_net.specs.Nets.{NetlistView, label_at}
+use Rattle.rtl_net.specs.Nets.{NetlistView, body_of, label_at}
+use Rattle.rtl_net.specs.declared.body.Statement.{Statement}
+use Rattle.rtl_net.specs.declared.body.Statement.TheVariants as s
+use Rattle.rtl_net.specs.declared.process.Process.{Process}
+use Rattle.rtl_body_facts.specs.Reading.{some}
+use Rattle.rtl_model.specs.bodies.Reads.{events}
 use Rattle.rtlsim_findings.specs.Causes.{at_process}
 use Rattle.rtlsim_circles.specs.Circles.{first_or}
-use Rattle.rtlsim_circles.specs.Splits.{split_of}
-use Rattle.rtlsim_circles.specs.declared.splitting.Split.{Split}
 use Rattle.rtlsim_findings.specs.Findings.{FindingView}
 use Rattle.rtlsim_findings.specs.Once.{each_new}
 use Rattle.rtlsim_findings.specs.Sayings.{note_at, note_text}
@@ -15,7 +18,7 @@ use Rattle.fault_rules.specs.declared.report.Subject.TheVariants.{Sources}
 use Rattle.rtlsim_listing.specs.DotText.{driver_in}
 use Rattle.rtlsim_listing.specs.Reports.{report_of}
 use Rattle.rtlsim_notes.specs.Loops.{loop_of}
-use Rattle.rtlsim_notes.specs.Sayings.{connection_text, inside_text, lack_text, look_text, loop_text, read_text, split_text, step_text}
+use Rattle.rtlsim_notes.specs.Sayings.{connection_text, inside_text, lack_text, look_text, loop_text, read_text, step_text}
 use Rattle.rtlsim_notes.specs.Scopes.{child_of, instance_of, names_in, scope_of, scope_of_net}
 use Rattle.rtlsim_notes.specs.declared.noted.Note.{Note}
 use Rattle.vhdl_lexer.specs.declared.token.Token.{Token}
@@ -132,25 +135,20 @@ abbrev pub names_for : NetlistView → (n : ℕ) → (scope : Option ℕ) → Li
 names_for net n None = []
 names_for net n (Some scope) = names_in net scope n
 
--- where a process reads a net first
-abbrev pub read_in : Read → NetlistView → (process n : ℕ) → Option Token
-read_in source net process n =
-    first_use uses.Read source.text (names_for net n (scope_at net (Some process)))
-    (body (tokens_of source net process))
+-- where a process reads a net first from this byte on
+abbrev pub read_from : Read → NetlistView → (process n : ℕ) → (at : Option ℕ) → Option Token
+read_from source net process n at =
+    first_use uses.Read source.text (names_for net n (scope_at net (Some process))) (body (tokens_from source at))
 
 abbrev pub read_notes : Read → NetlistView → (process n : ℕ) → List NoteView
-read_notes source net process n = read_note source.text (read_in source net process n)
+read_notes source net process n =
+    read_note source.text (read_from source net process n (at_process net (Some process)))
 
--- ---- a circle: the process that can be split, and the processes behind the first
+-- ---- the processes of a circle behind the first
 
 abbrev pub step_at : Option ℕ → (text : List ℕ) → List NoteView
 step_at None text = []
 step_at (Some at) text = note at text ∷ []
-
--- at the process that can be split
-abbrev pub split_note : NetlistView → Option Split → List NoteView
-split_note net None = []
-split_note net (Some split) = step_at (at_process net (Some split.process)) (split_text net split)
 
 abbrev pub steps_from : NetlistView → (first before : ℕ) → List ℕ → List NoteView
 steps_from net first before [] = []
@@ -164,13 +162,32 @@ step_notes net (first ∷ rest) = steps_from net first first rest
 
 -- ---- the nets of a circle, each where the process that drives it reads the next: so many of them
 
-abbrev pub look_note : NetlistView → (n next : ℕ) → Option Token → List NoteView
-look_note net n next None = []
-look_note net n next (Some t) = note t.start (look_text net n next) ∷ []
+-- the byte at which a statement starts that is an if, and of some statements the last one's
+abbrev pub if_at : Statement → Option ℕ
+if_at (s.If' at shape branches last) = Some at
+if_at _ = None
+
+abbrev pub last_if : List Statement → Option ℕ
+last_if xs = option_and_then if_at (slice_get xs (length xs - 1))
+
+-- From which byte on that is looked for: a register looks at its reset alone, which the last if tests, and not at what
+-- the branch under the edge reads.
+abbrev pub start_in : Process → Option ℕ
+start_in p = if some (events (body_of p)) then last_if p.body.items else Some p.at
+
+abbrev pub look_start : Option Process → Option ℕ
+look_start None = None
+look_start (Some p) = start_in p
+
+abbrev pub look_note : (text : List ℕ) → NetlistView → (n next : ℕ) → Option Token → List NoteView
+look_note text net n next None = []
+look_note text net n next (Some t) = note t.start (look_text net n next (text_of text t)) ∷ []
 
 abbrev pub looks_by : Read → NetlistView → (n next : ℕ) → (process : Option ℕ) → List NoteView
 looks_by source net n next None = []
-looks_by source net n next (Some process) = look_note net n next (read_in source net process next)
+looks_by source net n next (Some process) =
+    look_note source.text net n next
+    (read_from source net process next (look_start (slice_get net.processes process)))
 
 abbrev pub looks_at : Read → NetlistView → (n next : ℕ) → List NoteView
 looks_at source net n next = looks_by source net n next (driver_in net n)
@@ -223,8 +240,7 @@ rule_notes source net (TwoDrivers n first second) =
 rule_notes source net (EdgeNotSensitive process n) = list_notes source net process ++ read_notes source net process n
 rule_notes source net (MissingSensitivity process n) = list_notes source net process ++ read_notes source net process n
 rule_notes source net (Loop processes) =
-    split_note net (split_of net processes) ++ step_notes net processes
-    ++ flat_map (list_notes source net) (take 20 processes)
+    step_notes net processes ++ flat_map (list_notes source net) (take 20 processes)
 rule_notes source net (NetLoop nets) = look_notes source net nets
 rule_notes source net _ = []
 

@@ -3,7 +3,6 @@ use Rattle.std.specs.Prelude.{ℕ, List, ◌++◌, codes, slice_get}
 use Rattle.rtl_net.specs.Names.{net_name, process_name}
 use Rattle.rtl_net.specs.Nets.{NetlistView}
 use Rattle.rtlsim_circles.specs.Circles.{link_net, name_of_net}
-use Rattle.rtlsim_circles.specs.declared.splitting.Split.{Split}
 use Rattle.vhdl_places.specs.declared.lists.Lack.{Lack}
 use Rattle.vhdl_places.specs.declared.lists.Lack.TheVariants.{Nothing, Reading, EdgeIf, EdgeBranch}
 
@@ -43,16 +42,11 @@ step_text net before this next =
     process_name net this ++ codes " drives " ++ link_name net before this
     ++ codes ", and is sensitive to " ++ link_name net this next
 
--- of the process of a circle that can be split
-abbrev pub split_text : NetlistView → Split → List ℕ
-split_text net split =
-    net_name net split.net ++ codes " of " ++ process_name net split.process
-    ++ codes " doesn't look at " ++ net_name net split.next
-    ++ codes ": assign " ++ net_name net split.net ++ codes " in a process of its own"
-
--- of a net of a circle, where its process reads the next
-abbrev pub look_text : NetlistView → (n next : ℕ) → List ℕ
-look_text net n next = net_name net n ++ codes " looks at " ++ net_name net next ++ codes " here"
+-- of a net of a circle, where its process reads the next, by this name
+abbrev pub look_text : NetlistView → (n next : ℕ) → (name : List ℕ) → List ℕ
+look_text net n next name =
+    net_name net n ++ codes " looks at " ++ net_name net next
+    ++ codes ": its process reads " ++ name ++ codes " here"
 
 -- of an instance that connects a net
 abbrev pub connection_text : (label port : List ℕ) → List ℕ

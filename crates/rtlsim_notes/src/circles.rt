@@ -1,37 +1,20 @@
 //! Notes at the processes of a circle, and where its nets are read.
 
-ghost use Rattle.std.specs.Prelude.{◌≡◌, ◌++◌, map, OnOk};
-ghost use Rattle.rtlsim_circles.specs.Splits as splits;
+ghost use Rattle.std.specs.Prelude.{◌≡◌, ◌++◌, map, slice_get, OnOk};
 ghost use Rattle.rtlsim_notes.specs.Notes as spec;
 ghost use Rattle.rtlsim_notes.specs.Notes.{note_view};
 ghost use Rattle.vhdl_slips.specs.Words.{read_of};
 
-use crate::lists::read_in;
+use crate::lists::read_from;
 use crate::noted::{Note, push_note};
-use crate::sayings::{look_text, split_text, step_text};
-use rtl_net::{Net, NoMemory};
-use rtlsim_circles::{first_or, split_of};
+use crate::sayings::{look_text, step_text};
+use rtl_body_facts::body_has_event;
+use rtl_net::{Net, NoMemory, Process, Statement};
+use rtlsim_circles::first_or;
 use rtlsim_findings::at_process;
 use rtlsim_listing::driver_of;
 use std::alloc::Global;
-use vhdl_slips::Lexed;
-
-/// Appends the note at the process of a circle that can be split, if one can.
-pub(crate) fn push_split(
-    alloc: Global,
-    net: &Net,
-    processes: &[usize],
-    notes: &mut Vec<Note>,
-) -> Result<(), NoMemory>
-    ensures { OnOk result (map note_view notes.new.items
-        ≡ map note_view notes.old.items ++ spec.split_note net.now (splits.split_of net.now processes.now)) }
-{
-    let Some(split) = split_of(alloc, net, processes)? else {
-        return Ok(());
-    };
-    let text = split_text(alloc, net, split)?;
-    push_at(at_process(net, Some(split.process)), text, notes)
-}
+use vhdl_slips::{Lexed, text_of};
 
 /// Appends the notes at the processes of a circle behind the first.
 pub(crate) fn push_steps(
@@ -127,6 +110,46 @@ fn push_looks_from(
     Ok(())
 }
 
+/// The byte at which a statement starts that is an if.
+fn if_at(statement: &Statement) -> Option<usize>
+    ensures { result ≡ spec.if_at statement.now }
+{
+    match statement {
+        Statement::If { at, .. } => Some(*at as usize),
+        _ => None,
+    }
+}
+
+/// The same of the last of some statements.
+fn last_if(statements: &[Statement]) -> Option<usize>
+    ensures { result ≡ spec.last_if statements.now }
+{
+    match statements.last() {
+        Some(statement) => if_at(statement),
+        None => None,
+    }
+}
+
+/// From which byte on it's looked for where what a process drives looks at a net.
+fn start_in(process: &Process) -> Option<usize>
+    ensures { result ≡ spec.start_in process.now }
+{
+    if body_has_event(&process.body) {
+        return last_if(&process.body);
+    }
+    Some(process.at as usize)
+}
+
+/// The same of the process of this number, if there is one.
+fn look_start(net: &Net, process: usize) -> Option<usize>
+    ensures { result ≡ spec.look_start (slice_get net.now.processes process) }
+{
+    match net.processes().get(process) {
+        Some(process) => start_in(process),
+        None => None,
+    }
+}
+
 /// Appends the note where the process that drives a net reads the next.
 fn push_look(
     alloc: Global,
@@ -142,12 +165,11 @@ fn push_look(
     let Some(process) = driver_of(net, number) else {
         return Ok(());
     };
-    let Some(token) = read_in(alloc, source, net, process, next)? else {
+    let start = look_start(net, process);
+    let Some(token) = read_from(alloc, source, net, process, next, start)? else {
         return Ok(());
     };
-    push_note(
-        token.start as usize,
-        look_text(alloc, net, number, next)?,
-        notes,
-    )
+    let name = text_of(source.text, token);
+    let text = look_text(alloc, net, number, next, name)?;
+    push_note(token.start as usize, text, notes)
 }

@@ -7,7 +7,7 @@ ghost use Rattle.rtlsim_notes.specs.Notes as spec;
 ghost use Rattle.rtlsim_notes.specs.Notes.{note_view};
 ghost use Rattle.vhdl_slips.specs.Words.{read_of};
 
-use crate::circles::{push_looks, push_split, push_steps};
+use crate::circles::{push_looks, push_steps};
 use crate::connections::push_driver;
 use crate::lists::{push_list, push_lists, push_read, tokens_from};
 use crate::loops::push_loop;
@@ -197,7 +197,6 @@ fn push_rule(
             push_read(alloc, source, net, *process, *number, notes)
         }
         CheckFault::Loop { processes } => {
-            push_split(alloc, net, processes, notes)?;
             push_steps(alloc, net, processes, notes)?;
             push_lists(alloc, source, net, first_of(MOST, processes), notes)
         }

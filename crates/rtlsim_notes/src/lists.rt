@@ -96,20 +96,21 @@ fn names_for<'a>(
     }
 }
 
-/// Where a process reads a net first.
-pub(crate) fn read_in(
+/// Where a process reads a net first from this byte on.
+pub(crate) fn read_from(
     alloc: Global,
     source: Lexed<'_>,
     net: &Net,
     process: usize,
     number: usize,
+    at: Option<usize>,
 ) -> Result<Option<Token>, NoMemory>
-    ensures { IfOk result (λ token. token ≡ spec.read_in (read_of source.entry) net.now process number) }
+    ensures { IfOk result (λ token. token ≡ spec.read_from (read_of source.entry) net.now process number at) }
 {
     let names = names_for(alloc, net, process, number)?;
     let words = Lexed {
         text: source.text,
-        tokens: body(tokens_of(source, net, process)),
+        tokens: body(tokens_from(source, at)),
     };
     Ok(first_use(Use::Read, &names, words))
 }
@@ -126,7 +127,8 @@ pub(crate) fn push_read(
     ensures { OnOk result (map note_view notes.new.items
         ≡ map note_view notes.old.items ++ spec.read_notes (read_of source.entry) net.now process number) }
 {
-    let Some(token) = read_in(alloc, source, net, process, number)? else {
+    let start = at_process(net, Some(process));
+    let Some(token) = read_from(alloc, source, net, process, number, start)? else {
         return Ok(());
     };
     let text = read_text(alloc, text_of(source.text, token))?;

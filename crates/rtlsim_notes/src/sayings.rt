@@ -4,7 +4,7 @@ ghost use Rattle.std.specs.Prelude.{◌≡◌, ◌++◌, IfOk, codes};
 ghost use Rattle.rtlsim_notes.specs.Sayings as spec;
 
 use rtl_net::{Net, NoMemory};
-use rtlsim_circles::{Split, link_net, name_of_net};
+use rtlsim_circles::{link_net, name_of_net};
 use rtlsim_listing::{net_name, process_name};
 use std::alloc::Global;
 use vhdl_places::Lack;
@@ -109,34 +109,21 @@ pub(crate) fn step_text(
     Ok(text)
 }
 
-/// What is said of the process of a circle that can be split.
-pub(crate) fn split_text(alloc: Global, net: &Net, split: Split) -> Result<Vec<u8>, NoMemory>
-    ensures { IfOk result (λ text. text.items ≡ spec.split_text net.now split) }
-{
-    let driven = net_name(alloc, net, split.net)?;
-    let mut text = Vec::from_slice(alloc, &driven)?;
-    text.extend_from_slice(b" of ")?;
-    text.extend_from_slice(&process_name(alloc, net, split.process)?)?;
-    text.extend_from_slice(b" doesn't look at ")?;
-    text.extend_from_slice(&net_name(alloc, net, split.next)?)?;
-    text.extend_from_slice(b": assign ")?;
-    text.extend_from_slice(&driven)?;
-    text.extend_from_slice(b" in a process of its own")?;
-    Ok(text)
-}
-
-/// What is said of a net of a circle, where its process reads the next.
+/// What is said of a net of a circle, where its process reads the next, by this name.
 pub(crate) fn look_text(
     alloc: Global,
     net: &Net,
     number: usize,
     next: usize,
+    name: &[u8],
 ) -> Result<Vec<u8>, NoMemory>
-    ensures { IfOk result (λ text. text.items ≡ spec.look_text net.now number next) }
+    ensures { IfOk result (λ text. text.items ≡ spec.look_text net.now number next name.now) }
 {
     let mut text = net_name(alloc, net, number)?;
     text.extend_from_slice(b" looks at ")?;
     text.extend_from_slice(&net_name(alloc, net, next)?)?;
+    text.extend_from_slice(b": its process reads ")?;
+    text.extend_from_slice(name)?;
     text.extend_from_slice(b" here")?;
     Ok(text)
 }

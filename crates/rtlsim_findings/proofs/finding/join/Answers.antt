@@ -1,11 +1,13 @@
-use Rattle.std.proofs.Common.{◌≡◌, ℕ, zero, suc, ◌<◌, ◌≤◌, List, [], ◌∷◌, ◌++◌, length, get_or, map, set, refl, sym, ap, ◌∙◌, arith}
+use Rattle.std.proofs.Common.{◌≡◌, ℕ, zero, suc, ◌<◌, ◌≤◌, List, [], ◌∷◌, ◌++◌, length, get_or, map, set, Option, refl, sym, ap, ◌∙◌, arith}
 use Rattle.std.proofs.lemmas.List.{length-map, map-append, map-set}
 use Rattle.std.proofs.lemmas.Bool.Decides.{nat_tests}
 use Rattle.rtl_check.specs.Views.{fault_view}
 use Rattle.rtl_model.specs.simulation.Accepted.{Fault}
 use Rattle.rtl_net.specs.Nets.{NetlistView}
+use Rattle.rtl_mixed_reasons.specs.declared.reason.Reason.{Reason}
 use Rattle.rtlsim_findings.specs.Causes.{cause_of}
 use Rattle.rtlsim_findings.specs.Findings.{FindingView, finding_view, begun, joined, with_other}
+use Rattle.rtlsim_findings.specs.Mixed.{why}
 use Rattle.rtlsim_findings.specs.declared.cause.Cause.{Cause}
 use Rattle.rtlsim_findings.specs.declared.finding.Finding.{Finding}
 use Rattle.rtlsim_findings.specs.steps.Joining.{causes_of, place_in}
@@ -37,13 +39,13 @@ put_behind net fault items n new e l told =
     map-append finding_view items (new ∷ []) ∙ ap (λ f. map finding_view items ++ f ∷ []) told
     ∙ sym (joined_end net fault (map finding_view items) (omega (arith, l, e, length-map items finding_view)))
 
-abbrev made : Cause → Fault → List Fault → FindingView
-made cause first others = record { cause = cause; first = first; others = others }
+abbrev made : Cause → Option Reason → Fault → List Fault → FindingView
+made cause reason first others = record { cause = cause; reason = reason; first = first; others = others }
 
-fresh : (net : NetlistView) (fault : Fault) (new : Finding) → new.cause ≡ cause_of net fault → fault_view new.first.now ≡ fault → new.others.items ≡ []
+fresh : (net : NetlistView) (fault : Fault) (new : Finding) → new.cause ≡ cause_of net fault → new.reason ≡ why net fault → fault_view new.first.now ≡ fault → new.others.items ≡ []
     → finding_view new ≡ begun net fault
-fresh net fault new c f o =
-    let all : made new.cause (fault_view new.first.now) (map (λ o. fault_view o.now) new.others.items) ≡ made (cause_of net fault) fault [] = rw (c, f, o) refl in
+fresh net fault new c r f o =
+    let all : made new.cause new.reason (fault_view new.first.now) (map (λ o. fault_view o.now) new.others.items) ≡ made (cause_of net fault) (why net fault) fault [] = rw (c, r, f, o) refl in
     all
 
 -- the place that the set of causes gives, and the causes then
@@ -64,7 +66,7 @@ returns-then-number-len c =
     let e = at_place net fault (map finding_view items) _ _ c.in_ok-number.number c.in_ok-cause.ensures.is are c.in_ok-number.ensures.index in
     let old = c.index_mut-finding.result.now in
     let is = put_in net fault items c.in_ok-number.number old _ e (grind (arith, nat_tests, c.if-number-len.true, c.len.ensures)) c.index_mut-finding.ensures.value
-    (ap (made old.cause (fault_view old.first.now)) (one_more _ _ _ _ c.in_ok-push.ensures.items (λ o. fault_view o.now) refl)) in
+    (ap (made old.cause old.reason (fault_view old.first.now)) (one_more _ _ _ _ c.in_ok-push.ensures.items (λ o. fault_view o.now) refl)) in
     record {
       are = c.in_ok-cause.ensures.are;
       causes = causes_then net fault (map finding_view items) _ _ _ _ c.in_ok-cause.ensures.is are c.in_ok-number.ensures.keys is;
@@ -78,10 +80,10 @@ returns c =
     let fault = fault_view c.args.fault.now in
     let are = c.requires.causes in
     let e = at_place net fault (map finding_view items) _ _ c.in_ok-number.number c.in_ok-cause.ensures.is are c.in_ok-number.ensures.index in
-    let new : Finding = record { cause = c.in_ok-cause.cause; first = c.args.fault; others = c.new-others.result } in
+    let new : Finding = record { cause = c.in_ok-cause.cause; reason = c.in_ok-reason.reason; first = c.args.fault; others = c.new-others.result } in
     let is = ap (map finding_view) c.in_ok-push-2.ensures.items
     ∙ put_behind net fault items c.in_ok-number.number new e (grind (arith, nat_tests, c.if-number-len.false, c.len.ensures))
-    (fresh net fault new c.in_ok-cause.ensures.is refl c.new-others.ensures.items) in
+    (fresh net fault new c.in_ok-cause.ensures.is c.in_ok-reason.ensures refl c.new-others.ensures.items) in
     record {
       are = c.in_ok-cause.ensures.are;
       causes = causes_then net fault (map finding_view items) _ _ _ _ c.in_ok-cause.ensures.is are c.in_ok-number.ensures.keys is;

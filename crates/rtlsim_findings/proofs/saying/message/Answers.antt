@@ -9,4 +9,4 @@ pub returns : goal.returns
 returns c =
     let nets = c.deref-3.ensures.value ∙ c.in_ok-nets.ensures ∙ ap listed (map_same _ _ c.deref.ensures.value (λ t. t.items) ∙ c.in_ok-ranges.ensures) in
     subst (λ t. IfOk c.sentence.result (λ text. text.items ≡ t))
-    (same_sentence _ _ _ _ _ _ c.words_for.ensures (c.deref-2.ensures.value ∙ c.in_ok-culprits.ensures) nets) c.sentence.ensures
+    (same_sentence _ _ _ _ _ _ c.words_in.ensures (c.deref-2.ensures.value ∙ c.in_ok-culprits.ensures) nets) c.sentence.ensures
