@@ -2,7 +2,7 @@
 use Rattle.std.proofs.Common.{◌≡◌, ℕ, Bool, false, ◌||◌, List, [], ◌∷◌, Some, None, Vec, Global, refl, sym, ap, ◌∙◌}
 use Rattle.std.specs.List.{list_any}
 use Rattle.rtl_model.specs.bodies.Body as bodies
-use Rattle.rtl_model.specs.bodies.Assigns.{Target}
+use Rattle.rtl_model.specs.bodies.Assigns.{Target, stmt_assigns, stmts_assign, branches_assign, alternatives_assign}
 use Rattle.rtl_net.specs.declared.body.Value.{Value}
 use Rattle.rtl_net.specs.declared.body.Statement.{Statement}
 use Rattle.rtl_net.specs.declared.body.Statement.TheVariants as vs
@@ -14,7 +14,7 @@ use Rattle.rtl_net.proofs.Rows.{view_if, view_case}
 use Rattle.rtl_body_facts.specs.Paths.{to_net}
 use Rattle.rtl_body_facts.proofs.Anys.{or_assoc, or_none}
 use Rattle.rtl_net.specs.declared.process.Driver.{Driver}
-use Rattle.rtl_latches.specs.Omissions.{stmt_assigns, stmts_assign, branches_assign, alternatives_assign, branch_assigns, alternative_assigns}
+use Rattle.rtl_latches.specs.Omissions.{branch_assigns, alternative_assigns}
 
 abbrev pub statement_assigns : (these : Target → Bool) → Statement → Bool
 statement_assigns these x = stmt_assigns these (statement_view x)

@@ -5,7 +5,7 @@ use Rattle.std.specs.Prelude.{is_some, if◌then◌else◌}
 use Rattle.std.specs.List.{list_any, list_all}
 use Rattle.std.proofs.lemmas.List.{take_more, map-append}
 use Rattle.rtl_model.specs.bodies.Body as bodies
-use Rattle.rtl_model.specs.bodies.Assigns.{Target, must_assign, stmt_must_assign, branches_must_assign, alternatives_must_assign}
+use Rattle.rtl_model.specs.bodies.Assigns.{Target, must_assign, stmt_must_assign, branches_must_assign, alternatives_must_assign, stmt_assigns, stmts_assign, branches_assign, alternatives_assign}
 use Rattle.rtl_net.specs.declared.process.Driver.{Driver}
 use Rattle.rtl_net.specs.declared.body.Value.{Value}
 use Rattle.rtl_net.specs.declared.body.Statement.{Statement}
@@ -16,7 +16,7 @@ use Rattle.rtl_net.specs.Bodies.{statement_view, statements_of}
 use Rattle.rtl_body_facts.specs.Paths.{to_net}
 use Rattle.rtl_body_facts.proofs.Anys.{or_none, and_not, and_assoc}
 use Rattle.rtl_body_facts.proofs.EveryPath.{set_covers, if_covers, if_alone_covers, case_covers}
-use Rattle.rtl_latches.specs.Omissions.{stmt_assigns, stmts_assign, branches_assign, alternatives_assign, branch_assigns, alternative_assigns, leaves_out, in_statement, omission_of, part_omission, branches_omission, alternatives_omission}
+use Rattle.rtl_latches.specs.Omissions.{branch_assigns, alternative_assigns, leaves_out, in_statement, omission_of, part_omission, branches_omission, alternatives_omission}
 use Rattle.rtl_latches.specs.declared.omission.Omission.{Omission}
 use Rattle.rtl_latches.specs.declared.omission.Omission.TheVariants as o
 use Rattle.rtl_latches.specs.declared.choosing.Counted.TheVariants as c

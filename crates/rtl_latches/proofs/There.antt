@@ -3,12 +3,12 @@ use Rattle.std.proofs.Common.{◌≡◌, ℕ, ◌+◌, Bool, true, false, ◌&&�
 use Rattle.std.specs.Prelude.{IsSome, if◌then◌else◌}
 use mathlib.Core.Former.{Count}
 use Rattle.rtl_model.specs.bodies.Body as bodies
-use Rattle.rtl_model.specs.bodies.Assigns.{Target, must_assign, branches_must_assign, alternatives_must_assign, stmt_must_assign}
+use Rattle.rtl_model.specs.bodies.Assigns.{Target, must_assign, branches_must_assign, alternatives_must_assign, stmt_must_assign, stmt_assigns, stmts_assign}
 use Rattle.rtl_net.specs.declared.body.Statement.{Statement}
 use Rattle.rtl_net.specs.declared.body.Statement.TheVariants as vs
 use Rattle.rtl_net.specs.declared.body.Statement.TheBlock.{None', Some', Row_of-Statement, end_of-Statement, more_of-Statement, Row_of-Branch, end_of-Branch, more_of-Branch, Row_of-Alternative, end_of-Alternative, more_of-Alternative}
 use Rattle.rtl_net.specs.Bodies.{statement_view, statements_row, branches_row, alternatives_row, statements_of}
-use Rattle.rtl_latches.specs.Omissions.{stmt_assigns, stmts_assign, leaves_out, in_statement, in_row, itself_or, in_branches, in_alternatives, omission_of}
+use Rattle.rtl_latches.specs.Omissions.{leaves_out, in_statement, in_row, itself_or, in_branches, in_alternatives, omission_of}
 use Rattle.rtl_latches.specs.declared.omission.Omission.{Omission}
 use Rattle.rtl_latches.specs.declared.omission.Omission.TheVariants as o
 

@@ -1,11 +1,9 @@
 -- Where a body leaves out an assignment: the first place in the text at which a path that takes none of it parts from
 -- one that does. It's looked for in the first statement that assigns on some path and not on all, and there in the
 -- first branch or alternative that doesn't on all.
-use Rattle.std.specs.Prelude.{ℕ, ◌+◌, Bool, false, not, ◌&&◌, ◌||◌, if◌then◌else◌, List, [], ◌∷◌, Option, Some, None}
-use Rattle.std.specs.List.{list_any}
-use Rattle.rtl_model.specs.bodies.Assigns.{Target, driver, element, must_assign, stmt_must_assign}
-use Rattle.rtl_model.specs.bodies.Body.{Stmt, null_of, assign, set, if_of, case_of, Stmts, done, step}
-use Rattle.rtl_model.specs.bodies.Body.{Branches, no_else, otherwise, branch, Alternatives, others, alternative}
+use Rattle.std.specs.Prelude.{ℕ, ◌+◌, Bool, not, ◌&&◌, if◌then◌else◌, List, [], ◌∷◌, Option, Some, None}
+use Rattle.rtl_model.specs.bodies.Assigns.{Target, must_assign, stmt_must_assign, stmt_assigns, stmts_assign}
+use Rattle.rtl_model.specs.bodies.Body.{Stmts}
 use Rattle.rtl_net.specs.Bodies.{statement_view, statements_row, statements_of}
 use Rattle.rtl_net.specs.declared.body.Statement.{Statement}
 use Rattle.rtl_net.specs.declared.body.Statement.TheVariants as s
@@ -15,30 +13,9 @@ use Rattle.rtl_net.specs.declared.body.Alternative.{Alternative}
 use Rattle.rtl_latches.specs.declared.omission.Omission.{Omission}
 use Rattle.rtl_latches.specs.declared.omission.Omission.TheVariants as o
 
--- ---- whether an assignment of one of these targets stands in a body, on whatever path
+-- ---- whether an assignment of one of these targets stands in a part of a body, on whatever path
 
-abbrev mutual
-  pub stmt_assigns : (these : Target → Bool) → Stmt → Bool
-  stmt_assigns these null_of = false
-  stmt_assigns these (assign places v) = list_any (λ place. these (driver place)) places
-  stmt_assigns these (set es v) = list_any (λ e. these (element e)) es
-  stmt_assigns these (if_of bs) = branches_assign these bs
-  stmt_assigns these (case_of v alts) = alternatives_assign these alts
-
-  pub stmts_assign : (these : Target → Bool) → Stmts → Bool
-  stmts_assign these done = false
-  stmts_assign these (step s rest) = stmt_assigns these s || stmts_assign these rest
-
-  pub branches_assign : (these : Target → Bool) → Branches → Bool
-  branches_assign these no_else = false
-  branches_assign these (otherwise s) = stmts_assign these s
-  branches_assign these (branch t s bs) = stmts_assign these s || branches_assign these bs
-
-  pub alternatives_assign : (these : Target → Bool) → Alternatives → Bool
-  alternatives_assign these (others s) = stmts_assign these s
-  alternatives_assign these (alternative choices s alts) = stmts_assign these s || alternatives_assign these alts
-
--- one stands in a branch of an if, and in an alternative of a case
+-- in a branch of an if, and in an alternative of a case
 abbrev pub branch_assigns : (these : Target → Bool) → Branch → Bool
 branch_assigns these b = stmts_assign these (statements_of b.statements.items)
 

@@ -4,6 +4,7 @@
 ghost use Rattle.std.specs.Prelude.{◌≡◌, ℕ, nat_eq, IfOk};
 ghost use Rattle.std.specs.HashMap.{get};
 ghost use Rattle.std.specs.List.Sorted.{IsStrictlyIncreasing};
+ghost use Rattle.rtl_model.specs.bodies.Assigns.{stmts_assign};
 ghost use Rattle.rtl_net.specs.Bodies.{statements_of};
 ghost use Rattle.rtl_body_facts.specs.Paths.{to_net};
 ghost use Rattle.rtl_body_facts.specs.Reading.{is_in};
@@ -54,7 +55,7 @@ pub fn assigned_on_some_path(
 ) -> Result<Vec<usize>, AllocError>
     ensures rise { IfOk result (λ nets. IsStrictlyIncreasing nets.items) }
     ensures are { IfOk result (λ nets. (n : ℕ) → is_in n nets.items
-        ≡ spec.stmts_assign (to_net drives.now n) (statements_of statements.now)) }
+        ≡ stmts_assign (to_net drives.now n) (statements_of statements.now)) }
 {
     let part = gather(alloc, drives, statements)?;
     touched(alloc, slice::from_ref(&part))

@@ -7,7 +7,7 @@ use Rattle.std.proofs.lemmas.List.{length-map}
 use Rattle.std.proofs.lemmas.List.Elements.{All-contains}
 use Rattle.std.proofs.lemmas.Option.{slice_get_within}
 use Rattle.rtl_model.specs.basics.Valuations.{AgreeOn}
-use Rattle.rtl_model.specs.bodies.Assigns.{is_element, must_assign}
+use Rattle.rtl_model.specs.bodies.Assigns.{is_element, must_assign, stmts_assign}
 use Rattle.rtl_model.specs.bodies.Body.{null_of, assign, set, if_of, case_of, Stmts, done, step, no_else, branch}
 use Rattle.rtl_model.specs.bodies.Effect.{effect}
 use Rattle.rtl_model.specs.bodies.Fits.{Scope, DrivesType, Fits}
@@ -22,7 +22,7 @@ use Rattle.rtl_model.specs.nets.FlatNetlist.{FlatDriver, FlatProcess, ProcessInR
 use Rattle.rtl_model.proofs.basics.Lists.{in_contains}
 use Rattle.rtl_model.proofs.bodies.There.{each_read_is_there}
 use Rattle.rtl_variable_registers.specs.Bodies.{KeptVariable, reset_branch, with_branches, without_reset, is_register, keeps_element, at_edge}
-use Rattle.rtl_variable_registers.specs.Known.{sets_element, is_known, gives_constants, never_set, at_start, with_constants}
+use Rattle.rtl_variable_registers.specs.Known.{is_known, gives_constants, never_set, at_start, with_constants}
 use Rattle.rtl_variable_registers.specs.Laws.{SeesKept, RunsAlike, EachRunsAlike}
 use Rattle.rtl_variable_registers.specs.Processes.{kept_variables, kept_elements, rank_in, with_nets, kept_process}
 use Rattle.rtl_variable_registers.proofs.Known.{body_unset, not_set, unset_first, knows_more, gives_bare}
@@ -223,7 +223,7 @@ module _ (types : List ElementType) (p : FlatProcess) (in_range : ProcessInRange
         record {
           entries = λ q l. ap (λ (k : FlatProcess). effect other k.body q) is ∙ h.entries q (omega (arith, length-map p.drivers (λ (d : FlatDriver). d.net)));
           kept = λ e c. ap (λ (k : FlatProcess). unwrap_or (effect other k.body (place e)) (slice_index left.variables e)) is ∙ h.kept e c;
-          unset = λ e k. body_unset e p.body left (not_set (sets_element e p.body) k);
+          unset = λ e k. body_unset e p.body left (not_set (stmts_assign (is_element e) p.body) k);
         }
 
 pub each_runs_alike : EachRunsAlike

@@ -1,13 +1,15 @@
 -- What is clocked is a register, where its reset's branch looks at what is known.
-use Rattle.std.proofs.Common.{◌≡◌, ℕ, Bool, true, List, [], Option, Some, is_some, refl, ap, ◌∙◌, inl, inr}
+use Rattle.std.proofs.Common.{◌≡◌, ℕ, Bool, true, false, List, [], Option, Some, None, is_some, refl, ap, ◌∙◌, inl, inr}
 use Rattle.std.specs.Option.{option_map}
 use Rattle.std.proofs.lemmas.Bool.{and_from}
+use Rattle.rtl_model.specs.basics.Lists.{is_empty}
 use Rattle.rtl_model.specs.bodies.Body.{Test, Stmts, done}
-use Rattle.rtl_model.specs.bodies.Kinds.{IsResetTest, ResetPart, Clocking, IsClocked, clocking}
+use Rattle.rtl_model.specs.bodies.Kinds.{EdgeTest, edge_test, IsResetTest, ResetTest, reset_test, ResetPart, Clocking, IsClocked, with_reset, clocking}
+use Rattle.rtl_model.specs.bodies.Reads.{events}
 use Rattle.rtl_model.proofs.bodies.Clocking.{clocked_is, each_kind_is_as_said}
 use Rattle.rtl_variable_registers.specs.Bodies.{reset_branch, without_reset}
 use Rattle.rtl_variable_registers.specs.Known.{gives_constants, never_set}
-use Rattle.rtl_variable_registers.specs.Laws.{LooksAtKnown, EachClockedIsRegister, EachKnownResetIsRegister}
+use Rattle.rtl_variable_registers.specs.Laws.{first_body, behind_body, LooksAtKnown, EachClockedIsRegister, EachKnownResetIsRegister}
 use Rattle.rtl_variable_registers.proofs.Straight.{assigns_straight, known_gives}
 
 -- a reset test is one of the wider language
@@ -62,6 +64,18 @@ clocked_is_register wide inputs body c h k =
     and_from (is_some (clocking true [] (without_reset body))) (gives_constants (never_set body) (reset_branch body))
     (ap is_some (((each_kind_is_as_said true []).clocked (without_reset body) (record c { reset = emptied c.reset })).1 (still_clocked wide inputs body c is))) (given wide inputs body c is k)
 
+some_clocking : (gates : Bool) (r : Option ResetTest) (no_event : Bool) (e : Option EdgeTest) (s : Stmts)
+    → is_some r ≡ true → is_some e ≡ true → no_event ≡ true → is_some (with_reset gates r true no_event e done s) ≡ true
+some_clocking gates (Some r) true (Some e) s h k n = refl
+some_clocking gates (Some r) true None s h k n = absurd cc
+some_clocking gates (Some r) false e s h k n = absurd cc
+some_clocking gates None b e s h k n = absurd cc
+
 pub known_reset_is_register : EachKnownResetIsRegister
-known_reset_is_register body clocked straight k =
-    and_from (is_some (clocking true [] (without_reset body))) (gives_constants (never_set body) (reset_branch body)) clocked (known_gives body (reset_branch body) straight k)
+known_reset_is_register r t a s resets edge quiet straight =
+    let clocked = λ (gates : Bool). some_clocking gates (reset_test true [] r) (is_empty (events s)) (edge_test t) s resets edge (ap is_empty quiet) in (
+      λ (k : LooksAtKnown (first_body r a t s) a). and_from (is_some (clocking true [] (without_reset (first_body r a t s)))) (gives_constants (never_set (first_body r a t s)) a) (clocked true)
+          (known_gives (first_body r a t s) a straight k),
+      λ (k : LooksAtKnown (behind_body t s r a) a). and_from (is_some (clocking true [] (without_reset (behind_body t s r a)))) (gives_constants (never_set (behind_body t s r a)) a) (clocked false)
+          (known_gives (behind_body t s r a) a straight k),
+    )

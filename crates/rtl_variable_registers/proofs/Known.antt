@@ -7,7 +7,7 @@ use Rattle.std.proofs.lemmas.Bool.{and_parts, and_from, or_cases, eq-eqb, eqb-tr
 use Rattle.std.proofs.lemmas.List.{get_or-set_same, get_or-set_other, get_or_past, length-set}
 use Rattle.rtl_model.specs.basics.Lists.{is_empty}
 use Rattle.rtl_model.specs.basics.Valuations.{or_else}
-use Rattle.rtl_model.specs.bodies.Assigns.{Target, stmt_must_assign, must_assign}
+use Rattle.rtl_model.specs.bodies.Assigns.{Target, is_element, stmt_must_assign, must_assign, stmt_assigns, stmts_assign, branches_assign, alternatives_assign}
 use Rattle.rtl_model.specs.bodies.Body.{Expr, signal, variable, constant, inverse, filled, binary, counted}
 use Rattle.rtl_model.specs.bodies.Body.{Value, elements, position, position_of, position_in}
 use Rattle.rtl_model.specs.bodies.Body.{Stmt, null_of, assign, set, if_of, case_of, Stmts, done, step}
@@ -25,7 +25,7 @@ use Rattle.rtl_model.proofs.basics.Lists.{is_nil, nil_parts}
 use Rattle.rtl_model.proofs.bodies.Leaves.{leaves_tell}
 use Rattle.rtl_model.proofs.bodies.Ranges.{entries_keep_types}
 use Rattle.rtl_model.proofs.bodies.Widths.{has_its_width}
-use Rattle.rtl_variable_registers.specs.Known.{stmt_sets, sets_element, branches_set, alternatives_set, leaf_is_known, is_known, gives_constants, never_set, constant_of, as_constant, with_constant, with_constants}
+use Rattle.rtl_variable_registers.specs.Known.{leaf_is_known, is_known, gives_constants, never_set, constant_of, as_constant, with_constant, with_constants}
 use Rattle.rtl_variable_registers.proofs.Recalling.{length-values_put}
 use Rattle.rtl_variable_registers.proofs.Values.{on_both, Agree, value_known, value_same}
 
@@ -51,30 +51,30 @@ either_way false v w e x h k = k
 
 module _ (e : ℕ) where
   mutual
-    stmt_unset : (s : Stmt) (seen : Seen) → stmt_sets e s ≡ false → slice_index (stmt_variables seen s) e ≡ slice_index seen.variables e
+    stmt_unset : (s : Stmt) (seen : Seen) → stmt_assigns (is_element e) s ≡ false → slice_index (stmt_variables seen s) e ≡ slice_index seen.variables e
     stmt_unset null_of seen h = refl
     stmt_unset (assign places v) seen h = refl
     stmt_unset (set es v) seen h = put_elsewhere es (value_of seen v) seen.variables e h
     stmt_unset (if_of bs) seen h = branches_unset bs seen h
     stmt_unset (case_of v alts) seen h = alternatives_unset alts (value_of seen v) seen h
 
-    pub body_unset : (s : Stmts) (seen : Seen) → sets_element e s ≡ false → slice_index (variables_after seen s) e ≡ slice_index seen.variables e
+    pub body_unset : (s : Stmts) (seen : Seen) → stmts_assign (is_element e) s ≡ false → slice_index (variables_after seen s) e ≡ slice_index seen.variables e
     body_unset done seen h = refl
     body_unset (step s rest) seen h =
-        let (c, d) = neither (stmt_sets e s) (sets_element e rest) h in body_unset rest (after_stmt seen s) d ∙ stmt_unset s seen c
+        let (c, d) = neither (stmt_assigns (is_element e) s) (stmts_assign (is_element e) rest) h in body_unset rest (after_stmt seen s) d ∙ stmt_unset s seen c
 
-    branches_unset : (bs : Branches) (seen : Seen) → branches_set e bs ≡ false → slice_index (branches_variables seen bs) e ≡ slice_index seen.variables e
+    branches_unset : (bs : Branches) (seen : Seen) → branches_assign (is_element e) bs ≡ false → slice_index (branches_variables seen bs) e ≡ slice_index seen.variables e
     branches_unset no_else seen h = refl
     branches_unset (otherwise s) seen h = body_unset s seen h
     branches_unset (branch t s bs) seen h =
-        let (c, d) = neither (sets_element e s) (branches_set e bs) h in
+        let (c, d) = neither (stmts_assign (is_element e) s) (branches_assign (is_element e) bs) h in
         either_way (is_met seen t) (variables_after seen s) (branches_variables seen bs) e (slice_index seen.variables e) (body_unset s seen c) (branches_unset bs seen d)
 
-    alternatives_unset : (alts : Alternatives) (v : List ℕ) (seen : Seen) → alternatives_set e alts ≡ false
+    alternatives_unset : (alts : Alternatives) (v : List ℕ) (seen : Seen) → alternatives_assign (is_element e) alts ≡ false
         → slice_index (alternatives_variables seen v alts) e ≡ slice_index seen.variables e
     alternatives_unset (others s) v seen h = body_unset s seen h
     alternatives_unset (alternative choices s alts) v seen h =
-        let (c, d) = neither (sets_element e s) (alternatives_set e alts) h in
+        let (c, d) = neither (stmts_assign (is_element e) s) (alternatives_assign (is_element e) alts) h in
         either_way (list_any (same v) choices) (variables_after seen s) (alternatives_variables seen v alts) e (slice_index seen.variables e)
         (body_unset s seen c) (alternatives_unset alts v seen d)
 
@@ -83,9 +83,9 @@ pub not_set : (b : Bool) → not b ≡ true → b ≡ false
 not_set false h = refl
 not_set true h = absurd cc
 
-pub unset_first : (s : Stmt) (rest : Stmts) (e : ℕ) → never_set (step s rest) e ≡ true → sets_element e (step s done) ≡ false
+pub unset_first : (s : Stmt) (rest : Stmts) (e : ℕ) → never_set (step s rest) e ≡ true → stmts_assign (is_element e) (step s done) ≡ false
 unset_first s rest e h =
-    let (c, d) = neither (stmt_sets e s) (sets_element e rest) (not_set (sets_element e (step s rest)) h) in rw c refl
+    let (c, d) = neither (stmt_assigns (is_element e) s) (stmts_assign (is_element e) rest) (not_set (stmts_assign (is_element e) (step s rest)) h) in rw c refl
 
 -- ---- values
 

@@ -10,6 +10,7 @@ pub mod Alike
 pub mod Stored
 pub mod Timing
 pub mod Straight
+pub mod Needing
 pub mod Clocked
 pub mod Staying
 pub mod Fitting

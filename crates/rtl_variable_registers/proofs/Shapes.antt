@@ -11,6 +11,7 @@ use Rattle.rtl_model.proofs.basics.Lists.{Contains-first, is_nil}
 use Rattle.rtl_model.proofs.bodies.EdgeTests.{is_edge_test, is_reset_test}
 use Rattle.rtl_variable_registers.specs.Bodies.{is_register}
 use Rattle.rtl_variable_registers.specs.Known.{gives_constants, never_set}
+use Rattle.rtl_variable_registers.specs.Laws.{first_body, behind_body}
 
 -- the last branch of a register
 pub record AtEdge (t : Test) (s : Stmts) : Type 0 where
@@ -53,14 +54,8 @@ module _ (gates : Bool) (known : ℕ → Bool) (r : Test) (a : Stmts) (t : Test)
   both_parts : with_edge (reset_test true [] r) && gives_constants known a ≡ true → ByReset known r a × AtEdge t s
   both_parts h = let (c, g) = and_parts (with_edge (reset_test true [] r)) (gives_constants known a) h in parts_of (reset_test true [] r) refl c g
 
-abbrev first_body : (r : Test) (a : Stmts) (t : Test) (s : Stmts) → Stmts
-first_body r a t s = step (if_of (branch r a (branch t s no_else))) done
-
 pub reset_first : (r : Test) (a : Stmts) (t : Test) (s : Stmts) → is_register (first_body r a t s) ≡ true → ByReset (never_set (first_body r a t s)) r a × AtEdge t s
 reset_first r a t s h = both_parts true (never_set (first_body r a t s)) r a t s h
-
-abbrev behind_body : (t : Test) (s : Stmts) (r : Test) (a : Stmts) → Stmts
-behind_body t s r a = step (if_of (branch t s no_else)) (step (if_of (branch r a no_else)) done)
 
 pub reset_behind : (t : Test) (s : Stmts) (r : Test) (a : Stmts) → is_register (behind_body t s r a) ≡ true → ByReset (never_set (behind_body t s r a)) r a × AtEdge t s
 reset_behind t s r a h = both_parts false (never_set (behind_body t s r a)) r a t s h

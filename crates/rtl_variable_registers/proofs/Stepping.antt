@@ -20,7 +20,7 @@ use Rattle.rtl_model.proofs.bodies.Ranges.{entries_keep_types}
 use Rattle.rtl_model.proofs.bodies.There.{each_read_is_there}
 use Rattle.rtl_variable_registers.specs.Beside.{HasVariables}
 use Rattle.rtl_variable_registers.specs.Bodies.{is_register}
-use Rattle.rtl_variable_registers.specs.Known.{sets_element}
+use Rattle.rtl_model.specs.bodies.Assigns.{is_element, stmts_assign}
 use Rattle.rtl_variable_registers.specs.Laws.{RunsAlike}
 use Rattle.rtl_variable_registers.specs.Processes.{kept_elements, kept_process, rank_in}
 use Rattle.rtl_variable_registers.proofs.Alike.{each_runs_alike}
@@ -91,5 +91,5 @@ module _ (types : List ElementType) (first : ℕ) (p : FlatProcess) (in_range : 
   variables_left = record {
     many = as_many_after by_itself p.body ∙ has.many;
     typed = (entries_keep_types (scope_of types p) p.body by_itself in_range.body sees).variables;
-    unset = λ e k. body_unset e p.body by_itself (not_set (sets_element e p.body) k) ∙ has.unset e k;
+    unset = λ e k. body_unset e p.body by_itself (not_set (stmts_assign (is_element e) p.body) k) ∙ has.unset e k;
   }

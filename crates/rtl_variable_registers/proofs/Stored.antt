@@ -42,7 +42,7 @@ not_so false f n = refl
 
 -- ---- the parts
 
-edge_looks_none : (t : Test) (s : Stmts) → AtEdge t s → (e : ℕ) → test_looks_at e t ≡ false
+pub edge_looks_none : (t : Test) (s : Stmts) → AtEdge t s → (e : ℕ) → test_looks_at e t ≡ false
 edge_looks_none t s h e = go h.tests
   where
     go : IsEdgeTest t h.clock h.edge → test_looks_at e t ≡ false

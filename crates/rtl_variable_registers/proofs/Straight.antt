@@ -11,7 +11,8 @@ use Rattle.rtl_model.specs.bodies.Reads.{value_reads}
 use Rattle.rtl_model.specs.bodies.Stored.{value_looks_at, stores_element}
 use Rattle.rtl_model.proofs.basics.Lists.{Contains-first, contains_in}
 use Rattle.rtl_model.proofs.bodies.Leaves.{leaves_tell}
-use Rattle.rtl_variable_registers.specs.Known.{sets_element, leaf_is_known, is_known, gives_constants, never_set}
+use Rattle.rtl_model.specs.bodies.Assigns.{driver, element}
+use Rattle.rtl_variable_registers.specs.Known.{leaf_is_known, is_known, gives_constants, never_set}
 use Rattle.rtl_variable_registers.specs.Laws.{is_straight, LooksAtKnown, EachStraightSets}
 use Rattle.rtl_variable_registers.proofs.Known.{knows_more}
 use Rattle.rtl_variable_registers.proofs.Putting.{Contains-more}
@@ -35,16 +36,12 @@ gives_straight known (step (if_of bs) rest) h = absurd cc
 gives_straight known (step (case_of v alts) rest) h = absurd cc
 
 pub straight_sets : EachStraightSets
-straight_sets done e h = refl
-straight_sets (step null_of rest) e h = straight_sets rest e h
-straight_sets (step (assign ps v) rest) e h = none ps ∙ ap (λ (b : Bool). list_any (λ (q : ℕ). false) ps || b) (straight_sets rest e h)
-  where
-    none : (qs : List ℕ) → sets_element e rest ≡ (list_any (λ (q : ℕ). false) qs || sets_element e rest)
-    none [] = refl
-    none (q ∷ qs) = none qs
-straight_sets (step (set es v) rest) e h = ap (λ (b : Bool). list_any (λ d. d == e) es || b) (straight_sets rest e h)
-straight_sets (step (if_of bs) rest) e h = absurd cc
-straight_sets (step (case_of v alts) rest) e h = absurd cc
+straight_sets these done h = refl
+straight_sets these (step null_of rest) h = straight_sets these rest h
+straight_sets these (step (assign ps v) rest) h = ap (λ (b : Bool). list_any (λ q. these (driver q)) ps || b) (straight_sets these rest h)
+straight_sets these (step (set es v) rest) h = ap (λ (b : Bool). list_any (λ e. these (element e)) es || b) (straight_sets these rest h)
+straight_sets these (step (if_of bs) rest) h = absurd cc
+straight_sets these (step (case_of v alts) rest) h = absurd cc
 
 -- ---- what looks at what is known
 
@@ -68,6 +65,10 @@ value_gives : (known : ℕ → Bool) (v : Value) → OfElements (value_leaves v)
 value_gives known v only k = leaves_known known (value_leaves v) only (λ e m. k e (leaves_tell.value_looks_are e v ∙ m))
 
 -- an assignment to signals sets no element
+pub none_of : (qs : List ℕ) → list_any (λ q. false) qs ≡ false
+none_of [] = refl
+none_of (q ∷ qs) = none_of qs
+
 pub unmarked : (qs : List ℕ) (b : Bool) → b ≡ true → not (list_any (λ q. false) qs) && b ≡ true
 unmarked [] b k = k
 unmarked (q ∷ qs) b k = unmarked qs b k

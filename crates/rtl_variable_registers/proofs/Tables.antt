@@ -43,7 +43,7 @@ get_past_replicate (suc n) t ys k =
     ap (slice_get (t ∷ (replicate n t ++ ys))) s ∙ get_past_replicate n t ys k
 
 -- a variable's elements, the first of which has this number
-abbrev of_variable : ℕ → FlatVariable → KeptVariable
+abbrev pub of_variable : ℕ → FlatVariable → KeptVariable
 of_variable first v = record { type_of = v.type_of; elements = range_with_len first (length v.starts) }
 
 pub typed_among : (types : List ElementType) (keeps : ℕ → Bool) (first : ℕ) (vs : List FlatVariable) → All VariableInRange vs

@@ -4,37 +4,12 @@
 use Rattle.std.specs.Prelude.{ℕ, Bool, true, false, not, ◌&&◌, ◌||◌, ◌==◌, if◌then◌else◌, List, [], slice_index}
 use Rattle.std.specs.List.{list_any, list_all}
 use Rattle.rtl_model.specs.basics.Lists.{is_empty}
+use Rattle.rtl_model.specs.bodies.Assigns.{is_element, stmts_assign}
 use Rattle.rtl_model.specs.bodies.Body.{constant, Value, elements, position, position_of, position_in}
-use Rattle.rtl_model.specs.bodies.Body.{Stmt, null_of, assign, set, if_of, case_of, Stmts, done, step}
-use Rattle.rtl_model.specs.bodies.Body.{Branches, no_else, otherwise, branch, Alternatives, others, alternative}
+use Rattle.rtl_model.specs.bodies.Body.{Stmt, null_of, assign, set, Stmts, done, step}
 use Rattle.rtl_model.specs.bodies.Leaves.{Leaf, of_elements, value_leaves}
 use Rattle.rtl_model.specs.bodies.Values.{Seen, elements_of}
 use Rattle.rtl_model.specs.bodies.Variables.{after_stmt}
-
--- ---- what a body sets
-
--- whether some statement, in whatever branch, assigns to the element e
-module _ (e : ℕ) where
-  abbrev mutual
-    pub stmt_sets : Stmt → Bool
-    stmt_sets null_of = false
-    stmt_sets (assign places v) = false
-    stmt_sets (set es v) = list_any (λ d. d == e) es
-    stmt_sets (if_of bs) = branches_set bs
-    stmt_sets (case_of v alts) = alternatives_set alts
-
-    pub sets_element : Stmts → Bool
-    sets_element done = false
-    sets_element (step s rest) = stmt_sets s || sets_element rest
-
-    pub branches_set : Branches → Bool
-    branches_set no_else = false
-    branches_set (otherwise s) = sets_element s
-    branches_set (branch t s bs) = sets_element s || branches_set bs
-
-    pub alternatives_set : Alternatives → Bool
-    alternatives_set (others s) = sets_element s
-    alternatives_set (alternative choices s alts) = sets_element s || alternatives_set alts
 
 -- ---- what is known
 
@@ -58,7 +33,7 @@ gives_constants known (step _ rest) = false
 
 -- what no statement of the body sets
 abbrev pub never_set : Stmts → (e : ℕ) → Bool
-never_set body e = not (sets_element e body)
+never_set body e = not (stmts_assign (is_element e) body)
 
 -- ---- constants in the place of what is known
 

@@ -1,12 +1,12 @@
 -- What it is that the variables of processes are kept by nets: each run of a process does what the standard has it do,
 -- whose variables keep their values from the run before (IEEE 1076-2008, 11.3, 14.5.5).
-use Rattle.std.specs.Prelude.{◌≡◌, ℕ, ◌+◌, ◌<◌, Bool, true, false, if◌then◌else◌, Contains, IsTrue, List, [], ◌∷◌, length, take, slice_index}
+use Rattle.std.specs.Prelude.{◌≡◌, ℕ, ◌+◌, ◌<◌, Bool, true, false, ◌||◌, if◌then◌else◌, Contains, IsTrue, List, [], ◌∷◌, length, take, slice_index}
 use Rattle.std.specs.Prelude.{Some, IsSome, option_map, unwrap_or}
 use Rattle.rtl_model.specs.basics.Valuations.{AgreeOn}
-use Rattle.rtl_model.specs.bodies.Assigns.{is_element, must_assign}
-use Rattle.rtl_model.specs.bodies.Body.{null_of, assign, set, Stmts, done, step}
+use Rattle.rtl_model.specs.bodies.Assigns.{Target, is_element, must_assign, stmts_assign}
+use Rattle.rtl_model.specs.bodies.Body.{Test, null_of, assign, set, if_of, Stmts, done, step, no_else, branch}
 use Rattle.rtl_model.specs.bodies.Effect.{effect}
-use Rattle.rtl_model.specs.bodies.Kinds.{ResetPart, Clocking, clocking}
+use Rattle.rtl_model.specs.bodies.Kinds.{edge_test, reset_test, ResetPart, Clocking, clocking}
 use Rattle.rtl_model.specs.bodies.Laws.{SeesTypes}
 use Rattle.rtl_model.specs.bodies.Leaves.{Leaf, of_elements, leaves}
 use Rattle.rtl_model.specs.bodies.Reads.{reads, events}
@@ -19,8 +19,8 @@ use Rattle.rtl_model.specs.nets.FlatNetlist.{FlatProcess, FlatNetlist, ProcessIn
 use Rattle.rtl_model.specs.nets.Wiring.{IsConnected}
 use Rattle.rtl_model.specs.simulation.Accepted.{IsAccepted}
 use Rattle.rtl_model.specs.simulation.Netlist.{Driver}
-use Rattle.rtl_variable_registers.specs.Bodies.{reset_branch, without_reset, is_register}
-use Rattle.rtl_variable_registers.specs.Known.{sets_element, never_set, at_start, with_constants}
+use Rattle.rtl_variable_registers.specs.Bodies.{reset_branch, without_reset, is_register, KeptVariable}
+use Rattle.rtl_variable_registers.specs.Known.{never_set, at_start, with_constants}
 use Rattle.rtl_variable_registers.specs.Nets.{kept_flat, first_net}
 use Rattle.rtl_variable_registers.specs.Processes.{kept_variables, kept_elements, kept_process, rank_in}
 
@@ -103,7 +103,7 @@ EachClockedIsKept =
 -- the branch hasn't assigned it before.
 pub record LooksAtKnown (body a : Stmts) : Type 0 where
   pub leaves_are : (leaf : Leaf) → Contains (leaves a) leaf → (es : List ℕ) × (leaf ≡ of_elements es)
-  pub stored_are : (e : ℕ) → IsTrue (stores_element e a) → sets_element e body ≡ false
+  pub stored_are : (e : ℕ) → IsTrue (stores_element e a) → stmts_assign (is_element e) body ≡ false
 
 -- And what is clocked is a register, where its reset's branch looks at what is known.
 abbrev pub EachClockedIsRegister : Type 0
@@ -119,15 +119,41 @@ is_straight (step (assign places v) rest) = is_straight rest
 is_straight (step (set es v) rest) = is_straight rest
 is_straight (step _ rest) = false
 
--- So is what is clocked without its reset's branch, where that branch may set variables too.
+-- a body that runs at an edge alone; one with its reset first; and one with its reset behind
+abbrev pub alone_body : (t : Test) → (s : Stmts) → Stmts
+alone_body t s = step (if_of (branch t s no_else)) done
+
+abbrev pub first_body : (r : Test) → (a : Stmts) → (t : Test) → (s : Stmts) → Stmts
+first_body r a t s = step (if_of (branch r a (branch t s no_else))) done
+
+abbrev pub behind_body : (t : Test) → (s : Stmts) → (r : Test) → (a : Stmts) → Stmts
+behind_body t s r a = step (if_of (branch t s no_else)) (step (if_of (branch r a no_else)) done)
+
+-- So is what tests a reset, which any net may be, and an edge, where the reset's branch may set variables too.
 abbrev pub EachKnownResetIsRegister : Type 0
 EachKnownResetIsRegister =
-    (body : Stmts) → IsSome (clocking true [] (without_reset body)) → IsTrue (is_straight (reset_branch body))
-    → LooksAtKnown body (reset_branch body) → IsTrue (is_register body)
+    (r t : Test) (a s : Stmts) → IsSome (reset_test true [] r) → IsSome (edge_test t) → events s ≡ []
+    → IsTrue (is_straight a)
+    → (LooksAtKnown (first_body r a t s) a → IsTrue (is_register (first_body r a t s)))
+    × (LooksAtKnown (behind_body t s r a) a → IsTrue (is_register (behind_body t s r a)))
 
--- Of straight code it's the elements that it sets on every path that it sets.
+-- Straight code assigns on some path just what it assigns on every path.
 abbrev pub EachStraightSets : Type 0
-EachStraightSets = (s : Stmts) (e : ℕ) → IsTrue (is_straight s) → sets_element e s ≡ must_assign (is_element e) s
+EachStraightSets =
+    (these : Target → Bool) (s : Stmts) → IsTrue (is_straight s) → stmts_assign these s ≡ must_assign these s
+
+-- an element of these is looked at, at the edge, before it is assigned there, or the reset assigns it
+abbrev pub IsNeeded : (edge reset : Stmts) → (es : List ℕ) → Type 0
+IsNeeded edge reset es =
+    (e : ℕ) × Contains es e × IsTrue (stores_element e edge || stmts_assign (is_element e) reset)
+
+-- No variable is kept that isn't needed.
+abbrev pub EachKeptIsNeeded : Type 0
+EachKeptIsNeeded =
+    (p : FlatProcess) (v : KeptVariable) → Contains (kept_variables p) v → (r t : Test) (a s : Stmts)
+    → (p.body ≡ alone_body t s → IsNeeded s done v.elements)
+    × (p.body ≡ first_body r a t s → IsNeeded s a v.elements)
+    × (p.body ≡ behind_body t s r a → IsNeeded s a v.elements)
 
 -- What is no register keeps no variable, and stays as it is.
 abbrev pub WhatIsNoRegisterStays : Type 0

@@ -4,7 +4,7 @@
 ghost use Rattle.rtl_variable_registers.specs.Laws.{EachRunsAlike, NothingIsStored};
 ghost use Rattle.rtl_variable_registers.specs.Laws.{EachKeepsItsTiming, EachClockedIsKept};
 ghost use Rattle.rtl_variable_registers.specs.Laws.{EachClockedIsRegister};
-ghost use Rattle.rtl_variable_registers.specs.Laws.{EachKnownResetIsRegister, EachStraightSets};
+ghost use Rattle.rtl_variable_registers.specs.Laws.{EachKnownResetIsRegister, EachStraightSets, EachKeptIsNeeded};
 ghost use Rattle.rtl_variable_registers.specs.Laws.{WhatIsNoRegisterStays, WhatKeepsNoneStays};
 ghost use Rattle.rtl_variable_registers.specs.Laws.{EachStandsWhereItDid, EachIsSoundStill};
 ghost use Rattle.rtl_variable_registers.specs.Laws.{WhatIsAcceptedStays};
@@ -37,15 +37,21 @@ pub fn clocked_is_register()
     ensures { EachClockedIsRegister }
 {}
 
-/// So is a process that is clocked but for its reset's branch, where that assigns what is known to
-/// signals and variables, and nothing else.
+/// So is a process with an edge and a reset, first or behind, whose reset assigns what is known to
+/// signals and variables, and does nothing else.
 pub fn known_reset_is_register()
     ensures { EachKnownResetIsRegister }
 {}
 
-/// Code without ifs and cases sets an element where it does so on every path.
+/// Code without ifs and cases assigns on some path what it assigns on every path.
 pub fn straight_sets()
     ensures { EachStraightSets }
+{}
+
+/// A variable that is kept has an element that the edge looks at before it assigns it, or that the
+/// reset sets.
+pub fn kept_is_needed()
+    ensures { EachKeptIsNeeded }
 {}
 
 /// A process that is no register keeps no variable, and stays as it is.

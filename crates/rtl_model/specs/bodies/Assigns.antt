@@ -1,5 +1,5 @@
--- What a body assigns on every syntactic path. A net may be reached by several drivers of a process, under several port
--- names; `these` are targets, and an assignment to any of them assigns it.
+-- What a body assigns on every syntactic path, and on some. A net may be reached by several drivers of a process, under
+-- several port names; `these` are targets, and an assignment to any of them assigns it.
 use Rattle.std.specs.Prelude.{ℕ, Bool, false, ◌&&◌, ◌||◌, ◌==◌}
 use Rattle.std.specs.List.{list_any}
 use Rattle.rtl_model.specs.bodies.Body.{Stmt, null_of, assign, set, if_of, case_of, Stmts, done, step}
@@ -22,6 +22,8 @@ of_drivers these (element k) = false
 
 abbrev pub is_element : ℕ → Target → Bool
 is_element k target = is_target target (element k)
+
+-- ---- on every path
 
 abbrev mutual
   pub stmt_must_assign : (these : Target → Bool) → Stmt → Bool
@@ -47,3 +49,27 @@ abbrev mutual
   alternatives_must_assign these (others s) = must_assign these s
   alternatives_must_assign these (alternative choices s alts) =
       must_assign these s && alternatives_must_assign these alts
+
+-- ---- on some path
+
+abbrev mutual
+  pub stmt_assigns : (these : Target → Bool) → Stmt → Bool
+  stmt_assigns these null_of = false
+  stmt_assigns these (assign places v) = list_any (λ place. these (driver place)) places
+  stmt_assigns these (set ks v) = list_any (λ k. these (element k)) ks
+  stmt_assigns these (if_of bs) = branches_assign these bs
+  stmt_assigns these (case_of v alts) = alternatives_assign these alts
+
+  -- an assignment stands in a body, on whatever path
+  pub stmts_assign : (these : Target → Bool) → Stmts → Bool
+  stmts_assign these done = false
+  stmts_assign these (step s rest) = stmt_assigns these s || stmts_assign these rest
+
+  pub branches_assign : (these : Target → Bool) → Branches → Bool
+  branches_assign these no_else = false
+  branches_assign these (otherwise s) = stmts_assign these s
+  branches_assign these (branch t s bs) = stmts_assign these s || branches_assign these bs
+
+  pub alternatives_assign : (these : Target → Bool) → Alternatives → Bool
+  alternatives_assign these (others s) = stmts_assign these s
+  alternatives_assign these (alternative choices s alts) = stmts_assign these s || alternatives_assign these alts
