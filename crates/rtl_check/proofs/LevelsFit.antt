@@ -1,7 +1,7 @@
 -- No level is above the number of processes: below each there is one of each level.
 use Rattle.std.proofs.Common.{◌≡◌, ◌≢◌, ℕ, suc, ◌<◌, ◌≤◌, List, length, get_or, refl, sym, ap, subst, ◌∙◌, arith, ◌⊎◌, inl, inr, Option, Some, None}
 use Rattle.std.specs.Prelude.{IsSome, unwrap_or}
-use Rattle.std.specs.Global.{Vec}
+use Rattle.smallvec.specs.SmallVec.{SmallVec}
 use Rattle.std.proofs.lemmas.Bool.{cases_eq, cases_lt}
 use Rattle.std.proofs.lemmas.List.{get_or_past}
 use Rattle.rtl_check_levels.specs.declared.counting.Counting.TheVariants.{Each}
@@ -9,11 +9,11 @@ use Rattle.rtl_check_levels.specs.Feeding.{Table, IsIn, feeders_of}
 use Rattle.rtl_check_levels.specs.Levels.{AreLevels, IsHighest, level_of}
 use Rattle.rtl_check_nets.proofs.Ladders.{level_fits}
 
-some_is : (o : Option (Vec ℕ)) (v : Vec ℕ) → o ≡ Some v → IsSome o
+some_is : (o : Option (SmallVec ℕ)) (v : SmallVec ℕ) → o ≡ Some v → IsSome o
 some_is (Some w) v e = refl
 some_is None v e = absurd cc
 
-none_is : (o : Option (Vec ℕ)) → o ≡ None → IsSome o → ⊥
+none_is : (o : Option (SmallVec ℕ)) → o ≡ None → IsSome o → ⊥
 none_is (Some w) e s = absurd cc
 none_is None e s = absurd cc
 
@@ -25,7 +25,7 @@ module _ (table : Table) (levels from : List (Option ℕ)) (greatest : ℕ) (a :
   placed : (q level : ℕ) → level_of levels q ≡ Some level → IsIn table q
   placed q level e = go (get_or table q None) refl
     where
-      go : (o : Option (Vec ℕ)) → get_or table q None ≡ o → IsIn table q
+      go : (o : Option (SmallVec ℕ)) → get_or table q None ≡ o → IsIn table q
       go None is =
           let none : level_of levels q ≡ None = (a.others q (λ s. none_is (get_or table q None) is s)).0 in
           let h : None ≡ Some level = sym none ∙ e in

@@ -1,7 +1,7 @@
 -- The table of a netlist, by rows.
 use Rattle.std.proofs.Common.{◌≡◌, ℕ, ◌<◌, ◌≤◌, true, ◌==◌, List, length, get_or, refl, sym, ap, subst, ◌∙◌, arith, ◌⊎◌, inl, inr, Option, Some, None, Contains}
 use Rattle.std.specs.Prelude.{IsSome}
-use Rattle.std.specs.Global.{Vec}
+use Rattle.smallvec.specs.SmallVec.{SmallVec}
 use Rattle.std.specs.List.{list_any}
 use Rattle.std.proofs.lemmas.Bool.{and_parts, and_from, cases_lt, eqb-true, eq-eqb}
 use Rattle.std.proofs.lemmas.List.{get_or_past}
@@ -50,7 +50,7 @@ module _ (net : Netlist) (kinds : List ProcessKind) (ks : AreKinds net kinds) wh
 -- ---- a row
 
 pub row_some : (net : NetlistView) (kinds : List ProcessKind) → AreKinds (core net) kinds → IsWired (core net) → (q : ℕ) (nets : List ℕ) → (process (core net) q).wakes ≡ nets
-    → ((n : ℕ) → Contains nets n → n < length net.types) → combinational_at kinds q ≡ true → (feeders : Vec ℕ)
+    → ((n : ℕ) → Contains nets n → n < length net.types) → combinational_at kinds q ≡ true → (feeders : SmallVec ℕ)
     → ((p : ℕ) → is_in p feeders.items ≡ list_any (λ n. list_any (feeds_by kinds p) (flat_sources (flat net) n)) nets) → IsRow (core net) q (Some feeders)
 row_some net kinds ks wired q nets wakes there t feeders are = (c, λ p. (to p, from p))
   where
@@ -72,19 +72,19 @@ row_some net kinds ks wired q nets wakes there t feeders are = (c, λ p. (to p, 
 
 -- ---- the table
 
-row_in : (net : Netlist) (q : ℕ) (o : Option (Vec ℕ)) → IsRow net q o → IsSome o → IsCombinational net q
+row_in : (net : Netlist) (q : ℕ) (o : Option (SmallVec ℕ)) → IsRow net q o → IsSome o → IsCombinational net q
 row_in net q None h s = absurd cc
 row_in net q (Some v) h s = h.0
 
-in_row : (net : Netlist) (q : ℕ) (o : Option (Vec ℕ)) → IsRow net q o → IsCombinational net q → IsSome o
+in_row : (net : Netlist) (q : ℕ) (o : Option (SmallVec ℕ)) → IsRow net q o → IsCombinational net q → IsSome o
 in_row net q None h c = absurd (h c)
 in_row net q (Some v) h c = refl
 
-row_feeds : (net : Netlist) (p q : ℕ) (o : Option (Vec ℕ)) → IsRow net q o → Contains (t.listed o) p → f.Feeds net p q
+row_feeds : (net : Netlist) (p q : ℕ) (o : Option (SmallVec ℕ)) → IsRow net q o → Contains (t.listed o) p → f.Feeds net p q
 row_feeds net p q None h (j, l, e) = absurd (omega arith)
 row_feeds net p q (Some v) h c = (h.1 p).0 c
 
-feeds_row : (net : Netlist) (p q : ℕ) (o : Option (Vec ℕ)) → IsRow net q o → f.Feeds net p q → Contains (t.listed o) p
+feeds_row : (net : Netlist) (p q : ℕ) (o : Option (SmallVec ℕ)) → IsRow net q o → f.Feeds net p q → Contains (t.listed o) p
 feeds_row net p q None h c = absurd (h c.fed)
 feeds_row net p q (Some v) h c = (h.1 p).1 c
 

@@ -11,16 +11,14 @@ ghost use Rattle.rtl_process_kinds.specs.KindViews.{AreKinds};
 ghost use Rattle.rtl_check.specs.Feeders.{feeds_by, IsRow};
 
 use rtl_body_facts::ProcessKind;
+use rtl_check_levels::Row;
 use rtl_net::{Net, NoMemory, Source, nets_meet_the_laws};
 use rtl_process_kinds::{is_combinational, wakes_of};
+use smallvec::SmallVec;
 use std::alloc::Global;
 
 /// Appends the process of a driver, if it is combinational.
-fn push_feeder(
-    kinds: &[ProcessKind],
-    source: Source,
-    feeders: &mut Vec<usize>,
-) -> Result<(), NoMemory>
+fn push_feeder(kinds: &[ProcessKind], source: Source, feeders: &mut Row) -> Result<(), NoMemory>
     ensures { OnOk result ((p : ℕ) → is_in p feeders.new.items ≡
         (is_in p feeders.old.items || feeds_by kinds.now p (source_view source))) }
 {
@@ -41,7 +39,7 @@ fn push_feeders(
     net: &Net,
     kinds: &[ProcessKind],
     number: usize,
-    feeders: &mut Vec<usize>,
+    feeders: &mut Row,
 ) -> Result<(), NoMemory>
     requires { number < length net.now.types }
     ensures { OnOk result ((p : ℕ) → is_in p feeders.new.items ≡
@@ -60,7 +58,7 @@ fn row_of(
     net: &Net,
     kinds: &[ProcessKind],
     process: usize,
-) -> Result<Option<Vec<usize>>, NoMemory>
+) -> Result<Option<Row>, NoMemory>
     requires kinds { AreKinds (core net.now) kinds.now }
     requires there { process < length kinds.now }
     ensures { IfOk result (IsRow (core net.now) process) }
@@ -71,7 +69,7 @@ fn row_of(
     nets_meet_the_laws();
     net.is_elaborated();
     let wakes = wakes_of(net, process);
-    let mut feeders = Vec::new(alloc);
+    let mut feeders = SmallVec::new(alloc);
     for wake in wakes {
         push_feeders(net, kinds, *wake, &mut feeders)?;
     }
@@ -84,7 +82,7 @@ pub fn table_of(
     alloc: Global,
     net: &Net,
     kinds: &[ProcessKind],
-) -> Result<Vec<Option<Vec<usize>>>, NoMemory>
+) -> Result<Vec<Option<Row>>, NoMemory>
     requires { AreKinds (core net.now) kinds.now }
     ensures { IfOk result (λ table. IsTableOf (core net.now) table.items) }
 {

@@ -1,7 +1,7 @@
 -- A process waits for the first that feeds it and has no level.
 use Rattle.std.proofs.Common.{◌≡◌, ℕ, suc, ◌<◌, ◌≤◌, ◌⊎◌, inl, inr, [], List, length, get_or, set, Option, Some, None, sym, ap, subst, ◌∙◌, arith, Contains, All}
 use Rattle.std.specs.Prelude.{IsSome}
-use Rattle.std.specs.Global.{Vec}
+use Rattle.smallvec.specs.SmallVec.{SmallVec}
 use Rattle.std.proofs.lemmas.List.{get_or_default, get_or_read, length_push}
 use Rattle.rtl_check_levels.specs.declared.counting.Counting.{Counting}
 use Rattle.rtl_check_levels.specs.Feeding.{Table, feeders_of, listed, IsClosed}
@@ -18,7 +18,7 @@ pub there : (table : Table) (q : ℕ) → IsClosed table → All (λ p. p < leng
 there table q closed k d l = some_within table (get_or (feeders_of table q) k d)
     (closed (get_or (feeders_of table q) k d) q (k, l, get_or_default (feeders_of table q) k (get_or (feeders_of table q) k d) d l))
 
-pub feeders_are : (table : Table) (q : ℕ) (r : Option (Vec ℕ)) (v : Vec ℕ) → q < length table → r ≡ get_or table q r → r ≡ Some v → feeders_of table q ≡ v.items
+pub feeders_are : (table : Table) (q : ℕ) (r : Option (SmallVec ℕ)) (v : SmallVec ℕ) → q < length table → r ≡ get_or table q r → r ≡ Some v → feeders_of table q ≡ v.items
 feeders_are table q r v l e f = ap listed (sym (get_or_read table q r l e None) ∙ f)
 
 module _ (table : Table) (f : Finding) (q at p : ℕ) (fs : List ℕ) (closed : IsClosed table)

@@ -2,14 +2,14 @@
 -- one feeds another that looks at it. A table has, for each row that is in it, those that feed it, in any order and
 -- perhaps several times, and nothing for any other.
 use Rattle.std.specs.Prelude.{ℕ, Bool, true, false, List, [], Option, None, Some, IsSome, Contains, slice_index_or}
-use Rattle.std.specs.Global.{Vec}
+use Rattle.smallvec.specs.SmallVec.{SmallVec}
 use Rattle.rtl_check_levels.specs.declared.counting.Counting.{Counting}
 use Rattle.rtl_check_levels.specs.declared.counting.Counting.TheVariants.{Each, Marked}
 
 abbrev pub Table : Type 0
-Table = List (Option (Vec ℕ))
+Table = List (Option (SmallVec ℕ))
 
-abbrev pub listed : Option (Vec ℕ) → List ℕ
+abbrev pub listed : Option (SmallVec ℕ) → List ℕ
 listed None = []
 listed (Some feeders) = feeders.items
 

@@ -8,6 +8,7 @@ ghost use Rattle.rtl_check_levels.specs.Finding.{IsFinding, IsAmong, Grows, IsRa
 
 use crate::counting::Counting;
 use crate::highest::{first_open, highest_of};
+use crate::table::Row;
 use std::alloc::{AllocError, Global};
 use std::mem;
 
@@ -42,7 +43,7 @@ pub struct Finding {
 
 impl Finding {
     /// Nothing is found yet.
-    fn new(alloc: Global, table: &[Option<Vec<usize>>]) -> Result<Self, AllocError>
+    fn new(alloc: Global, table: &[Option<Row>]) -> Result<Self, AllocError>
         ensures sound { (counting : Counting) → IfOk result (λ f. IsFinding counting table.now f) }
         ensures none_ready { IfOk result (λ f. f.ready.items ≡ []) }
     {
@@ -61,7 +62,7 @@ impl Finding {
     fn settle(
         &mut self,
         counting: Counting<'_>,
-        table: &[Option<Vec<usize>>],
+        table: &[Option<Row>],
         q: usize,
         feeders: &[usize],
     ) -> Result<(), AllocError>
@@ -90,7 +91,7 @@ impl Finding {
     fn place(
         &mut self,
         counting: Counting<'_>,
-        table: &[Option<Vec<usize>>],
+        table: &[Option<Row>],
         q: usize,
     ) -> Result<(), AllocError>
         requires sound { IsFinding counting table.now self.old }
@@ -107,6 +108,7 @@ impl Finding {
         if self.levels[q].is_some() {
             return Ok(());
         }
+        let feeders = feeders.as_slice();
         let at = first_open(feeders, &self.levels, self.passed[q]);
         self.passed[q] = at;
         if at == feeders.len() {
@@ -132,7 +134,7 @@ impl Finding {
     fn place_all(
         &mut self,
         counting: Counting<'_>,
-        table: &[Option<Vec<usize>>],
+        table: &[Option<Row>],
         last: usize,
     ) -> Result<(), AllocError>
         requires sound { IsFinding counting table.now self.old }
@@ -154,7 +156,7 @@ impl Finding {
 
     /// Takes those that wait for a row that is ready, by how many waits there are up to the last of
     /// them; none where no row is ready.
-    fn release(&mut self, counting: Counting<'_>, table: &[Option<Vec<usize>>]) -> Option<usize>
+    fn release(&mut self, counting: Counting<'_>, table: &[Option<Row>]) -> Option<usize>
         requires sound { IsFinding counting table.now self.old }
         ensures sound { IsFinding counting.entry table.now self.new }
         ensures done { IfNone result ((self.new.ready.items ≡ []) × (self.new.levels ≡ self.old.levels)
@@ -169,7 +171,7 @@ impl Finding {
     fn place_waiting(
         &mut self,
         counting: Counting<'_>,
-        table: &[Option<Vec<usize>>],
+        table: &[Option<Row>],
     ) -> Result<(), AllocError>
         requires sound { IsFinding counting table.now self.old }
         requires closed { IsClosed table.now }
@@ -190,7 +192,7 @@ impl Finding {
 pub fn find(
     alloc: Global,
     counting: Counting<'_>,
-    table: &[Option<Vec<usize>>],
+    table: &[Option<Row>],
 ) -> Result<Finding, AllocError>
     requires closed { IsClosed table.now }
     requires few { length table.now < 2 ^ 32 }

@@ -12,8 +12,10 @@ mod highest;
 mod laws;
 mod order;
 mod rounds;
+mod table;
 
 pub use counting::Counting;
 pub use highest::{Highest, highest_of};
 pub use laws::tables_are_of_nets;
 pub use order::{LevelOrder, Levels, order_by, order_of};
+pub use table::Row;

@@ -7,6 +7,7 @@ ghost use Rattle.rtl_check_levels.specs.Levels.{level_of};
 ghost use Rattle.rtl_check_levels.specs.Lowest.{LowestOpen, IsLowestOpen, AreLeft};
 ghost use Rattle.rtl_check_levels.specs.Rounds.{IsRound, IsListedOnce};
 
+use crate::table::Row;
 use std::alloc::{AllocError, Global};
 
 /// Whether a process is lower than the lowest so far.
@@ -34,7 +35,7 @@ fn lowest_open(processes: &[usize], levels: &[Option<u32>]) -> Option<usize>
 }
 
 /// The lowest process without a level that feeds q, which has none for want of that.
-fn next_open(table: &[Option<Vec<usize>>], levels: &[Option<u32>], q: usize) -> usize
+fn next_open(table: &[Option<Row>], levels: &[Option<u32>], q: usize) -> usize
     requires closed { IsClosed table.now }
     requires each { length levels.now ≡ length table.now }
     requires left { AreLeft table.now levels.now }
@@ -81,7 +82,7 @@ fn from_lowest(alloc: Global, path: &[usize], first: usize) -> Result<Vec<usize>
 /// without a level that feeds the one before; listed from its lowest process.
 pub fn find_round(
     alloc: Global,
-    table: &[Option<Vec<usize>>],
+    table: &[Option<Row>],
     levels: &[Option<u32>],
     start: usize,
 ) -> Result<Vec<usize>, AllocError>

@@ -1,6 +1,6 @@
 -- How the table of nets is built: its rows, one step at a time.
 use Rattle.std.proofs.Common.{◌≡◌, ◌≢◌, ℕ, zero, suc, ◌+◌, ◌^◌, ◌<◌, ◌≤◌, ◌⊎◌, inl, inr, Bool, true, false, cond, ◌||◌, ◌==◌, List, [], ◌∷◌, ◌++◌, length, get_or, replicate, map, append_assoc, nat_lt, Option, Some, None, refl, sym, ap, subst, ◌∙◌, arith, Contains, All}
-use Rattle.std.specs.Global.{Vec}
+use Rattle.smallvec.specs.SmallVec.{SmallVec}
 use Rattle.std.specs.Prelude.{IsSome, if◌then◌else◌}
 use Rattle.std.proofs.lemmas.Bool.{cases_lt, cases_eq, cases_Bool, ltb-true, eqb-true, eq-eqb}
 use Rattle.std.proofs.lemmas.List.{length_push}
@@ -17,13 +17,13 @@ use Rattle.rtl_body_facts.proofs.Members.{in_append}
 
 -- ---- rows, one more at a time
 
-pub none_feed : (rows : Table) (v : Vec ℕ) → v.items ≡ [] → ((row : ℕ) → feeders_of rows row ≡ []) → (row : ℕ) → feeders_of (rows ++ Some v ∷ []) row ≡ []
+pub none_feed : (rows : Table) (v : SmallVec ℕ) → v.items ≡ [] → ((row : ℕ) → feeders_of rows row ≡ []) → (row : ℕ) → feeders_of (rows ++ Some v ∷ []) row ≡ []
 none_feed [] v e h zero = e
 none_feed [] v e h (suc row) = refl
 none_feed (x ∷ xs) v e h zero = h 0
 none_feed (x ∷ xs) v e h (suc row) = none_feed xs v e (λ k. h (suc k)) row
 
-pub all_in : (rows : Table) (v : Vec ℕ) → ((row : ℕ) → row < length rows → IsIn rows row) → (row : ℕ) → row < length (rows ++ Some v ∷ []) → IsIn (rows ++ Some v ∷ []) row
+pub all_in : (rows : Table) (v : SmallVec ℕ) → ((row : ℕ) → row < length rows → IsIn rows row) → (row : ℕ) → row < length (rows ++ Some v ∷ []) → IsIn (rows ++ Some v ∷ []) row
 all_in [] v h zero k = refl
 all_in [] v h (suc row) k = absurd (omega arith)
 all_in (x ∷ xs) v h zero k = h 0 (omega arith)
@@ -63,7 +63,7 @@ module _ (nets : ℕ) (looks : List (Option Look)) where
     where
       go : (row ≡ d.net) ⊎ (row ≢ d.net) → IsIn next.rows.items row
       go (inl same) = subst (IsIn next.rows.items) (sym same) a.there
-      go (inr apart) = subst (λ (r : Option (Vec ℕ)). IsSome r) (sym (a.others row apart)) i
+      go (inr apart) = subst (λ (r : Option (SmallVec ℕ)). IsSome r) (sym (a.others row apart)) i
 
   -- a net that none of them drives
   pub untouched : (place : ℕ) (ds : List Driver) (old new : NetTable) → AddsDrivers nets looks place ds old new
@@ -83,7 +83,7 @@ module _ (nets : ℕ) (looks : List (Option Look)) where
   touched place _ old new (more p x ds o next m a rest) zero d h only =
       let (e, f) = untouched (place + 1) ds next new rest x.net (λ j y i s. only (suc j) y (omega arith) (omega arith) s) in
       let here : place ≡ place + 0 = omega arith in (
-        subst (λ (r : Option (Vec ℕ)). IsSome r) (sym e) a.there,
+        subst (λ (r : Option (SmallVec ℕ)). IsSome r) (sym e) a.there,
         ap listed e ∙ a.fed ∙ ap (λ (i : ℕ). fed_by nets (look_at looks i)) here,
         f ∙ a.counts,
       )
@@ -119,7 +119,7 @@ register_more nets reset x these old mid new a d = record {
   where
     there : (row : ℕ) → IsIn old.rows.items row → (row ≡ x) ⊎ (row ≢ x) → IsIn new.rows.items row
     there row i (inl same) = subst (IsIn new.rows.items) (sym same) d.there
-    there row i (inr apart) = subst (λ (r : Option (Vec ℕ)). IsSome r) (sym (d.others row apart)) (a.there row i)
+    there row i (inr apart) = subst (λ (r : Option (SmallVec ℕ)). IsSome r) (sym (d.others row apart)) (a.there row i)
 
     earlier : (n : ℕ) → n ≢ x → (is_in n these || (x == n || false)) ≡ true → is_in n these ≡ true
     earlier n apart e = go (is_in n these) (x == n) refl e
@@ -148,7 +148,7 @@ register_more nets reset x these old mid new a d = record {
 -- ---- hubs, one more at a time
 
 module _ (nets : ℕ) where
-  paired : (hubs : List Hub) (rows : Table) (hub : Hub) (v : Vec ℕ) → length rows ≡ length hubs → v.items ≡ hub_feeders nets hub
+  paired : (hubs : List Hub) (rows : Table) (hub : Hub) (v : SmallVec ℕ) → length rows ≡ length hubs → v.items ≡ hub_feeders nets hub
       → ((k : ℕ) (h : Hub) → get_or (map Some hubs) k None ≡ Some h → IsIn rows k × (feeders_of rows k ≡ hub_feeders nets h))
       → (k : ℕ) (h : Hub) → get_or (map Some (hubs ++ hub ∷ [])) k None ≡ Some h → IsIn (rows ++ Some v ∷ []) k × (feeders_of (rows ++ Some v ∷ []) k ≡ hub_feeders nets h)
   paired [] [] hub v n e f zero h is = let s : hub ≡ h = one_hub is in (refl, e ∙ ap (hub_feeders nets) s)
@@ -161,7 +161,7 @@ module _ (nets : ℕ) where
   paired (y ∷ ys) (x ∷ xs) hub v n e f zero h is = f 0 h is
   paired (y ∷ ys) (x ∷ xs) hub v n e f (suc k) h is = paired ys xs hub v (omega arith) e (λ j g s. f (suc j) g s) k h is
 
-  pub hub_more : (hubs : List Hub) (hub : Hub) (v : Vec ℕ) (old mid new : NetTable) → AddsHubs nets hubs old mid → v.items ≡ hub_feeders nets hub
+  pub hub_more : (hubs : List Hub) (hub : Hub) (v : SmallVec ℕ) (old mid new : NetTable) → AddsHubs nets hubs old mid → v.items ≡ hub_feeders nets hub
       → new.rows.items ≡ mid.rows.items ++ Some v ∷ [] → new.counts ≡ mid.counts → AddsHubs nets (hubs ++ hub ∷ []) old new
   hub_more hubs hub v old mid new a e grown same = record {
     rows = a.rows ++ Some v ∷ [];

@@ -1,6 +1,7 @@
 -- Built for all processes, and with its hubs, the table is that of the netlist's nets.
 use Rattle.std.proofs.Common.{◌≡◌, ℕ, ◌+◌, ◌-◌, ◌<◌, ◌≤◌, ◌⊎◌, inl, inr, Bool, true, false, List, [], ◌∷◌, ◌++◌, length, get_or, map, nat_lt, Option, Some, None, refl, sym, ap, subst, ◌∙◌, arith, Contains, All}
 use Rattle.std.specs.Global.{Vec}
+use Rattle.smallvec.specs.SmallVec.{SmallVec}
 use Rattle.std.specs.Prelude.{IsSome, if◌then◌else◌}
 use Rattle.std.proofs.lemmas.Bool.{cases_Bool, cases_lt, ltb-true}
 use Rattle.std.proofs.lemmas.List.{get_or_append_left, get_or-append-add, get_or_past, length-append, length-map}
@@ -97,11 +98,11 @@ module _ (net : Netlist) (hubs : List Hub) (t u : NetTable) (W : IsWired net) (b
   size = ap length a.are ∙ length-append t.rows.items a.rows ∙ (let e = b.each in let f = a.each in omega arith)
 
   net_row : (n : ℕ) → n < length net.start → get_or u.rows.items n None ≡ get_or t.rows.items n None
-  net_row n h = ap (λ (xs : List (Option (Vec ℕ))). get_or xs n None) a.are ∙ get_or_append_left t.rows.items a.rows None n (let e = b.each in omega arith)
+  net_row n h = ap (λ (xs : List (Option (SmallVec ℕ))). get_or xs n None) a.are ∙ get_or_append_left t.rows.items a.rows None n (let e = b.each in omega arith)
 
   hub_row : (k : ℕ) → get_or u.rows.items (length net.start + k) None ≡ get_or a.rows k None
   hub_row k =
-      ap (λ (xs : List (Option (Vec ℕ))). get_or xs (length net.start + k) None) a.are ∙ ap (λ (n : ℕ). get_or (t.rows.items ++ a.rows) (n + k) None) (sym b.each)
+      ap (λ (xs : List (Option (SmallVec ℕ))). get_or xs (length net.start + k) None) a.are ∙ ap (λ (n : ℕ). get_or (t.rows.items ++ a.rows) (n + k) None) (sym b.each)
       ∙ get_or-append-add t.rows.items a.rows k None
 
   hub_fed : (k : ℕ) (hub : Hub) → get_or (map Some hubs) k None ≡ Some hub → feeders_of u.rows.items (length net.start + k) ≡ hub_feeders (length net.start) hub
@@ -159,10 +160,10 @@ module _ (net : Netlist) (hubs : List Hub) (t u : NetTable) (W : IsWired net) (b
     where
       at : (k : ℕ) → length net.start + k ≡ row → k < length hubs → IsIn u.rows.items row
       at k e m =
-          subst (λ (o : Option (Vec ℕ)). IsSome o) (sym (hub_row k) ∙ ap (λ (r : ℕ). get_or u.rows.items r None) e) (a.fed k (get_or hubs k none_hub) (hub_is k m)).0
+          subst (λ (o : Option (SmallVec ℕ)). IsSome o) (sym (hub_row k) ∙ ap (λ (r : ℕ). get_or u.rows.items r None) e) (a.fed k (get_or hubs k none_hub) (hub_is k m)).0
 
       go : (row < length net.start) ⊎ (length net.start ≤ row) → IsIn u.rows.items row
-      go (inl m) = subst (λ (o : Option (Vec ℕ)). IsSome o) (sym (net_row row m)) (b.there row m)
+      go (inl m) = subst (λ (o : Option (SmallVec ℕ)). IsSome o) (sym (net_row row m)) (b.there row m)
       go (inr past) = let e = size in at (row - length net.start) (omega arith) (omega arith)
 
   within : (p row : ℕ) → Feeds u.rows.items p row → p < length u.rows.items

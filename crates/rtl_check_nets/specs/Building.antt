@@ -1,6 +1,6 @@
 -- The steps by which the table of a netlist's nets is built: its nets, what processes drive of them, and hubs.
 use Rattle.std.specs.Prelude.{◌≡◌, ◌≢◌, ℕ, ◌+◌, ◌<◌, Bool, true, false, List, [], ◌∷◌, ◌++◌, length, map, replicate, slice_index_or, Option, Some, None, nat_lt, if◌then◌else◌}
-use Rattle.std.specs.Global.{Vec}
+use Rattle.smallvec.specs.SmallVec.{SmallVec}
 use Rattle.rtl_net.specs.declared.process.Driver.{Driver}
 use Rattle.rtl_body_facts.specs.Reading.{is_in}
 use Rattle.rtl_looks.specs.declared.hubs.Look.{Look}
@@ -64,7 +64,7 @@ abbrev pub hub_feeders : (nets : ℕ) → Hub → List ℕ
 hub_feeders nets hub = rows_at nets hub.left ++ rows_at nets hub.right
 
 pub record AddsHubs (nets : ℕ) (hubs : List Hub) (old new : NetTable) : Type 0 where
-  pub rows : List (Option (Vec ℕ))
+  pub rows : List (Option (SmallVec ℕ))
   pub are : new.rows.items ≡ old.rows.items ++ rows
   pub each : length rows ≡ length hubs
   pub fed : (k : ℕ) (hub : Hub) → slice_index_or (map Some hubs) k None ≡ Some hub

@@ -11,21 +11,23 @@ ghost use Rattle.rtl_check_nets.specs.Building.{rows_at, fed_by, counts_at, Begi
 ghost use Rattle.rtl_check_nets.specs.Built.{IsBuilt};
 
 use rtl_body_facts::{ProcessKind, assigned_nets};
+use rtl_check_levels::Row;
 use rtl_looks::{Hub, Hubs, Look, driver_looks};
 use rtl_net::{Driver, Net, NoMemory, nets_meet_the_laws};
 use rtl_process_kinds::{inner_reset, is_combinational, reset_branch};
+use smallvec::SmallVec;
 use std::alloc::Global;
 
 /// Nets, and behind them hubs: of each those that feed it, and whether it counts as a level. Past
 /// the end of `counts` nothing counts.
 #[derive(Drop)]
 pub struct NetTable {
-    pub rows: Vec<Option<Vec<usize>>>,
+    pub rows: Vec<Option<Row>>,
     pub counts: Vec<bool>,
 }
 
 /// Adds the row of a look, where so many rows are nets; a net that isn't there has none.
-fn push_row(row: &mut Vec<usize>, nets: usize, look: Look) -> Result<(), NoMemory>
+fn push_row(row: &mut Row, nets: usize, look: Look) -> Result<(), NoMemory>
     requires { All (λ r. r < 2 ^ 64) (rows_at nets look) }
     ensures { OnOk result (row.new.items ≡ row.old.items ++ rows_at nets look) }
 {
@@ -56,9 +58,9 @@ impl NetTable {
     fn new(alloc: Global, nets: usize) -> Result<Self, NoMemory>
         ensures { IfOk result (BeginsNets nets) }
     {
-        let mut rows = Vec::new(alloc);
+        let mut rows = Vec::with_capacity(alloc, nets)?;
         for _net in 0..nets {
-            rows.push(Some(Vec::new(alloc)))?;
+            rows.push(Some(SmallVec::new(alloc)))?;
         }
         Ok(NetTable {
             rows,
@@ -79,7 +81,7 @@ impl NetTable {
         requires look { All (λ r. r < 2 ^ 64) (fed_by nets look) }
         ensures { OnOk result (AddsDriver nets net look self.old self.new) }
     {
-        let mut row = Vec::with_capacity(alloc, usize::from(look.is_some()))?;
+        let mut row = SmallVec::new(alloc);
         if let Some(look) = look {
             push_row(&mut row, nets, look)?;
         }
@@ -166,7 +168,7 @@ impl NetTable {
         ensures { OnOk result (AddsHubs nets hubs.now self.old self.new) }
     {
         for hub in hubs {
-            let mut row = Vec::with_capacity(alloc, 2)?;
+            let mut row = SmallVec::new(alloc);
             push_row(&mut row, nets, hub.left)?;
             push_row(&mut row, nets, hub.right)?;
             self.rows.push(Some(row))?;

@@ -10,7 +10,7 @@ lowest_open-requires c k d l =
     let table = c.args.table.now in
     let q = c.args.q in
     let f = feeders_are table q c.index-table-q.result c.in-Some.feeders (some_within table q c.requires.inside) c.index-table-q.is c.in-Some.is in
-    let e : feeders_of table q ≡ c.deref.result.now = f ∙ sym c.deref.ensures.value in
+    let e : feeders_of table q ≡ c.deref.result.now = f ∙ sym c.deref.ensures in
     let m = subst (λ (xs : List ℕ). All (λ p. p < length table) xs) e (there table q c.requires.closed) k d l in
     let n = c.requires.each in
     omega arith
@@ -20,5 +20,5 @@ returns-in-Some-lowest_open c =
     let table = c.args.table.now in
     let q = c.args.q in
     let f = feeders_are table q c.index-table-q.result c.in-Some.feeders (some_within table q c.requires.inside) c.index-table-q.is c.in-Some.is in
-    let e : feeders_of table q ≡ c.deref.result.now = f ∙ sym c.deref.ensures.value in
+    let e : feeders_of table q ≡ c.deref.result.now = f ∙ sym c.deref.ensures in
     subst (λ (xs : List ℕ). IsLowestOpen xs c.args.levels.now c.in-Some-lowest_open.p) (sym e) c.in-Some-lowest_open.ensures

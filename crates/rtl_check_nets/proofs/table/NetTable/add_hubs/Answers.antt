@@ -26,6 +26,6 @@ loop-hub-preserved c =
     let i = c.loop-hub.hub-index in
     let hub : Hub = get_or hubs i none_hub in
     let new : NetTable = record { rows = c.push.new.self; counts = c.loop-hub.self.counts } in
-    let items = c.in_ok-push_row-2.ensures ∙ ap (λ (xs : List ℕ). xs ++ rows_at c.args.nets hub.right) (c.in_ok-push_row.ensures ∙ ap (λ (xs : List ℕ). xs ++ rows_at c.args.nets hub.left) c.in_ok-row.ensures.items) in
+    let items = c.in_ok-push_row-2.ensures ∙ ap (λ (xs : List ℕ). xs ++ rows_at c.args.nets hub.right) (c.in_ok-push_row.ensures ∙ ap (λ (xs : List ℕ). xs ++ rows_at c.args.nets hub.left) c.new-row.ensures.items) in
     subst (λ (hs : List Hub). AddsHubs c.args.nets hs c.args.self.now new) (sym (take_more hubs i none_hub c.loop-hub-test.true))
     (hub_more c.args.nets (take i hubs) hub c.push_row-in-loop-hub.new.row c.args.self.now c.loop-hub.self new c.loop-hub.invariant items c.in_ok-push.ensures.items refl)

@@ -6,7 +6,7 @@ use Rattle.rtl_check_nets.proofs.Built.{none_feed, all_in, none_counts}
 use Rattle.rtl_check_nets.proofs.table.NetTable.new.Goals as goal
 
 pub loop-net-init : goal.loop-net-init
-loop-net-init c = let e = c.new-rows.ensures.items in record {
+loop-net-init c = let e = c.in_ok-rows.ensures.items in record {
   each = ap length e;
   there = λ row h. absurd (let k = ap length e in omega arith);
   fed = λ row. subst (λ (rows : Table). feeders_of rows row ≡ []) (sym e) refl;
