@@ -269,8 +269,9 @@ fn clocking_of_both(inputs: &[usize], first: &Statement, second: &Statement) -> 
     }
 }
 
-/// What a body is clocked by, if it is one of a clocked process.
-fn clocking_of(wide: bool, inputs: &[usize], body: &[Statement]) -> Option<Clocking>
+/// What a body is clocked by, if it is one of a clocked process. Where its outer statements show
+/// that it is none, it isn't walked.
+pub fn clocking_of(wide: bool, inputs: &[usize], body: &[Statement]) -> Option<Clocking>
     requires { IsStrictlyIncreasing inputs.now }
     ensures { result ≡ option_map clocking_view (m.clocking wide inputs.now (statements_of body.now)) }
 {

@@ -15,7 +15,7 @@ mod rising;
 mod search;
 mod stores;
 
-pub use kinds::{Clocking, ProcessKind, kind_of};
+pub use kinds::{Clocking, ProcessKind, clocking_of, kind_of};
 pub use paths::assigned_nets;
 pub use rising::{contains_rising, sort_once};
 pub use search::body_has_event;

@@ -24,11 +24,13 @@ use Rattle.rtl_net.specs.Visits.{Tells}
 use Rattle.rtl_body_facts.proofs.Anys.{and_assoc}
 use Rattle.rtl_body_facts.proofs.EveryPath.{all_more}
 use Rattle.rtl_variable_registers.specs.Bodies as spec
-use Rattle.rtl_variable_registers.specs.Known.{stmt_sets, sets_element, branches_set, alternatives_set, leaf_is_known, is_known, gives_constants, never_set, at_start}
+use Rattle.rtl_model.specs.bodies.Assigns.{is_element, stmt_assigns, stmts_assign, branches_assign, alternatives_assign}
+use Rattle.rtl_variable_registers.specs.Known.{leaf_is_known, is_known, gives_constants, never_set, at_start}
 use Rattle.rtl_variable_registers.proofs.Alike.{constants, reset_fits}
 use Rattle.rtl_variable_registers.proofs.InRange.{variables_typed}
 use Rattle.rtl_variable_registers.proofs.Known.{knows_more, reads_none, typed_after}
 use Rattle.rtl_variable_registers.proofs.Recalling.{length-values_put}
+use Rattle.rtl_variable_registers.proofs.Straight.{none_of}
 use Rattle.rtl_variable_registers.proofs.Tables.{length_types}
 use Rattle.rtl_kept_bodies.proofs.Ranks.{range_more}
 use Rattle.rtl_kept_bodies.specs.declared.constants.Known.{Known}
@@ -45,32 +47,32 @@ module _ (scope : Scope) (e : ℕ) where
   both_there false b f g h = g h
 
   mutual
-    stmt_there : (s : Stmt) → FitsStmt scope s → There (stmt_sets e s)
+    stmt_there : (s : Stmt) → FitsStmt scope s → There (stmt_assigns (is_element e) s)
     stmt_there null_of f h = absurd cc
-    stmt_there (assign ps v) f h = absurd cc
+    stmt_there (assign ps v) f h = absurd (let n = none_of ps in cc)
     stmt_there (set es v) f h = slice_get_within scope.variables e f.0 (All-contains (HasType scope.variables f.0) es e f.3 (in_contains es e h))
     stmt_there (if_of bs) f h = branches_there bs f h
     stmt_there (case_of v alts) f h = alternatives_there f.0 (value_width v) alts f.2 h
 
-    pub body_there : (s : Stmts) → Fits scope s → There (sets_element e s)
+    pub body_there : (s : Stmts) → Fits scope s → There (stmts_assign (is_element e) s)
     body_there done f h = absurd cc
-    body_there (step s rest) f h = both_there (stmt_sets e s) (sets_element e rest) (stmt_there s f.0) (body_there rest f.1) h
+    body_there (step s rest) f h = both_there (stmt_assigns (is_element e) s) (stmts_assign (is_element e) rest) (stmt_there s f.0) (body_there rest f.1) h
 
-    branches_there : (bs : Branches) → FitsBranches scope bs → There (branches_set e bs)
+    branches_there : (bs : Branches) → FitsBranches scope bs → There (branches_assign (is_element e) bs)
     branches_there no_else f h = absurd cc
     branches_there (otherwise s) f h = body_there s f h
-    branches_there (branch t s bs) f h = both_there (sets_element e s) (branches_set e bs) (body_there s f.1) (branches_there bs f.2) h
+    branches_there (branch t s bs) f h = both_there (stmts_assign (is_element e) s) (branches_assign (is_element e) bs) (body_there s f.1) (branches_there bs f.2) h
 
-    alternatives_there : (t : ElementType) (len : ℕ) (alts : Alternatives) → FitsAlternatives scope t len alts → There (alternatives_set e alts)
+    alternatives_there : (t : ElementType) (len : ℕ) (alts : Alternatives) → FitsAlternatives scope t len alts → There (alternatives_assign (is_element e) alts)
     alternatives_there t len (others s) f h = body_there s f h
     alternatives_there t len (alternative choices s alts) f h =
-        both_there (sets_element e s) (alternatives_set e alts) (body_there s f.1) (alternatives_there t len alts f.2) h
+        both_there (stmts_assign (is_element e) s) (alternatives_assign (is_element e) alts) (body_there s f.1) (alternatives_there t len alts f.2) h
 
 pub sets_within : (types : List ElementType) (p : FlatProcess) → ProcessInRange types p → SetsWithin (length (element_starts p.variables)) p.body
 sets_within types p h e s = let l = body_there (scope_of types p) e p.body h.body s in omega (arith, l, length_types p.variables)
 
 -- the flags of what isn't set
-pub flags_know : (body : Stmts) (many : ℕ) (marks flags : List Bool) → SetsWithin many body → Marked (λ e. sets_element e body) (replicate many false) marks → flags ≡ map (λ b. not b) marks
+pub flags_know : (body : Stmts) (many : ℕ) (marks flags : List Bool) → SetsWithin many body → Marked (λ e. stmts_assign (is_element e) body) (replicate many false) marks → flags ≡ map (λ b. not b) marks
     → Knows (never_set body) flags
 flags_know body many marks flags within m is e = ap (λ bs. get_or bs e true) is ∙ go (cases_lt e many)
   where
@@ -80,8 +82,8 @@ flags_know body many marks flags within m is e = ap (λ bs. get_or bs e true) is
     go : (e < many) ⊎ (many ≤ e) → get_or (map (λ b. not b) marks) e true ≡ never_set body e
     go (inl l) =
         get_or-map (λ b. not b) marks e true true (omega (arith, long))
-        ∙ ap not (m.each e ∙ ap (λ (b : Bool). b || sets_element e body) (get_or-replicate many e false true l))
-    go (inr l) = get_or_past (map (λ b. not b) marks) e true (omega (arith, long, length-map marks (λ b. not b))) ∙ sym (ap not (unset (sets_element e body) (within e)))
+        ∙ ap not (m.each e ∙ ap (λ (b : Bool). b || stmts_assign (is_element e) body) (get_or-replicate many e false true l))
+    go (inr l) = get_or_past (map (λ b. not b) marks) e true (omega (arith, long, length-map marks (λ b. not b))) ∙ sym (ap not (unset (stmts_assign (is_element e) body) (within e)))
       where
         unset : (b : Bool) → (b ≡ true → e < many) → b ≡ false
         unset true f = absurd (let k = f refl in omega arith)

@@ -5,9 +5,9 @@ use Rattle.std.specs.List.{list_any, range_with_len}
 use Rattle.std.proofs.lemmas.Bool.{and_parts}
 use Rattle.std.proofs.lemmas.List.{get_or_default}
 use Rattle.std.proofs.lemmas.List.FromFn.{get_or-map-range_with_len, length-map-range_with_len}
-use Rattle.rtl_model.specs.bodies.Assigns.{is_element, must_assign}
+use Rattle.rtl_model.specs.bodies.Assigns.{is_element, must_assign, stmt_assigns, stmts_assign, branches_assign, alternatives_assign}
 use Rattle.rtl_model.specs.bodies.Body as bodies
-use Rattle.rtl_model.specs.bodies.Body.{null_of, assign, set as set_of, if_of, case_of, Stmts, done, step}
+use Rattle.rtl_model.specs.bodies.Body.{Stmts}
 use Rattle.rtl_model.specs.bodies.Kinds.{clocking}
 use Rattle.rtl_model.specs.bodies.Stored.{stores_element}
 use Rattle.rtl_net.specs.declared.body.Alternative.{Alternative}
@@ -61,41 +61,41 @@ listed_more xs i a b c l m n =
 -- ---- marks of what is set
 
 module _ (e : ℕ) where
-  sets_any : (xs : List Statement) → known.sets_element e (statements_of xs) ≡ list_any (λ (x : Statement). known.stmt_sets e (statement_view x)) xs
+  sets_any : (xs : List Statement) → stmts_assign (is_element e) (statements_of xs) ≡ list_any (λ (x : Statement). stmt_assigns (is_element e) (statement_view x)) xs
   sets_any [] = refl
-  sets_any (x ∷ xs) = ap (λ (b : Bool). known.stmt_sets e (statement_view x) || b) (sets_any xs)
+  sets_any (x ∷ xs) = ap (λ (b : Bool). stmt_assigns (is_element e) (statement_view x) || b) (sets_any xs)
 
   pub sets_more : (xs : List Statement) (i : ℕ) (x : Statement) → i < length xs → x ≡ get_or xs i x
-      → (known.sets_element e (statements_of (take i xs)) || known.stmt_sets e (statement_view x)) ≡ known.sets_element e (statements_of (take (i + 1) xs))
+      → (stmts_assign (is_element e) (statements_of (take i xs)) || stmt_assigns (is_element e) (statement_view x)) ≡ stmts_assign (is_element e) (statements_of (take (i + 1) xs))
   sets_more xs i x l at =
-      ap (λ (b : Bool). b || known.stmt_sets e (statement_view x)) (sets_any (take i xs))
-      ∙ sym (sets_any (take (i + 1) xs) ∙ any_more (λ (y : Statement). known.stmt_sets e (statement_view y)) xs i x l at)
+      ap (λ (b : Bool). b || stmt_assigns (is_element e) (statement_view x)) (sets_any (take i xs))
+      ∙ sym (sets_any (take (i + 1) xs) ∙ any_more (λ (y : Statement). stmt_assigns (is_element e) (statement_view y)) xs i x l at)
 
-  branches_any : (last : bodies.Branches) (bs : List Branch) → known.branches_set e (branches_of last bs) ≡ (list_any (branch_sets e) bs || known.branches_set e last)
+  branches_any : (last : bodies.Branches) (bs : List Branch) → branches_assign (is_element e) (branches_of last bs) ≡ (list_any (branch_sets e) bs || branches_assign (is_element e) last)
   branches_any last [] = refl
-  branches_any last (b ∷ bs) = ap (λ (c : Bool). branch_sets e b || c) (branches_any last bs) ∙ sym (or_assoc (branch_sets e b) (list_any (branch_sets e) bs) (known.branches_set e last))
+  branches_any last (b ∷ bs) = ap (λ (c : Bool). branch_sets e b || c) (branches_any last bs) ∙ sym (or_assoc (branch_sets e b) (list_any (branch_sets e) bs) (branches_assign (is_element e) last))
 
-  alternatives_any : (last : Stmts) (bs : List Alternative) → known.alternatives_set e (alternatives_of last bs) ≡ (list_any (alternative_sets e) bs || known.sets_element e last)
+  alternatives_any : (last : Stmts) (bs : List Alternative) → alternatives_assign (is_element e) (alternatives_of last bs) ≡ (list_any (alternative_sets e) bs || stmts_assign (is_element e) last)
   alternatives_any last [] = refl
   alternatives_any last (b ∷ bs) =
-      ap (λ (c : Bool). alternative_sets e b || c) (alternatives_any last bs) ∙ sym (or_assoc (alternative_sets e b) (list_any (alternative_sets e) bs) (known.sets_element e last))
+      ap (λ (c : Bool). alternative_sets e b || c) (alternatives_any last bs) ∙ sym (or_assoc (alternative_sets e b) (list_any (alternative_sets e) bs) (stmts_assign (is_element e) last))
 
   pub if_sets : (x : Statement) (at : ℕ) (branches : Vec Branch Global) (v : Vec Statement Global) → x ≡ vs.If at branches (Some v)
-      → (list_any (branch_sets e) branches.items || known.sets_element e (statements_of v.items)) ≡ known.stmt_sets e (statement_view x)
+      → (list_any (branch_sets e) branches.items || stmts_assign (is_element e) (statements_of v.items)) ≡ stmt_assigns (is_element e) (statement_view x)
   if_sets x at branches v is =
-      sym (ap (λ (y : Statement). known.stmt_sets e (statement_view y)) is
-      ∙ (ap (known.stmt_sets e) (view_if at branches (Some v)) ∙ branches_any (bodies.otherwise (statements_of v.items)) branches.items))
+      sym (ap (λ (y : Statement). stmt_assigns (is_element e) (statement_view y)) is
+      ∙ (ap (stmt_assigns (is_element e)) (view_if at branches (Some v)) ∙ branches_any (bodies.otherwise (statements_of v.items)) branches.items))
 
-  pub if_alone_sets : (x : Statement) (at : ℕ) (branches : Vec Branch Global) → x ≡ vs.If at branches None → list_any (branch_sets e) branches.items ≡ known.stmt_sets e (statement_view x)
+  pub if_alone_sets : (x : Statement) (at : ℕ) (branches : Vec Branch Global) → x ≡ vs.If at branches None → list_any (branch_sets e) branches.items ≡ stmt_assigns (is_element e) (statement_view x)
   if_alone_sets x at branches is =
-      sym (ap (λ (y : Statement). known.stmt_sets e (statement_view y)) is
-      ∙ (ap (known.stmt_sets e) (view_if at branches None) ∙ (branches_any bodies.no_else branches.items ∙ sym (or_none (list_any (branch_sets e) branches.items)))))
+      sym (ap (λ (y : Statement). stmt_assigns (is_element e) (statement_view y)) is
+      ∙ (ap (stmt_assigns (is_element e)) (view_if at branches None) ∙ (branches_any bodies.no_else branches.items ∙ sym (or_none (list_any (branch_sets e) branches.items)))))
 
   pub case_sets : (x : Statement) (at : ℕ) (selector : Value) (alternatives : Vec Alternative Global) (others : Vec Statement Global) → x ≡ vs.Case at selector alternatives others
-      → (list_any (alternative_sets e) alternatives.items || known.sets_element e (statements_of others.items)) ≡ known.stmt_sets e (statement_view x)
+      → (list_any (alternative_sets e) alternatives.items || stmts_assign (is_element e) (statements_of others.items)) ≡ stmt_assigns (is_element e) (statement_view x)
   case_sets x at selector alternatives others is =
-      sym (ap (λ (y : Statement). known.stmt_sets e (statement_view y)) is
-      ∙ (ap (known.stmt_sets e) (view_case at selector alternatives others) ∙ alternatives_any (statements_of others.items) alternatives.items))
+      sym (ap (λ (y : Statement). stmt_assigns (is_element e) (statement_view y)) is
+      ∙ (ap (stmt_assigns (is_element e)) (view_case at selector alternatives others) ∙ alternatives_any (statements_of others.items) alternatives.items))
 
 -- ---- the elements that are kept
 
@@ -104,9 +104,9 @@ register_gives body reg =
     (and_parts (is_some (clocking true [] (without_reset body))) (known.gives_constants (known.never_set body) (reset_branch body)) reg).1
 
 -- what a register's reset sets is set on every path
-pub reset_sets : (body : Stmts) → is_register body ≡ true → (e : ℕ) → known.sets_element e (reset_branch body) ≡ must_assign (is_element e) (reset_branch body)
+pub reset_sets : (body : Stmts) → is_register body ≡ true → (e : ℕ) → stmts_assign (is_element e) (reset_branch body) ≡ must_assign (is_element e) (reset_branch body)
 reset_sets body reg e =
-    straight_sets (reset_branch body) e (gives_straight (known.never_set body) (reset_branch body) (register_gives body reg))
+    straight_sets (is_element e) (reset_branch body) (gives_straight (known.never_set body) (reset_branch body) (register_gives body reg))
 
 pub kept_marks : (body : Stmts) (many : ℕ) (stored marks : List Bool) → is_register body ≡ true
     → stored ≡ map (λ e. stores_element e (without_reset body)) (range_with_len 0 many)

@@ -1,6 +1,7 @@
 -- The steps of `keep`: the forms of bodies, the elements that are marked, and what is put for each variable.
 use Rattle.std.specs.Prelude.{◌≡◌, ℕ, zero, suc, ◌+◌, ◌-◌, ◌≤◌, ◌<◌, ◌==◌, ◌^◌, Bool, true, false, ◌&&◌, ◌||◌, nat_le, nat_lt, if◌then◌else◌, All, List, [], ◌∷◌, length, map, flat_map, slice_index, slice_index_or}
 use Rattle.std.specs.List.{list_any, range_with_len}
+use Rattle.rtl_model.specs.bodies.Assigns.{is_element, stmts_assign}
 use Rattle.rtl_model.specs.bodies.Body.{Stmt, null_of, assign, set, if_of, Stmts, done, step, Branches, no_else, otherwise, branch}
 use Rattle.rtl_model.specs.bodies.Body.{Value, elements, position, position_in, position_of, signal, variable, constant}
 use Rattle.rtl_model.specs.bodies.Fits.{Scope, FitsAs, Fits}
@@ -85,14 +86,14 @@ pub record Marks (many : ℕ) (these : ℕ → Bool) (marks : List Bool) : Type 
 
 -- a branch of an if, and an alternative of a case
 abbrev pub branch_sets : (element : ℕ) → Branch → Bool
-branch_sets element b = known.sets_element element (statements_of b.statements.items)
+branch_sets element b = stmts_assign (is_element element) (statements_of b.statements.items)
 
 abbrev pub alternative_sets : (element : ℕ) → Alternative → Bool
-alternative_sets element a = known.sets_element element (statements_of a.statements.items)
+alternative_sets element a = stmts_assign (is_element element) (statements_of a.statements.items)
 
 -- what is set is among so many elements
 abbrev pub SetsWithin : (many : ℕ) → Stmts → Type 0
-SetsWithin many s = (e : ℕ) → known.sets_element e s ≡ true → e < many
+SetsWithin many s = (e : ℕ) → stmts_assign (is_element e) s ≡ true → e < many
 
 -- ---- what is known
 

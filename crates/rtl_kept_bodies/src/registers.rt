@@ -10,7 +10,7 @@ ghost use Rattle.rtl_kept_bodies.specs.Steps.{SetsWithin};
 use crate::constants::Known;
 use crate::forms::replace_reset;
 use crate::sets::never_set;
-use rtl_body_facts::{ProcessKind, kind_of};
+use rtl_body_facts::clocking_of;
 use rtl_net::Statement;
 use std::alloc::{AllocError, Global};
 
@@ -18,10 +18,7 @@ use std::alloc::{AllocError, Global};
 fn is_clocked(body: &[Statement]) -> bool
     ensures { result ≡ is_some (clocking true [] (statements_of body.now)) }
 {
-    match kind_of(true, &[], body) {
-        ProcessKind::Clocked(_) => true,
-        _ => false,
-    }
+    clocking_of(true, &[], body).is_some()
 }
 
 /// Whether a body is a register's, of so many elements of variables. Its reset's branch is taken

@@ -2,6 +2,7 @@
 
 ghost use Rattle.std.specs.Prelude.{◌≡◌, not, map, IfOk};
 ghost use Rattle.std.specs.List.{list_any};
+ghost use Rattle.rtl_model.specs.bodies.Assigns.{is_element, stmt_assigns, stmts_assign};
 ghost use Rattle.rtl_net.specs.Bodies.{statement_view, statements_of};
 ghost use Rattle.rtl_variable_registers.specs.Known as spec;
 ghost use Rattle.rtl_kept_bodies.specs.Steps.{Marked, Knows, SetsWithin, branch_sets, alternative_sets};
@@ -13,7 +14,7 @@ use std::alloc::{AllocError, Global};
 /// Marks the elements that a statement sets, in whatever branch.
 #[cycle(setting)]
 fn mark_set(statement: &Statement, marks: &mut [bool])
-    ensures { Marked (λ e. spec.stmt_sets e (statement_view statement.now)) marks.old marks.new }
+    ensures { Marked (λ e. stmt_assigns (is_element e) (statement_view statement.now)) marks.old marks.new }
 {
     match statement {
         Statement::Null => {}
@@ -44,7 +45,7 @@ fn mark_set(statement: &Statement, marks: &mut [bool])
 /// The same of a sequence.
 #[cycle(setting)]
 pub(crate) fn mark_all_set(statements: &[Statement], marks: &mut [bool])
-    ensures { Marked (λ e. spec.sets_element e (statements_of statements.now)) marks.old marks.new }
+    ensures { Marked (λ e. stmts_assign (is_element e) (statements_of statements.now)) marks.old marks.new }
 {
     for statement in statements {
         mark_set(statement, marks);

@@ -1,5 +1,5 @@
 -- Which nets processes drive, and which of these are resets.
-use Rattle.std.proofs.Common.{◌≡◌, ℕ, ◌<◌, ◌||◌, ◌==◌, Bool, true, false, List, [], ◌∷◌, length, get_or, map, Option, Some, None, refl, sym, ap, subst, ◌∙◌, Contains}
+use Rattle.std.proofs.Common.{◌≡◌, ℕ, ◌<◌, ◌||◌, ◌==◌, Bool, true, false, ◌∷◌, length, map, Option, Some, None, refl, sym, ap, subst, ◌∙◌, Contains}
 use Rattle.std.specs.Prelude.{option_map, All}
 use Rattle.std.specs.Option.{option_to_list}
 use Rattle.std.proofs.lemmas.Bool.{eq-eqb}
@@ -19,7 +19,7 @@ use Rattle.rtl_net.specs.Core.{core}
 use Rattle.rtl_body_facts.specs.declared.kinds.ProcessKind.{ProcessKind}
 use Rattle.rtl_body_facts.specs.declared.kinds.ProcessKind.TheVariants as k
 use Rattle.rtl_body_facts.specs.Reading.{is_in}
-use Rattle.rtl_process_kinds.specs.KindViews.{IsKind, nets_tested, reset_net, reset_kept}
+use Rattle.rtl_process_kinds.specs.KindViews.{IsKind, reset_net, reset_kept}
 use Rattle.rtl_process_kinds.specs.Drivers.{is_driven}
 
 -- what is kept of a reset is its net

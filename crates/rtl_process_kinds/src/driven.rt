@@ -6,11 +6,11 @@ ghost use Rattle.rtl_model.specs.simulation.Levels as l;
 ghost use Rattle.rtl_net.specs.Nets.{source_view};
 ghost use Rattle.rtl_net.specs.Core.{core};
 ghost use Rattle.rtl_process_kinds.specs.Drivers as d;
-ghost use Rattle.rtl_process_kinds.specs.KindViews.{reset_kept};
+ghost use Rattle.rtl_body_facts.specs.declared.kinds.ProcessKind.{ProcessKind};
+ghost use Rattle.rtl_process_kinds.specs.KindViews.{IsKind, reset_kept};
 
-use crate::kinds::kind_at;
 use crate::wakes::wakes_of;
-use rtl_body_facts::ProcessKind;
+use rtl_body_facts::clocking_of;
 use rtl_net::{Net, Source, nets_meet_the_laws};
 
 /// Whether a source is a driver.
@@ -51,14 +51,15 @@ pub fn follows_driver(net: &Net, process: usize) -> bool
     false
 }
 
-/// The net that a process of this kind has for its reset, if it has one.
-fn reset_in(kind: ProcessKind) -> Option<usize>
-    ensures { result ≡ reset_kept kind }
+/// The net of a process's reset, if it has one.
+fn reset_at(net: &Net, process: usize) -> Option<usize>
+    requires { process < length net.now.processes }
+    ensures { (kind : ProcessKind) × IsKind (m.process (core net.now) process) kind × (result ≡ reset_kept kind) }
 {
-    match kind {
-        ProcessKind::Clocked(clocking) => clocking.reset,
-        _ => None,
-    }
+    net.is_elaborated();
+    let processes = net.processes();
+    let clocking = clocking_of(net.is_wide(), net.inputs(), &processes[process].body)?;
+    clocking.reset
 }
 
 /// The net of a process's reset, if it has one that some process drives.
@@ -68,7 +69,7 @@ pub fn inner_reset(net: &Net, process: usize) -> Option<usize>
 {
     nets_meet_the_laws();
     net.is_elaborated();
-    let reset = reset_in(kind_at(net, process))?;
+    let reset = reset_at(net, process)?;
     if is_driven(net, reset) {
         Some(reset)
     } else {

@@ -11,7 +11,7 @@ use rtl_net::Statement;
 use std::alloc::{AllocError, Global};
 
 /// Of so many variable elements, whether a body stores each. It takes time in proportion to the
-/// body and to the elements, and memory for the elements.
+/// body and to the elements, and memory for the elements; without any it doesn't look at the body.
 pub fn stored_elements(
     alloc: Global,
     body: &[Statement],
@@ -20,6 +20,9 @@ pub fn stored_elements(
     ensures { IfOk result (λ v. v.items
         ≡ map (λ e. stores_element e (statements_of body.now)) (range_with_len 0 many)) }
 {
+    if many == 0 {
+        return Ok(Vec::new(alloc));
+    }
     let mut marks = Marks::new(alloc, many)?;
     let mut added = Vec::new(alloc);
     walk_statements(alloc, body, &mut marks, &mut added)?;

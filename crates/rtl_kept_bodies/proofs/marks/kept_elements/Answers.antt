@@ -5,8 +5,8 @@ use Rattle.rtl_model.specs.bodies.Body.{Stmts}
 use Rattle.rtl_model.specs.bodies.Stored.{stores_element}
 use Rattle.rtl_net.specs.declared.body.Statement.{Statement}
 use Rattle.rtl_net.specs.Bodies.{statements_of}
-use Rattle.rtl_variable_registers.specs.Bodies.{with_branches, without_reset, reset_branch, keeps_element}
-use Rattle.rtl_variable_registers.specs.Known.{sets_element}
+use Rattle.rtl_variable_registers.specs.Bodies.{with_branches, keeps_element}
+use Rattle.rtl_model.specs.bodies.Assigns.{is_element, stmts_assign}
 use Rattle.rtl_kept_bodies.specs.Steps.{Marks}
 use Rattle.rtl_kept_bodies.proofs.Marking.{reset_sets, kept_marks, marked_as}
 use Rattle.rtl_kept_bodies.proofs.Shapes.{put_back}
@@ -27,7 +27,7 @@ returns-clause-are c =
     (sym (with_items_is c.in_ok-marks.marks c.mark_all_set.new.marks (c.mark_all_set.auto.marks ∙ c.deref_mut.ensures.len)))
     (kept_marks body c.args.many _ c.mark_all_set.new.marks c.requires
     (c.deref_mut.ensures.value ∙ c.in_ok-marks.ensures ∙ ap (λ (s : Stmts). map (λ e. stores_element e s) (range_with_len 0 c.args.many)) left)
-    (marked_as _ _ _ _ (λ e. ap (λ (s : Stmts). sets_element e s) taken ∙ reset_sets body c.requires e) c.mark_all_set.ensures))
+    (marked_as _ _ _ _ (λ e. ap (λ (s : Stmts). stmts_assign (is_element e) s) taken ∙ reset_sets body c.requires e) c.mark_all_set.ensures))
 
 pub returns-clause-bytes : goal.returns-clause-bytes
 returns-clause-bytes c = c.replace_reset-nothing.ensures.bytes ∙ c.replace_reset-reset.ensures.bytes
