@@ -21,11 +21,13 @@ use byte_streams::{Sink, Unwatched, Watch};
 use rtl_net::Net;
 use rtlsim_command_faults::{Fault, Status, Telling, describe_refusal};
 use std::alloc::Global;
+use std::mem;
 use vhdl_front_rules::{Asked, Front};
 
 /// Serves a command, while this watch looks on: opens the source, does the command on its netlist,
 /// writes what is told of its answer or the lines of a fault to `err`, and answers the status.
-/// Behind the explanation of a moment that doesn't settle stand the nets that still change.
+/// Behind the explanation of a moment that doesn't settle stand the nets that still change. The
+/// netlist isn't freed, since serving a command is the last that a program does.
 pub fn serve<F: Front, C: Command, V: Watch, O: Sink, E: Sink>(
     alloc: Global,
     asked: Asked<'_>,
@@ -45,7 +47,9 @@ pub fn serve<F: Front, C: Command, V: Watch, O: Sink, E: Sink>(
     match F::open(alloc, asked) {
         Ok(net) => {
             let site = Site { alloc, net: &net };
-            serve_net::<F, C, V, O, E>(site, asked, telling, command, watch, out, err)
+            let said = serve_net::<F, C, V, O, E>(site, asked, telling, command, watch, out, err);
+            mem::forget(net);
+            said
         }
         Err(fault) => refuse_source::<F, O, E>(alloc, asked, telling, fault, out, err),
     }

@@ -188,13 +188,14 @@ impl Operand {
         Ok(chain.whole())
     }
 
-    /// This operand as the first of a chain. It takes the memory of a box.
+    /// This operand as the first of a chain. It takes the memory of a box and of a list of one, as
+    /// most chains have one operator.
     pub(crate) fn begin(self, alloc: Global) -> Result<Chain, AllocError>
         ensures { IfOk result (λ c. links_of (expr_view c.first.value) c.rest.items ≡ expr_view self.expr) }
     {
         Ok(Chain {
             first: Box::new(alloc, self.expr)?,
-            rest: Vec::new(alloc),
+            rest: Vec::with_capacity(alloc, 1)?,
             width: self.width,
         })
     }

@@ -4,7 +4,7 @@ use Rattle.rtlsim_commands.proofs.Told.{serves_refused, serves_so}
 use Rattle.rtlsim_commands.proofs.serving.serve.Goals as goal
 
 pub returns-in-Ok : goal.returns-in-Ok
-returns-in-Ok g c = serves_so Writeless _ _ c.args.telling.now _ _ _ c.serve_net.ensures
+returns-in-Ok g c = serves_so Writeless _ _ c.args.telling.now _ _ _ c.serve_net-said.ensures
 
 pub returns-in-Err : goal.returns-in-Err
 returns-in-Err g c =
