@@ -3,7 +3,6 @@ use Rattle.std.proofs.Common.{◌≡◌, ℕ, zero, suc, ◌+◌, ◌<◌, ◌�
 use Rattle.std.specs.Prelude.{is_some, is_none, nat_lt, if◌then◌else◌, option_map, option_and_then, flat_map}
 use Rattle.std.specs.Option.{option_or}
 use Rattle.std.proofs.lemmas.List.{take_more, length-map, get_or-map}
-use Rattle.std.specs.List.{list_any}
 use Rattle.rtl_model.specs.bodies.Body as bodies
 use Rattle.rtl_model.specs.bodies.Leaves.{Leaf, of_nets, of_event, of_elements, test_leaves, read_of, event_of}
 use Rattle.rtl_model.proofs.bodies.Leaves.{leaves_tell}
@@ -17,22 +16,25 @@ use Rattle.rtl_net.specs.declared.body.Test.{Test}
 use Rattle.rtl_net.specs.declared.body.Test.TheVariants as vt
 use Rattle.rtl_net.proofs.Rows.{view_if}
 use Rattle.rtl_body_facts.specs.Reading.{some}
-use Rattle.rtl_mixed_reasons.specs.Edges.{is_gated, has_two}
+use Rattle.rtl_mixed_reasons.specs.Edges.{has_two, holds_of}
 use Rattle.rtl_mixed_reasons.specs.declared.edges.Events.{Events}
 use Rattle.rtl_mixed_reasons.specs.declared.reason.Reason.{Reason}
-use Rattle.rtl_mixed_reasons.specs.declared.reason.ReasonKind.TheVariants.{GatedEdge, ResetBehind, BehindEdge}
+use Rattle.rtl_mixed_reasons.specs.declared.reason.ReasonKind.TheVariants.{ResetBehind, BehindEdge}
 use Rattle.rtl_model.specs.bodies.Reads.{events, test_events}
 use Rattle.rtl_net.specs.declared.process.Process.{Process}
 use Rattle.rtl_net.specs.Nets.{NetlistView}
 use Rattle.rtl_mixed_reasons.specs.declared.ifs.EdgeIf.{EdgeIf}
 use Rattle.rtl_mixed_reasons.specs.declared.reads.First.{First}
-use Rattle.rtl_mixed_reasons.specs.Reasons.{plain, naming, at_or, at_of, branches_of_if, if_branches, conditions, branch_of, edge_branch, has_else, tests_of, inner_events, head_of, gated_edge, edge_if, elsewhere, elsewhere_in, told_elsewhere, kind_at, reset_net, sole_reset, reset_behind, first_that_fits, own_reasons, reset_reason, other_before, computes, assigns_alike}
+use Rattle.rtl_mixed_reasons.specs.Reasons.{plain, naming, at_or, at_of, branches_of_if, if_branches, conditions, branch_of, edge_branch, has_else, tests_of, inner_events, head_of, first_gated, gated_kind, gated_in, gated_edge, has_one, is_sole, no_reset, edge_if, elsewhere, elsewhere_in, told_elsewhere, kind_at, reset_net, sole_reset, reset_behind, first_that_fits, own_reasons, reset_reason, other_before, computes, assigns_alike}
 
 -- ---- ifs
 
 -- the branches of an if, with its else
 abbrev pub whole : Vec Branch Global → Option (Vec Statement Global) → bodies.Branches
 whole branches last = branches_of (otherwise_of (option_map (λ v. v.items) last)) branches.items
+
+abbrev pub whole-of : List Branch → Option (Vec Statement Global) → bodies.Branches
+whole-of bs last = branches_of (otherwise_of (option_map (λ v. v.items) last)) bs
 
 pub if-branches : (x : Statement) (at : ℕ) (branches : Vec Branch Global) (last : Option (Vec Statement Global)) → x ≡ vs.If at branches last
     → if_branches x ≡ Some (whole branches last)
@@ -75,11 +77,16 @@ test-there bs i l = subst (λ (n : ℕ). i < n) (sym (length-map bs (λ (b : Bra
 pub tests-end : (bs : List Branch) (i : ℕ) → length bs ≤ i → length (tests_of bs) ≤ i
 tests-end bs i l = subst (λ (n : ℕ). n ≤ i) (sym (length-map bs (λ (b : Branch). test_view b.test))) l
 
-pub gated-is : (x : Statement) (at : ℕ) (branches : Vec Branch Global) (last : Option (Vec Statement Global)) → x ≡ vs.If at branches last
-    → (if list_any is_gated (tests_of branches.items) then Some (plain GatedEdge at) else None) ≡ gated_edge x
-gated-is x at branches last is =
-    ap (λ (ts : List bodies.Test). if list_any is_gated ts then Some (plain GatedEdge at) else None) (sym (conditions-are (option_map (λ v. v.items) last) branches.items))
-    ∙ sym (of-if (λ (a : ℕ) (bs : bodies.Branches). if list_any is_gated (conditions bs) then Some (plain GatedEdge a) else None) x at branches last is)
+pub else-there : (last : Option (Vec Statement Global)) → is_some (option_map (λ v. v.items) last) ≡ is_some last
+else-there None = refl
+else-there (Some v) = refl
+
+pub gated-is : (wide : Bool) (x : Statement) (at : ℕ) (branches : Vec Branch Global) (last : Option (Vec Statement Global)) → x ≡ vs.If at branches last
+    → option_map (λ before. plain (gated_kind wide (nat_lt 1 (length (drop before (tests_of branches.items))) || is_some last)) at) (first_gated 0 (tests_of branches.items)) ≡ gated_edge wide x
+gated-is wide x at branches last is =
+    let items : Option (List Statement) = option_map (λ v. v.items) last in
+    sym (of-if (gated_in wide) x at branches last is
+    ∙ (λ k. option_map (λ before. plain (gated_kind wide (nat_lt 1 (length (drop before (conditions-are items branches.items k))) || (else-is items branches.items ∙ else-there last) k)) at) (first_gated 0 (conditions-are items branches.items k))))
 
 pub elsewhere-if : (x : Statement) (at : ℕ) (branches : Vec Branch Global) (last : Option (Vec Statement Global)) (inner edge : Bool) → x ≡ vs.If at branches last
     → some (events (statements_of (x ∷ []))) ≡ true → some (inner_events (whole branches last)) ≡ inner → is_some (edge_if 0 x) ≡ edge
@@ -121,6 +128,40 @@ module _ (p : Process) (edge : ℕ → Bool) where
       sym (ap (λ (o : Option bodies.Branches). option_map (naming ResetBehind (at_of x)) (option_and_then (sole_reset p edge) o)) (if-branches x at branches last is)
       ∙ ap (λ (a : ℕ). option_map (naming ResetBehind a) (sole_reset p edge (whole branches last))) (if-at x at branches last is))
 
+-- an if behind the edge as a reset, by the list of its branches
+module _ (at : ℕ) where
+  pub unlike-many : (last : Option (List Statement)) (bs : List Branch) → (length bs ≡ 1 → ⊥) → Some (plain BehindEdge at) ≡ no_reset at (branches_of (otherwise_of last) bs)
+  unlike-many None [] n = refl
+  unlike-many (Some xs) [] n = refl
+  unlike-many last (b ∷ []) n = absurd (n refl)
+  unlike-many last (b ∷ d ∷ bs) n = refl
+
+  pub unlike-else : (last : Option (Vec Statement Global)) (bs : List Branch) → is_some last ≡ true → Some (plain BehindEdge at) ≡ no_reset at (whole-of bs last)
+  unlike-else None bs e = absurd (let k : false ≡ true = e in cc)
+  unlike-else (Some v) [] e = refl
+  unlike-else (Some v) (b ∷ []) e = refl
+  unlike-else (Some v) (b ∷ d ∷ bs) e = refl
+
+-- whether it has one branch and no else
+one-is : (last : Option (Vec Statement Global)) (bs : List Branch) → length bs ≡ 1 → is_none last ≡ has_one (whole-of bs last)
+one-is None [] e = absurd (omega arith)
+one-is (Some v) [] e = refl
+one-is None (b ∷ []) e = refl
+one-is (Some v) (b ∷ []) e = refl
+one-is last (b ∷ d ∷ bs) e = absurd (omega arith)
+
+many-is : (last : Option (Vec Statement Global)) (bs : List Branch) → (length bs ≡ 1 → ⊥) → false ≡ has_one (whole-of bs last)
+many-is None [] n = refl
+many-is (Some v) [] n = refl
+many-is last (b ∷ []) n = absurd (n refl)
+many-is last (b ∷ d ∷ bs) n = refl
+
+pub sole-not : (x : Statement) (at : ℕ) (branches : Vec Branch Global) (last : Option (Vec Statement Global)) → x ≡ vs.If at branches last → (length branches.items ≡ 1 → ⊥) → false ≡ is_sole x
+sole-not x at branches last is n = many-is last branches.items n ∙ sym (ap (holds_of has_one) (if-branches x at branches last is))
+
+pub sole-is : (x : Statement) (at : ℕ) (branches : Vec Branch Global) (last : Option (Vec Statement Global)) → x ≡ vs.If at branches last → length branches.items ≡ 1 → is_none last ≡ is_sole x
+sole-is x at branches last is e = one-is last branches.items e ∙ sym (ap (holds_of has_one) (if-branches x at branches last is))
+
 -- what is told of an if with an edge itself, by the list of its branches
 first-is : (last : Option (List Statement)) (bs : List Branch) → branch_of (branches_of (otherwise_of last) bs) 0 ≡ branch_of (branches_of bodies.no_else bs) 0
 first-is None [] = refl
@@ -133,12 +174,8 @@ told_by at first second behind = first_that_fits (first ∷ second ∷ (if behin
 pub own-is : (net : NetlistView) (i : EdgeIf) (last : Option (Vec Statement Global)) (bs : List Branch)
     → first_that_fits (own_reasons net i (branches_of (otherwise_of (option_map (λ v. v.items) last)) bs))
     ≡ told_by i.at (reset_reason net i (tests_of bs) (branch_of (branches_of bodies.no_else bs) 0)) (other_before i.at i.before (tests_of bs)) (nat_lt 1 (length (drop i.before (tests_of bs))) || is_some last)
-own-is net i last bs = go (option_map (λ v. v.items) last) ∙ ap (λ (b : Bool). told_by i.at (reset_reason net i (tests_of bs) (branch_of (branches_of bodies.no_else bs) 0)) (other_before i.at i.before (tests_of bs)) (nat_lt 1 (length (drop i.before (tests_of bs))) || b)) (same last)
+own-is net i last bs = go (option_map (λ v. v.items) last) ∙ ap (λ (b : Bool). told_by i.at (reset_reason net i (tests_of bs) (branch_of (branches_of bodies.no_else bs) 0)) (other_before i.at i.before (tests_of bs)) (nat_lt 1 (length (drop i.before (tests_of bs))) || b)) (else-there last)
   where
-    same : (o : Option (Vec Statement Global)) → is_some (option_map (λ v. v.items) o) ≡ is_some o
-    same None = refl
-    same (Some v) = refl
-
     go : (o : Option (List Statement)) → first_that_fits (own_reasons net i (branches_of (otherwise_of o) bs))
         ≡ told_by i.at (reset_reason net i (tests_of bs) (branch_of (branches_of bodies.no_else bs) 0)) (other_before i.at i.before (tests_of bs)) (nat_lt 1 (length (drop i.before (tests_of bs))) || is_some o)
     go o = λ k. told_by i.at (reset_reason net i (conditions-are o bs k) (first-is o bs k)) (other_before i.at i.before (conditions-are o bs k)) (nat_lt 1 (length (drop i.before (conditions-are o bs k))) || else-is o bs k)

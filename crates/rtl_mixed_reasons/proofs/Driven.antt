@@ -5,14 +5,13 @@ use Rattle.std.specs.List.{list_any, list_all}
 use Rattle.std.proofs.lemmas.Bool.{cases_Bool, ltb-true, eqb-true, eq-eqb, ne_eqb, and_parts, and_right, or_cases}
 use Rattle.std.proofs.lemmas.List.{get_or_default}
 use Rattle.rtl_model.specs.basics.Lists.{is_empty}
-use Rattle.rtl_model.specs.bodies.Assigns.{Target, driver, element}
+use Rattle.rtl_model.specs.bodies.Assigns.{Target, driver, element, stmt_assigns, stmts_assign, branches_assign, alternatives_assign}
 use Rattle.rtl_model.specs.bodies.Body.{Stmt, null_of, assign, set, if_of, case_of, Stmts, done, step, Branches, no_else, otherwise, branch, Alternatives, others, alternative}
 use Rattle.rtl_model.specs.nets.CoreNetlist.{drives_net}
 use Rattle.rtl_net.specs.declared.process.Process.{Process}
 use Rattle.rtl_body_facts.specs.Paths.{driven, to_net}
 use Rattle.rtl_body_facts.specs.Reading.{is_in}
 use Rattle.rtl_body_facts.proofs.Members.{has_in}
-use Rattle.rtl_latches.specs.Omissions.{stmt_assigns, stmts_assign, branches_assign, alternatives_assign}
 use Rattle.rtl_mixed_reasons.specs.Reasons.{assigns, first_net, assigns_alike}
 
 -- ---- a net that isn't driven isn't assigned

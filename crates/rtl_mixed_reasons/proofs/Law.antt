@@ -49,7 +49,7 @@ last-fits None None (Some x) h = refl
 last-fits None None None h = absurd (let e : false ≡ true = h in cc)
 
 body-has : (net : NetlistView) (p : Process) → some (events (body_of p)) ≡ true → is_some (reason_of_body net p) ≡ true
-body-has net p h = last-fits (first_in gated_edge p.body.items) (edge_reason net p (first_edge 0 p.body.items)) (first_in elsewhere p.body.items) (elsewhere-there p.body.items h)
+body-has net p h = last-fits (first_in (gated_edge net.wide) p.body.items) (edge_reason net p (first_edge 0 p.body.items)) (first_in elsewhere p.body.items) (elsewhere-there p.body.items h)
 
 -- ---- one process
 

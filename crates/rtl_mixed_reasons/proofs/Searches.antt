@@ -1,17 +1,17 @@
 -- Searches over statements and conditions, one further.
-use Rattle.std.proofs.Common.{◌≡◌, ℕ, ◌+◌, ◌-◌, ◌<◌, ◌≤◌, List, [], ◌∷◌, ◌++◌, length, get_or, drop, take, zero, suc, Bool, true, false, not, ◌||◌, Option, Some, None, refl, sym, ap, ◌∙◌, arith}
+use Rattle.std.proofs.Common.{◌≡◌, ℕ, ◌+◌, ◌-◌, ◌<◌, ◌≤◌, List, [], ◌∷◌, ◌++◌, length, get_or, drop, take, zero, suc, Bool, true, false, not, ◌&&◌, ◌||◌, Option, Some, None, refl, sym, ap, ◌∙◌, arith}
 use Rattle.std.specs.Prelude.{is_some, if◌then◌else◌, option_map, option_and_then}
 use Rattle.std.specs.List.{list_any}
-use Rattle.std.proofs.lemmas.List.{at_drop_more, at_drop_all, take_all}
+use Rattle.std.proofs.lemmas.List.{at_drop_more, at_drop_all, take_all, take_more}
 use Rattle.rtl_model.specs.bodies.Body.{Test, Branches}
 use Rattle.rtl_net.specs.declared.body.Statement.{Statement}
-use Rattle.rtl_mixed_reasons.specs.Edges.{edge_of}
+use Rattle.rtl_mixed_reasons.specs.Edges.{edge_of, is_gated}
 use Rattle.rtl_mixed_reasons.specs.declared.edges.EdgeTest.{EdgeTest}
 use Rattle.rtl_mixed_reasons.specs.declared.ifs.EdgeIf.{EdgeIf}
 use Rattle.std.specs.Option.{option_or}
 use Rattle.rtl_mixed_reasons.specs.declared.reason.Reason.{Reason}
 use Rattle.rtl_net.specs.declared.process.Process.{Process}
-use Rattle.rtl_mixed_reasons.specs.Reasons.{at_of, if_branches, conditions, first_edge, edge_if, edge_in, first_in, second_edge, second_if, first_that_fits}
+use Rattle.rtl_mixed_reasons.specs.Reasons.{at_of, if_branches, conditions, first_edge, edge_if, edge_in, first_in, same_edge, same_again, other_edge, first_net, assigns_in, second_edge, second_if, first_that_fits, first_gated, may_reset, but_reset}
 
 -- one of two, by whether the first is there
 pub one-is : {A : Type 0} (a b : Option A) (x : A) → a ≡ Some x → (if is_some a then a else b) ≡ Some x
@@ -90,6 +90,18 @@ taken-there (suc n) (t ∷ ts) (suc i) l k = let r : i < length (take n ts) = ta
 pub from-not : (a r b : Bool) → a ≡ not r → r ≡ b → not a ≡ b
 from-not a true b e f = ap not e ∙ f
 from-not a false b e f = ap not e ∙ f
+
+-- ---- the first gated condition, as a search
+
+abbrev pub gated-one : (before : ℕ) → Test → Option ℕ
+gated-one before t = if is_gated t then Some before else None
+
+pub gated-step : (before : ℕ) (t : Test) (ts : List Test) → first_gated before (t ∷ ts) ≡ (if is_some (gated-one before t) then gated-one before t else first_gated (before + 1) ts)
+gated-step before t ts = go (is_gated t)
+  where
+    go : (b : Bool) → (if b then Some before else first_gated (before + 1) ts) ≡ (if is_some (if b then Some before else None) then (if b then Some before else None) else first_gated (before + 1) ts)
+    go true = refl
+    go false = refl
 
 -- ---- an if with an edge stands among the statements in which it is found
 
@@ -172,6 +184,35 @@ behind-is k xs ys e = take_all (length xs - k) (drop k xs) (drop-length k xs) �
 
 -- ---- what is told of a further statement
 
-module _ (p : Process) (x y : Statement) (i : EdgeIf) where
-  pub no-second : edge_if 0 y ≡ None → None ≡ second_if p x i y
-  no-second e = sym (ap (option_map (second_edge p x y i)) e)
+module _ (wide : Bool) (p : Process) (x y : Statement) (i : EdgeIf) where
+  pub no-second : edge_if 0 y ≡ None → None ≡ second_if wide p x i y
+  no-second e = sym (ap (option_and_then (second_edge wide p x y i)) e)
+
+  pub second-is : (j : EdgeIf) (same : Bool) → edge_if 0 y ≡ Some j → same_edge i.edge j.edge ≡ same
+      → (if same then same_again wide x y i.at j.at else Some (other_edge j.at (first_net p (λ n. assigns_in p x n && assigns_in p y n)))) ≡ second_if wide p x i y
+  second-is j same e so =
+      sym (ap (option_and_then (second_edge wide p x y i)) e
+      ∙ ap (λ (b : Bool). if b then same_again wide x y i.at j.at else Some (other_edge j.at (first_net p (λ n. assigns_in p x n && assigns_in p y n)))) so)
+
+-- ---- statements but for the reset among them
+
+append-one : (xs : List Statement) (x : Statement) (rest : List Statement) → (xs ++ x ∷ []) ++ rest ≡ xs ++ x ∷ rest
+append-one [] x rest = refl
+append-one (y ∷ xs) x rest = ap (λ (ys : List Statement). y ∷ ys) (append-one xs x rest)
+
+module _ (xs : List Statement) (i : ℕ) (x : Statement) (there : i < length xs) (is : x ≡ get_or xs i x) (kept : take i xs ++ but_reset (drop i xs) ≡ but_reset xs) where
+  but-here : (so : Bool) → may_reset x ≡ so → but_reset (drop i xs) ≡ (if so then drop (i + 1) xs else x ∷ but_reset (drop (i + 1) xs))
+  but-here so e =
+      at_drop_more but_reset xs i x there ∙ (ap (λ (y : Statement). but_reset (y ∷ drop (i + 1) xs)) (sym is)
+      ∙ ap (λ (b : Bool). if b then drop (i + 1) xs else x ∷ but_reset (drop (i + 1) xs)) e)
+
+  pub but-found : may_reset x ≡ true → take i xs ++ drop (i + 1) xs ≡ but_reset xs
+  but-found e = ap (λ (ys : List Statement). take i xs ++ ys) (sym (but-here true e)) ∙ kept
+
+  pub but-passed : may_reset x ≡ false → take (i + 1) xs ++ but_reset (drop (i + 1) xs) ≡ but_reset xs
+  but-passed e =
+      ap (λ (ys : List Statement). ys ++ but_reset (drop (i + 1) xs)) (take_more xs i x there ∙ ap (λ (y : Statement). take i xs ++ y ∷ []) (sym is))
+      ∙ (append-one (take i xs) x (but_reset (drop (i + 1) xs)) ∙ (ap (λ (ys : List Statement). take i xs ++ ys) (sym (but-here false e)) ∙ kept))
+
+pub but-ended : (xs : List Statement) (i : ℕ) → length xs ≤ i → take i xs ++ but_reset (drop i xs) ≡ but_reset xs → xs ++ [] ≡ but_reset xs
+but-ended xs i l kept = sym (λ j. take_all i xs l j ++ at_drop_all but_reset xs i l j) ∙ kept

@@ -6,6 +6,7 @@ use Rattle.std.specs.Prelude.{ℕ, zero, suc, ◌+◌, Bool, true, false, not, �
 use Rattle.std.specs.List.{list_any}
 use Rattle.vhdl_values.specs.declared.kinds.Edge.{Edge}
 use Rattle.vhdl_values.specs.declared.kinds.Edge.TheVariants.{Rising, Falling, To1, To0}
+use Rattle.rtl_model.specs.bodies.Assigns.{stmts_assign}
 use Rattle.rtl_model.specs.bodies.Body.{Test, level, Value, Stmt, null_of, assign, set, if_of, Stmts, done, step, Branches, no_else, otherwise, branch}
 use Rattle.rtl_model.specs.bodies.Kinds.{edge_to, clocking}
 use Rattle.rtl_model.specs.bodies.Reads.{value_reads, events}
@@ -15,20 +16,17 @@ use Rattle.rtl_net.specs.declared.body.Branch.{Branch}
 use Rattle.rtl_net.specs.declared.process.Process.{Process}
 use Rattle.rtl_net.specs.Bodies.{test_view, statement_view, statements_of}
 use Rattle.rtl_net.specs.Nets.{NetlistView, body_of}
-use Rattle.rtl_latches.specs.Omissions.{stmts_assign}
 use Rattle.rtl_body_facts.specs.Paths.{driven, to_net}
 use Rattle.rtl_body_facts.specs.Reading.{is_in, some}
 use Rattle.rtl_copy_ends.specs.Ends.{driven_by}
-use Rattle.rtl_mixed_reasons.specs.Edges.{edge_of, is_gated}
+use Rattle.rtl_mixed_reasons.specs.Edges.{edge_of, is_gated, holds_of}
 use Rattle.rtl_mixed_reasons.specs.declared.body.Alone.{Alone}
 use Rattle.rtl_mixed_reasons.specs.declared.body.Alone.TheVariants.{Gated, Elsewhere}
 use Rattle.rtl_mixed_reasons.specs.declared.ifs.EdgeIf.{EdgeIf}
 use Rattle.rtl_mixed_reasons.specs.declared.edges.EdgeTest.{EdgeTest}
 use Rattle.rtl_mixed_reasons.specs.declared.reason.Reason.{Reason}
 use Rattle.rtl_mixed_reasons.specs.declared.reason.ReasonKind.{ReasonKind}
-use Rattle.rtl_mixed_reasons.specs.declared.reason.ReasonKind.TheVariants.{GatedEdge, SecondEdge, EdgeInLoop, OtherEdge, OtherEdgeToo, ResetBehind}
-use Rattle.rtl_mixed_reasons.specs.declared.reason.ReasonKind.TheVariants.{ResetDriven, ResetNoInput, ResetReads, ResetComputes, NoResetTest}
-use Rattle.rtl_mixed_reasons.specs.declared.reason.ReasonKind.TheVariants.{SeveralResets, BehindEdge, Beside, BesideToo, StandsBeside, NoEdge, EdgeInside}
+use Rattle.rtl_mixed_reasons.specs.declared.reason.ReasonKind.TheVariants.{GatedEdge, SecondEdge, EdgeInLoop, OtherEdge, OtherEdgeToo, ResetBehind, ResetDriven, ResetNoInput, ResetReads, ResetComputes, NoResetTest, NoTestBehind, SeveralResets, BehindEdge, Beside, BesideToo, StandsBeside, NoEdge, EdgeInside}
 
 -- it names nothing, a net, or two
 abbrev pub plain : ReasonKind → (at : ℕ) → Reason
@@ -154,15 +152,38 @@ computes wide at done = None
 computes wide at (step s rest) =
     if is_some (computes_in wide at s) then computes_in wide at s else computes wide at rest
 
--- ---- 1. An edge beside another condition, without a further event in it
+-- ---- 1. An edge beside another condition, without a further event in it. A wide netlist has registers with one in
+-- the last branch (docs/WIDE.md), so that an else or an elsif behind it is told there.
 
-abbrev pub gated_edge : Statement → Option Reason
-gated_edge x =
-    option_and_then (λ bs. if list_any is_gated (conditions bs) then Some (plain GatedEdge (at_of x)) else None)
-    (if_branches x)
+abbrev pub stands_behind : (before : ℕ) → Branches → Bool
+stands_behind before bs = nat_lt 1 (length (drop before (conditions bs))) || has_else bs
+
+-- before the first of these conditions so many stand
+abbrev pub first_gated : (before : ℕ) → List Test → Option ℕ
+first_gated before [] = None
+first_gated before (t ∷ ts) = if is_gated t then Some before else first_gated (before + 1) ts
+
+abbrev pub gated_kind : (wide behind : Bool) → ReasonKind
+gated_kind wide behind = if wide && behind then BehindEdge else GatedEdge
+
+abbrev pub gated_in : (wide : Bool) → (at : ℕ) → Branches → Option Reason
+gated_in wide at bs =
+    option_map (λ before. plain (gated_kind wide (stands_behind before bs)) at) (first_gated 0 (conditions bs))
+
+abbrev pub gated_edge : (wide : Bool) → Statement → Option Reason
+gated_edge wide x = option_and_then (gated_in wide (at_of x)) (if_branches x)
 
 -- ---- 2. A second if with an edge: the same one, in two ifs or in two turns of a loop, which start at one byte; or
--- another one, told with the first net that both ifs assign
+-- another one, told with the first net that both ifs assign. In a wide netlist two ifs of one edge and nothing else are
+-- one register, but for what stands between them.
+
+abbrev pub has_one : Branches → Bool
+has_one (branch t s no_else) = true
+has_one _ = false
+
+-- an if with one branch and no else
+abbrev pub is_sole : Statement → Bool
+is_sole x = holds_of has_one (if_branches x)
 
 abbrev pub same_kind : Edge → Edge → Bool
 same_kind Rising Rising = true
@@ -178,14 +199,20 @@ abbrev pub other_edge : (at : ℕ) → (net : Option ℕ) → Reason
 other_edge at None = plain OtherEdge at
 other_edge at (Some n) = naming OtherEdgeToo at n
 
-abbrev pub second_edge : Process → (x y : Statement) → (of_x of_y : EdgeIf) → Reason
-second_edge p x y i j =
-    if not (same_edge i.edge j.edge) then other_edge j.at (first_net p (λ n. assigns_in p x n && assigns_in p y n))
-    else plain (if i.at == j.at then EdgeInLoop else SecondEdge) j.at
+abbrev pub same_again : (wide : Bool) → (x y : Statement) → (first at : ℕ) → Option Reason
+same_again wide x y first at =
+    if first == at then Some (plain EdgeInLoop at)
+    else if wide && is_sole x && is_sole y then None
+    else Some (plain SecondEdge at)
+
+abbrev pub second_edge : (wide : Bool) → Process → (x y : Statement) → (of_x of_y : EdgeIf) → Option Reason
+second_edge wide p x y i j =
+    if same_edge i.edge j.edge then same_again wide x y i.at j.at
+    else Some (other_edge j.at (first_net p (λ n. assigns_in p x n && assigns_in p y n)))
 
 -- what is told of a further statement, if it is an if with an edge
-abbrev pub second_if : Process → (x : Statement) → (of_x : EdgeIf) → Statement → Option Reason
-second_if p x i y = option_map (second_edge p x y i) (edge_if 0 y)
+abbrev pub second_if : (wide : Bool) → Process → (x : Statement) → (of_x : EdgeIf) → Statement → Option Reason
+second_if wide p x i y = option_and_then (second_edge wide p x y i) (edge_if 0 y)
 
 -- ---- 3. A reset behind the edge: an if with a reset's test alone, whose branch assigns constants, to a net at least,
 -- and to none that the edge's branch doesn't assign too
@@ -207,9 +234,28 @@ sole_reset p edge _ = None
 abbrev pub reset_behind : Process → (edge : ℕ → Bool) → Statement → Option Reason
 reset_behind p edge x = option_map (naming ResetBehind (at_of x)) (option_and_then (sole_reset p edge) (if_branches x))
 
--- a wide netlist has registers with their reset there, so that something else stands in the way
-abbrev pub first_behind : NetlistView → Process → (edge : ℕ → Bool) → List Statement → Option Reason
-first_behind net p edge xs = if net.wide then None else first_in (reset_behind p edge) xs
+-- A wide netlist has registers with their reset there, in an if with a reset's test alone, if the edge stands alone
+-- before it. Told is what such an if has else: an else or an elsif, another test, or what `computes` finds.
+abbrev pub no_reset : (at : ℕ) → Branches → Option Reason
+no_reset at (branch t s no_else) = if is_reset t then computes true at s else Some (plain NoTestBehind at)
+no_reset at _ = Some (plain BehindEdge at)
+
+abbrev pub unlike_reset : Statement → Option Reason
+unlike_reset x = option_and_then (no_reset (at_of x)) (if_branches x)
+
+-- it assigns nets, none of which the edge's branch assigns
+abbrev pub is_apart : Process → (edge : ℕ → Bool) → Statement → Bool
+is_apart p edge x = is_some (first_net p (assigns_in p x)) && is_none (first_net p (λ n. assigns_in p x n && edge n))
+
+-- such an if is no reset, nor is one with an edge
+abbrev pub wide_behind : Process → (edge : ℕ → Bool) → Statement → Option Reason
+wide_behind p edge x = if is_some (edge_if 0 x) || is_apart p edge x then None else unlike_reset x
+
+abbrev pub told_behind : (wide : Bool) → Process → (edge : ℕ → Bool) → Statement → Option Reason
+told_behind wide p edge x = if wide then wide_behind p edge x else reset_behind p edge x
+
+abbrev pub first_behind : (wide : Bool) → (before : ℕ) → Process → (edge : ℕ → Bool) → List Statement → Option Reason
+first_behind wide before p edge xs = if wide && nat_lt 0 before then None else first_in (told_behind wide p edge) xs
 
 -- ---- 4. The reset is no in port of the top, as it has to be where the netlist isn't wide: told with the first process
 -- that drives it, if one does
@@ -237,13 +283,25 @@ other_before at before ts =
 
 abbrev pub behind_edge : (at before : ℕ) → Branches → Option Reason
 behind_edge at before bs =
-    if nat_lt 1 (length (drop before (conditions bs))) || has_else bs then Some (plain BehindEdge at) else None
+    if stands_behind before bs then Some (plain BehindEdge at) else None
 
 -- ---- 8. Statements beside the if with the edge, which are before it or behind it: told of the first of them that
 -- assigns a net, with the first that it assigns; of the first, where none does
 
-abbrev pub statements_beside : Process → (number : ℕ) → List Statement
-statements_beside p number = take number p.body.items ++ drop (number + 1) p.body.items
+-- what may stand behind an edge alone as its reset, in a wide netlist
+abbrev pub may_reset : Statement → Bool
+may_reset x = is_some (if_branches x) && is_none (unlike_reset x)
+
+-- all but the first such
+abbrev pub but_reset : List Statement → List Statement
+but_reset [] = []
+but_reset (x ∷ xs) = if may_reset x then xs else x ∷ but_reset xs
+
+abbrev pub others : (wide : Bool) → (before : ℕ) → List Statement → List Statement
+others wide before xs = if wide && (before == 0) then but_reset xs else xs
+
+abbrev pub statements_beside : (wide : Bool) → Process → EdgeIf → List Statement
+statements_beside wide p i = take i.number p.body.items ++ others wide i.before (drop (i.number + 1) p.body.items)
 
 -- the if with the edge assigns the net too
 abbrev pub beside : (too : Bool) → (at net : ℕ) → Reason
@@ -256,10 +314,10 @@ assigns_beside p edge at x = option_map (λ n. beside (edge n) (at_or at x) n) (
 abbrev pub stands_beside : (at : ℕ) → Statement → Option Reason
 stands_beside at x = Some (plain StandsBeside (at_or at x))
 
-abbrev pub beside_reasons : Process → EdgeIf → (edge : ℕ → Bool) → List (Option Reason)
-beside_reasons p i edge =
-    first_in (assigns_beside p edge i.at) (statements_beside p i.number)
-    ∷ first_in (stands_beside i.at) (statements_beside p i.number)
+abbrev pub beside_reasons : (wide : Bool) → Process → EdgeIf → (edge : ℕ → Bool) → List (Option Reason)
+beside_reasons wide p i edge =
+    first_in (assigns_beside p edge i.at) (statements_beside wide p i)
+    ∷ first_in (stands_beside i.at) (statements_beside wide p i)
     ∷ []
 
 -- ---- What is left, of the first statement with an edge or `'event` in it: it stands deeper, under a condition of any
@@ -286,9 +344,9 @@ elsewhere x = if some (events (statements_of (x ∷ []))) then Some (told_elsewh
 
 -- ---- what is told of a statement, whatever stands beside it
 
-abbrev pub told_alone : Alone → Statement → Option Reason
-told_alone Gated = gated_edge
-told_alone Elsewhere = elsewhere
+abbrev pub told_alone : (wide : Bool) → Alone → Statement → Option Reason
+told_alone wide Gated = gated_edge wide
+told_alone wide Elsewhere = elsewhere
 
 -- ---- the first that fits
 
@@ -317,10 +375,11 @@ own_reason net i x = option_and_then (λ bs. first_that_fits (own_reasons net i 
 -- 2 to 8 are of the first if with an edge
 abbrev pub edge_reasons : NetlistView → Process → EdgeIf → Statement → List (Option Reason)
 edge_reasons net p i x =
-    first_in (second_if p x i) (drop (i.number + 1) p.body.items)
-    ∷ first_behind net p (assigns p (edge_branch i.before (if_branches x))) (drop (i.number + 1) p.body.items)
+    first_in (second_if net.wide p x i) (drop (i.number + 1) p.body.items)
+    ∷ first_behind net.wide i.before p (assigns p (edge_branch i.before (if_branches x)))
+    (drop (i.number + 1) p.body.items)
     ∷ own_reason net i x
-    ∷ first_that_fits (beside_reasons p i (assigns_in p x))
+    ∷ first_that_fits (beside_reasons net.wide p i (assigns_in p x))
     ∷ []
 
 abbrev pub edge_reason : NetlistView → Process → Option EdgeIf → Option Reason
@@ -330,7 +389,7 @@ edge_reason net p (Some i) =
 
 abbrev pub reason_of_body : NetlistView → Process → Option Reason
 reason_of_body net p = first_that_fits
-    (first_in gated_edge p.body.items
+    (first_in (gated_edge net.wide) p.body.items
     ∷ edge_reason net p (first_edge 0 p.body.items)
     ∷ first_in elsewhere p.body.items
     ∷ [])

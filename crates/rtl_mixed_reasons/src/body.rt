@@ -1,6 +1,6 @@
 //! The first reason that fits a process.
 
-ghost use Rattle.std.specs.Prelude.{◌≡◌, ◌<◌, ◌||◌, nat_lt, drop, length, is_some, Some, option_map, true, IfOk};
+ghost use Rattle.std.specs.Prelude.{◌≡◌, ◌<◌, length, Some, option_map, true, IfOk};
 ghost use Rattle.rtl_model.specs.bodies.Body.{no_else};
 ghost use Rattle.rtl_net.specs.Bodies.{statements_of, branches_of, otherwise_of};
 ghost use Rattle.rtl_body_facts.specs.Reading.{some};
@@ -9,7 +9,7 @@ ghost use Rattle.rtl_mixed_reasons.specs.Reasons as spec;
 ghost use Rattle.rtl_mixed_reasons.specs.Unsteady.{reason_of};
 
 use crate::beside::beside_edge;
-use crate::ifs::{EdgeIf, edge_if, first_edge, gated_if, second_edge};
+use crate::ifs::{EdgeIf, edge_if, first_edge, gated_if, second_edge, stands_behind};
 use crate::nets::nets_of;
 use crate::reason::{Reason, ReasonKind};
 use crate::resets::{computes, first_behind, other_before, reset_of};
@@ -62,13 +62,6 @@ fn reset_reason(net: &Net, found: EdgeIf, branches: &[Branch]) -> Option<Reason>
         return Some(reason);
     }
     computes(net.is_wide(), found.at, &branches[0].statements)
-}
-
-/// Whether an elsif or an else stands behind an edge.
-fn stands_behind(before: usize, branches: &[Branch], otherwise: &Option<Vec<Statement>>) -> bool
-    ensures { result ≡ (nat_lt 1 (length (drop before (spec.tests_of branches.now))) || is_some otherwise.now) }
-{
-    branches.len().saturating_sub(before) > 1 || otherwise.is_some()
 }
 
 /// What is told of an if with an edge itself, by its branches.
@@ -133,21 +126,22 @@ fn edge_reason(
     requires { found.number < length process.now.body.items }
     ensures { IfOk result (λ reason. reason ≡ spec.edge_reason net.now process.now (Some found)) }
 {
+    let wide = net.is_wide();
     let statement = &process.body[found.number];
     let behind = &process.body[found.number + 1..];
-    let second = second_edge(alloc, process, statement, found, behind)?;
+    let second = second_edge(alloc, wide, process, statement, found, behind)?;
     if second.is_some() {
         return Ok(second);
     }
     let edge = nets_of(alloc, process, branch_of(statement, found.before))?;
-    let reset = first_behind(alloc, net, process, &edge, behind)?;
+    let reset = first_behind(alloc, wide, found.before, process, &edge, behind)?;
     if reset.is_some() {
         return Ok(reset);
     }
     if let Some(reason) = own_reason(net, found, statement) {
         return Ok(Some(reason));
     }
-    beside_edge(alloc, process, found, statement)
+    beside_edge(alloc, wide, process, found, statement)
 }
 
 /// Whether an edge or `'event` stands in a branch, or in the else.
@@ -202,21 +196,21 @@ enum Alone {
 }
 
 /// What is told of a statement.
-fn told_alone(sought: Alone, statement: &Statement) -> Option<Reason>
-    ensures { result ≡ spec.told_alone sought statement.now }
+fn told_alone(wide: bool, sought: Alone, statement: &Statement) -> Option<Reason>
+    ensures { result ≡ spec.told_alone wide sought statement.now }
 {
     match sought {
-        Alone::Gated => gated_if(statement),
+        Alone::Gated => gated_if(wide, statement),
         Alone::Elsewhere => event_in(statement),
     }
 }
 
 /// What is told of the first such statement.
-fn first_alone(sought: Alone, statements: &[Statement]) -> Option<Reason>
-    ensures { result ≡ spec.first_in (spec.told_alone sought) statements.now }
+fn first_alone(wide: bool, sought: Alone, statements: &[Statement]) -> Option<Reason>
+    ensures { result ≡ spec.first_in (spec.told_alone wide sought) statements.now }
 {
     for statement in statements {
-        if let Some(reason) = told_alone(sought, statement) {
+        if let Some(reason) = told_alone(wide, sought, statement) {
             return Some(reason);
         }
     }
@@ -227,7 +221,7 @@ fn first_alone(sought: Alone, statements: &[Statement]) -> Option<Reason>
 fn reason_of_body(alloc: Global, net: &Net, process: &Process) -> Result<Option<Reason>, AllocError>
     ensures { IfOk result (λ reason. reason ≡ spec.reason_of_body net.now process.now) }
 {
-    if let Some(reason) = first_alone(Alone::Gated, &process.body) {
+    if let Some(reason) = first_alone(net.is_wide(), Alone::Gated, &process.body) {
         return Ok(Some(reason));
     }
     if let Some(found) = first_edge(&process.body) {
@@ -236,7 +230,7 @@ fn reason_of_body(alloc: Global, net: &Net, process: &Process) -> Result<Option<
             return Ok(reason);
         }
     }
-    Ok(first_alone(Alone::Elsewhere, &process.body))
+    Ok(first_alone(net.is_wide(), Alone::Elsewhere, &process.body))
 }
 
 /// Whether a process is neither clocked nor combinational.

@@ -1,8 +1,6 @@
 //! Ifs of a body, and the edges among their conditions.
 
-ghost use Rattle.std.specs.Prelude.{◌≡◌, ◌&&◌, IfOk};
-ghost use Rattle.std.specs.List.{list_any};
-ghost use Rattle.rtl_mixed_reasons.specs.Edges as edges;
+ghost use Rattle.std.specs.Prelude.{◌≡◌, ◌&&◌, ◌||◌, nat_lt, drop, length, is_some, IfOk};
 ghost use Rattle.rtl_mixed_reasons.specs.Reasons as spec;
 
 use crate::edges::{EdgeTest, edge_of, is_gated};
@@ -108,43 +106,74 @@ fn other_edge(at: u32, net: Option<usize>) -> Reason
     }
 }
 
+/// Whether an if has one branch and no else.
+fn is_sole(statement: &Statement) -> bool
+    ensures { result ≡ spec.is_sole statement.now }
+{
+    match statement {
+        Statement::If {
+            branches,
+            otherwise,
+            ..
+        } => branches.len() == 1 && otherwise.is_none(),
+        _ => false,
+    }
+}
+
+/// What is told of a second if with the same edge; the two start at these bytes.
+fn same_again(
+    wide: bool,
+    first: &Statement,
+    second: &Statement,
+    first_at: u32,
+    at: u32,
+) -> Option<Reason>
+    ensures { result ≡ spec.same_again wide first.now second.now first_at at }
+{
+    if first_at == at {
+        return Some(Reason::plain(ReasonKind::EdgeInLoop, at));
+    }
+    if wide && is_sole(first) && is_sole(second) {
+        return None;
+    }
+    Some(Reason::plain(ReasonKind::SecondEdge, at))
+}
+
 /// What is told of a statement behind the if with the edge, if it is one too.
 fn second_if(
     alloc: Global,
+    wide: bool,
     process: &Process,
     first: &Statement,
     found: EdgeIf,
     statement: &Statement,
 ) -> Result<Option<Reason>, AllocError>
-    ensures { IfOk result (λ reason. reason ≡ spec.second_if process.now first.now found statement.now) }
+    ensures { IfOk result (λ reason. reason ≡ spec.second_if wide process.now first.now found statement.now) }
 {
     let Some(second) = edge_if(0, statement) else {
         return Ok(None);
     };
-    let at = second.at;
-    if !is_same_edge(found.edge, second.edge) {
-        let net = common_net(alloc, process, first, statement)?;
-        return Ok(Some(other_edge(at, net)));
+    if is_same_edge(found.edge, second.edge) {
+        return Ok(same_again(wide, first, statement, found.at, second.at));
     }
-    if found.at == at {
-        return Ok(Some(Reason::plain(ReasonKind::EdgeInLoop, at)));
-    }
-    Ok(Some(Reason::plain(ReasonKind::SecondEdge, at)))
+    let net = common_net(alloc, process, first, statement)?;
+    Ok(Some(other_edge(second.at, net)))
 }
 
 /// What is told of the first such statement.
 pub(crate) fn second_edge(
     alloc: Global,
+    wide: bool,
     process: &Process,
     first: &Statement,
     found: EdgeIf,
     statements: &[Statement],
 ) -> Result<Option<Reason>, AllocError>
     ensures { IfOk result (λ reason. reason
-        ≡ spec.first_in (spec.second_if process.now first.now found) statements.now) }
+        ≡ spec.first_in (spec.second_if wide process.now first.now found) statements.now) }
 {
     for statement in statements {
-        let reason = second_if(alloc, process, first, found, statement)?;
+        let reason = second_if(alloc, wide, process, first, found, statement)?;
         if reason.is_some() {
             return Ok(reason);
         }
@@ -152,28 +181,54 @@ pub(crate) fn second_edge(
     Ok(None)
 }
 
-/// Whether a condition has an edge and more.
-fn has_gated(branches: &[Branch]) -> bool
-    ensures { result ≡ list_any edges.is_gated (spec.tests_of branches.now) }
+/// How many conditions stand before the first with an edge and more.
+fn first_gated(branches: &[Branch]) -> Option<usize>
+    ensures { result ≡ spec.first_gated 0 (spec.tests_of branches.now) }
 {
-    for branch in branches {
-        if is_gated(&branch.test) {
-            return true;
+    for before in 0..branches.len() {
+        if is_gated(&branches[before].test) {
+            return Some(before);
         }
     }
-    false
+    None
+}
+
+/// Whether an elsif or an else stands behind an edge.
+pub(crate) fn stands_behind(
+    before: usize,
+    branches: &[Branch],
+    otherwise: &Option<Vec<Statement>>,
+) -> bool
+    ensures { result ≡ (nat_lt 1 (length (drop before (spec.tests_of branches.now))) || is_some otherwise.now) }
+{
+    branches.len().saturating_sub(before) > 1 || otherwise.is_some()
+}
+
+/// What is told of an edge with more in its condition: behind which something stands, where the
+/// netlist is wide.
+fn gated_kind(wide: bool, behind: bool) -> ReasonKind
+    ensures { result ≡ spec.gated_kind wide behind }
+{
+    if wide && behind {
+        ReasonKind::BehindEdge
+    } else {
+        ReasonKind::GatedEdge
+    }
 }
 
 /// What is told of an if with such a condition.
-pub(crate) fn gated_if(statement: &Statement) -> Option<Reason>
-    ensures { result ≡ spec.gated_edge statement.now }
+pub(crate) fn gated_if(wide: bool, statement: &Statement) -> Option<Reason>
+    ensures { result ≡ spec.gated_edge wide statement.now }
 {
     match statement {
-        Statement::If { at, branches, .. } => {
-            if has_gated(branches) {
-                return Some(Reason::plain(ReasonKind::GatedEdge, *at));
-            }
-            None
+        Statement::If {
+            at,
+            branches,
+            otherwise,
+        } => {
+            let before = first_gated(branches)?;
+            let behind = stands_behind(before, branches, otherwise);
+            Some(Reason::plain(gated_kind(wide, behind), *at))
         }
         _ => None,
     }

@@ -32,9 +32,12 @@ pub enum ReasonKind {
     ResetComputes,
     /// A condition before the edge isn't the test of a reset.
     NoResetTest,
+    /// This if stands behind the edge, where the netlist is wide, and its condition isn't the test
+    /// of a reset.
+    NoTestBehind,
     /// Several resets are tested before the edge.
     SeveralResets,
-    /// An else or an elsif stands behind the edge.
+    /// An else or an elsif stands behind the edge, or in an if there, where the netlist is wide.
     BehindEdge,
     /// A statement beside the if with the edge assigns the net, which that if doesn't assign.
     Beside,
@@ -131,7 +134,7 @@ impl ReasonKind {
             ReasonKind::ResetDriven | ReasonKind::ResetNoInput => 6,
             ReasonKind::ResetReads => 7,
             ReasonKind::ResetComputes => 8,
-            ReasonKind::NoResetTest => 9,
+            ReasonKind::NoResetTest | ReasonKind::NoTestBehind => 9,
             ReasonKind::SeveralResets => 10,
             ReasonKind::BehindEdge => 11,
             ReasonKind::Beside => 12,

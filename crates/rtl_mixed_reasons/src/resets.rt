@@ -8,10 +8,11 @@ ghost use Rattle.rtl_body_facts.specs.Reading.{is_in};
 ghost use Rattle.rtl_mixed_reasons.specs.Reasons as spec;
 
 use crate::edges::edge_to;
-use crate::nets::{are_among, nets_of};
+use crate::ifs::edge_if;
+use crate::nets::{are_among, first_common, first_net, nets_in, nets_of};
 use crate::reads::first_read;
 use crate::reason::{Reason, ReasonKind};
-use rtl_net::{Branch, Net, Process, Statement, Test, Value};
+use rtl_net::{Branch, Process, Statement, Test, Value};
 use std::alloc::{AllocError, Global};
 
 /// The net of a reset's test.
@@ -177,19 +178,102 @@ fn reset_if(
     }
 }
 
-/// What is told of the first such if.
+/// What an if that may reset behind an edge alone has but a reset's test and constants, where the
+/// netlist is wide.
+fn no_reset(at: u32, branches: &[Branch], otherwise: &Option<Vec<Statement>>) -> Option<Reason>
+    ensures { result ≡ spec.no_reset at
+        (branches_of (otherwise_of (option_map (λ v. v.items) otherwise.now)) branches.now) }
+{
+    if branches.len() != 1 || otherwise.is_some() {
+        return Some(Reason::plain(ReasonKind::BehindEdge, at));
+    }
+    let branch = &branches[0];
+    if reset_net(&branch.test).is_none() {
+        return Some(Reason::plain(ReasonKind::NoTestBehind, at));
+    }
+    computes(true, at, &branch.statements)
+}
+
+/// The same of a statement.
+fn unlike_reset(statement: &Statement) -> Option<Reason>
+    ensures { result ≡ spec.unlike_reset statement.now }
+{
+    match statement {
+        Statement::If {
+            at,
+            branches,
+            otherwise,
+        } => no_reset(*at, branches, otherwise),
+        _ => None,
+    }
+}
+
+/// Whether a statement may be the reset behind an edge alone, where the netlist is wide.
+pub(crate) fn may_reset(statement: &Statement) -> bool
+    ensures { result ≡ spec.may_reset statement.now }
+{
+    match statement {
+        Statement::If { .. } => unlike_reset(statement).is_none(),
+        _ => false,
+    }
+}
+
+/// Whether a statement assigns nets, none of which is one of these, which rise.
+fn is_apart(
+    alloc: Global,
+    process: &Process,
+    edge: &[usize],
+    statement: &Statement,
+) -> Result<bool, AllocError>
+    requires { IsStrictlyIncreasing edge.now }
+    ensures { IfOk result (λ so. so ≡ spec.is_apart process.now (λ n. is_in n edge.now) statement.now) }
+{
+    let nets = nets_in(alloc, process, statement)?;
+    if first_net(process, &nets).is_none() {
+        return Ok(false);
+    }
+    Ok(first_common(process, &nets, edge).is_none())
+}
+
+/// What is told of a statement behind the edge as a reset. These are the nets that the edge's
+/// branch assigns, rising.
+fn told_behind(
+    alloc: Global,
+    wide: bool,
+    process: &Process,
+    edge: &[usize],
+    statement: &Statement,
+) -> Result<Option<Reason>, AllocError>
+    requires { IsStrictlyIncreasing edge.now }
+    ensures { IfOk result (λ reason. reason
+        ≡ spec.told_behind wide process.now (λ n. is_in n edge.now) statement.now) }
+{
+    if !wide {
+        return reset_if(alloc, process, edge, statement);
+    }
+    if edge_if(0, statement).is_some() {
+        return Ok(None);
+    }
+    if is_apart(alloc, process, edge, statement)? {
+        return Ok(None);
+    }
+    Ok(unlike_reset(statement))
+}
+
+/// What is told of the first such statement.
 fn reset_behind(
     alloc: Global,
+    wide: bool,
     process: &Process,
     edge: &[usize],
     statements: &[Statement],
 ) -> Result<Option<Reason>, AllocError>
     requires { IsStrictlyIncreasing edge.now }
     ensures { IfOk result (λ reason. reason
-        ≡ spec.first_in (spec.reset_behind process.now (λ n. is_in n edge.now)) statements.now) }
+        ≡ spec.first_in (spec.told_behind wide process.now (λ n. is_in n edge.now)) statements.now) }
 {
     for statement in statements {
-        let reason = reset_if(alloc, process, edge, statement)?;
+        let reason = told_behind(alloc, wide, process, edge, statement)?;
         if reason.is_some() {
             return Ok(reason);
         }
@@ -197,20 +281,22 @@ fn reset_behind(
     Ok(None)
 }
 
-/// The same where the netlist isn't wide: a wide one has registers with their reset there.
+/// The same behind an edge before which so many conditions stand: in a wide netlist a reset stands
+/// behind an edge alone.
 pub(crate) fn first_behind(
     alloc: Global,
-    net: &Net,
+    wide: bool,
+    before: usize,
     process: &Process,
     edge: &[usize],
     statements: &[Statement],
 ) -> Result<Option<Reason>, AllocError>
     requires { IsStrictlyIncreasing edge.now }
     ensures { IfOk result (λ reason. reason
-        ≡ spec.first_behind net.now process.now (λ n. is_in n edge.now) statements.now) }
+        ≡ spec.first_behind wide before process.now (λ n. is_in n edge.now) statements.now) }
 {
-    if net.is_wide() {
+    if wide && before > 0 {
         return Ok(None);
     }
-    reset_behind(alloc, process, edge, statements)
+    reset_behind(alloc, wide, process, edge, statements)
 }

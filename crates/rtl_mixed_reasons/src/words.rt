@@ -91,6 +91,13 @@ pub const NO_RESET_TEST: Note<&str> = Note {
     closing: "",
 };
 
+/// Another condition behind the edge than a reset's test.
+pub const NO_TEST_BEHIND: Note<&str> = Note {
+    opening: "a condition behind the edge isn't rst = '1' or rst = '0'; make one net of it, or put that if inside the edge",
+    middle: "",
+    closing: "",
+};
+
 /// Several resets before the edge.
 pub const SEVERAL_RESETS: Note<&str> = Note {
     opening: "several resets stand before the edge; a register has one",
@@ -192,6 +199,7 @@ impl ReasonKind {
             ReasonKind::ResetReads => RESET_READS,
             ReasonKind::ResetComputes => RESET_COMPUTES,
             ReasonKind::NoResetTest => NO_RESET_TEST,
+            ReasonKind::NoTestBehind => NO_TEST_BEHIND,
             ReasonKind::SeveralResets => SEVERAL_RESETS,
             ReasonKind::BehindEdge => BEHIND_EDGE,
             ReasonKind::Beside => BESIDE,

@@ -1,4 +1,4 @@
-use Rattle.std.proofs.Common.{◌≡◌, ℕ, ◌+◌, ◌<◌, true, false, get_or, [], ◌∷◌, length, Option, Some, None, drop, refl, ap, sym, ◌∙◌}
+use Rattle.std.proofs.Common.{◌≡◌, ℕ, Bool, ◌+◌, ◌<◌, true, false, get_or, [], ◌∷◌, length, Option, Some, None, drop, refl, ap, sym, ◌∙◌}
 use Rattle.std.specs.Prelude.{is_some, slice_get, option_and_then}
 use Rattle.std.proofs.lemmas.Option.{slice_get_read}
 use Rattle.std.proofs.lemmas.Result.{IfOk-weaker}
@@ -18,13 +18,16 @@ module _ (net : NetlistView) (p : Process) (i : EdgeIf) (x : Statement) (there :
   told r is = is ∙ sym (ap (option_and_then (λ y. first_that_fits (edge_reasons net p i y))) (slice_get_read p.body.items (length p.body.items) i.number x refl there at))
 
   abbrev second-of : Option Reason
-  second-of = first_in (second_if p x i) (drop (i.number + 1) p.body.items)
+  second-of = first_in (second_if net.wide p x i) (drop (i.number + 1) p.body.items)
 
   abbrev reset-of : Option Reason
-  reset-of = first_behind net p (assigns p (edge_branch i.before (if_branches x))) (drop (i.number + 1) p.body.items)
+  reset-of = first_behind net.wide i.before p (assigns p (edge_branch i.before (if_branches x))) (drop (i.number + 1) p.body.items)
 
   abbrev beside-of : Option Reason
-  beside-of = first_that_fits (beside_reasons p i (assigns_in p x))
+  beside-of = first_that_fits (beside_reasons net.wide p i (assigns_in p x))
+
+  of-second : (second : Option Reason) → second ≡ second-of → is_some second ≡ true → second ≡ option_and_then (λ y. first_that_fits (edge_reasons net p i y)) (slice_get p.body.items i.number)
+  of-second second a so = told second (first-fits second second-of (reset-of ∷ own_reason net i x ∷ beside-of ∷ []) a so)
 
   of-reset : (second reset : Option Reason) → second ≡ second-of → is_some second ≡ false → reset ≡ reset-of → is_some reset ≡ true
       → reset ≡ option_and_then (λ y. first_that_fits (edge_reasons net p i y)) (slice_get p.body.items i.number)
@@ -43,36 +46,57 @@ module _ (net : NetlistView) (p : Process) (i : EdgeIf) (x : Statement) (there :
       told r (later-fits second second-of r (reset-of ∷ own_reason net i x ∷ beside-of ∷ []) a none
       (later-fits reset reset-of r (own_reason net i x ∷ beside-of ∷ []) b not (later-fits None (own_reason net i x) r (beside-of ∷ []) d refl (e ∙ only-fits beside-of))))
 
+pub returns-then-is_some : goal.returns-then-is_some
+returns-then-is_some c =
+    let p = c.args.process.now in
+    let i = c.args.found in
+    let net = c.args.net.now in
+    let x = c.index-statement.result.now in
+    let behind = behind-is (i.number + 1) _ p.body.items c.deref.ensures.value in
+    let second : c.in_ok-second.second ≡ second-of net p i x c.requires c.index-statement.ensures =
+    c.in_ok-second.ensures ∙ (λ j. first_in (second_if (c.is_wide-wide.ensures j) p x i) (behind j)) in
+    of-second net p i x c.requires c.index-statement.ensures _ second (sym c.is_some.ensures ∙ c.if-is_some.true)
+
 pub returns-then-is_some-2 : goal.returns-then-is_some-2
 returns-then-is_some-2 c =
     let p = c.args.process.now in
     let i = c.args.found in
+    let net = c.args.net.now in
     let x = c.index-statement.result.now in
     let behind = behind-is (i.number + 1) _ p.body.items c.deref.ensures.value in
-    of-reset c.args.net.now p i x c.requires c.index-statement.ensures _ _ (c.in_ok-second.ensures ∙ ap (first_in (second_if p x i)) behind) (sym c.is_some.ensures ∙ c.if-is_some.false)
-    (c.in_ok-reset.ensures
-    ∙ (λ j. first_behind c.args.net.now p (λ (m : ℕ). (ap (is_in m) c.deref-2.ensures.value ∙ (c.in_ok-edge.ensures.are m ∙ ap (λ (s : Stmts). assigns p s m) c.branch_of.ensures)) j) (behind j)))
-    (sym c.is_some-2.ensures ∙ c.if-is_some-2.true)
+    let second : c.in_ok-second.second ≡ second-of net p i x c.requires c.index-statement.ensures =
+    c.in_ok-second.ensures ∙ (λ j. first_in (second_if (c.is_wide-wide.ensures j) p x i) (behind j)) in
+    let reset : c.in_ok-reset.reset ≡ reset-of net p i x c.requires c.index-statement.ensures =
+    c.in_ok-reset.ensures
+    ∙ (λ j. first_behind (c.is_wide-wide.ensures j) i.before p (λ (m : ℕ). (ap (is_in m) c.deref-2.ensures.value ∙ (c.in_ok-edge.ensures.are m ∙ ap (λ (s : Stmts). assigns p s m) c.branch_of.ensures)) j) (behind j)) in
+    of-reset net p i x c.requires c.index-statement.ensures _ _ second (sym c.is_some.ensures ∙ c.if-is_some.false) reset (sym c.is_some-2.ensures ∙ c.if-is_some-2.true)
 
 pub returns-in-Some : goal.returns-in-Some
 returns-in-Some c =
     let p = c.args.process.now in
     let i = c.args.found in
+    let net = c.args.net.now in
     let x = c.index-statement.result.now in
     let behind = behind-is (i.number + 1) _ p.body.items c.deref.ensures.value in
-    of-own c.args.net.now p i x c.requires c.index-statement.ensures _ _ _ (c.in_ok-second.ensures ∙ ap (first_in (second_if p x i)) behind) (sym c.is_some.ensures ∙ c.if-is_some.false)
-    (c.in_ok-reset.ensures
-    ∙ (λ j. first_behind c.args.net.now p (λ (m : ℕ). (ap (is_in m) c.deref-2.ensures.value ∙ (c.in_ok-edge.ensures.are m ∙ ap (λ (s : Stmts). assigns p s m) c.branch_of.ensures)) j) (behind j)))
-    (sym c.is_some-2.ensures ∙ c.if-is_some-2.false) (sym c.in-Some.is ∙ c.own_reason.ensures)
+    let second : c.in_ok-second.second ≡ second-of net p i x c.requires c.index-statement.ensures =
+    c.in_ok-second.ensures ∙ (λ j. first_in (second_if (c.is_wide-wide.ensures j) p x i) (behind j)) in
+    let reset : c.in_ok-reset.reset ≡ reset-of net p i x c.requires c.index-statement.ensures =
+    c.in_ok-reset.ensures
+    ∙ (λ j. first_behind (c.is_wide-wide.ensures j) i.before p (λ (m : ℕ). (ap (is_in m) c.deref-2.ensures.value ∙ (c.in_ok-edge.ensures.are m ∙ ap (λ (s : Stmts). assigns p s m) c.branch_of.ensures)) j) (behind j)) in
+    of-own net p i x c.requires c.index-statement.ensures _ _ _ second (sym c.is_some.ensures ∙ c.if-is_some.false) reset (sym c.is_some-2.ensures ∙ c.if-is_some-2.false) (sym c.in-Some.is ∙ c.own_reason.ensures)
 
 pub returns : goal.returns
 returns c =
     let p = c.args.process.now in
     let i = c.args.found in
+    let net = c.args.net.now in
     let x = c.index-statement.result.now in
     let behind = behind-is (i.number + 1) _ p.body.items c.deref.ensures.value in
+    let second : c.in_ok-second.second ≡ second-of net p i x c.requires c.index-statement.ensures =
+    c.in_ok-second.ensures ∙ (λ j. first_in (second_if (c.is_wide-wide.ensures j) p x i) (behind j)) in
+    let reset : c.in_ok-reset.reset ≡ reset-of net p i x c.requires c.index-statement.ensures =
+    c.in_ok-reset.ensures
+    ∙ (λ j. first_behind (c.is_wide-wide.ensures j) i.before p (λ (m : ℕ). (ap (is_in m) c.deref-2.ensures.value ∙ (c.in_ok-edge.ensures.are m ∙ ap (λ (s : Stmts). assigns p s m) c.branch_of.ensures)) j) (behind j)) in
     IfOk-weaker c.beside_edge.result _ _
-    (λ r e. of-beside c.args.net.now p i x c.requires c.index-statement.ensures _ _ r (c.in_ok-second.ensures ∙ ap (first_in (second_if p x i)) behind) (sym c.is_some.ensures ∙ c.if-is_some.false)
-    (c.in_ok-reset.ensures
-    ∙ (λ j. first_behind c.args.net.now p (λ (m : ℕ). (ap (is_in m) c.deref-2.ensures.value ∙ (c.in_ok-edge.ensures.are m ∙ ap (λ (s : Stmts). assigns p s m) c.branch_of.ensures)) j) (behind j)))
-    (sym c.is_some-2.ensures ∙ c.if-is_some-2.false) (sym c.in_default.is ∙ c.own_reason.ensures) e) c.beside_edge.ensures
+    (λ r e. of-beside net p i x c.requires c.index-statement.ensures _ _ r second (sym c.is_some.ensures ∙ c.if-is_some.false) reset (sym c.is_some-2.ensures ∙ c.if-is_some-2.false) (sym c.in_default.is ∙ c.own_reason.ensures)
+    (e ∙ ap (λ (wide : Bool). first_that_fits (beside_reasons wide p i (assigns_in p x))) c.is_wide-wide.ensures)) c.beside_edge.ensures

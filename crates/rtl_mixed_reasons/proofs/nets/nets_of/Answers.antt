@@ -3,7 +3,7 @@ use Rattle.std.proofs.lemmas.Result.{IfOk-weaker}
 use Rattle.rtl_net.specs.declared.process.Driver.{Driver}
 use Rattle.rtl_net.specs.Bodies.{statements_of}
 use Rattle.rtl_body_facts.specs.Paths.{to_net}
-use Rattle.rtl_latches.specs.Omissions.{stmts_assign}
+use Rattle.rtl_model.specs.bodies.Assigns.{stmts_assign}
 use Rattle.rtl_mixed_reasons.proofs.nets.nets_of.Goals as goal
 
 pub returns : goal.returns
