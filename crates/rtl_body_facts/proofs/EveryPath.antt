@@ -43,7 +43,7 @@ pub all_more : {X : Type 0} (f : X → Bool) (xs : List X) (i : ℕ) (x : X) →
 all_more f xs i x l e = ap (list_all f) (take_more xs i x l ∙ ap (λ y. take i xs ++ y ∷ []) (sym e))
     ∙ (all_append f (take i xs) (x ∷ []) ∙ ap (λ (b : Bool). list_all f (take i xs) && b) (sym (and_true (f x))))
 
-range_more : (a k : ℕ) → range_with_len a (k + 1) ≡ range_with_len a k ++ (a + k) ∷ []
+pub range_more : (a k : ℕ) → range_with_len a (k + 1) ≡ range_with_len a k ++ (a + k) ∷ []
 range_more a zero = ap (λ (x : ℕ). x ∷ []) (first a)
   where
     first : (a : ℕ) → a ≡ a + 0

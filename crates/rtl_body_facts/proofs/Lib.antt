@@ -4,3 +4,4 @@ pub mod Found
 pub mod Members
 pub mod Timings
 pub mod EveryPath
+pub mod Marking

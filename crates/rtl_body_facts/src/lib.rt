@@ -17,6 +17,6 @@ mod stores;
 
 pub use kinds::{Clocking, ProcessKind, clocking_of, kind_of};
 pub use paths::assigned_nets;
-pub use rising::{contains_rising, sort_once};
+pub use rising::{contains_rising, order_once, sort_once};
 pub use search::body_has_event;
 pub use stores::body_stores;

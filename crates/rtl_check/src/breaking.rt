@@ -16,7 +16,7 @@ use rtl_net::{Driver, NoMemory, Process};
 use std::alloc::Global;
 
 /// Those of some nets that aren't among others.
-fn outside(alloc: Global, nets: &[usize], others: &[usize]) -> Result<Vec<usize>, NoMemory>
+fn sought_outside(alloc: Global, nets: &[usize], others: &[usize]) -> Result<Vec<usize>, NoMemory>
     requires { IsStrictlyIncreasing others.now }
     ensures { IfOk result (λ v. v.items ≡ filter (λ n. not (is_in n others.now)) nets.now) }
 {
@@ -24,6 +24,17 @@ fn outside(alloc: Global, nets: &[usize], others: &[usize]) -> Result<Vec<usize>
         .copied()
         .filter(|net| !contains_rising(others, *net))
         .collect(alloc)
+}
+
+/// The same, without a search where both are alike, as they are in most processes.
+fn outside(alloc: Global, nets: &[usize], others: &[usize]) -> Result<Vec<usize>, NoMemory>
+    requires { IsStrictlyIncreasing others.now }
+    ensures { IfOk result (λ v. v.items ≡ filter (λ n. not (is_in n others.now)) nets.now) }
+{
+    if nets == others {
+        return Ok(Vec::new(alloc));
+    }
+    sought_outside(alloc, nets, others)
 }
 
 /// The nets of some drivers.

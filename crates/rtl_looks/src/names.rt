@@ -11,7 +11,7 @@ use std::alloc::{AllocError, Global};
 fn run_of(alloc: Global, first: u32, len: u32) -> Result<Vec<usize>, AllocError>
     ensures { IfOk result (λ numbers. numbers.items ≡ range_with_len first len) }
 {
-    let mut numbers = Vec::new(alloc);
+    let mut numbers = Vec::with_capacity(alloc, len as usize)?;
     for place in 0..len {
         numbers.push(first as usize + place as usize)?;
     }

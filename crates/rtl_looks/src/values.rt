@@ -62,8 +62,9 @@ fn side_by_side(
     ensures { IfOk result (λ v. Combines (zip_with (λ l r. l ++ r))
         hubs.old.hubs.items hubs.new.hubs.items left.now right.now v.items) }
 {
-    let mut both = Vec::new(hubs.alloc());
-    for place in 0..cmp::min(left.len(), right.len()) {
+    let fewest = cmp::min(left.len(), right.len());
+    let mut both = Vec::with_capacity(hubs.alloc(), fewest)?;
+    for place in 0..fewest {
         let look = hubs.join(at(left, place), at(right, place))?;
         both.push(look)?;
     }
