@@ -18,7 +18,7 @@ use Rattle.rtl_copy_ends.specs.declared.sight.End.TheVariants.{Starts}
 use Rattle.rtl_copy_ends.specs.declared.sight.Sight.{Sight}
 use Rattle.rtl_copy_ends.specs.declared.sight.Sight.TheVariants.{Ends, Copies}
 use Rattle.rtl_copy_ends.specs.declared.sight.Standing.{Standing}
-use Rattle.rtl_copy_ends.specs.Ends.{driver_of, if_driven, copied_in, driven_copy, starts_held, kind_in, first_driven, sight_of_copy, sight_of_logic, sight_of_kind, sight_of_process, sight_of_driver, sole_driver, look, end_or, walk_copies}
+use Rattle.rtl_copy_ends.specs.Ends.{driver_of, if_driven, copied_in, driven_copy, starts_held, kind_in, sight_of_copy, sight_of_logic, sight_of_kind, sight_of_process, sight_of_driver, sole_driver, look, end_or, walk_copies}
 use Rattle.rtl_copy_ends.specs.Steps.{place_of, standing_at, place_or, next, after, AreSteps, AreAfter}
 use Rattle.rtl_copy_ends.proofs.Stepping.{after-ended, after-same}
 
@@ -71,25 +71,25 @@ module _ (net : NetlistView) where
   copied-there None = tt
   copied-there (Some c) = driven-there (record { net = c.net; inverted = c.inverted })
 
-  of-copy : (s : Standing) (o : Option Copied) (read : Option ℕ) → IsDriven o → Leads (sight_of_copy s o read)
-  of-copy s None read is = tt
-  of-copy s (Some c) read is = (refl, is)
+  of-copy : (s : Standing) (o : Option Copied) → IsDriven o → Leads (sight_of_copy s o)
+  of-copy s None is = tt
+  of-copy s (Some c) is = (refl, is)
 
-  of-logic : (s : Standing) (o : Option Copied) (read : Option ℕ) → IsDriven o → Leads (sight_of_logic net s o read)
-  of-logic s o read is = go (starts_held net s) (of-copy s o read is)
+  of-logic : (s : Standing) (o : Option Copied) → IsDriven o → Leads (sight_of_logic net s o)
+  of-logic s o is = go (starts_held net s) (of-copy s o is)
     where
-      go : (b : Bool) → Leads (sight_of_copy s o read) → Leads (if b then Ends (Starts s.net) else sight_of_copy s o read)
+      go : (b : Bool) → Leads (sight_of_copy s o) → Leads (if b then Ends (Starts s.net) else sight_of_copy s o)
       go true l = tt
       go false l = l
 
-  of-kind : (s : Standing) (p : Process) (read : Option ℕ) (kind : ProcessKind) → Leads (sight_of_kind net s p read kind)
-  of-kind s p read k.Combinational = of-logic s (driven_copy net p) read (copied-there (copying (body_of p)))
-  of-kind s p read (k.Clocked c) = tt
-  of-kind s p read k.Mixed = tt
+  of-kind : (s : Standing) (p : Process) (kind : ProcessKind) → Leads (sight_of_kind net s p kind)
+  of-kind s p k.Combinational = of-logic s (driven_copy net p) (copied-there (copying (body_of p)))
+  of-kind s p (k.Clocked c) = tt
+  of-kind s p k.Mixed = tt
 
   of-process : (s : Standing) (o : Option Process) → Leads (sight_of_process net s o)
   of-process s None = tt
-  of-process s (Some p) = of-kind s p (first_driven net p.reads.items) (kind_in net p)
+  of-process s (Some p) = of-kind s p (kind_in net p)
 
   of-driver : (s : Standing) (o : Option ℕ) → Leads (sight_of_driver net s o)
   of-driver s None = tt

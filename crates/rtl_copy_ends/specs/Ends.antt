@@ -1,6 +1,6 @@
 -- What stands where the copies end that a net is made by, in the wider language (docs/WIDE.md), and for which values of
 -- it a reset holds.
-use Rattle.std.specs.Prelude.{ℕ, zero, suc, Bool, true, false, ◌&&◌, nat_lt, if◌then◌else◌, List, [], ◌∷◌, length, find, slice_get, Option, Some, None, is_some, is_none}
+use Rattle.std.specs.Prelude.{ℕ, zero, suc, Bool, true, false, ◌&&◌, nat_lt, if◌then◌else◌, List, [], ◌∷◌, length, map, slice_get, Option, Some, None, is_some, is_none}
 use Rattle.rtl_model.specs.bodies.Kinds.{clocking}
 use Rattle.rtl_model.specs.bodies.Reads.{events}
 use Rattle.rtl_model.specs.bodies.Copies.{CopyPart, copying}
@@ -14,7 +14,6 @@ use Rattle.rtl_body_facts.specs.declared.kinds.ProcessKind.TheVariants as k
 use Rattle.rtl_process_kinds.specs.AskedValues.{is_asked, asked_through}
 use Rattle.rtl_process_kinds.specs.declared.asked.Asked.{Asked}
 use Rattle.rtl_process_kinds.specs.declared.copies.Copied.{Copied}
-use Rattle.rtl_copy_ends.specs.declared.known.Known.{Known}
 use Rattle.rtl_copy_ends.specs.declared.sight.End.{End}
 use Rattle.rtl_copy_ends.specs.declared.sight.End.TheVariants.{Nothing, Starts, Made, Register, Circle}
 use Rattle.rtl_copy_ends.specs.declared.sight.Sight.{Sight}
@@ -58,27 +57,24 @@ held_by asked (Some value) = is_asked asked value
 abbrev pub starts_held : NetlistView → Standing → Bool
 starts_held net s = s.copied && (nat_lt s.net (length net.types) && held_by s.asked (slice_get net.starts s.net))
 
--- ---- one process: its kind, and of the nets that it reads the first that a process drives
+-- ---- the kinds of processes
 
 abbrev pub kind_in : NetlistView → Process → ProcessKind
 kind_in net p = kind_view (clocking net.wide net.inputs (body_of p)) (events (body_of p))
 
-abbrev pub first_driven : NetlistView → List ℕ → Option ℕ
-first_driven net ns = find (λ n. is_some (driven_by net n)) ns
-
-abbrev pub known_of : NetlistView → Process → Known
-known_of net p = record { kind = kind_in net p; read = first_driven net p.reads.items }
+abbrev pub all_kinds : NetlistView → List ProcessKind
+all_kinds net = map (kind_in net) net.processes
 
 -- ---- what is seen of a net
 
-abbrev pub sight_of_copy : Standing → Option Copied → (read : Option ℕ) → Sight
-sight_of_copy s None read = Ends (Made s.net read)
-sight_of_copy s (Some c) read =
+abbrev pub sight_of_copy : Standing → Option Copied → Sight
+sight_of_copy s None = Ends (Made s.net)
+sight_of_copy s (Some c) =
     Copies (record { net = c.net; asked = asked_through s.asked c.inverted; copied = true })
 
 -- Of a combinational process: a copied net that starts so changes at once.
-abbrev pub sight_of_logic : NetlistView → Standing → Option Copied → (read : Option ℕ) → Sight
-sight_of_logic net s copied read = if starts_held net s then Ends (Starts s.net) else sight_of_copy s copied read
+abbrev pub sight_of_logic : NetlistView → Standing → Option Copied → Sight
+sight_of_logic net s copied = if starts_held net s then Ends (Starts s.net) else sight_of_copy s copied
 
 -- A register is reset by this net. Where no process drives that, it is how the register starts that isn't calm.
 abbrev pub end_of_register : NetlistView → Standing → (reset : ℕ) → End
@@ -90,17 +86,14 @@ end_of_clocked net s None = Nothing
 end_of_clocked net s (Some reset) = end_of_register net s reset
 
 -- nothing of one whose process is neither, which has a fault of its own
-abbrev pub sight_of_kind : NetlistView → Standing → Process → (read : Option ℕ) → ProcessKind → Sight
-sight_of_kind net s p read k.Combinational = sight_of_logic net s (driven_copy net p) read
-sight_of_kind net s p read (k.Clocked c) = Ends (end_of_clocked net s c.reset)
-sight_of_kind net s p read k.Mixed = Ends Nothing
-
-abbrev pub sight_of_known : NetlistView → Standing → Process → Known → Sight
-sight_of_known net s p known = sight_of_kind net s p known.read known.kind
+abbrev pub sight_of_kind : NetlistView → Standing → Process → ProcessKind → Sight
+sight_of_kind net s p k.Combinational = sight_of_logic net s (driven_copy net p)
+sight_of_kind net s p (k.Clocked c) = Ends (end_of_clocked net s c.reset)
+sight_of_kind net s p k.Mixed = Ends Nothing
 
 abbrev pub sight_of_process : NetlistView → Standing → Option Process → Sight
 sight_of_process net s None = Ends Nothing
-sight_of_process net s (Some p) = sight_of_known net s p (known_of net p)
+sight_of_process net s (Some p) = sight_of_kind net s p (kind_in net p)
 
 -- nor of one with several sources
 abbrev pub sight_of_driver : NetlistView → Standing → Option ℕ → Sight

@@ -1,3 +1,3 @@
 pub mod Ends
+pub mod Inside
 pub mod Steps
-pub mod Clocks

@@ -1,13 +1,14 @@
 -- The steps of all walks down copies. A place is a net that is copied, with one of the four sets of values that may be
 -- asked for.
-use Rattle.std.specs.Prelude.{◌≡◌, ℕ, zero, suc, ◌+◌, ◌*◌, ◌-◌, ◌/◌, ◌%◌, ◌<◌, true, List, length, map, slice_index}
+use Rattle.std.specs.Prelude.{◌≡◌, ℕ, zero, suc, ◌+◌, ◌*◌, ◌-◌, ◌/◌, ◌%◌, ◌<◌, true, List, length, slice_index}
 use Rattle.rtl_net.specs.Nets.{NetlistView}
 use Rattle.rtl_process_kinds.specs.AskedValues.{number_of, numbered}
 use Rattle.rtl_copy_ends.specs.declared.sight.Sight.{Sight}
 use Rattle.rtl_copy_ends.specs.declared.sight.Sight.TheVariants.{Ends, Copies}
 use Rattle.rtl_copy_ends.specs.declared.sight.Standing.{Standing}
 use Rattle.rtl_copy_ends.specs.declared.walks.Walks.{Walks}
-use Rattle.rtl_copy_ends.specs.Ends.{known_of, look}
+use Rattle.rtl_copy_ends.specs.Ends.{all_kinds, look}
+use Rattle.rtl_copy_ends.specs.Inside.{inside}
 
 -- ---- places
 
@@ -46,10 +47,11 @@ pub record AreAfter (steps : List ℕ) (many : ℕ) (far : List ℕ) : Type 0 wh
   pub places : length far ≡ length steps
   pub each : (place : ℕ) → place < length steps → slice_index far place ≡ after (slice_index steps) many place
 
--- ---- all walks: but for their first step and their last
+-- ---- all walks: but for their first step and their last; and the nets that don't come from outside
 
 pub record AreWalks (net : NetlistView) (walks : Walks) : Type 0 where
-  pub known : walks.known.items ≡ map (known_of net) net.processes
+  pub kinds : walks.kinds.items ≡ all_kinds net
+  pub inside : walks.inside.items ≡ inside net
   pub places : length walks.far.items ≡ 4 * length net.types
   pub far : (place : ℕ) → place < 4 * length net.types
       → slice_index walks.far.items place ≡ after (next net) (length net.processes - 2) place

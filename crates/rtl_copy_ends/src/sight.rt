@@ -1,9 +1,9 @@
 //! What is seen of a net on a walk down copies.
 
-ghost use Rattle.std.specs.Prelude.{◌≡◌, map};
+ghost use Rattle.std.specs.Prelude.{◌≡◌};
 ghost use Rattle.rtl_copy_ends.specs.Ends as spec;
 
-use crate::known::{Known, driven_by};
+use crate::processes::driven_by;
 use rtl_body_facts::ProcessKind;
 use rtl_net::{Net, Process, Source};
 use rtl_process_kinds::{Asked, Copied, copy_of};
@@ -26,8 +26,8 @@ pub enum End {
     Nothing,
     /// The net is copied, and starts with a value at which the reset holds.
     Starts { net: usize },
-    /// A process makes the net that reads this one, which a process drives, or none.
-    Made { net: usize, read: Option<usize> },
+    /// A combinational process makes the net, and copies none to it that a process drives.
+    Made { net: usize },
     /// The net is a register that the second one resets.
     Register { net: usize, reset: usize },
     /// The net depends on itself.
@@ -74,14 +74,9 @@ fn starts_held(net: &Net, standing: Standing) -> bool
     standing.asked.has(net.start(standing.net))
 }
 
-/// What is seen of a net that a combinational process drives, by what that copies and reads.
-fn sight_of_logic(
-    net: &Net,
-    standing: Standing,
-    copied: Option<Copied>,
-    read: Option<usize>,
-) -> Sight
-    ensures { result ≡ spec.sight_of_logic net.now standing copied read }
+/// What is seen of a net that a combinational process drives, by what that copies.
+fn sight_of_logic(net: &Net, standing: Standing, copied: Option<Copied>) -> Sight
+    ensures { result ≡ spec.sight_of_logic net.now standing copied }
 {
     if starts_held(net, standing) {
         return Sight::Ends(End::Starts { net: standing.net });
@@ -92,10 +87,7 @@ fn sight_of_logic(
             asked: standing.asked.through(copied.inverted),
             copied: true,
         }),
-        None => Sight::Ends(End::Made {
-            net: standing.net,
-            read,
-        }),
+        None => Sight::Ends(End::Made { net: standing.net }),
     }
 }
 
@@ -122,14 +114,12 @@ fn end_of_clocked(net: &Net, standing: Standing, reset: Option<usize>) -> End
     }
 }
 
-/// What is seen of a net that this process drives, of which this is known.
-fn sight_of_known(net: &Net, standing: Standing, process: &Process, known: Known) -> Sight
-    ensures { result ≡ spec.sight_of_known net.now standing process.now known }
+/// What is seen of a net that this process drives, which is of this kind.
+fn sight_of_kind(net: &Net, standing: Standing, process: &Process, kind: ProcessKind) -> Sight
+    ensures { result ≡ spec.sight_of_kind net.now standing process.now kind }
 {
-    match known.kind {
-        ProcessKind::Combinational => {
-            sight_of_logic(net, standing, driven_copy(net, process), known.read)
-        }
+    match kind {
+        ProcessKind::Combinational => sight_of_logic(net, standing, driven_copy(net, process)),
         ProcessKind::Clocked(clocking) => {
             Sight::Ends(end_of_clocked(net, standing, clocking.reset))
         }
@@ -137,16 +127,16 @@ fn sight_of_known(net: &Net, standing: Standing, process: &Process, known: Known
     }
 }
 
-/// What is seen where a walk stands, by what is known of all processes.
-pub(crate) fn look(net: &Net, known: &[Known], standing: Standing) -> Sight
-    requires { known.now ≡ map (spec.known_of net.now) net.now.processes }
+/// What is seen where a walk stands, by the kinds of all processes.
+pub(crate) fn look(net: &Net, kinds: &[ProcessKind], standing: Standing) -> Sight
+    requires { kinds.now ≡ spec.all_kinds net.now }
     ensures { result ≡ spec.look net.now standing }
 {
     let Some(driver) = sole_driver(net, standing.net) else {
         return Sight::Ends(End::Nothing);
     };
     match net.processes().get(driver) {
-        Some(process) => sight_of_known(net, standing, process, known[driver]),
+        Some(process) => sight_of_kind(net, standing, process, kinds[driver]),
         None => Sight::Ends(End::Nothing),
     }
 }

@@ -1,24 +1,26 @@
 //! Walks down copies, from all nets.
 
-ghost use Rattle.std.specs.Prelude.{◌≡◌, ◌<◌, ◌*◌, ◌^◌, All, IfOk, true, length, map};
-ghost use Rattle.rtl_copy_ends.specs.Clocks.{clock_behind};
+ghost use Rattle.std.specs.Prelude.{◌≡◌, ◌<◌, ◌*◌, ◌^◌, All, IfOk, true, length};
 ghost use Rattle.rtl_copy_ends.specs.Ends as spec;
 ghost use Rattle.rtl_copy_ends.specs.Steps.{AreSteps, AreWalks, next, place_of, standing_at};
 
-use crate::clocks::clock_in;
-use crate::known::{Known, all_known, driven_by};
+use crate::inside::inside_nets;
+use crate::processes::all_kinds;
 use crate::sight::{End, Sight, Standing, look};
 use crate::table::after;
+use rtl_body_facts::ProcessKind;
 use rtl_net::Net;
 use rtl_process_kinds::Asked;
 use std::alloc::{AllocError, Global};
 
-/// Where the walks from all nets down copies stand one step before their last, and what is known of
-/// all processes: where a walk ends is found by it in constant time.
+/// Where the walks from all nets down copies stand one step before their last, and the kinds of all
+/// processes: where a walk ends is found by it in constant time. And which nets don't come from
+/// outside.
 #[derive(Drop)]
 pub struct Walks {
-    known: Vec<Known>,
+    kinds: Vec<ProcessKind>,
     far: Vec<usize>,
+    inside: Vec<bool>,
 }
 
 impl Walks {
@@ -30,15 +32,17 @@ impl Walks {
     {
         if !net.is_wide() {
             return Ok(Walks {
-                known: Vec::new(alloc),
+                kinds: Vec::new(alloc),
                 far: Vec::new(alloc),
+                inside: Vec::new(alloc),
             });
         }
-        let known = all_known(alloc, net)?;
-        let steps = first_steps(alloc, net, &known)?;
+        let kinds = all_kinds(alloc, net)?;
+        let inside = inside_nets(alloc, net, &kinds)?;
+        let steps = first_steps(alloc, net, &kinds)?;
         let between = net.processes().len().saturating_sub(2);
         let far = after(alloc, &steps, between)?;
-        Ok(Walks { known, far })
+        Ok(Walks { kinds, far, inside })
     }
 
     /// What stands where the walk ends that begins here.
@@ -48,7 +52,7 @@ impl Walks {
         ensures { result ≡ spec.end_of net.now from }
     {
         net.is_elaborated();
-        let copied = match look(net, &self.known, from) {
+        let copied = match look(net, &self.kinds, from) {
             Sight::Ends(end) => return end,
             Sight::Copies(copied) => copied,
         };
@@ -56,21 +60,17 @@ impl Walks {
             return End::Circle { net: copied.net };
         }
         let last = standing_at(self.far[place_of(copied)]);
-        match look(net, &self.known, last) {
+        match look(net, &self.kinds, last) {
             Sight::Ends(end) => end,
             Sight::Copies(copied) => End::Circle { net: copied.net },
         }
     }
 
-    /// The clock that the process reads which drives this net: that of the first process whose
-    /// clock is among what it reads.
-    pub fn clock_behind(&self, net: &Net, number: usize) -> Option<usize>
-        requires { AreWalks net.now self.now }
-        ensures { result ≡ clock_behind net.now number }
+    /// Of each net whether a process drives it or it is a clock.
+    pub fn inside(&self) -> &[bool]
+        ensures { result.now ≡ self.now.inside.items }
     {
-        let driver = driven_by(net, number)?;
-        let process = net.processes().get(driver)?;
-        clock_in(&self.known, &process.reads)
+        &self.inside
     }
 }
 
@@ -94,25 +94,25 @@ fn standing_at(place: usize) -> Standing
 }
 
 /// Where a step leads from a place: nowhere, where a walk ends there.
-fn next_place(net: &Net, known: &[Known], place: usize) -> usize
-    requires { known.now ≡ map (spec.known_of net.now) net.now.processes }
+fn next_place(net: &Net, kinds: &[ProcessKind], place: usize) -> usize
+    requires { kinds.now ≡ spec.all_kinds net.now }
     ensures { result ≡ next net.now place }
 {
     net.is_elaborated();
-    match look(net, known, standing_at(place)) {
+    match look(net, kinds, standing_at(place)) {
         Sight::Ends(_) => place,
         Sight::Copies(standing) => place_of(standing),
     }
 }
 
 /// Where a step leads from each place.
-fn first_steps(alloc: Global, net: &Net, known: &[Known]) -> Result<Vec<usize>, AllocError>
-    requires { known.now ≡ map (spec.known_of net.now) net.now.processes }
+fn first_steps(alloc: Global, net: &Net, kinds: &[ProcessKind]) -> Result<Vec<usize>, AllocError>
+    requires { kinds.now ≡ spec.all_kinds net.now }
     ensures { IfOk result (λ steps. AreSteps net.now steps.items) }
 {
     let mut steps = Vec::new(alloc);
     for place in 0..4 * net.nets() {
-        steps.push(next_place(net, known, place))?;
+        steps.push(next_place(net, kinds, place))?;
     }
     Ok(steps)
 }

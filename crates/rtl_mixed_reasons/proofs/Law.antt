@@ -14,7 +14,6 @@ use Rattle.rtl_net.specs.Bodies.{statement_view, statements_of}
 use Rattle.rtl_net.specs.Core.{core as core_of}
 use Rattle.rtl_net.specs.Nets.{NetlistView, process_view, body_of}
 use Rattle.rtl_body_facts.specs.Reading.{some}
-use Rattle.rtl_copy_ends.specs.Ends.{kind_in}
 use Rattle.rtl_mixed_reasons.specs.declared.reason.Reason.{Reason}
 use Rattle.rtl_mixed_reasons.specs.Reasons.{first_in, gated_edge, edge_reason, first_edge, elsewhere, told_elsewhere, first_that_fits, is_mixed, reason_of_body}
 use Rattle.rtl_mixed_reasons.specs.Unsteady.{unsteady_of, unsteady, reason_at, reason_of}
@@ -81,7 +80,7 @@ narrow : (net : NetlistView) → net.wide ≡ false → (o : Option Process) →
 narrow net n None s = absurd (let e : false ≡ true = s in cc)
 narrow net n (Some q) s = go (is_mixed net q) net.wide n s
   where
-    go : (b wide : Bool) → wide ≡ false → IsSome (if b then reason_of_body net q else (if wide then unsteady_of net q (kind_in net q) else None)) → b ≡ true
+    go : (b wide : Bool) → wide ≡ false → IsSome (if b then reason_of_body net q else (if wide then unsteady_of net q else None)) → b ≡ true
     go true wide n s = refl
     go false true n s = absurd cc
     go false false n s = absurd (let e : false ≡ true = s in cc)

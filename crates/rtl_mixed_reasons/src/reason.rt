@@ -49,10 +49,10 @@ pub enum ReasonKind {
     NoEdge,
     /// An edge or an event stands inside this statement.
     EdgeInside,
-    /// The reset may pulse: a process that reads the second net makes the net, which is the reset's
-    /// or one that it copies, as below.
+    /// The reset may pulse: the net, which is the reset's or one that it copies, as below, looks at
+    /// the second net, which a process drives.
     UnsteadyGate,
-    /// It may, and a process that reads a clock, the second net, makes the net.
+    /// It may, and the net looks at the second net, which is a clock.
     UnsteadyClock,
     /// It may, and the net is a register that the second net resets, to a value at which the reset
     /// doesn't hold.

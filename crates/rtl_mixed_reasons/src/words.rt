@@ -147,17 +147,17 @@ pub const EDGE_INSIDE: Note<&str> = Note {
     closing: "",
 };
 
-/// A reset made by a process that reads what a process drives.
+/// A reset that looks at what a process drives.
 pub const UNSTEADY_GATE: Note<&str> = Note {
-    opening: "the reset may pulse within a moment: the process that makes ",
-    middle: " reads ",
+    opening: "the reset may pulse within a moment: ",
+    middle: " looks at ",
     closing: "; make that net of in ports alone, or give it a register of its own",
 };
 
-/// A reset made by a process that reads a clock.
+/// A reset that looks at a clock.
 pub const UNSTEADY_CLOCK: Note<&str> = Note {
-    opening: "the reset may pulse within a moment: the process that makes ",
-    middle: " reads the clock ",
+    opening: "the reset may pulse within a moment: ",
+    middle: " looks at the clock ",
     closing: "; make that net of other in ports, or give it a register of its own",
 };
 

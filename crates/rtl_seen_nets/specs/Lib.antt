@@ -1,0 +1,3 @@
+pub mod Lowest
+pub mod Behind
+pub mod Drivers
