@@ -1,9 +1,13 @@
 pub mod Rows
+pub mod RowsElements
+pub mod Roles
 pub mod RowsStatements
 pub mod RowsConcurrents
 pub mod Heights
 pub mod Room
+pub mod NarrowExpressions
 pub mod HeightsExpressions
+pub mod HeightsTexts
 pub mod HeightsStatements
 pub mod HeightsFiles
 pub mod Narrow

@@ -92,14 +92,14 @@ b_then {g} {c} {a} {b} {ps} {qs} h k = record {
       (omega (arith, x.0, y.0), y.1);
 }
 
-abbrev After : ℕ → ℕ → Bool → ℕ → List Piece → Type 0
+abbrev pub After : ℕ → ℕ → Bool → ℕ → List Piece → Type 0
 After o c e n ps = Behind o c n (λ m. Fits m e ps)
 
 -- what a token opens and closes
 abbrev pub Moves : Bool → ℕ → ℕ → Bool → TokenKind → Type 0
 Moves e o c next kind = (opening e kind ≡ o) × (closing e kind ≡ c) × (is_end kind ≡ next)
 
-moved : {next : Bool} {o c : ℕ} (e : Bool) (kind : TokenKind) (n : ℕ) (ps : List Piece) → Moves e o c next kind → After (opening e kind) (closing e kind) (is_end kind) n ps → After o c next n ps
+pub moved : {next : Bool} {o c : ℕ} (e : Bool) (kind : TokenKind) (n : ℕ) (ps : List Piece) → Moves e o c next kind → After (opening e kind) (closing e kind) (is_end kind) n ps → After o c next n ps
 moved {next} {o} {c} e kind n ps is f =
     subst (λ x. After o c x n ps) is.2 (subst (λ d. After o d (is_end kind) n ps) is.1 (subst (λ d. After d (closing e kind) (is_end kind) n ps) is.0 f))
 
@@ -128,7 +128,7 @@ pub b_paren_then : {c : ℕ} {ps : List Piece} → Bounds c 0 ps → Closes c 0 
 unfolding same_kind
 b_paren_then h = record { holds = λ n rest f. (omega arith, (h.holds (suc n) rest f).1) }
 
-opened : (n : ℕ) (ps : List Piece) → After 1 0 false n ps → (m : ℕ) × (n ≡ suc m) × Fits m false ps
+pub opened : (n : ℕ) (ps : List Piece) → After 1 0 false n ps → (m : ℕ) × (n ≡ suc m) × Fits m false ps
 opened zero ps f = absurd f
 opened (suc m) ps f = (m, refl, f)
 

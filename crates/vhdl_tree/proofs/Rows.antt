@@ -3,7 +3,7 @@ use Rattle.std.proofs.Common.{◌≡◌, true, false, List, [], ◌∷◌, ◌++
 use Rattle.std.proofs.lemmas.List.{map-append}
 use mathlib.Core.Former.{Count}
 use Rattle.vhdl_tree.specs.declared.expression.Expr.{Expr}
-use Rattle.vhdl_tree.specs.declared.expression.Expr.TheBlock.{Row_of-Link, end_of-Link, more_of-Link, items-the_row-Link, items_hidden-the_row-Link-1, items_shown-the_row-Link-1, hidden-the_row-Link-1, Row_of-Expr, end_of-Expr, more_of-Expr, items-the_row-Expr, hidden-the_row-Expr-0, items_hidden-the_row-Expr-0}
+use Rattle.vhdl_tree.specs.declared.expression.Choice.TheBlock.{Row_of-Link, end_of-Link, more_of-Link, items-the_row-Link, items_hidden-the_row-Link-3, items_shown-the_row-Link-3, hidden-the_row-Link-3, Row_of-Expr, end_of-Expr, more_of-Expr, items-the_row-Expr, hidden-the_row-Expr-2, items_hidden-the_row-Expr-2}
 use Rattle.vhdl_tree.specs.declared.expression.Link.{Link}
 use Rattle.vhdl_tree.specs.declared.expression.Chain.{Chain, Chain', out-Chain, roll-Chain}
 use Rattle.vhdl_tree.specs.declared.expression.Suffix.TheVariants as s
@@ -20,21 +20,21 @@ pub view_chain : (first : Expr) (second : Link) (rest : Vec Link Global) →
 unfolding roll-Chain denote.Hole.Carrier.roll
 view_chain first second rest =
     let left = begun (view first) (pair_view second) in
-    links_row left _ (hidden-the_row-Link-1 rest) ∙ ap (λ ls. all_joined left (map pair_view ls)) (items_hidden-the_row-Link-1 rest)
+    links_row left _ (hidden-the_row-Link-3 rest) ∙ ap (λ ls. all_joined left (map pair_view ls)) (items_hidden-the_row-Link-3 rest)
 
 -- a chain by its parts
 pub chain_is : (c : Chain) → chain_view c ≡ chained (view (out-Chain c).first) (pair_view (out-Chain c).second) (pairs_view (out-Chain c).rest)
 unfolding out-Chain denote.Hole.Carrier.out
 chain_is (Chain' first operator at operand shape rest) =
     let left = t.binary true operator at (view first) (view operand) in
-    links_row left _ rest ∙ sym (ap (λ ls. all_joined left (map pair_view ls)) (items_shown-the_row-Link-1 shape rest))
+    links_row left _ rest ∙ sym (ap (λ ls. all_joined left (map pair_view ls)) (items_shown-the_row-Link-3 shape rest))
 
 exprs_row : (n : Count) (row : Row_of-Expr n) → row_view row ≡ t.exprs_of (map view (items-the_row-Expr n row))
 exprs_row n end_of-Expr = refl
 exprs_row n (more_of-Expr x rest) = ap (t.expr (view x)) (exprs_row _ rest)
 
 pub view_arguments : (all : Vec Expr Global) → suffix_view (s.Arguments all) ≡ t.arguments (t.exprs_of (exprs_view all))
-view_arguments all = ap t.arguments (exprs_row _ (hidden-the_row-Expr-0 all) ∙ ap (λ es. t.exprs_of (map view es)) (items_hidden-the_row-Expr-0 all))
+view_arguments all = ap t.arguments (exprs_row _ (hidden-the_row-Expr-2 all) ∙ ap (λ es. t.exprs_of (map view es)) (items_hidden-the_row-Expr-2 all))
 
 all_joined-push : (left : t.Expr) (ps : List Pair) (p : Pair) → all_joined left (ps ++ p ∷ []) ≡ joined (all_joined left ps) p
 all_joined-push left [] p = refl

@@ -4,7 +4,7 @@ use Rattle.std.specs.Prelude.{option_map}
 use mathlib.Core.Former.{Count}
 use Rattle.vhdl_tree.specs.declared.expression.Identifier.{Identifier}
 use Rattle.vhdl_tree.specs.declared.expression.Expr.{Expr}
-use Rattle.vhdl_tree.specs.declared.expression.Range.{Range}
+use Rattle.vhdl_tree.specs.declared.expression.DiscreteRange.{DiscreteRange}
 use Rattle.vhdl_tree.specs.declared.expression.Choice.{Choice}
 use Rattle.vhdl_tree.specs.declared.sequential.Sequential.{Sequential}
 use Rattle.vhdl_tree.specs.declared.sequential.If.{roll-If}
@@ -15,7 +15,7 @@ use Rattle.vhdl_tree.specs.declared.sequential.Alternative.{Alternative, Alterna
 use Rattle.vhdl_tree.specs.declared.sequential.Statement.TheBlock.{Row_of-Sequential, end_of-Sequential, more_of-Sequential, items-the_row-Sequential, hidden-the_row-Sequential-0, items_hidden-the_row-Sequential-0, items_shown-the_row-Sequential-0, Row_of-Conditional, end_of-Conditional, more_of-Conditional, items-the_row-Conditional, hidden-the_row-Conditional-2, items_hidden-the_row-Conditional-2, Row_of-Alternative, end_of-Alternative, more_of-Alternative, items-the_row-Alternative, hidden-the_row-Alternative-1, items_hidden-the_row-Alternative-1}
 use Rattle.vhdl_tree.specs.Tree as t
 use Rattle.vhdl_tree.specs.Tree.{guarded_by, chosen_by}
-use Rattle.vhdl_tree.specs.View.{ident_view, option_ident_view, view, range_view, choices_view, statement_view, if_view, case_view, for_view, statements_row, conditionals_row, condition_row, alternatives_row, alternative_row, sequential_view, sequentials_view, option_sequentials_view, conditional_view, conditionals_view, alternative_view, alternatives_view}
+use Rattle.vhdl_tree.specs.View.{ident_view, option_ident_view, view, discrete_range_view, choices_view, statement_view, if_view, case_view, for_view, statements_row, conditionals_row, condition_row, alternatives_row, alternative_row, sequential_view, sequentials_view, option_sequentials_view, conditional_view, conditionals_view, alternative_view, alternatives_view}
 
 sequentials_rows : (n : Count) (row : Row_of-Sequential n) → statements_row row ≡ t.statements_of (map sequential_view (items-the_row-Sequential n row))
 sequentials_rows n end_of-Sequential = refl
@@ -59,10 +59,10 @@ pub view_case : (at : ℕ) (selector : Expr) (alternatives : Vec Alternative Glo
 unfolding roll-Case denote.Hole.Carrier.roll
 view_case at selector alternatives end_label = ap (λ xs. t.case_of at (view selector) xs (option_ident_view end_label)) (alternatives_hidden alternatives)
 
-pub view_for : (at : ℕ) (parameter : Identifier) (range : Range) (statements : Vec Sequential Global) (end_label : Option Identifier) →
-    for_view (roll-For (record { at = at; parameter = parameter; range = range; statements = statements; end_label = end_label })) ≡ t.for_of at (ident_view parameter) (range_view range) (t.statements_of (sequentials_view statements)) (option_ident_view end_label)
+pub view_for : (at : ℕ) (parameter : Identifier) (range : DiscreteRange) (statements : Vec Sequential Global) (end_label : Option Identifier) →
+    for_view (roll-For (record { at = at; parameter = parameter; range = range; statements = statements; end_label = end_label })) ≡ t.for_of at (ident_view parameter) (discrete_range_view range) (t.statements_of (sequentials_view statements)) (option_ident_view end_label)
 unfolding roll-For denote.Hole.Carrier.roll
-view_for at parameter range statements end_label = ap (λ xs. t.for_of at (ident_view parameter) (range_view range) xs (option_ident_view end_label)) (sequentials_hidden statements)
+view_for at parameter range statements end_label = ap (λ xs. t.for_of at (ident_view parameter) (discrete_range_view range) xs (option_ident_view end_label)) (sequentials_hidden statements)
 
 pub view_conditional : (condition : Expr) (statements : Vec Sequential Global) → conditional_view (roll-Conditional (record { condition = condition; statements = statements })) ≡ guarded_by (view condition) (sequentials_view statements)
 view_conditional condition statements = ap (λ r. guarded_by (view r.condition) (sequentials_view r.statements)) (out-roll-Conditional (record { condition = condition; statements = statements }))

@@ -1,14 +1,17 @@
 -- How high a tree of the code is: how many expressions, statements, declarations and units stand one in another in it.
 use Rattle.std.specs.Prelude.{ℕ, suc, max, List, [], ◌∷◌, Option, Some, None, Vec}
 use Rattle.std.specs.Global.{Global}
+use Rattle.vhdl_lexer.specs.declared.token.TokenKind.{TokenKind}
 use Rattle.vhdl_tree.specs.declared.expression.Expr.{Expr}
 use Rattle.vhdl_tree.specs.declared.expression.Expr.TheVariants as e
-use Rattle.vhdl_tree.specs.declared.expression.Expr.TheBlock.{Row_of-Link, end_of-Link, more_of-Link, Row_of-Expr, end_of-Expr, more_of-Expr}
+use Rattle.vhdl_tree.specs.declared.expression.Choice.TheBlock.{Row_of-Link, end_of-Link, more_of-Link, Row_of-Expr, end_of-Expr, more_of-Expr, Row_of-Element, end_of-Element, more_of-Element, Row_of-Choice, end_of-Choice, more_of-Choice}
 use Rattle.vhdl_tree.specs.declared.expression.Chain.{Chain, Chain'}
 use Rattle.vhdl_tree.specs.declared.expression.Suffix.{Suffix}
 use Rattle.vhdl_tree.specs.declared.expression.Suffix.TheVariants as s
 use Rattle.vhdl_tree.specs.declared.expression.Name.{Name}
 use Rattle.vhdl_tree.specs.declared.expression.Range.{Range}
+use Rattle.vhdl_tree.specs.declared.expression.DiscreteRange.{DiscreteRange}
+use Rattle.vhdl_tree.specs.declared.expression.DiscreteRange.TheVariants as dr
 use Rattle.vhdl_tree.specs.declared.expression.Value.{Value}
 use Rattle.vhdl_tree.specs.declared.expression.Value.TheVariants as v
 use Rattle.vhdl_tree.specs.declared.expression.Choice.{Choice}
@@ -16,6 +19,7 @@ use Rattle.vhdl_tree.specs.declared.expression.Choice.TheVariants as ch
 use Rattle.vhdl_tree.specs.declared.expression.Actual.{Actual}
 use Rattle.vhdl_tree.specs.declared.expression.Actual.TheVariants as ac
 use Rattle.vhdl_tree.specs.declared.expression.Association.{Association}
+use Rattle.vhdl_tree.specs.declared.sequential.Branch.{Branch}
 use Rattle.vhdl_tree.specs.declared.sequential.Sequential.{Sequential}
 use Rattle.vhdl_tree.specs.declared.sequential.Statement.{Statement}
 use Rattle.vhdl_tree.specs.declared.sequential.Statement.TheVariants as st
@@ -32,7 +36,7 @@ use Rattle.vhdl_tree.specs.declared.process.Wait.{Wait}
 use Rattle.vhdl_tree.specs.declared.process.Waveform.{Waveform}
 use Rattle.vhdl_tree.specs.declared.process.SelectedAssignment.{SelectedAssignment}
 use Rattle.vhdl_tree.specs.declared.instance.Instance.{Instance}
-use Rattle.vhdl_tree.specs.declared.concurrent.Branch.{Branch}
+use Rattle.vhdl_tree.specs.declared.concurrent.Assertion.{Assertion}
 use Rattle.vhdl_tree.specs.declared.concurrent.Assignment.{Assignment}
 use Rattle.vhdl_tree.specs.declared.concurrent.Concurrent.{Concurrent}
 use Rattle.vhdl_tree.specs.declared.concurrent.Concurrent.TheVariants as c
@@ -40,6 +44,8 @@ use Rattle.vhdl_tree.specs.declared.concurrent.Concurrent.TheBlock.{Row_of-Concu
 use Rattle.vhdl_tree.specs.declared.concurrent.Scheme.{Scheme}
 use Rattle.vhdl_tree.specs.declared.concurrent.Scheme.TheVariants as sc
 use Rattle.vhdl_tree.specs.declared.declaration.Subtype.{Subtype}
+use Rattle.vhdl_tree.specs.declared.declaration.Constraint.{Constraint}
+use Rattle.vhdl_tree.specs.declared.declaration.Constraint.TheVariants as co
 use Rattle.vhdl_tree.specs.declared.declaration.Generic.{Generic}
 use Rattle.vhdl_tree.specs.declared.declaration.Port.{Port}
 use Rattle.vhdl_tree.specs.declared.declaration.Signals.{Signals}
@@ -48,6 +54,9 @@ use Rattle.vhdl_tree.specs.declared.declaration.Constants.{Constants}
 use Rattle.vhdl_tree.specs.declared.declaration.Component.{Component}
 use Rattle.vhdl_tree.specs.declared.declaration.Declaration.{Declaration}
 use Rattle.vhdl_tree.specs.declared.declaration.Declaration.TheVariants as d
+use Rattle.vhdl_tree.specs.declared.declaration.SubtypeDeclaration.{SubtypeDeclaration}
+use Rattle.vhdl_tree.specs.declared.declaration.ProcessDeclaration.{ProcessDeclaration}
+use Rattle.vhdl_tree.specs.declared.declaration.ProcessDeclaration.TheVariants as pd
 use Rattle.vhdl_tree.specs.declared.unit.Entity.{Entity}
 use Rattle.vhdl_tree.specs.declared.unit.Architecture.{Architecture}
 use Rattle.vhdl_tree.specs.declared.unit.LibraryUnit.{LibraryUnit}
@@ -67,8 +76,27 @@ abbrev mutual
   height (e.Name' identifier suffix attribute) = suc (suffix_height suffix)
   height (e.Parens' at p inner) = suc (height inner)
   height (e.Not' at p operand) = suc (height operand)
+  height (e.Abs' at p operand) = suc (height operand)
+  height (e.Power' p base at exponent) = suc (max (height base) (height exponent))
   height (e.Signed' sign at p operand) = suc (height operand)
   height (e.Chain' p chain) = suc (chain_height chain)
+  height (e.Aggregate' at shape elements) = suc (elements_height elements)
+  height (e.Qualified' mark at shape elements) = suc (elements_height elements)
+
+  -- neither an element nor its choices count
+  pub elements_height : {m : _} → Row_of-Element m → ℕ
+  elements_height end_of-Element = 0
+  elements_height (more_of-Element shape choices value rest) =
+      max (max (choices_height choices) (height value)) (elements_height rest)
+
+  pub choices_height : {m : _} → Row_of-Choice m → ℕ
+  choices_height end_of-Choice = 0
+  choices_height (more_of-Choice c rest) = max (choice_height c) (choices_height rest)
+
+  pub choice_height : Choice → ℕ
+  choice_height (ch.Expr x) = height x
+  choice_height (ch.Range' left direction right) = max (height left) (height right)
+  choice_height (ch.Others at) = 0
 
   pub chain_height : Chain → ℕ
   chain_height (Chain' first operator at operand shape rest) =
@@ -103,13 +131,13 @@ range_height r = max (height r.left) (height r.right)
 abbrev pub name_height : Name → ℕ
 name_height n = suc (suffix_height n.suffix)
 
+abbrev pub discrete_range_height : DiscreteRange → ℕ
+discrete_range_height (dr.Bounds r) = range_height r
+discrete_range_height (dr.Name n) = name_height n
+
 abbrev pub value_height : Value → ℕ
 value_height (v.Expr x) = height x
 value_height (v.Others at x) = suc (height x)
-
-abbrev pub choice_height : Choice → ℕ
-choice_height (ch.Expr x) = height x
-choice_height (ch.Others at) = 0
 
 abbrev pub actual_height : Actual → ℕ
 actual_height (ac.Expr x) = height x
@@ -121,19 +149,35 @@ association_height a = actual_height a.actual
 abbrev pub associations_height : Vec Association Global → ℕ
 associations_height v = highest association_height v.items
 
+abbrev pub constraint_height : Constraint → ℕ
+constraint_height (co.Index r) = discrete_range_height r
+constraint_height (co.Range r) = discrete_range_height r
+
 abbrev pub subtype_height : Subtype → ℕ
-subtype_height t = optional_height range_height t.range
+subtype_height t = optional_height constraint_height t.constraint
 
 -- ---- sequential statements
+
+-- nothing stands in another thing in a text
+abbrev pub text_height : Vec TokenKind Global → ℕ
+text_height text = 1
+
+abbrev pub branch_height : Branch → ℕ
+branch_height b = max (value_height b.value) (height b.condition)
 
 abbrev mutual
   pub statement_height : Statement → ℕ
   statement_height (st.Null at) = 1
   statement_height (st.SignalAssignment target value) = suc (max (name_height target) (value_height value))
   statement_height (st.VariableAssignment target value) = suc (max (name_height target) (value_height value))
+  statement_height (st.ConditionalAssignment is_variable target branches otherwise) =
+      suc (max (name_height target)
+      (max (highest branch_height branches.items) (optional_height value_height otherwise)))
   statement_height (st.If i) = suc (if_height i)
   statement_height (st.Case c) = suc (case_height c)
   statement_height (st.For f) = suc (for_height f)
+  statement_height (st.Assert text) = text_height text
+  statement_height (st.Report text) = text_height text
 
   pub if_height : If → ℕ
   if_height (If' at shape branches otherwise end_label) =
@@ -145,7 +189,7 @@ abbrev mutual
 
   pub for_height : For → ℕ
   for_height (For' at parameter range shape statements end_label) =
-      max (range_height range) (statements_height statements)
+      max (discrete_range_height range) (statements_height statements)
 
   pub statements_height : {m : _} → Row_of-Sequential m → ℕ
   statements_height end_of-Sequential = 0
@@ -183,13 +227,25 @@ sensitivity_height (se.Names all) = highest name_height all.items
 abbrev pub variables_height : Variables → ℕ
 variables_height d = suc (max (subtype_height d.subtype) (optional_height value_height d.default))
 
+abbrev pub constants_height : Constants → ℕ
+constants_height d = suc (max (subtype_height d.subtype) (value_height d.value))
+
+abbrev pub subtype_declaration_height : SubtypeDeclaration → ℕ
+subtype_declaration_height d = suc (subtype_height d.subtype)
+
+abbrev pub process_declaration_height : ProcessDeclaration → ℕ
+process_declaration_height (pd.Variables x) = variables_height x
+process_declaration_height (pd.Constants x) = constants_height x
+process_declaration_height (pd.Enumeration x) = 1
+process_declaration_height (pd.Subtype x) = subtype_declaration_height x
+
 abbrev pub wait_height : Wait → ℕ
 wait_height w = height w.condition
 
 abbrev pub process_height : Process → ℕ
 process_height p =
     suc (max (sensitivity_height p.sensitivity)
-    (max (highest variables_height p.variables.items)
+    (max (highest process_declaration_height p.declarations.items)
     (max (optional_height wait_height p.wait) (highest sequential_height p.statements.items))))
 
 abbrev pub waveform_height : Waveform → ℕ
@@ -198,9 +254,6 @@ waveform_height w = max (value_height w.value) (highest choice_height w.choices.
 abbrev pub selected_height : SelectedAssignment → ℕ
 selected_height s =
     suc (max (height s.selector) (max (name_height s.target) (highest waveform_height s.waveforms.items)))
-
-abbrev pub branch_height : Branch → ℕ
-branch_height b = max (value_height b.value) (height b.condition)
 
 abbrev pub assignment_height : Assignment → ℕ
 assignment_height a =
@@ -212,8 +265,14 @@ instance_height i =
     suc (max (optional_height associations_height i.generics) (optional_height associations_height i.ports))
 
 abbrev pub scheme_height : Scheme → ℕ
-scheme_height (sc.For parameter range) = range_height range
+scheme_height (sc.For parameter range) = discrete_range_height range
 scheme_height (sc.If condition) = height condition
+
+abbrev pub assertion_height : Assertion → ℕ
+assertion_height a = text_height a.text
+
+abbrev pub assertions_height : Vec Assertion Global → ℕ
+assertions_height v = highest assertion_height v.items
 
 abbrev mutual
   pub concurrent_height : Concurrent → ℕ
@@ -223,6 +282,7 @@ abbrev mutual
   concurrent_height (c.Instance label i) = instance_height i
   concurrent_height (c.Generate' label at scheme begin_word shape statements end_label) =
       suc (max (scheme_height scheme) (concurrents_height statements))
+  concurrent_height (c.Assert a) = assertion_height a
 
   pub concurrents_height : {m : _} → Row_of-Concurrent m → ℕ
   concurrents_height end_of-Concurrent = 0
@@ -231,7 +291,7 @@ abbrev mutual
 -- ---- declarations
 
 abbrev pub generic_height : Generic → ℕ
-generic_height g = suc (optional_height height g.default)
+generic_height g = suc (max (subtype_height g.subtype) (optional_height height g.default))
 
 abbrev pub generics_height : Vec Generic Global → ℕ
 generics_height v = highest generic_height v.items
@@ -245,9 +305,6 @@ ports_height v = highest port_height v.items
 abbrev pub signals_height : Signals → ℕ
 signals_height d = suc (max (subtype_height d.subtype) (optional_height value_height d.default))
 
-abbrev pub constants_height : Constants → ℕ
-constants_height d = suc (max (subtype_height d.subtype) (value_height d.value))
-
 abbrev pub component_height : Component → ℕ
 component_height d = suc (max (optional_height generics_height d.generics) (optional_height ports_height d.ports))
 
@@ -256,11 +313,15 @@ declaration_height (d.Signals x) = signals_height x
 declaration_height (d.Constants x) = constants_height x
 declaration_height (d.Enumeration x) = 1
 declaration_height (d.Component x) = component_height x
+declaration_height (d.Subtype x) = subtype_declaration_height x
+declaration_height (d.Attribute text) = text_height text
 
 -- ---- units
 
 abbrev pub entity_height : Entity → ℕ
-entity_height n = suc (max (optional_height generics_height n.generics) (optional_height ports_height n.ports))
+entity_height n =
+    suc (max (max (optional_height generics_height n.generics) (optional_height ports_height n.ports))
+    (max (highest text_height n.attributes.items) (optional_height assertions_height n.statements)))
 
 abbrev pub architecture_height : Architecture → ℕ
 architecture_height a =

@@ -1,4 +1,5 @@
 pub mod Lexeme
+pub mod ExpressionTree
 pub mod Tree
 pub mod ExpressionViews
 pub mod View

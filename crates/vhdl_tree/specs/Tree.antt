@@ -1,103 +1,28 @@
--- A syntax tree as contracts see it: without where it lies in memory, and with a chain of operators of one level
--- grouped from the left.
-use Rattle.std.specs.Prelude.{ℕ, Bool, true, false, Option, Some, None, List, [], ◌∷◌}
-use Rattle.vhdl_tree.specs.declared.operator.Operator.{Operator}
-use Rattle.vhdl_tree.specs.declared.operator.Sign.{Sign}
-use Rattle.vhdl_tree.specs.declared.operator.Direction.{Direction}
+-- A syntax tree as contracts see it: without where it lies in memory.
+use Rattle.std.specs.Prelude.{ℕ, Bool, Option, Some, None, List, [], ◌∷◌}
+use Rattle.vhdl_lexer.specs.declared.token.TokenKind.{TokenKind}
 use Rattle.vhdl_tree.specs.declared.declaration.Mode.{Mode}
+pub use Rattle.vhdl_tree.specs.ExpressionTree.{Ident, Attribute, called, of_range, Expr, integer, character, string, bits, named, parens, negation, absolute, power, signed, binary, aggregate, qualified, Suffix, plain, arguments, sliced, Exprs, no_exprs, expr, Elements, no_elements, element, Choices, no_choices, choice, Choice, chosen, chosen_range, otherwise, Pair, joined, all_joined, begun, chained, exprs_of, Element, element_by, choices_of, elements_of, Range, Name, DiscreteRange, bounds, range_named, Value, single, others, Actual, actual, left_open, Association, is_lone, enclosed, is_fill, value_of, name_of}
 
--- an identifier in small letters, and the byte at which it starts
-pub record Ident : Type 0 where
-  pub at : ℕ
-  pub text : List ℕ
+-- the kinds of the tokens of a text that is read and dropped
+abbrev pub Text : Type 0
+Text = List TokenKind
 
--- ---- expressions
-
-mutual
-  pub data Expr : Type 0 where
-    -- where it starts, and its bytes
-    integer : ℕ → List ℕ → Expr
-    -- where it starts, and the character between its ticks
-    character : ℕ → ℕ → Expr
-    string : ℕ → List ℕ → Expr
-    bits : ℕ → List ℕ → Expr
-    -- an identifier, what stands in parentheses after it, and an attribute
-    named : Ident → Suffix → Option Ident → Expr
-    parens : ℕ → Expr → Expr
-    negation : ℕ → Expr → Expr
-    signed : Sign → ℕ → Expr → Expr
-    -- whether the operator is the first one of its chain, the operator, where it starts, and its operands
-    binary : Bool → Operator → ℕ → Expr → Expr → Expr
-
-  pub data Suffix : Type 0 where
-    plain : Suffix
-    arguments : Exprs → Suffix
-    sliced : Expr → Direction → Expr → Suffix
-
-  pub data Exprs : Type 0 where
-    no_exprs : Exprs
-    expr : Expr → Exprs → Exprs
-
--- an operator, where it starts, and its right operand
-pub record Pair : Type 0 where
-  pub operator : Operator
-  pub at : ℕ
-  pub operand : Expr
-
--- the chain goes on
-abbrev pub joined : Expr → Pair → Expr
-joined left p = binary false p.operator p.at left p.operand
-
-abbrev pub all_joined : Expr → List Pair → Expr
-all_joined left [] = left
-all_joined left (p ∷ ps) = all_joined (joined left p) ps
-
--- the chain begins
-abbrev pub begun : Expr → Pair → Expr
-begun first p = binary true p.operator p.at first p.operand
-
--- a chain's first operand and what follows it, grouped from the left
-abbrev pub chained : Expr → Pair → List Pair → Expr
-chained first second rest = all_joined (begun first second) rest
-
-abbrev pub exprs_of : List Expr → Exprs
-exprs_of [] = no_exprs
-exprs_of (e ∷ es) = expr e (exprs_of es)
-
-pub record Range : Type 0 where
-  pub left : Expr
-  pub direction : Direction
-  pub right : Expr
-
-pub record Name : Type 0 where
-  pub identifier : Ident
-  pub suffix : Suffix
-  pub attribute : Option Ident
-
--- an expression, or (others => e)
-pub data Value : Type 0 where
-  single : Expr → Value
-  others : ℕ → Expr → Value
-
--- a choice of an alternative: an expression, or where `others` starts
-pub data Choice : Type 0 where
-  chosen : Expr → Choice
-  otherwise : ℕ → Choice
-
--- what is associated: an expression, or where `open` starts
-pub data Actual : Type 0 where
-  actual : Expr → Actual
-  left_open : ℕ → Actual
-
-pub record Association : Type 0 where
-  pub formal : Option Ident
-  pub actual : Actual
+-- what stands behind a type's name: ( range ) or `range range`
+pub data Constraint : Type 0 where
+  index_range : DiscreteRange → Constraint
+  value_range : DiscreteRange → Constraint
 
 pub record Subtype : Type 0 where
   pub mark : Ident
-  pub range : Option Range
+  pub constraint : Option Constraint
 
 -- ---- sequential statements
+
+-- value when condition
+pub record Branch : Type 0 where
+  pub value : Value
+  pub condition : Expr
 
 mutual
   pub data Statement : Type 0 where
@@ -106,12 +31,17 @@ mutual
     -- name <= value, and name := value
     assigned : Name → Value → Statement
     variable_assigned : Name → Value → Statement
+    -- whether `:=` stands there, the target, the branches with `when`, and the last value behind `else`
+    assigned_when : Bool → Name → List Branch → Option Value → Statement
     -- where `if` starts, its branches, what else is done, and the label at its end
     if_of : ℕ → Conditionals → Otherwise → Option Ident → Statement
     -- where `case` starts, its selector and alternatives, and the label at its end
     case_of : ℕ → Expr → Alternatives → Option Ident → Statement
     -- where `for` starts, its parameter, range and statements, and the label at its end
-    for_of : ℕ → Ident → Range → Statements → Option Ident → Statement
+    for_of : ℕ → Ident → DiscreteRange → Statements → Option Ident → Statement
+    -- the texts behind `assert` and `report`
+    asserted : Text → Statement
+    reported : Text → Statement
 
   -- each after its label
   pub data Statements : Type 0 where
@@ -179,6 +109,26 @@ pub record Variables : Type 0 where
   pub subtype : Subtype
   pub default : Option Value
 
+pub record Constants : Type 0 where
+  pub names : List Ident
+  pub subtype : Subtype
+  pub value : Value
+
+pub record Enumeration : Type 0 where
+  pub name : Ident
+  pub literals : List Ident
+
+-- a subtype and its name
+pub record SubtypeDeclaration : Type 0 where
+  pub name : Ident
+  pub subtype : Subtype
+
+pub data ProcessDeclaration : Type 0 where
+  variables : Variables → ProcessDeclaration
+  process_constants : Constants → ProcessDeclaration
+  process_enumeration : Enumeration → ProcessDeclaration
+  process_subtype : SubtypeDeclaration → ProcessDeclaration
+
 -- what a process waits for before its statements, each time round (10.2): where `wait` starts, and the condition
 pub record Wait : Type 0 where
   pub at : ℕ
@@ -188,7 +138,7 @@ pub record Process : Type 0 where
   pub at : ℕ
   pub sensitivity : Sensitivity
   pub is_word : Bool
-  pub variables : List Variables
+  pub declarations : List ProcessDeclaration
   pub wait : Option Wait
   pub statements : List Sequential
   pub end_label : Option Ident
@@ -219,11 +169,6 @@ pub record Instance : Type 0 where
 
 -- ---- concurrent statements
 
--- value when condition
-pub record Branch : Type 0 where
-  pub value : Value
-  pub condition : Expr
-
 -- the value of the first branch whose condition holds, else the last one, if any
 pub record Assignment : Type 0 where
   pub label : Option Ident
@@ -233,11 +178,16 @@ pub record Assignment : Type 0 where
 
 -- a parameter over a range, or a condition
 pub data Scheme : Type 0 where
-  for_each : Ident → Range → Scheme
+  for_each : Ident → DiscreteRange → Scheme
   if_holds : Expr → Scheme
 
+-- its label, and the text behind `assert`
+pub record Assertion : Type 0 where
+  pub label : Option Ident
+  pub text : Text
+
 mutual
-  -- each with its label, which an assignment has itself
+  -- each with its label, which an assignment and an assertion have themselves
   pub data Concurrent : Type 0 where
     assignment : Assignment → Concurrent
     selected : Option Ident → SelectedAssignment → Concurrent
@@ -246,6 +196,7 @@ mutual
     -- its label, where its scheme starts, the scheme, whether `begin` stands there, its statements, and the label at
     -- its end
     generated : Ident → ℕ → Scheme → Bool → Concurrents → Option Ident → Concurrent
+    assertion : Assertion → Concurrent
 
   pub data Concurrents : Type 0 where
     no_concurrents : Concurrents
@@ -261,7 +212,7 @@ pub record Generic : Type 0 where
   pub constant_word : Bool
   pub names : List Ident
   pub in_word : Bool
-  pub mark : Ident
+  pub subtype : Subtype
   pub default : Option Expr
 
 pub record Port : Type 0 where
@@ -276,15 +227,6 @@ pub record Signals : Type 0 where
   pub subtype : Subtype
   pub default : Option Value
 
-pub record Constants : Type 0 where
-  pub names : List Ident
-  pub subtype : Subtype
-  pub value : Value
-
-pub record Enumeration : Type 0 where
-  pub name : Ident
-  pub literals : List Ident
-
 pub record Component : Type 0 where
   pub name : Ident
   pub is_word : Bool
@@ -297,6 +239,9 @@ pub data Declaration : Type 0 where
   constants : Constants → Declaration
   enumeration : Enumeration → Declaration
   component : Component → Declaration
+  subtype_of : SubtypeDeclaration → Declaration
+  -- the text behind `attribute`
+  attribute_of : Text → Declaration
 
 -- ---- units
 
@@ -305,6 +250,9 @@ pub record Entity : Type 0 where
   pub name : Ident
   pub generics : Option (List Generic)
   pub ports : Option (List Port)
+  -- the texts behind `attribute`, and what stands behind `begin`
+  pub attributes : List Text
+  pub statements : Option (List Assertion)
   pub end_word : Bool
   pub end_name : Option Ident
 

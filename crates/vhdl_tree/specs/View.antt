@@ -1,7 +1,9 @@
 -- What contracts see of a tree of the code.
 use Rattle.std.specs.Prelude.{List, map, Vec, Option, option_map}
 use Rattle.std.specs.Global.{Global}
+use Rattle.vhdl_lexer.specs.declared.token.TokenKind.{TokenKind}
 use Rattle.vhdl_tree.specs.declared.expression.Name.{Name}
+use Rattle.vhdl_tree.specs.declared.sequential.Branch.{Branch}
 use Rattle.vhdl_tree.specs.declared.sequential.Sequential.{Sequential}
 use Rattle.vhdl_tree.specs.declared.sequential.Statement.{Statement}
 use Rattle.vhdl_tree.specs.declared.sequential.Statement.TheVariants as st
@@ -20,7 +22,7 @@ use Rattle.vhdl_tree.specs.declared.process.SelectedAssignment.{SelectedAssignme
 use Rattle.vhdl_tree.specs.declared.instance.Instantiated.{Instantiated}
 use Rattle.vhdl_tree.specs.declared.instance.Instantiated.TheVariants as it
 use Rattle.vhdl_tree.specs.declared.instance.Instance.{Instance}
-use Rattle.vhdl_tree.specs.declared.concurrent.Branch.{Branch}
+use Rattle.vhdl_tree.specs.declared.concurrent.Assertion.{Assertion}
 use Rattle.vhdl_tree.specs.declared.concurrent.Assignment.{Assignment}
 use Rattle.vhdl_tree.specs.declared.concurrent.Concurrent.{Concurrent}
 use Rattle.vhdl_tree.specs.declared.concurrent.Concurrent.TheVariants as c
@@ -37,6 +39,9 @@ use Rattle.vhdl_tree.specs.declared.declaration.Enumeration.{Enumeration}
 use Rattle.vhdl_tree.specs.declared.declaration.Component.{Component}
 use Rattle.vhdl_tree.specs.declared.declaration.Declaration.{Declaration}
 use Rattle.vhdl_tree.specs.declared.declaration.Declaration.TheVariants as d
+use Rattle.vhdl_tree.specs.declared.declaration.SubtypeDeclaration.{SubtypeDeclaration}
+use Rattle.vhdl_tree.specs.declared.declaration.ProcessDeclaration.{ProcessDeclaration}
+use Rattle.vhdl_tree.specs.declared.declaration.ProcessDeclaration.TheVariants as pd
 use Rattle.vhdl_tree.specs.declared.unit.Architecture.{Architecture}
 use Rattle.vhdl_tree.specs.declared.unit.Selected.{Selected}
 use Rattle.vhdl_tree.specs.declared.unit.ContextItem.{ContextItem}
@@ -46,18 +51,31 @@ use Rattle.vhdl_tree.specs.declared.unit.LibraryUnit.TheVariants as u
 use Rattle.vhdl_tree.specs.declared.unit.DesignUnit.{DesignUnit}
 use Rattle.vhdl_tree.specs.declared.unit.File.{File}
 use Rattle.vhdl_tree.specs.Tree as tree
-pub use Rattle.vhdl_tree.specs.ExpressionViews.{ident_view, idents_view, option_ident_view, literal_view, view, suffix_view, row_view, chain_view, links_view, pair_view, pairs_view, exprs_view, range_view, option_expr_view, option_range_view, name_view, value_view, choice_view, choices_view, actual_view, association_view, associations_view, option_value_view, subtype_view}
+pub use Rattle.vhdl_tree.specs.ExpressionViews.{ident_view, idents_view, option_ident_view, literal_view, attribute_view, view, suffix_view, row_view, chain_view, links_view, elements_row, choices_row, choice_view, pair_view, pairs_view, exprs_view, range_view, option_expr_view, name_view, discrete_range_view, value_view, choices_view, element_view, elements_view, actual_view, association_view, associations_view, option_value_view, constraint_view, option_constraint_view, subtype_view}
+
+abbrev pub text_view : Vec TokenKind Global → tree.Text
+text_view text = text.items
 
 -- ---- sequential statements
+
+abbrev pub branch_view : Branch → tree.Branch
+branch_view b = record { value = value_view b.value; condition = view b.condition }
+
+abbrev pub branches_view : Vec Branch Global → List tree.Branch
+branches_view v = map branch_view v.items
 
 abbrev mutual
   pub statement_view : Statement → tree.Statement
   statement_view (st.Null at) = tree.null_of at
   statement_view (st.SignalAssignment target value) = tree.assigned (name_view target) (value_view value)
   statement_view (st.VariableAssignment target value) = tree.variable_assigned (name_view target) (value_view value)
+  statement_view (st.ConditionalAssignment is_variable target branches otherwise) =
+      tree.assigned_when is_variable (name_view target) (branches_view branches) (option_value_view otherwise)
   statement_view (st.If i) = if_view i
   statement_view (st.Case c) = case_view c
   statement_view (st.For f) = for_view f
+  statement_view (st.Assert text) = tree.asserted (text_view text)
+  statement_view (st.Report text) = tree.reported (text_view text)
 
   pub if_view : If → tree.Statement
   if_view (If' at shape branches otherwise end_label) =
@@ -69,7 +87,7 @@ abbrev mutual
 
   pub for_view : For → tree.Statement
   for_view (For' at parameter range shape statements end_label) =
-      tree.for_of at (ident_view parameter) (range_view range)
+      tree.for_of at (ident_view parameter) (discrete_range_view range)
       (statements_row statements) (option_map ident_view end_label)
 
   pub statements_row : {m : _} → Row_of-Sequential m → tree.Statements
@@ -138,8 +156,23 @@ abbrev pub variables_view : Variables → tree.Variables
 variables_view d =
     record { names = idents_view d.names; subtype = subtype_view d.subtype; default = option_map value_view d.default }
 
-abbrev pub all_variables_view : Vec Variables Global → List tree.Variables
-all_variables_view v = map variables_view v.items
+abbrev pub constants_view : Constants → tree.Constants
+constants_view d = record { names = idents_view d.names; subtype = subtype_view d.subtype; value = value_view d.value }
+
+abbrev pub enumeration_view : Enumeration → tree.Enumeration
+enumeration_view d = record { name = ident_view d.name; literals = idents_view d.literals }
+
+abbrev pub subtype_declaration_view : SubtypeDeclaration → tree.SubtypeDeclaration
+subtype_declaration_view d = record { name = ident_view d.name; subtype = subtype_view d.subtype }
+
+abbrev pub process_declaration_view : ProcessDeclaration → tree.ProcessDeclaration
+process_declaration_view (pd.Variables x) = tree.variables (variables_view x)
+process_declaration_view (pd.Constants x) = tree.process_constants (constants_view x)
+process_declaration_view (pd.Enumeration x) = tree.process_enumeration (enumeration_view x)
+process_declaration_view (pd.Subtype x) = tree.process_subtype (subtype_declaration_view x)
+
+abbrev pub process_declarations_view : Vec ProcessDeclaration Global → List tree.ProcessDeclaration
+process_declarations_view v = map process_declaration_view v.items
 
 abbrev pub wait_view : Wait → tree.Wait
 wait_view w = record { at = w.at; condition = view w.condition }
@@ -152,7 +185,7 @@ process_view p = record {
   at = p.at;
   sensitivity = sensitivity_view p.sensitivity;
   is_word = p.is_word;
-  variables = all_variables_view p.variables;
+  declarations = process_declarations_view p.declarations;
   wait = option_wait_view p.wait;
   statements = sequentials_view p.statements;
   end_label = option_map ident_view p.end_label;
@@ -188,12 +221,6 @@ instance_view i = record {
 
 -- ---- concurrent statements
 
-abbrev pub branch_view : Branch → tree.Branch
-branch_view b = record { value = value_view b.value; condition = view b.condition }
-
-abbrev pub branches_view : Vec Branch Global → List tree.Branch
-branches_view v = map branch_view v.items
-
 abbrev pub assignment_view : Assignment → tree.Assignment
 assignment_view a =
     record {
@@ -204,8 +231,14 @@ assignment_view a =
     }
 
 abbrev pub scheme_view : Scheme → tree.Scheme
-scheme_view (sc.For parameter range) = tree.for_each (ident_view parameter) (range_view range)
+scheme_view (sc.For parameter range) = tree.for_each (ident_view parameter) (discrete_range_view range)
 scheme_view (sc.If condition) = tree.if_holds (view condition)
+
+abbrev pub assertion_view : Assertion → tree.Assertion
+assertion_view a = record { label = option_map ident_view a.label; text = text_view a.text }
+
+abbrev pub assertions_view : Vec Assertion Global → List tree.Assertion
+assertions_view v = map assertion_view v.items
 
 abbrev mutual
   pub concurrent_view : Concurrent → tree.Concurrent
@@ -216,6 +249,7 @@ abbrev mutual
   concurrent_view (c.Generate' label at scheme begin_word shape statements end_label) =
       tree.generated (ident_view label) at (scheme_view scheme) begin_word
       (concurrents_row statements) (option_map ident_view end_label)
+  concurrent_view (c.Assert a) = tree.assertion (assertion_view a)
 
   pub concurrents_row : {m : _} → Row_of-Concurrent m → tree.Concurrents
   concurrents_row end_of-Concurrent = tree.no_concurrents
@@ -232,7 +266,7 @@ generic_view g =
       constant_word = g.constant_word;
       names = idents_view g.names;
       in_word = g.in_word;
-      mark = ident_view g.mark;
+      subtype = subtype_view g.subtype;
       default = option_map view g.default;
     }
 
@@ -256,12 +290,6 @@ abbrev pub signals_view : Signals → tree.Signals
 signals_view d =
     record { names = idents_view d.names; subtype = subtype_view d.subtype; default = option_map value_view d.default }
 
-abbrev pub constants_view : Constants → tree.Constants
-constants_view d = record { names = idents_view d.names; subtype = subtype_view d.subtype; value = value_view d.value }
-
-abbrev pub enumeration_view : Enumeration → tree.Enumeration
-enumeration_view d = record { name = ident_view d.name; literals = idents_view d.literals }
-
 abbrev pub component_view : Component → tree.Component
 component_view d = record {
   name = ident_view d.name;
@@ -276,6 +304,8 @@ declaration_view (d.Signals x) = tree.signals (signals_view x)
 declaration_view (d.Constants x) = tree.constants (constants_view x)
 declaration_view (d.Enumeration x) = tree.enumeration (enumeration_view x)
 declaration_view (d.Component x) = tree.component (component_view x)
+declaration_view (d.Subtype x) = tree.subtype_of (subtype_declaration_view x)
+declaration_view (d.Attribute text) = tree.attribute_of (text_view text)
 
 abbrev pub declarations_view : Vec Declaration Global → List tree.Declaration
 declarations_view v = map declaration_view v.items
@@ -288,12 +318,20 @@ option_ports_view = option_map ports_view
 
 -- ---- units
 
+abbrev pub texts_view : Vec (Vec TokenKind Global) Global → List tree.Text
+texts_view v = map text_view v.items
+
+abbrev pub option_assertions_view : Option (Vec Assertion Global) → Option (List tree.Assertion)
+option_assertions_view = option_map assertions_view
+
 abbrev pub entity_view : Entity → tree.Entity
 entity_view n = record {
   at = n.at;
   name = ident_view n.name;
   generics = option_map generics_view n.generics;
   ports = option_map ports_view n.ports;
+  attributes = texts_view n.attributes;
+  statements = option_assertions_view n.statements;
   end_word = n.end_word;
   end_name = option_map ident_view n.end_name;
 }

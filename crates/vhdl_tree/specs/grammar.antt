@@ -2,6 +2,8 @@
 pub mod Wide
 pub mod Expressions
 pub mod Subtypes
+pub mod Texts
+pub mod Waveforms
 pub mod Sequential
 pub mod Process
 pub mod Instance

@@ -4,22 +4,12 @@ ghost use Rattle.std.specs.Prelude.{◌≡◌};
 ghost use Rattle.vhdl_tree.specs.Tree.{generated, concurrents_of};
 ghost use Rattle.vhdl_tree.specs.View.{ident_view, option_ident_view, scheme_view, concurrent_view, concurrents_view};
 
-use crate::expression::{Expr, Identifier, Name, Range, Value};
+use crate::expression::{DiscreteRange, Expr, Identifier, Name, Value};
 use crate::instance::Instance;
 use crate::process::{Process, SelectedAssignment};
+use crate::sequential::Branch;
 use drops::take_apart;
-
-/// `value when condition`.
-pub struct Branch {
-    pub value: Value,
-    pub condition: Expr,
-}
-
-impl Drop for Branch {
-    fn drop(self) {
-        take_apart!(self: { value, condition });
-    }
-}
+use vhdl_lexer::TokenKind;
 
 /// A concurrent assignment. The first branch whose condition holds gives the value, else the
 /// last value, if there is one. A plain assignment has no branch.
@@ -36,7 +26,19 @@ impl Drop for Assignment {
     }
 }
 
-/// A concurrent statement and its label. An assignment keeps its own.
+/// A concurrent assertion (11.5): `assert` and a text that is read and dropped.
+pub struct Assertion {
+    pub label: Option<Identifier>,
+    pub text: Vec<TokenKind>,
+}
+
+impl Drop for Assertion {
+    fn drop(self) {
+        take_apart!(self: { label, text });
+    }
+}
+
+/// A concurrent statement and its label. An assignment and an assertion keep their own.
 #[cycle(concurrent)]
 pub enum Concurrent {
     Assignment(Assignment),
@@ -53,20 +55,27 @@ pub enum Concurrent {
         instance: Instance,
     },
     Generate(Generate),
+    Assert(Assertion),
 }
 
 impl Drop for Concurrent {
     #[cycle(concurrent)]
     fn drop(self) {
         take_apart!(self: Assignment(_) | Selected { label, assignment }
-            | Process { label, process } | Instance { label, instance } | Generate(_));
+            | Process { label, process } | Instance { label, instance } | Generate(_)
+            | Assert(_));
     }
 }
 
 /// What a generate statement goes by: a parameter over a range, or a condition.
 pub enum Scheme {
-    For { parameter: Identifier, range: Range },
-    If { condition: Expr },
+    For {
+        parameter: Identifier,
+        range: DiscreteRange,
+    },
+    If {
+        condition: Expr,
+    },
 }
 
 impl Drop for Scheme {

@@ -1,17 +1,31 @@
 //! Declarations (IEEE 1076-2008 clause 6).
 
-use crate::expression::{Expr, Identifier, Range, Value};
+use crate::expression::{DiscreteRange, Expr, Identifier, Value};
 use drops::take_apart;
+use vhdl_lexer::TokenKind;
 
-/// A type's name, and the range in parentheses after it.
+/// A type's name, and the constraint after it (6.3).
 pub struct Subtype {
     pub mark: Identifier,
-    pub range: Option<Range>,
+    pub constraint: Option<Constraint>,
 }
 
 impl Drop for Subtype {
     fn drop(self) {
-        take_apart!(self: { mark, range });
+        take_apart!(self: { mark, constraint });
+    }
+}
+
+/// What a subtype keeps of its type: `( range )`, the indices of a vector (5.3.2), or
+/// `range range`, some of the numbers of an integer type (5.2.1).
+pub enum Constraint {
+    Index(DiscreteRange),
+    Range(DiscreteRange),
+}
+
+impl Drop for Constraint {
+    fn drop(self) {
+        take_apart!(self: Index(_) | Range(_));
     }
 }
 
@@ -22,18 +36,18 @@ pub enum Mode {
     Out,
 }
 
-/// Generics of one type. `constant_word` and `in_word` say whether these words stand there.
+/// Generics of one subtype. `constant_word` and `in_word` say whether these words stand there.
 pub struct Generic {
     pub constant_word: bool,
     pub names: Vec<Identifier>,
     pub in_word: bool,
-    pub mark: Identifier,
+    pub subtype: Subtype,
     pub default: Option<Expr>,
 }
 
 impl Drop for Generic {
     fn drop(self) {
-        take_apart!(self: { constant_word, names, in_word, mark, default });
+        take_apart!(self: { constant_word, names, in_word, subtype, default });
     }
 }
 
@@ -103,6 +117,18 @@ impl Drop for Enumeration {
     }
 }
 
+/// A subtype and its name (6.3).
+pub struct SubtypeDeclaration {
+    pub name: Identifier,
+    pub subtype: Subtype,
+}
+
+impl Drop for SubtypeDeclaration {
+    fn drop(self) {
+        take_apart!(self: { name, subtype });
+    }
+}
+
 /// A component. `is_word` says whether `is` stands after its name.
 pub struct Component {
     pub name: Identifier,
@@ -124,10 +150,28 @@ pub enum Declaration {
     Constants(Constants),
     Enumeration(Enumeration),
     Component(Component),
+    Subtype(SubtypeDeclaration),
+    /// `attribute` and a text that is read and dropped (6.7, 7.2).
+    Attribute(Vec<TokenKind>),
 }
 
 impl Drop for Declaration {
     fn drop(self) {
-        take_apart!(self: Signals(_) | Constants(_) | Enumeration(_) | Component(_));
+        take_apart!(self: Signals(_) | Constants(_) | Enumeration(_) | Component(_) | Subtype(_)
+            | Attribute(_));
+    }
+}
+
+/// A declaration of a process (11.3).
+pub enum ProcessDeclaration {
+    Variables(Variables),
+    Constants(Constants),
+    Enumeration(Enumeration),
+    Subtype(SubtypeDeclaration),
+}
+
+impl Drop for ProcessDeclaration {
+    fn drop(self) {
+        take_apart!(self: Variables(_) | Constants(_) | Enumeration(_) | Subtype(_));
     }
 }

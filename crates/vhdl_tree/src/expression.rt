@@ -1,8 +1,8 @@
 //! Names and expressions (IEEE 1076-2008 clauses 8 and 9), and what is made of them.
 
 ghost use Rattle.std.specs.Prelude.{◌≡◌, IfOk};
-ghost use Rattle.vhdl_tree.specs.Tree.{parens, negation, signed, chained, arguments, sliced, exprs_of};
-ghost use Rattle.vhdl_tree.specs.View.{view, suffix_view, exprs_view, pair_view, pairs_view};
+ghost use Rattle.vhdl_tree.specs.Tree.{parens, negation, absolute, power, signed, chained, aggregate, qualified, arguments, sliced, exprs_of, elements_of, element_by};
+ghost use Rattle.vhdl_tree.specs.View.{ident_view, view, suffix_view, exprs_view, pair_view, pairs_view, choices_view, element_view, elements_view};
 
 use crate::operator::{Direction, Operator, Sign};
 use drops::take_apart;
@@ -53,20 +53,84 @@ pub enum Expr {
         at: usize,
         operand: Box<Expr>,
     },
+    /// `abs operand` (9.2.8).
+    Abs {
+        at: usize,
+        operand: Box<Expr>,
+    },
+    Power(Box<Power>),
     Signed {
         sign: Sign,
         at: usize,
         operand: Box<Expr>,
     },
     Chain(Box<Chain>),
+    /// `( element { , element } )` (9.3.3). A lone element without choices is an expression in
+    /// parentheses instead.
+    Aggregate {
+        at: usize,
+        elements: Vec<Element>,
+    },
+    /// `mark ' ( element { , element } )` (9.3.5), and the byte at which the parenthesis starts.
+    Qualified {
+        mark: Identifier,
+        at: usize,
+        elements: Vec<Element>,
+    },
 }
 
 impl Drop for Expr {
     #[cycle(tree)]
     fn drop(self) {
         take_apart!(self: Integer(_) | Character { at, code } | StringLiteral(_) | BitString(_)
-            | Name(_) | Parens { at, inner } | Not { at, operand } | Signed { sign, at, operand }
-            | Chain(_));
+            | Name(_) | Parens { at, inner } | Not { at, operand } | Abs { at, operand }
+            | Power(_) | Signed { sign, at, operand } | Chain(_) | Aggregate { at, elements }
+            | Qualified { mark, at, elements });
+    }
+}
+
+/// `base ** exponent` (9.2.8), and the byte at which the first star starts.
+#[cycle(tree)]
+pub struct Power {
+    pub base: Expr,
+    pub at: usize,
+    pub exponent: Expr,
+}
+
+impl Drop for Power {
+    #[cycle(tree)]
+    fn drop(self) {
+        take_apart!(self: { base, at, exponent });
+    }
+}
+
+/// An element of an aggregate (9.3.3): its value, behind the choices that say where it stands.
+#[cycle(tree)]
+pub struct Element {
+    pub choices: Vec<Choice>,
+    pub value: Expr,
+}
+
+impl Drop for Element {
+    #[cycle(tree)]
+    fn drop(self) {
+        take_apart!(self: { choices, value });
+    }
+}
+
+/// A choice of an alternative or of an element: an expression, a range, or `others` with the byte
+/// at which it starts.
+#[cycle(tree)]
+pub enum Choice {
+    Expr(Expr),
+    Range(Range),
+    Others { at: usize },
+}
+
+impl Drop for Choice {
+    #[cycle(tree)]
+    fn drop(self) {
+        take_apart!(self: Expr(_) | Range(_) | Others { at });
     }
 }
 
@@ -105,13 +169,26 @@ impl Drop for Link {
 pub struct Name {
     pub identifier: Identifier,
     pub suffix: Suffix,
-    pub attribute: Option<Identifier>,
+    pub attribute: Option<Attribute>,
 }
 
 impl Drop for Name {
     #[cycle(tree)]
     fn drop(self) {
         take_apart!(self: { identifier, suffix, attribute });
+    }
+}
+
+/// An attribute of a name (8.6): its own name, or `range`, a reserved word, with the byte at which
+/// it starts.
+pub enum Attribute {
+    Name(Identifier),
+    Range { at: usize },
+}
+
+impl Drop for Attribute {
+    fn drop(self) {
+        take_apart!(self: Name(_) | Range { at });
     }
 }
 
@@ -158,15 +235,15 @@ impl Drop for Value {
     }
 }
 
-/// A choice of an alternative: an expression, or `others` with the byte at which it starts.
-pub enum Choice {
-    Expr(Expr),
-    Others { at: usize },
+/// A range where a name may stand for one (5.2.1, 5.3.2): its bounds, or the name.
+pub enum DiscreteRange {
+    Bounds(Range),
+    Name(Name),
 }
 
-impl Drop for Choice {
+impl Drop for DiscreteRange {
     fn drop(self) {
-        take_apart!(self: Expr(_) | Others { at });
+        take_apart!(self: Bounds(_) | Name(_));
     }
 }
 
@@ -215,6 +292,38 @@ impl Expr {
         })
     }
 
+    /// `abs operand`, whose `abs` starts at byte `at`. It takes the memory of a box.
+    pub fn magnitude(alloc: Global, at: usize, operand: Expr) -> Result<Expr, AllocError>
+        ensures { IfOk result (λ e. view e ≡ absolute at (view operand)) }
+    {
+        Ok(Expr::Abs {
+            at,
+            operand: Box::new(alloc, operand)?,
+        })
+    }
+
+    /// `base ** exponent`, whose first star starts at byte `at`. It takes the memory of a box.
+    pub fn power(alloc: Global, base: Expr, at: usize, exponent: Expr) -> Result<Expr, AllocError>
+        ensures { IfOk result (λ e. view e ≡ power (view base) at (view exponent)) }
+    {
+        let power = Power { base, at, exponent };
+        Ok(Expr::Power(Box::new(alloc, power)?))
+    }
+
+    /// `( element { , element } )`, whose parenthesis starts at byte `at`.
+    pub fn aggregate(at: usize, elements: Vec<Element>) -> Expr
+        ensures { view result ≡ aggregate at (elements_of (elements_view elements)) }
+    {
+        Expr::Aggregate { at, elements }
+    }
+
+    /// `mark ' ( element { , element } )`, whose parenthesis starts at byte `at`.
+    pub fn qualified(mark: Identifier, at: usize, elements: Vec<Element>) -> Expr
+        ensures { view result ≡ qualified (ident_view mark) at (elements_of (elements_view elements)) }
+    {
+        Expr::Qualified { mark, at, elements }
+    }
+
     /// An operand after a sign, which starts at byte `at`. It takes the memory of a box.
     pub fn with_sign(
         alloc: Global,
@@ -246,6 +355,15 @@ impl Expr {
             rest,
         };
         Ok(Expr::Chain(Box::new(alloc, chain)?))
+    }
+}
+
+impl Element {
+    /// A value behind its choices.
+    pub fn new(choices: Vec<Choice>, value: Expr) -> Element
+        ensures { element_view result ≡ element_by (choices_view choices) (view value) }
+    {
+        Element { choices, value }
     }
 }
 

@@ -1,6 +1,7 @@
 //! Laws of trees: each contract states one, and the body does nothing.
 
 ghost use Rattle.std.specs.Prelude.{ℕ, ◌≤◌, ◌+◌, ◌*◌, List, []};
+ghost use Rattle.vhdl_lexer.specs.declared.language.Language.{Language};
 ghost use Rattle.vhdl_lexer.specs.declared.language.Language.TheVariants.{Wide};
 ghost use Rattle.vhdl_tree.specs.declared.expression.Expr as code;
 ghost use Rattle.vhdl_tree.specs.declared.unit.File as file;
@@ -11,14 +12,15 @@ ghost use Rattle.vhdl_tree.specs.Nesting.{nesting};
 ghost use Rattle.vhdl_tree.specs.Pieces.{Spells};
 ghost use Rattle.vhdl_tree.specs.Tree as t;
 ghost use Rattle.vhdl_tree.specs.View.{view, file_view};
-ghost use Rattle.vhdl_tree.specs.grammar.Expressions.{IsExpr};
+ghost use Rattle.vhdl_tree.specs.grammar.Expressions.{IsExprIn};
 ghost use Rattle.vhdl_tree.specs.grammar.Units.{IsFile, IsFileIn, spell_file};
 
 /// A well-formed expression is no higher than eight for each of its parentheses that stand one in
 /// another, and eight: so a walk over it needs a stack in proportion to these alone, however long
 /// its chains of operators are.
 pub fn height_is_bounded()
-    ensures { (e : code.Expr) → IsExpr (view e) → height e ≤ 8 * (nesting (view e) + 1) }
+    ensures { (language : Language) → (e : code.Expr) → IsExprIn language (view e)
+        → height e ≤ 8 * (nesting (view e) + 1) }
 {}
 
 /// The tree of a file is no higher than eight for each level that is open at once in the tokens

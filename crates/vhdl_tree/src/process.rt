@@ -1,6 +1,6 @@
 //! Processes and selected assignments (IEEE 1076-2008 clauses 11.3, 10.2 and 11.6).
 
-use crate::declaration::Variables;
+use crate::declaration::ProcessDeclaration;
 use crate::expression::{Choice, Expr, Identifier, Name, Value};
 use crate::sequential::Sequential;
 use drops::take_apart;
@@ -34,12 +34,12 @@ impl Drop for Wait {
 }
 
 /// A process behind its label, and the byte at which it starts. `is_word` says whether `is`
-/// stands before its variables and statements.
+/// stands before its declarations and statements.
 pub struct Process {
     pub at: usize,
     pub sensitivity: Sensitivity,
     pub is_word: bool,
-    pub variables: Vec<Variables>,
+    pub declarations: Vec<ProcessDeclaration>,
     pub wait: Option<Wait>,
     pub statements: Vec<Sequential>,
     pub end_label: Option<Identifier>,
@@ -47,7 +47,7 @@ pub struct Process {
 
 impl Drop for Process {
     fn drop(self) {
-        take_apart!(self: { at, sensitivity, is_word, variables, wait, statements, end_label });
+        take_apart!(self: { at, sensitivity, is_word, declarations, wait, statements, end_label });
     }
 }
 

@@ -2,11 +2,24 @@
 
 ghost use Rattle.std.specs.Prelude.{◌≡◌};
 ghost use Rattle.vhdl_tree.specs.Tree.{if_of, case_of, for_of, guarded_by, chosen_by, statements_of, conditionals_of, alternatives_of, otherwise_of};
-ghost use Rattle.vhdl_tree.specs.View.{view, ident_view, option_ident_view, range_view, choices_view, statement_view};
+ghost use Rattle.vhdl_tree.specs.View.{view, ident_view, option_ident_view, discrete_range_view, choices_view, statement_view};
 ghost use Rattle.vhdl_tree.specs.View.{sequentials_view, option_sequentials_view, conditional_view, conditionals_view, alternative_view, alternatives_view};
 
-use crate::expression::{Choice, Expr, Identifier, Name, Range, Value};
+use crate::expression::{Choice, DiscreteRange, Expr, Identifier, Name, Value};
 use drops::take_apart;
+use vhdl_lexer::TokenKind;
+
+/// `value when condition`.
+pub struct Branch {
+    pub value: Value,
+    pub condition: Expr,
+}
+
+impl Drop for Branch {
+    fn drop(self) {
+        take_apart!(self: { value, condition });
+    }
+}
 
 /// A sequential statement and its label.
 #[cycle(statement)]
@@ -26,21 +39,43 @@ impl Drop for Sequential {
 #[cycle(statement)]
 pub enum Statement {
     /// `null`, and the byte at which it starts.
-    Null { at: usize },
+    Null {
+        at: usize,
+    },
     /// `target <= value` (10.5).
-    SignalAssignment { target: Name, value: Value },
+    SignalAssignment {
+        target: Name,
+        value: Value,
+    },
     /// `target := value` (10.6).
-    VariableAssignment { target: Name, value: Value },
+    VariableAssignment {
+        target: Name,
+        value: Value,
+    },
+    /// `target <= value when condition { else value when condition } [ else value ]` (10.5.3), or
+    /// with `:=` (10.6.3). There is a branch at least.
+    ConditionalAssignment {
+        is_variable: bool,
+        target: Name,
+        branches: Vec<Branch>,
+        otherwise: Option<Value>,
+    },
     If(If),
     Case(Case),
     For(For),
+    /// `assert` and a text that is read and dropped (10.3).
+    Assert(Vec<TokenKind>),
+    /// `report` and a text that is read and dropped (10.4).
+    Report(Vec<TokenKind>),
 }
 
 impl Drop for Statement {
     #[cycle(statement)]
     fn drop(self) {
         take_apart!(self: Null { at } | SignalAssignment { target, value }
-            | VariableAssignment { target, value } | If(_) | Case(_) | For(_));
+            | VariableAssignment { target, value }
+            | ConditionalAssignment { is_variable, target, branches, otherwise }
+            | If(_) | Case(_) | For(_) | Assert(_) | Report(_));
     }
 }
 
@@ -110,7 +145,7 @@ impl Drop for Alternative {
 pub struct For {
     pub at: usize,
     pub parameter: Identifier,
-    pub range: Range,
+    pub range: DiscreteRange,
     pub statements: Vec<Sequential>,
     pub end_label: Option<Identifier>,
 }
@@ -189,12 +224,12 @@ impl Statement {
     pub fn repetition(
         at: usize,
         parameter: Identifier,
-        range: Range,
+        range: DiscreteRange,
         statements: Vec<Sequential>,
         end_label: Option<Identifier>,
     ) -> Statement
         ensures { statement_view result
-            ≡ for_of at (ident_view parameter) (range_view range) (statements_of (sequentials_view statements))
+            ≡ for_of at (ident_view parameter) (discrete_range_view range) (statements_of (sequentials_view statements))
             (option_ident_view end_label) }
     {
         Statement::For(For {

@@ -1,24 +1,28 @@
 //! Design units and files (IEEE 1076-2008 clauses 3 and 13).
 
-use crate::concurrent::Concurrent;
+use crate::concurrent::{Assertion, Concurrent};
 use crate::declaration::{Declaration, Generic, Port};
 use crate::expression::Identifier;
 use drops::take_apart;
+use vhdl_lexer::TokenKind;
 
-/// An entity, and the byte at which it starts. `end_word` says whether `entity` stands after
-/// `end`.
+/// An entity, and the byte at which it starts. `attributes` are the texts behind `attribute`,
+/// which are dropped; `statements` stand behind `begin`. `end_word` says whether `entity` stands
+/// after `end`.
 pub struct Entity {
     pub at: usize,
     pub name: Identifier,
     pub generics: Option<Vec<Generic>>,
     pub ports: Option<Vec<Port>>,
+    pub attributes: Vec<Vec<TokenKind>>,
+    pub statements: Option<Vec<Assertion>>,
     pub end_word: bool,
     pub end_name: Option<Identifier>,
 }
 
 impl Drop for Entity {
     fn drop(self) {
-        take_apart!(self: { at, name, generics, ports, end_word, end_name });
+        take_apart!(self: { at, name, generics, ports, attributes, statements, end_word, end_name });
     }
 }
 

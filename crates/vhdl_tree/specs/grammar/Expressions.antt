@@ -1,6 +1,7 @@
--- Expressions (IEEE 1076-2008, 9.1): how they are spelled, and which are well formed.
-use Rattle.std.specs.Prelude.{◌≡◌, ℕ, ◌≤◌, ◌<◌, ◌⊎◌, Bool, true, false, if◌then◌else◌, Option, Some, None, List, [], ◌∷◌, ◌++◌}
+-- Names and expressions (IEEE 1076-2008, 8.1, 9.1): how they are spelled, and which are well formed.
+use Rattle.std.specs.Prelude.{◌≡◌, ℕ, suc, ◌≤◌, ◌<◌, ◌⊎◌, Bool, true, false, if◌then◌else◌, List, [], ◌∷◌, ◌++◌}
 use Rattle.vhdl_lexer.specs.Kinds.{is_one_of}
+use Rattle.vhdl_lexer.specs.declared.language.Language.{Language}
 use Rattle.vhdl_lexer.specs.declared.token.TokenKind.{TokenKind}
 use Rattle.vhdl_lexer.specs.declared.token.TokenKind.TheVariants as k
 use Rattle.vhdl_tree.specs.declared.operator.Operator.{Operator}
@@ -9,8 +10,9 @@ use Rattle.vhdl_tree.specs.declared.operator.Sign.{Sign}
 use Rattle.vhdl_tree.specs.declared.operator.Sign.TheVariants.{Plus, Minus}
 use Rattle.vhdl_tree.specs.declared.operator.Direction.{Direction}
 use Rattle.vhdl_tree.specs.declared.operator.Direction.TheVariants.{To, Downto}
-use Rattle.vhdl_tree.specs.Tree.{Ident, Expr, integer, character, string, bits, named, parens, negation, signed, binary, Suffix, plain, arguments, sliced, Exprs, no_exprs, expr, Range, Name, Value, single, others, Choice, chosen, otherwise, Actual, actual, left_open, Association}
-use Rattle.vhdl_tree.specs.Pieces.{Piece, some, one_at, word_at, literal_at, text_at, spell_option, spell_ident, spell_list, IsList}
+use Rattle.vhdl_tree.specs.Tree.{Ident, Attribute, called, of_range, Expr, integer, character, string, bits, named, parens, negation, absolute, power, signed, binary, aggregate, qualified, Suffix, plain, arguments, sliced, Exprs, no_exprs, expr, Elements, no_elements, element, Choices, no_choices, choice, Choice, chosen, chosen_range, otherwise, Range, Name, DiscreteRange, bounds, range_named, Value, single, others, Actual, actual, left_open, Association}
+use Rattle.vhdl_tree.specs.Pieces.{Piece, some, one_at, word_at, literal_at, text_at, spell_option, spell_ident, spell_list, IsList, IsOption}
+use Rattle.vhdl_tree.specs.grammar.Wide.{IsWide}
 
 -- ---- spelling
 
@@ -43,28 +45,39 @@ abbrev pub direction_kind : Direction → TokenKind
 direction_kind To = k.To
 direction_kind Downto = k.Downto
 
--- [ ' id ]
-abbrev pub spell_attribute : Option Ident → List Piece
-spell_attribute None = []
-spell_attribute (Some a) = some k.Tick ∷ spell_ident a
+-- ' ( id | range ), in which `range` is the reserved word
+abbrev pub spell_attribute : Attribute → List Piece
+spell_attribute (called name) = some k.Tick ∷ spell_ident name
+spell_attribute (of_range at) = some k.Tick ∷ (one_at k.Range at ∷ [])
 
 abbrev mutual
   pub spell : Expr → List Piece
-  -- primary = integer | character | string | bit string | name | ( expr )
+  -- primary = integer | character | string | bit string | name | ( expr ) | aggregate | qualified
   spell (integer at text) = text_at k.Integer at text ∷ []
   spell (character at code) = literal_at at code ∷ []
   spell (string at text) = text_at k.String at text ∷ []
   spell (bits at text) = text_at k.BitString at text ∷ []
-  spell (named n suffix attribute) = word_at n.at n.text ∷ (spell_suffix suffix ++ spell_attribute attribute)
+  spell (named n suffix attribute) =
+      word_at n.at n.text ∷ (spell_suffix suffix ++ spell_option spell_attribute attribute)
   spell (parens at inner) = one_at k.LeftParen at ∷ (spell inner ++ some k.RightParen ∷ [])
-  -- factor = [ not ] primary
+  -- aggregate = ( element { , element } )
+  spell (aggregate at elements) = one_at k.LeftParen at ∷ (spell_elements elements ++ some k.RightParen ∷ [])
+  -- qualified = id ' ( expr ) | id ' aggregate
+  spell (qualified mark at elements) =
+      word_at mark.at mark.text ∷ (some k.Tick ∷ (one_at k.LeftParen at ∷
+      (spell_elements elements ++ some k.RightParen ∷ [])))
+  -- factor = not primary | abs primary | primary [ ** primary ]
   spell (negation at operand) = one_at k.Not at ∷ spell operand
+  spell (absolute at operand) = one_at k.Abs at ∷ spell operand
+  -- the two stars of `**` touch: no other sign, nor a space, stands between them (15.3)
+  spell (power base at exponent) =
+      spell base ++ (one_at k.Star at ∷ (one_at k.Star (suc at) ∷ spell exponent))
   -- sum = [ + | - ] term { .. }
   spell (signed sign at operand) = one_at (sign_kind sign) at ∷ spell operand
   -- expr = rel { and rel } | .., rel = sum [ .. sum ], sum = .. term { .. term }, term = factor { .. factor }
   spell (binary begins operator at left right) = spell left ++ (one_at (kind_of operator) at ∷ spell right)
 
-  -- name = id [ ( expr { , expr } ) | ( range ) ] .., range = expr ( to | downto ) expr
+  -- name = id [ ( expr { , expr } ) | ( expr ( to | downto ) expr ) ] ..
   pub spell_suffix : Suffix → List Piece
   spell_suffix plain = []
   spell_suffix (arguments all) = some k.LeftParen ∷ (spell_exprs all ++ some k.RightParen ∷ [])
@@ -79,9 +92,39 @@ abbrev mutual
   spell_more no_exprs = []
   spell_more (expr e more) = some k.Comma ∷ (spell e ++ spell_more more)
 
--- name = id [ .. ] [ ' id ]
+  -- element { , element }, element = [ choices => ] expr
+  pub spell_elements : Elements → List Piece
+  spell_elements no_elements = []
+  spell_elements (element choices value more) =
+      (spell_chosen choices ++ spell value) ++ spell_more_elements more
+
+  -- { , element }
+  pub spell_more_elements : Elements → List Piece
+  spell_more_elements no_elements = []
+  spell_more_elements (element choices value more) =
+      some k.Comma ∷ ((spell_chosen choices ++ spell value) ++ spell_more_elements more)
+
+  -- [ choices => ]
+  pub spell_chosen : Choices → List Piece
+  spell_chosen no_choices = []
+  spell_chosen (choice c more) = spell_choice c ++ spell_more_chosen more
+
+  -- { | choice } =>
+  pub spell_more_chosen : Choices → List Piece
+  spell_more_chosen no_choices = some k.Arrow ∷ []
+  spell_more_chosen (choice c more) = some k.Bar ∷ (spell_choice c ++ spell_more_chosen more)
+
+  -- choice = others | expr | expr ( to | downto ) expr
+  pub spell_choice : Choice → List Piece
+  spell_choice (otherwise at) = one_at k.Others at ∷ []
+  spell_choice (chosen e) = spell e
+  spell_choice (chosen_range left direction right) =
+      spell left ++ (some (direction_kind direction) ∷ spell right)
+
+-- name = id [ .. ] [ ' ( id | range ) ]
 abbrev pub spell_name : Name → List Piece
-spell_name n = word_at n.identifier.at n.identifier.text ∷ (spell_suffix n.suffix ++ spell_attribute n.attribute)
+spell_name n =
+    word_at n.identifier.at n.identifier.text ∷ (spell_suffix n.suffix ++ spell_option spell_attribute n.attribute)
 
 -- value = expr | ( others => expr )
 abbrev pub spell_value : Value → List Piece
@@ -89,14 +132,14 @@ spell_value (single e) = spell e
 spell_value (others at e) =
     one_at k.LeftParen at ∷ (some k.Others ∷ (some k.Arrow ∷ (spell e ++ some k.RightParen ∷ [])))
 
--- range = expr ( to | downto ) expr
+-- expr ( to | downto ) expr
 abbrev pub spell_range : Range → List Piece
 spell_range r = spell r.left ++ (some (direction_kind r.direction) ∷ spell r.right)
 
--- choice = others | expr
-abbrev pub spell_choice : Choice → List Piece
-spell_choice (otherwise at) = one_at k.Others at ∷ []
-spell_choice (chosen e) = spell e
+-- range = expr ( to | downto ) expr | name
+abbrev pub spell_discrete_range : DiscreteRange → List Piece
+spell_discrete_range (bounds r) = spell_range r
+spell_discrete_range (range_named n) = spell_name n
 
 -- choices = choice { | choice }
 abbrev pub spell_choices : List Choice → List Piece
@@ -134,7 +177,8 @@ token_rank kind =
 abbrev pub rank : Operator → ℕ
 rank operator = token_rank (kind_of operator)
 
--- how tightly a tree holds together: by its own operator, a sign as a sum, `not` 5, and what needs no operator 6
+-- how tightly a tree holds together: by its own operator, a sign as a sum, `not`, `abs` and `**` 5, and what needs no
+-- operator 6
 abbrev pub binding : Expr → ℕ
 binding (integer at text) = 6
 binding (character at code) = 6
@@ -143,8 +187,12 @@ binding (bits at text) = 6
 binding (named n suffix attribute) = 6
 binding (parens at inner) = 6
 binding (negation at operand) = 5
+binding (absolute at operand) = 5
+binding (power base at exponent) = 5
 binding (signed sign at operand) = 3
 binding (binary begins operator at left right) = rank operator
+binding (aggregate at all) = 6
+binding (qualified mark at all) = 6
 
 -- the logical operators of expr = rel { and rel } | rel { or rel } | rel { xor rel } | rel { xnor rel } | rel nand rel
 -- | rel nor rel that may stand more than once
@@ -172,58 +220,98 @@ abbrev pub Leads : Bool → Operator → Expr → Type 0
 Leads true operator left = (rank operator < binding left) ⊎ IsSigned operator left
 Leads false operator left = GoesOn operator left
 
-abbrev mutual
-  pub IsExpr : Expr → Type 0
-  IsExpr (integer at text) = Unit {0}
-  IsExpr (character at code) = Unit {0}
-  IsExpr (string at text) = Unit {0}
-  IsExpr (bits at text) = Unit {0}
-  IsExpr (named n suffix attribute) = IsSuffix suffix
-  IsExpr (parens at inner) = IsExpr inner
-  -- factor = not primary
-  IsExpr (negation at operand) = (5 < binding operand) × IsExpr operand
-  -- sum = ( + | - ) term { .. }
-  IsExpr (signed sign at operand) = (3 < binding operand) × IsExpr operand
-  IsExpr (binary begins operator at left right) =
-      Leads begins operator left × (rank operator < binding right) × IsExpr left × IsExpr right
+-- no lone element without choices, which is an expression in parentheses
+abbrev pub IsAggregate : Elements → Type 0
+IsAggregate (element no_choices value no_elements) = ⊥
+IsAggregate _ = Unit {0}
 
-  pub IsSuffix : Suffix → Type 0
-  IsSuffix plain = Unit {0}
-  IsSuffix (arguments all) = AreArguments all
-  IsSuffix (sliced left direction right) = IsExpr left × IsExpr right
+-- no ( others => e ), which as a value is `others`
+abbrev pub IsSingle : Expr → Type 0
+IsSingle (aggregate at (element (choice (otherwise other) no_choices) value no_elements)) = ⊥
+IsSingle _ = Unit {0}
 
-  -- there is at least one
-  pub AreArguments : Exprs → Type 0
-  AreArguments no_exprs = ⊥
-  AreArguments (expr e more) = IsExpr e × AreExprs more
+-- in a language
+module _ (language : Language) where
+  abbrev pub IsAttributeIn : Attribute → Type 0
+  IsAttributeIn (called name) = Unit {0}
+  IsAttributeIn (of_range at) = IsWide language
 
-  pub AreExprs : Exprs → Type 0
-  AreExprs no_exprs = Unit {0}
-  AreExprs (expr e more) = IsExpr e × AreExprs more
+  abbrev mutual
+    pub IsExprIn : Expr → Type 0
+    IsExprIn (integer at text) = Unit {0}
+    IsExprIn (character at code) = Unit {0}
+    IsExprIn (string at text) = Unit {0}
+    IsExprIn (bits at text) = Unit {0}
+    IsExprIn (named n suffix attribute) = IsSuffixIn suffix × IsOption IsAttributeIn attribute
+    IsExprIn (parens at inner) = IsExprIn inner
+    IsExprIn (aggregate at elements) = IsWide language × IsAggregate elements × AreElementsIn elements
+    IsExprIn (qualified mark at elements) = IsWide language × AreElementsIn elements
+    -- factor = not primary | abs primary | primary ** primary
+    IsExprIn (negation at operand) = (5 < binding operand) × IsExprIn operand
+    IsExprIn (absolute at operand) = IsWide language × (5 < binding operand) × IsExprIn operand
+    IsExprIn (power base at exponent) =
+        IsWide language × (5 < binding base) × (5 < binding exponent) × IsExprIn base × IsExprIn exponent
+    -- sum = ( + | - ) term { .. }
+    IsExprIn (signed sign at operand) = (3 < binding operand) × IsExprIn operand
+    IsExprIn (binary begins operator at left right) =
+        Leads begins operator left × (rank operator < binding right) × IsExprIn left × IsExprIn right
 
-abbrev pub IsName : Name → Type 0
-IsName n = IsSuffix n.suffix
+    pub IsSuffixIn : Suffix → Type 0
+    IsSuffixIn plain = Unit {0}
+    IsSuffixIn (arguments all) = AreArgumentsIn all
+    IsSuffixIn (sliced left direction right) = IsExprIn left × IsExprIn right
 
-abbrev pub IsRange : Range → Type 0
-IsRange r = IsExpr r.left × IsExpr r.right
+    -- there is at least one
+    pub AreArgumentsIn : Exprs → Type 0
+    AreArgumentsIn no_exprs = ⊥
+    AreArgumentsIn (expr e more) = IsExprIn e × AreExprsIn more
 
-abbrev pub IsValue : Value → Type 0
-IsValue (single e) = IsExpr e
-IsValue (others at e) = IsExpr e
+    pub AreExprsIn : Exprs → Type 0
+    AreExprsIn no_exprs = Unit {0}
+    AreExprsIn (expr e more) = IsExprIn e × AreExprsIn more
 
-abbrev pub IsChoice : Choice → Type 0
-IsChoice (otherwise at) = Unit {0}
-IsChoice (chosen e) = IsExpr e
+    -- there is at least one
+    pub AreElementsIn : Elements → Type 0
+    AreElementsIn no_elements = ⊥
+    AreElementsIn (element choices value more) = AreChosenIn choices × IsExprIn value × AreMoreElementsIn more
 
-abbrev pub AreChoices : List Choice → Type 0
-AreChoices = IsList IsChoice
+    pub AreMoreElementsIn : Elements → Type 0
+    AreMoreElementsIn no_elements = Unit {0}
+    AreMoreElementsIn (element choices value more) = AreChosenIn choices × IsExprIn value × AreMoreElementsIn more
 
-abbrev pub IsActual : Actual → Type 0
-IsActual (actual e) = IsExpr e
-IsActual (left_open at) = Unit {0}
+    pub AreChosenIn : Choices → Type 0
+    AreChosenIn no_choices = Unit {0}
+    AreChosenIn (choice c more) = IsChoiceIn c × AreChosenIn more
 
-abbrev pub IsAssociation : Association → Type 0
-IsAssociation a = IsActual a.actual
+    -- a range is a choice in the wider language alone
+    pub IsChoiceIn : Choice → Type 0
+    IsChoiceIn (otherwise at) = Unit {0}
+    IsChoiceIn (chosen e) = IsExprIn e
+    IsChoiceIn (chosen_range left direction right) = IsWide language × IsExprIn left × IsExprIn right
 
-abbrev pub AreAssociations : List Association → Type 0
-AreAssociations = IsList IsAssociation
+  abbrev pub IsNameIn : Name → Type 0
+  IsNameIn n = IsSuffixIn n.suffix × IsOption IsAttributeIn n.attribute
+
+  abbrev pub IsRangeIn : Range → Type 0
+  IsRangeIn r = IsExprIn r.left × IsExprIn r.right
+
+  abbrev pub IsDiscreteRangeIn : DiscreteRange → Type 0
+  IsDiscreteRangeIn (bounds r) = IsRangeIn r
+  IsDiscreteRangeIn (range_named n) = IsWide language × IsNameIn n
+
+  abbrev pub IsValueIn : Value → Type 0
+  IsValueIn (single e) = IsExprIn e × IsSingle e
+  IsValueIn (others at e) = IsExprIn e
+
+  abbrev pub AreChoicesIn : List Choice → Type 0
+  AreChoicesIn = IsList IsChoiceIn
+
+  abbrev pub IsActualIn : Actual → Type 0
+  IsActualIn (actual e) = IsExprIn e
+  IsActualIn (left_open at) = Unit {0}
+
+  abbrev pub IsAssociationIn : Association → Type 0
+  IsAssociationIn a = IsActualIn a.actual
+
+  abbrev pub AreAssociationsIn : List Association → Type 0
+  AreAssociationsIn = IsList IsAssociationIn

@@ -1,10 +1,11 @@
 -- Instances (IEEE 1076-2008, 11.7): how they are spelled, and which are well formed.
 use Rattle.std.specs.Prelude.{List, [], ◌∷◌, ◌++◌}
+use Rattle.vhdl_lexer.specs.declared.language.Language.{Language}
 use Rattle.vhdl_lexer.specs.declared.token.TokenKind.{TokenKind}
 use Rattle.vhdl_lexer.specs.declared.token.TokenKind.TheVariants as k
 use Rattle.vhdl_tree.specs.Tree.{Ident, Association, Instantiated, entity_unit, component_unit, Instance}
 use Rattle.vhdl_tree.specs.Pieces.{Piece, some, spell_ident, spell_word, spell_option, IsOption}
-use Rattle.vhdl_tree.specs.grammar.Expressions.{spell_associations, AreAssociations}
+use Rattle.vhdl_tree.specs.grammar.Expressions.{spell_associations, AreAssociationsIn}
 
 -- ( id )
 abbrev pub spell_chosen : Ident → List Piece
@@ -26,5 +27,6 @@ spell_instance i =
     spell_instantiated i.unit ++ (spell_option (spell_map k.Generic) i.generics
     ++ (spell_option (spell_map k.Port) i.ports ++ some k.Semicolon ∷ []))
 
-abbrev pub IsInstance : Instance → Type 0
-IsInstance i = IsOption AreAssociations i.generics × IsOption AreAssociations i.ports
+abbrev pub IsInstanceIn : Language → Instance → Type 0
+IsInstanceIn language i =
+    IsOption (AreAssociationsIn language) i.generics × IsOption (AreAssociationsIn language) i.ports

@@ -3,11 +3,11 @@
 use Rattle.std.specs.Prelude.{List, [], ◌∷◌, ◌++◌}
 use Rattle.vhdl_lexer.specs.declared.language.Language.{Language}
 use Rattle.vhdl_lexer.specs.declared.token.TokenKind.TheVariants as k
-use Rattle.vhdl_tree.specs.Tree.{Variables, Wait, Process, Sensitivity, absent, every, listed, Waveform, SelectedAssignment, statements_of}
+use Rattle.vhdl_tree.specs.Tree.{Variables, ProcessDeclaration, variables, process_constants, process_enumeration, process_subtype, Wait, Process, Sensitivity, absent, every, listed, Waveform, SelectedAssignment, statements_of}
 use Rattle.vhdl_tree.specs.Pieces.{Piece, some, one_at, spell_idents, spell_word, spell_option, spell_each, spell_list, IsAny, IsEach, IsList, IsOption}
-use Rattle.vhdl_tree.specs.grammar.Expressions.{spell, spell_name, spell_value, spell_choices, IsExpr, IsName, IsValue, AreChoices}
-use Rattle.vhdl_tree.specs.grammar.Subtypes.{spell_subtype, spell_default, IsSubtype}
-use Rattle.vhdl_tree.specs.grammar.Sequential.{spell_statements, spell_end, AreStatements}
+use Rattle.vhdl_tree.specs.grammar.Expressions.{spell, spell_name, spell_value, spell_choices, IsExprIn, IsNameIn, IsValueIn, AreChoicesIn}
+use Rattle.vhdl_tree.specs.grammar.Subtypes.{spell_subtype, spell_default, spell_subtype_declaration, spell_constants, spell_enumeration, IsSubtypeIn, IsSubtypeDeclarationIn, IsConstantsIn, IsEnumeration}
+use Rattle.vhdl_tree.specs.grammar.Sequential.{spell_statements, spell_end, AreStatementsIn}
 use Rattle.vhdl_tree.specs.grammar.Wide.{IsWide}
 
 -- [ ( all ) | ( name { , name } ) ]
@@ -22,6 +22,13 @@ spell_variables d =
     some k.Variable ∷ (spell_idents d.names
     ++ (some k.Colon ∷ (spell_subtype d.subtype ++ (spell_option spell_default d.default ++ some k.Semicolon ∷ []))))
 
+-- vdecl = variable .. | constant .. | type .. | subtype id is subtype ;
+abbrev pub spell_process_declaration : ProcessDeclaration → List Piece
+spell_process_declaration (variables d) = spell_variables d
+spell_process_declaration (process_constants d) = spell_constants d
+spell_process_declaration (process_enumeration d) = spell_enumeration d
+spell_process_declaration (process_subtype d) = spell_subtype_declaration d
+
 -- wait until expr ;
 abbrev pub spell_wait : Wait → List Piece
 spell_wait w = one_at k.Wait w.at ∷ (some k.Until ∷ (spell w.condition ++ some k.Semicolon ∷ []))
@@ -32,30 +39,37 @@ spell_body p =
     some k.Begin ∷ (spell_option spell_wait p.wait
     ++ (spell_statements (statements_of p.statements) ++ spell_end k.Process p.end_label))
 
--- process = process [ .. ] [ is ] { variable ids : subtype [ := value ] ; }
---     begin [ wait until expr ; ] { seq } end process [ id ] ;
+-- process = process [ .. ] [ is ] { vdecl } begin [ wait until expr ; ] { seq } end process [ id ] ;
 abbrev pub spell_process : Process → List Piece
 spell_process p =
     one_at k.Process p.at ∷ (spell_sensitivity p.sensitivity
-    ++ (spell_word k.Is p.is_word ++ (spell_each spell_variables p.variables ++ spell_body p)))
-
-abbrev pub IsSensitivity : Sensitivity → Type 0
-IsSensitivity absent = Unit {0}
-IsSensitivity every = Unit {0}
-IsSensitivity (listed names) = IsList IsName names
-
-abbrev pub IsVariables : Variables → Type 0
-IsVariables d = IsList IsAny d.names × IsSubtype d.subtype × IsOption IsValue d.default
+    ++ (spell_word k.Is p.is_word ++ (spell_each spell_process_declaration p.declarations ++ spell_body p)))
 
 module _ (language : Language) where
+  abbrev pub IsSensitivityIn : Sensitivity → Type 0
+  IsSensitivityIn absent = Unit {0}
+  IsSensitivityIn every = Unit {0}
+  IsSensitivityIn (listed names) = IsList (IsNameIn language) names
+
+  abbrev pub IsVariablesIn : Variables → Type 0
+  IsVariablesIn d =
+      IsList IsAny d.names × IsSubtypeIn language d.subtype × IsOption (IsValueIn language) d.default
+
+  -- a process declares nothing but variables in the narrower language
+  abbrev pub IsProcessDeclarationIn : ProcessDeclaration → Type 0
+  IsProcessDeclarationIn (variables d) = IsVariablesIn d
+  IsProcessDeclarationIn (process_constants d) = IsWide language × IsConstantsIn language d
+  IsProcessDeclarationIn (process_enumeration d) = IsWide language × IsEnumeration d
+  IsProcessDeclarationIn (process_subtype d) = IsSubtypeDeclarationIn language d
+
   -- a process waits in the wider language alone
   abbrev pub IsWaitIn : Wait → Type 0
-  IsWaitIn w = IsWide language × IsExpr w.condition
+  IsWaitIn w = IsWide language × IsExprIn language w.condition
 
   abbrev pub IsProcessIn : Process → Type 0
   IsProcessIn p =
-      IsSensitivity p.sensitivity × IsEach IsVariables p.variables × IsOption IsWaitIn p.wait
-      × AreStatements (statements_of p.statements)
+      IsSensitivityIn p.sensitivity × IsEach IsProcessDeclarationIn p.declarations × IsOption IsWaitIn p.wait
+      × AreStatementsIn language (statements_of p.statements)
 
 -- value when choices
 abbrev pub spell_waveform : Waveform → List Piece
@@ -67,8 +81,9 @@ spell_selected s =
     one_at k.With s.at ∷ (spell s.selector ++ (some k.Select ∷ (spell_name s.target ++ (some k.LessEqual ∷
     (spell_list k.Comma spell_waveform s.waveforms ++ some k.Semicolon ∷ [])))))
 
-abbrev pub IsWaveform : Waveform → Type 0
-IsWaveform w = IsValue w.value × AreChoices w.choices
+module _ (language : Language) where
+  abbrev pub IsWaveformIn : Waveform → Type 0
+  IsWaveformIn w = IsValueIn language w.value × AreChoicesIn language w.choices
 
-abbrev pub IsSelected : SelectedAssignment → Type 0
-IsSelected s = IsExpr s.selector × IsName s.target × IsList IsWaveform s.waveforms
+  abbrev pub IsSelectedIn : SelectedAssignment → Type 0
+  IsSelectedIn s = IsExprIn language s.selector × IsNameIn language s.target × IsList IsWaveformIn s.waveforms

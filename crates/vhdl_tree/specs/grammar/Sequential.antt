@@ -1,10 +1,14 @@
 -- Sequential statements (IEEE 1076-2008, 10): how they are spelled, and which are well formed.
-use Rattle.std.specs.Prelude.{Option, List, [], ◌∷◌, ◌++◌}
+use Rattle.std.specs.Prelude.{Bool, true, false, Option, List, [], ◌∷◌, ◌++◌}
+use Rattle.vhdl_lexer.specs.declared.language.Language.{Language}
 use Rattle.vhdl_lexer.specs.declared.token.TokenKind.{TokenKind}
 use Rattle.vhdl_lexer.specs.declared.token.TokenKind.TheVariants as k
-use Rattle.vhdl_tree.specs.Tree.{Ident, Statement, null_of, assigned, variable_assigned, if_of, case_of, for_of, Statements, done, step, Conditionals, no_conditionals, guarded, Otherwise, no_else, else_do, Alternatives, no_alternatives, alternative, Sequential}
+use Rattle.vhdl_tree.specs.Tree.{Ident, Statement, null_of, assigned, variable_assigned, assigned_when, if_of, case_of, for_of, asserted, reported, Statements, done, step, Conditionals, no_conditionals, guarded, Otherwise, no_else, else_do, Alternatives, no_alternatives, alternative, Sequential}
 use Rattle.vhdl_tree.specs.Pieces.{Piece, some, one_at, word_at, spell_ident, spell_option}
-use Rattle.vhdl_tree.specs.grammar.Expressions.{spell, spell_name, spell_value, spell_range, spell_choices, IsExpr, IsName, IsValue, IsRange, AreChoices}
+use Rattle.vhdl_tree.specs.grammar.Expressions.{spell, spell_name, spell_value, spell_discrete_range, spell_choices, IsExprIn, IsNameIn, IsValueIn, IsDiscreteRangeIn, AreChoicesIn}
+use Rattle.vhdl_tree.specs.grammar.Waveforms.{spell_waveforms, AreConditionalIn}
+use Rattle.vhdl_tree.specs.grammar.Texts.{spell_text, IsTextIn}
+use Rattle.vhdl_tree.specs.grammar.Wide.{IsWide}
 
 -- id :
 abbrev pub spell_label : Ident → List Piece
@@ -13,6 +17,11 @@ spell_label n = word_at n.at n.text ∷ (some k.Colon ∷ [])
 -- end if | end case | end loop, [ id ] ;
 abbrev pub spell_end : TokenKind → Option Ident → List Piece
 spell_end word label = some k.End ∷ (some word ∷ (spell_option spell_ident label ++ some k.Semicolon ∷ []))
+
+-- <= | :=
+abbrev pub assign_kind : Bool → TokenKind
+assign_kind false = k.LessEqual
+assign_kind true = k.Assign
 
 abbrev mutual
   pub spell_statement : Statement → List Piece
@@ -24,6 +33,10 @@ abbrev mutual
   -- seq = name := value ;
   spell_statement (variable_assigned target value) =
       spell_name target ++ (some k.Assign ∷ (spell_value value ++ some k.Semicolon ∷ []))
+  -- seq = name ( <= | := ) value when expr { else value when expr } [ else value ] ;
+  spell_statement (assigned_when is_variable target branches otherwise) =
+      spell_name target ++ (some (assign_kind is_variable) ∷
+      (spell_waveforms branches otherwise ++ some k.Semicolon ∷ []))
   -- if = if expr then { seq } { elsif expr then { seq } } [ else { seq } ] end if [ id ] ;
   spell_statement (if_of at branches otherwise label) =
       one_at k.If at ∷ (spell_conditionals branches ++ (spell_else otherwise ++ spell_end k.If label))
@@ -32,8 +45,11 @@ abbrev mutual
       one_at k.Case at ∷ (spell selector ++ (some k.Is ∷ (spell_alternatives alternatives ++ spell_end k.Case label)))
   -- for = for id in range loop { seq } end loop [ id ] ;
   spell_statement (for_of at parameter range statements label) =
-      one_at k.For at ∷ (word_at parameter.at parameter.text ∷ (some k.In ∷ (spell_range range ++ (some k.Loop ∷
-      (spell_statements statements ++ spell_end k.Loop label)))))
+      one_at k.For at ∷ (word_at parameter.at parameter.text ∷ (some k.In ∷ (spell_discrete_range range ++
+      (some k.Loop ∷ (spell_statements statements ++ spell_end k.Loop label)))))
+  -- seq = assert text ; | report text ;
+  spell_statement (asserted text) = spell_text k.Assert text
+  spell_statement (reported text) = spell_text k.Report text
 
   -- seq = [ id : ] ..
   pub spell_statements : Statements → List Piece
@@ -66,38 +82,47 @@ abbrev mutual
 abbrev pub spell_sequential : Sequential → List Piece
 spell_sequential s = spell_option spell_label s.label ++ spell_statement s.statement
 
-abbrev mutual
-  pub IsStatement : Statement → Type 0
-  IsStatement (null_of at) = Unit {0}
-  IsStatement (assigned target value) = IsName target × IsValue value
-  IsStatement (variable_assigned target value) = IsName target × IsValue value
-  IsStatement (if_of at branches otherwise label) = AreBranches branches × IsElse otherwise
-  IsStatement (case_of at selector alternatives label) = IsExpr selector × AreCases alternatives
-  IsStatement (for_of at parameter range statements label) = IsRange range × AreStatements statements
+module _ (language : Language) where
+  abbrev mutual
+    pub IsStatementIn : Statement → Type 0
+    IsStatementIn (null_of at) = Unit {0}
+    IsStatementIn (assigned target value) = IsNameIn language target × IsValueIn language value
+    IsStatementIn (variable_assigned target value) = IsNameIn language target × IsValueIn language value
+    IsStatementIn (assigned_when is_variable target branches otherwise) =
+        IsWide language × IsNameIn language target × AreConditionalIn language branches otherwise
+    IsStatementIn (if_of at branches otherwise label) = AreBranchesIn branches × IsElseIn otherwise
+    IsStatementIn (case_of at selector alternatives label) = IsExprIn language selector × AreCasesIn alternatives
+    IsStatementIn (for_of at parameter range statements label) =
+        IsDiscreteRangeIn language range × AreStatementsIn statements
+    IsStatementIn (asserted text) = IsTextIn language text
+    IsStatementIn (reported text) = IsTextIn language text
 
-  pub AreStatements : Statements → Type 0
-  AreStatements done = Unit {0}
-  AreStatements (step label s more) = IsStatement s × AreStatements more
+    pub AreStatementsIn : Statements → Type 0
+    AreStatementsIn done = Unit {0}
+    AreStatementsIn (step label s more) = IsStatementIn s × AreStatementsIn more
 
-  -- there is at least one
-  pub AreBranches : Conditionals → Type 0
-  AreBranches no_conditionals = ⊥
-  AreBranches (guarded condition statements more) = IsExpr condition × AreStatements statements × AreElsifs more
+    -- there is at least one
+    pub AreBranchesIn : Conditionals → Type 0
+    AreBranchesIn no_conditionals = ⊥
+    AreBranchesIn (guarded condition statements more) =
+        IsExprIn language condition × AreStatementsIn statements × AreElsifsIn more
 
-  pub AreElsifs : Conditionals → Type 0
-  AreElsifs no_conditionals = Unit {0}
-  AreElsifs (guarded condition statements more) = IsExpr condition × AreStatements statements × AreElsifs more
+    pub AreElsifsIn : Conditionals → Type 0
+    AreElsifsIn no_conditionals = Unit {0}
+    AreElsifsIn (guarded condition statements more) =
+        IsExprIn language condition × AreStatementsIn statements × AreElsifsIn more
 
-  pub IsElse : Otherwise → Type 0
-  IsElse no_else = Unit {0}
-  IsElse (else_do statements) = AreStatements statements
+    pub IsElseIn : Otherwise → Type 0
+    IsElseIn no_else = Unit {0}
+    IsElseIn (else_do statements) = AreStatementsIn statements
 
-  -- there is at least one
-  pub AreCases : Alternatives → Type 0
-  AreCases no_alternatives = ⊥
-  AreCases (alternative choices statements more) = AreChoices choices × AreStatements statements × AreAlternatives more
+    -- there is at least one
+    pub AreCasesIn : Alternatives → Type 0
+    AreCasesIn no_alternatives = ⊥
+    AreCasesIn (alternative choices statements more) =
+        AreChoicesIn language choices × AreStatementsIn statements × AreAlternativesIn more
 
-  pub AreAlternatives : Alternatives → Type 0
-  AreAlternatives no_alternatives = Unit {0}
-  AreAlternatives (alternative choices statements more) =
-      AreChoices choices × AreStatements statements × AreAlternatives more
+    pub AreAlternativesIn : Alternatives → Type 0
+    AreAlternativesIn no_alternatives = Unit {0}
+    AreAlternativesIn (alternative choices statements more) =
+        AreChoicesIn language choices × AreStatementsIn statements × AreAlternativesIn more

@@ -5,10 +5,12 @@ use Rattle.vhdl_lexer.specs.declared.language.Language.{Language}
 use Rattle.vhdl_lexer.specs.declared.language.Language.TheVariants.{Profile}
 use Rattle.vhdl_lexer.specs.declared.token.TokenKind.{TokenKind}
 use Rattle.vhdl_lexer.specs.declared.token.TokenKind.TheVariants as k
-use Rattle.vhdl_tree.specs.Tree.{Ident, Entity, Architecture, Selected, ContextItem, library, uses, LibraryUnit, entity, architecture, DesignUnit, File}
+use Rattle.vhdl_tree.specs.Tree.{Ident, Assertion, Entity, Architecture, Selected, ContextItem, library, uses, LibraryUnit, entity, architecture, DesignUnit, File}
 use Rattle.vhdl_tree.specs.Pieces.{Piece, some, one_at, spell_ident, spell_idents, spell_word, spell_option, spell_each, spell_list, IsAny, IsEach, IsList, IsOption}
-use Rattle.vhdl_tree.specs.grammar.Concurrent.{spell_concurrent, IsConcurrentIn}
-use Rattle.vhdl_tree.specs.grammar.Declarations.{spell_generics, spell_ports, spell_declaration, AreGenerics, ArePorts, IsDeclaration}
+use Rattle.vhdl_tree.specs.grammar.Concurrent.{spell_assertion, spell_concurrent, IsAssertionIn, IsConcurrentIn}
+use Rattle.vhdl_tree.specs.grammar.Declarations.{spell_generics, spell_ports, spell_declaration, AreGenericsIn, ArePortsIn, IsDeclarationIn}
+use Rattle.vhdl_tree.specs.grammar.Texts.{spell_text, IsTextIn}
+use Rattle.vhdl_tree.specs.grammar.Wide.{IsWide}
 
 -- id . id . all
 abbrev pub spell_selected : Selected → List Piece
@@ -24,11 +26,16 @@ abbrev pub spell_end : TokenKind → Bool → Option Ident → List Piece
 spell_end word has_word name =
     some k.End ∷ (spell_word word has_word ++ (spell_option spell_ident name ++ some k.Semicolon ∷ []))
 
--- entity = entity id is [ generics ] [ ports ] end [ entity ] [ id ] ;
+-- begin { assertion }
+abbrev pub spell_entity_statements : List Assertion → List Piece
+spell_entity_statements all = some k.Begin ∷ spell_each spell_assertion all
+
+-- entity = entity id is [ generics ] [ ports ] { attribute text ; } [ begin { assertion } ] end [ entity ] [ id ] ;
 abbrev pub spell_entity : Entity → List Piece
 spell_entity e =
     one_at k.Entity e.at ∷ (spell_ident e.name ++ (some k.Is ∷ (spell_option spell_generics e.generics ++
-    (spell_option spell_ports e.ports ++ spell_end k.Entity e.end_word e.end_name))))
+    (spell_option spell_ports e.ports ++ (spell_each (spell_text k.Attribute) e.attributes ++
+    (spell_option spell_entity_statements e.statements ++ spell_end k.Entity e.end_word e.end_name))))))
 
 -- arch = architecture id of id is { decl } begin { conc } end [ architecture ] [ id ] ;
 abbrev pub spell_architecture : Architecture → List Piece
@@ -53,15 +60,21 @@ abbrev pub IsContext : ContextItem → Type 0
 IsContext (library names) = IsList IsAny names
 IsContext (uses all) = IsList IsAny all
 
-abbrev pub IsEntity : Entity → Type 0
-IsEntity e = IsOption AreGenerics e.generics × IsOption ArePorts e.ports
-
 module _ (language : Language) where
+  -- statements stand in an entity in the wider language alone
+  abbrev pub AreEntityStatementsIn : List Assertion → Type 0
+  AreEntityStatementsIn all = IsWide language × IsEach (IsAssertionIn language) all
+
+  abbrev pub IsEntityIn : Entity → Type 0
+  IsEntityIn e =
+      IsOption (AreGenericsIn language) e.generics × IsOption (ArePortsIn language) e.ports
+      × IsEach (IsTextIn language) e.attributes × IsOption AreEntityStatementsIn e.statements
+
   abbrev pub IsArchitectureIn : Architecture → Type 0
-  IsArchitectureIn a = IsEach IsDeclaration a.declarations × IsEach (IsConcurrentIn language) a.statements
+  IsArchitectureIn a = IsEach (IsDeclarationIn language) a.declarations × IsEach (IsConcurrentIn language) a.statements
 
   abbrev pub IsLibraryUnitIn : LibraryUnit → Type 0
-  IsLibraryUnitIn (entity e) = IsEntity e
+  IsLibraryUnitIn (entity e) = IsEntityIn e
   IsLibraryUnitIn (architecture a) = IsArchitectureIn a
 
   abbrev pub IsUnitIn : DesignUnit → Type 0
