@@ -6,14 +6,15 @@ use Rattle.vhdl_lexer.specs.declared.token.TokenKind.TheVariants as k
 use Rattle.vhdl_parser_expressions.specs.declared.stop.Stop.{Stop}
 use Rattle.vhdl_parser_expressions.specs.declared.stop.Stop.TheVariants.{Unexpected, TooDeep}
 use Rattle.vhdl_tree.specs.Lexeme.{Lexeme, same_kind}
-use Rattle.vhdl_tree.specs.Tree.{Ident, Port, Entity, Architecture, ContextItem, library, uses, LibraryUnit, entity, architecture, DesignUnit, File}
+use Rattle.vhdl_tree.specs.Tree.{Ident, Text, Assertion, Port, Entity, Architecture, ContextItem, library, uses, LibraryUnit, entity, architecture, DesignUnit, File}
 use Rattle.vhdl_tree.specs.Pieces.{some, Spells, spell_ident, spell_option, spell_each, IsEach}
 use Rattle.vhdl_tree.specs.Levels.{opens, closes, IsShallow, IsDeep}
 use Rattle.vhdl_tree.specs.grammar.Declarations.{spell_ports}
-use Rattle.vhdl_tree.specs.grammar.Units.{spell_context, spell_end, spell_entity, spell_architecture, spell_library_unit, spell_unit, spell_file, IsEntity, IsArchitectureIn, IsLibraryUnitIn, IsUnitIn, IsFileIn}
+use Rattle.vhdl_tree.specs.grammar.Texts.{spell_text}
+use Rattle.vhdl_tree.specs.grammar.Units.{spell_context, spell_end, spell_entity_statements, spell_entity, spell_architecture, spell_library_unit, spell_unit, spell_file, IsEntityIn, IsArchitectureIn, IsLibraryUnitIn, IsUnitIn, IsFileIn}
 use Rattle.vhdl_parser_expressions.specs.reader.Input.{Outcome, and_then, expect, next_kind, is_kind, is_more, eat, identifier, optional, refusal}
 use Rattle.vhdl_parser.specs.reader.Context.{begins_context}
-use Rattle.vhdl_parser.specs.reader.Units.{max_open, entity_unit, architecture_unit, library_unit_by, library_unit, unit, units, finish, file}
+use Rattle.vhdl_parser.specs.reader.Units.{max_open, begins_attribute, entity_unit, architecture_unit, library_unit_by, library_unit, unit, units, finish, file}
 use Rattle.vhdl_parser_expressions.proofs.Steps.{bind_ok, bind_err, pure_ok, pure_err, err_why, err_at}
 use Rattle.vhdl_parser_expressions.proofs.Yields.{yields_bind}
 use Rattle.vhdl_parser_expressions.proofs.Halts.{Example}
@@ -24,6 +25,7 @@ use Rattle.vhdl_parser_expressions.proofs.Gives.{Gives, Reaches, Whatever, front
 use Rattle.vhdl_parser_statements.proofs.Plain.{an_ident}
 use Rattle.vhdl_parser_statements.proofs.Subtypes.{last_gives}
 use Rattle.vhdl_parser.proofs.Contexts.{context_rule, context_gives}
+use Rattle.vhdl_parser.proofs.Entities.{attributes_rule, attributes_gives, optional_statements_rule, optional_statements_gives}
 use Rattle.vhdl_parser_declarations.proofs.Ports.{optional_generics_rule, optional_generics_gives, optional_ports_rule, optional_ports_gives}
 use Rattle.vhdl_parser_declarations.proofs.Declared.{declarations_rule, declarations_gives}
 use Rattle.vhdl_parser.proofs.Concurrents.{concurrents_rule}
@@ -31,19 +33,21 @@ use Rattle.vhdl_parser.proofs.GiveConcurrents.{concurrents_gives}
 
 -- ---- entities and architectures
 
-entity_rule : Rule max_open 0 entity_unit spell_entity IsEntity
+entity_rule : (language : Language) → Rule max_open 0 (entity_unit language) spell_entity (IsEntityIn language)
 unfolding entity_unit
-entity_rule =
+entity_rule language =
     w_at k.Entity refl (λ at.
     w_ident (λ name.
     w_some k.Is refl (λ _.
-    w_then (optional_generics_rule max_open) (λ gs fine _.
-    w_then (optional_ports_rule max_open) (λ ps good _.
+    w_then (optional_generics_rule language max_open) (λ gs fine _.
+    w_then (optional_ports_rule language max_open) (λ ps good _.
+    w_then (attributes_rule language) (λ texts known _.
+    w_then (optional_statements_rule language) (λ ss sound _.
     w_end (λ _.
     w_word k.Entity refl (λ word e.
     w_option_ident (λ last e2.
     w_some k.Semicolon refl (λ _.
-    w_pure (omega arith) refl (fine, good))))))))))
+    w_pure (omega arith) refl (fine, good, known, sound))))))))))))
 
 architecture_rule : (language : Language) → Rule max_open 0 (architecture_unit language) spell_architecture (IsArchitectureIn language)
 unfolding architecture_unit
@@ -53,7 +57,7 @@ architecture_rule language =
     w_some k.Of refl (λ _.
     w_ident (λ of_entity.
     w_some k.Is refl (λ _.
-    w_then (declarations_rule max_open) (λ ds fine _.
+    w_then (declarations_rule language max_open) (λ ds fine _.
     w_some k.Begin refl (λ _.
     w_then (concurrents_rule language max_open) (λ found good _.
     w_end (λ _.
@@ -65,15 +69,15 @@ architecture_rule language =
 -- entity id is end ;
 plain_entity : (language : Language) → Example afresh spell_library_unit (IsLibraryUnitIn language)
 plain_entity language =
-    let e : Entity = record { at = 0; name = an_ident; generics = None; ports = None; end_word = false; end_name = None } in
-    record { tree = entity e; more = spell_entity e; is = refl; formed = (tt, tt) }
+    let e : Entity = record { at = 0; name = an_ident; generics = None; ports = None; attributes = []; statements = None; end_word = false; end_name = None } in
+    record { tree = entity e; more = spell_entity e; is = refl; formed = (tt, tt, tt, tt) }
 
 library_unit_rule : (language : Language) → Rule max_open 0 (library_unit language) spell_library_unit (IsLibraryUnitIn language)
 unfolding library_unit
 library_unit_rule language = w_choose (λ next. by_next next)
   where
     by_next : (next : Option TokenKind) → Rule max_open 0 (library_unit_by language next) spell_library_unit (IsLibraryUnitIn language)
-    by_next (Some k.Entity) = w_last entity entity_rule (λ e good. (refl, good))
+    by_next (Some k.Entity) = w_last entity (entity_rule language) (λ e good. (refl, good))
     by_next (Some k.Architecture) = w_last architecture (architecture_rule language) (λ a good. (refl, good))
     by_next _ = w_refuse (plain_entity language)
 
@@ -105,25 +109,39 @@ end_gives f kind word last same no_name no_end =
     behind None next = no_end
     behind (Some i) next = no_name
 
-entity_gives : (e : Entity) → IsEntity e → Gives entity_unit e (spell_entity e) Whatever
+entity_gives : (language : Language) (e : Entity) → IsEntityIn language e → Gives (entity_unit language) e (spell_entity e) Whatever
 unfolding entity_unit same_kind
-entity_gives e good =
+entity_gives language e good =
     g_at _ (g_ident _ (g_some (λ _.
-    g_then _ (optional_generics_gives max_open e.generics good.0)
-    (g_then _ (optional_ports_gives max_open e.ports good.1)
-    (end_gives (λ w l. record { at = e.at; name = e.name; generics = e.generics; ports = e.ports; end_word = w; end_name = l }) k.Entity e.end_word e.end_name refl refl refl)
-    (λ next g. (refl, tt)))
-    (λ next g. no_generic e.ports next))))
+    g_then _ (optional_generics_gives language max_open e.generics good.0)
+    (g_then _ (optional_ports_gives language max_open e.ports good.1)
+    (g_then _ (attributes_gives language e.attributes good.2)
+    (g_then _ (optional_statements_gives language e.statements good.3)
+    (end_gives (λ w l. record { at = e.at; name = e.name; generics = e.generics; ports = e.ports; attributes = e.attributes; statements = e.statements; end_word = w; end_name = l }) k.Entity e.end_word e.end_name refl refl refl)
+    (λ next g. (refl, refl)))
+    (λ next g. no_attribute_next e.statements next))
+    (λ next g. no_port e.attributes e.statements next))
+    (λ next g. no_generic e.ports e.attributes e.statements next))))
   where
-    no_generic : (ps : Option (List Port)) (next : Option TokenKind) → (is_kind k.Generic (front (spell_option spell_ports ps ++ spell_end k.Entity e.end_word e.end_name) next) ≡ false) × Unit {0}
-    no_generic None next = (refl, tt)
-    no_generic (Some ps) next = (refl, tt)
+    no_attribute_next : (ss : Option (List Assertion)) (next : Option TokenKind) → (begins_attribute language (front (spell_option spell_entity_statements ss ++ spell_end k.Entity e.end_word e.end_name) next) ≡ false) × Unit {0}
+    no_attribute_next None next = (refl, tt)
+    no_attribute_next (Some ss) next = (refl, tt)
+
+    no_port : (texts : List Text) (ss : Option (List Assertion)) (next : Option TokenKind) →
+        (is_kind k.Port (front (spell_each (spell_text k.Attribute) texts ++ (spell_option spell_entity_statements ss ++ spell_end k.Entity e.end_word e.end_name)) next) ≡ false) × Unit {0}
+    no_port [] None next = (refl, tt)
+    no_port _ _ next = (refl, tt)
+
+    no_generic : (ps : Option (List Port)) (texts : List Text) (ss : Option (List Assertion)) (next : Option TokenKind) →
+        (is_kind k.Generic (front (spell_option spell_ports ps ++ (spell_each (spell_text k.Attribute) texts ++ (spell_option spell_entity_statements ss ++ spell_end k.Entity e.end_word e.end_name))) next) ≡ false) × Unit {0}
+    no_generic None [] None next = (refl, tt)
+    no_generic _ _ _ next = (refl, tt)
 
 architecture_gives : (language : Language) (a : Architecture) → IsArchitectureIn language a → Gives (architecture_unit language) a (spell_architecture a) Whatever
 unfolding architecture_unit same_kind
 architecture_gives language a good =
     g_at _ (g_ident _ (g_some (λ _. g_ident _ (g_some (λ _.
-    g_then _ (declarations_gives max_open a.declarations good.0)
+    g_then _ (declarations_gives language max_open a.declarations good.0)
     (g_some (λ _.
     g_then _ (concurrents_gives language max_open a.statements good.1)
     (end_gives (λ w l. record { at = a.at; name = a.name; entity = a.entity; declarations = a.declarations; statements = a.statements; end_word = w; end_name = l }) k.Architecture a.end_word a.end_name refl refl refl)
@@ -132,7 +150,7 @@ architecture_gives language a good =
 
 library_unit_gives : (language : Language) (u : LibraryUnit) → IsLibraryUnitIn language u → Gives (library_unit language) u (spell_library_unit u) Whatever
 unfolding library_unit
-library_unit_gives language (entity e) good = g_choose (library_unit_by language) (Some k.Entity) (λ next g. refl) (g_map (λ x. entity x) (entity_gives e good))
+library_unit_gives language (entity e) good = g_choose (library_unit_by language) (Some k.Entity) (λ next g. refl) (g_map (λ x. entity x) (entity_gives language e good))
 library_unit_gives language (architecture a) good = g_choose (library_unit_by language) (Some k.Architecture) (λ next g. refl) (g_map (λ x. architecture x) (architecture_gives language a good))
 
 no_context : (u : LibraryUnit) (next : Option TokenKind) → begins_context (front (spell_library_unit u) next) ≡ false

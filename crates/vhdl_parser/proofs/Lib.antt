@@ -10,3 +10,4 @@ pub mod Within
 pub mod GiveConcurrents
 pub mod Deeper
 pub mod Alone
+pub mod Entities

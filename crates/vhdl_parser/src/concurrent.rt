@@ -10,17 +10,18 @@ use crate::instances::instance;
 use vhdl_lexer::{Language, TokenKind};
 use vhdl_parser_expressions::{Parser, Stop, below, followed};
 use vhdl_parser_statements::{
-    conditional_waveforms, ended, optional_label, process, selected_assignment,
+    conditional_waveforms, ended, is_wide, optional_label, process, selected_assignment, text,
 };
-use vhdl_tree::{Assignment, Concurrent, Identifier, Scheme};
+use vhdl_tree::{Assertion, Assignment, Concurrent, Identifier, Scheme};
 
-fn begins_concurrent(kind: Option<TokenKind>) -> bool
-    ensures { result ≡ read.begins_concurrent kind }
+fn begins_concurrent(language: Language, kind: Option<TokenKind>) -> bool
+    ensures { result ≡ read.begins_concurrent language kind }
 {
     match kind {
         Some(TokenKind::Identifier) => true,
         Some(TokenKind::With) => true,
         Some(TokenKind::Process) => true,
+        Some(TokenKind::Assert) => is_wide(language),
         _ => false,
     }
 }
@@ -28,14 +29,16 @@ fn begins_concurrent(kind: Option<TokenKind>) -> bool
 #[tactic(auto, unfolding(crate::specs::reader::Concurrent::assign))]
 fn assignment(
     parser: &mut Parser<'_>,
+    language: Language,
     levels: usize,
     label: Option<Identifier>,
 ) -> Result<Assignment, Stop>
-    ensures { Reads assignment_view (read.assign levels (option_ident_view label) parser.old) result parser.new }
+    ensures { Reads assignment_view
+        (read.assign language levels (option_ident_view label) parser.old) result parser.new }
 {
-    let target = parser.name(levels)?;
+    let target = parser.name(language, levels)?;
     let front = followed(parser, (label, target), TokenKind::LessEqual)?;
-    let (branches, otherwise) = conditional_waveforms(parser, levels)?;
+    let (branches, otherwise) = conditional_waveforms(parser, language, levels)?;
     let (label, target) = front;
     let found = Assignment {
         label,
@@ -48,13 +51,29 @@ fn assignment(
 
 fn selected(
     parser: &mut Parser<'_>,
+    language: Language,
     levels: usize,
     label: Option<Identifier>,
 ) -> Result<Concurrent, Stop>
-    ensures { Reads concurrent_view (read.select_with levels (option_ident_view label) parser.old) result parser.new }
+    ensures { Reads concurrent_view
+        (read.select_with language levels (option_ident_view label) parser.old) result parser.new }
 {
-    let assignment = selected_assignment(parser, levels)?;
+    let assignment = selected_assignment(parser, language, levels)?;
     Ok(Concurrent::Selected { label, assignment })
+}
+
+#[tactic(auto, unfolding(crate::specs::reader::Concurrent::assert))]
+fn assertion(
+    parser: &mut Parser<'_>,
+    language: Language,
+    levels: usize,
+    label: Option<Identifier>,
+) -> Result<Concurrent, Stop>
+    ensures { Reads concurrent_view (read.assert_with language levels (option_ident_view label) parser.old) result
+        parser.new }
+{
+    let text = text(parser, language, levels, TokenKind::Assert)?;
+    Ok(Concurrent::Assert(Assertion { label, text }))
 }
 
 fn process_statement(
@@ -72,12 +91,14 @@ fn process_statement(
 
 fn instance_statement(
     parser: &mut Parser<'_>,
+    language: Language,
     levels: usize,
     label: Identifier,
 ) -> Result<Concurrent, Stop>
-    ensures { Reads concurrent_view (read.instance_with levels (ident_view label) parser.old) result parser.new }
+    ensures { Reads concurrent_view
+        (read.instance_with language levels (ident_view label) parser.old) result parser.new }
 {
-    let instance = instance(parser, levels)?;
+    let instance = instance(parser, language, levels)?;
     Ok(Concurrent::Instance { label, instance })
 }
 
@@ -93,15 +114,16 @@ fn sees_component(parser: &Parser<'_>) -> bool
 #[tactic(auto, unfolding(crate::specs::reader::Concurrent::named_with))]
 fn instance_or_assignment(
     parser: &mut Parser<'_>,
+    language: Language,
     levels: usize,
     label: Identifier,
 ) -> Result<Concurrent, Stop>
-    ensures { Reads concurrent_view (read.named_with levels (ident_view label) parser.old) result parser.new }
+    ensures { Reads concurrent_view (read.named_with language levels (ident_view label) parser.old) result parser.new }
 {
     if sees_component(parser) {
-        instance_statement(parser, levels, label)
+        instance_statement(parser, language, levels, label)
     } else {
-        Ok(Concurrent::Assignment(assignment(parser, levels, Some(label))?))
+        Ok(Concurrent::Assignment(assignment(parser, language, levels, Some(label))?))
     }
 }
 
@@ -114,11 +136,12 @@ fn unlabelled(
     ensures { Reads concurrent_view (read.unlabelled language levels parser.old) result parser.new }
 {
     match parser.peek() {
-        Some(TokenKind::With) => selected(parser, levels, None),
+        Some(TokenKind::With) => selected(parser, language, levels, None),
         Some(TokenKind::Process) => process_statement(parser, language, levels, None),
         Some(TokenKind::Identifier) => Ok(Concurrent::Assignment(assignment(
-            parser, levels, None,
+            parser, language, levels, None,
         )?)),
+        Some(TokenKind::Assert) => assertion(parser, language, levels, None),
         _ => Err(parser.refuse()),
     }
 }
@@ -135,7 +158,7 @@ pub fn concurrents(
 {
     let mut found = Vec::new(parser.alloc);
     for _turn in 0..parser.left() {
-        if !begins_concurrent(parser.peek()) {
+        if !begins_concurrent(language, parser.peek()) {
             return Ok(found);
         }
         found.push(concurrent(parser, language, levels)?)?;
@@ -172,25 +195,26 @@ fn labelled(
         parser.new }
 {
     match parser.peek() {
-        Some(TokenKind::With) => selected(parser, levels, Some(label)),
+        Some(TokenKind::With) => selected(parser, language, levels, Some(label)),
         Some(TokenKind::Process) => process_statement(parser, language, levels, Some(label)),
         Some(TokenKind::Entity) | Some(TokenKind::Component) => instance_statement(
-            parser, levels, label,
+            parser, language, levels, label,
         ),
         Some(TokenKind::For) => for_generate(parser, language, levels, label),
         Some(TokenKind::If) => if_generate(parser, language, levels, label),
-        Some(TokenKind::Identifier) => instance_or_assignment(parser, levels, label),
+        Some(TokenKind::Identifier) => instance_or_assignment(parser, language, levels, label),
+        Some(TokenKind::Assert) => assertion(parser, language, levels, Some(label)),
         _ => Err(parser.refuse()),
     }
 }
 
 #[tactic(auto, unfolding(crate::specs::reader::Concurrent::for_scheme))]
-fn for_scheme(parser: &mut Parser<'_>, levels: usize) -> Result<Scheme, Stop>
-    ensures { Reads scheme_view (read.for_scheme levels parser.old) result parser.new }
+fn for_scheme(parser: &mut Parser<'_>, language: Language, levels: usize) -> Result<Scheme, Stop>
+    ensures { Reads scheme_view (read.for_scheme language levels parser.old) result parser.new }
 {
     let parameter = parser.identifier()?;
     let parameter = followed(parser, parameter, TokenKind::In)?;
-    let range = parser.range(levels)?;
+    let range = parser.discrete_range(language, levels)?;
     Ok(Scheme::For { parameter, range })
 }
 
@@ -203,12 +227,12 @@ fn for_generate(
     label: Identifier,
 ) -> Result<Concurrent, Stop>
     ensures { Reads concurrent_view
-        (read.for_generate levels (read.deeper_concurrents language levels) (ident_view label) parser.old) result
-        parser.new }
+        (read.for_generate language levels (read.deeper_concurrents language levels) (ident_view label) parser.old)
+        result parser.new }
 {
     let at = parser.expect(TokenKind::For)?;
     let inner = below(levels)?;
-    let scheme = for_scheme(parser, inner)?;
+    let scheme = for_scheme(parser, language, inner)?;
     generated(parser, language, inner, label, at, scheme)
 }
 
@@ -221,12 +245,12 @@ fn if_generate(
     label: Identifier,
 ) -> Result<Concurrent, Stop>
     ensures { Reads concurrent_view
-        (read.if_generate levels (read.deeper_concurrents language levels) (ident_view label) parser.old) result
-        parser.new }
+        (read.if_generate language levels (read.deeper_concurrents language levels) (ident_view label) parser.old)
+        result parser.new }
 {
     let at = parser.expect(TokenKind::If)?;
     let inner = below(levels)?;
-    let condition = parser.expr(inner)?;
+    let condition = parser.expr(language, inner)?;
     generated(parser, language, inner, label, at, Scheme::If { condition })
 }
 

@@ -7,7 +7,7 @@ ghost use Rattle.vhdl_parser_expressions.specs.reader.Input as input;
 ghost use Rattle.vhdl_parser_expressions.specs.reader.Input.{Reads};
 ghost use Rattle.vhdl_parser.specs.reader.Instance as read;
 
-use vhdl_lexer::TokenKind;
+use vhdl_lexer::{Language, TokenKind};
 use vhdl_parser_expressions::{Parser, Stop, below, followed, optional};
 use vhdl_tree::{Association, Identifier, Instance, Instantiated};
 
@@ -65,37 +65,47 @@ fn instantiated(parser: &mut Parser<'_>, levels: usize) -> Result<Instantiated, 
 }
 
 #[tactic(auto, unfolding(crate::specs::reader::Instance::map_of))]
-fn map_of(parser: &mut Parser<'_>, levels: usize, word: TokenKind) -> Result<Vec<Association>, Stop>
-    ensures { Reads associations_view (read.map_of levels word parser.old) result parser.new }
+fn map_of(
+    parser: &mut Parser<'_>,
+    language: Language,
+    levels: usize,
+    word: TokenKind,
+) -> Result<Vec<Association>, Stop>
+    ensures { Reads associations_view (read.map_of language levels word parser.old) result parser.new }
 {
     parser.expect(word)?;
     parser.expect(TokenKind::Map)?;
     parser.expect(TokenKind::LeftParen)?;
     let inner = below(levels)?;
-    let all = parser.associations(inner)?;
+    let all = parser.associations(language, inner)?;
     followed(parser, all, TokenKind::RightParen)
 }
 
 #[tactic(auto, unfolding(vhdl_parser_expressions::specs::reader::Input::optional))]
 fn optional_map(
     parser: &mut Parser<'_>,
+    language: Language,
     levels: usize,
     word: TokenKind,
 ) -> Result<Option<Vec<Association>>, Stop>
     ensures { Reads (option_map associations_view)
-        (input.optional (input.is_kind word) (read.map_of levels word) parser.old) result parser.new }
+        (input.optional (input.is_kind word) (read.map_of language levels word) parser.old) result parser.new }
 {
-    optional!(parser, word, map_of(parser, levels, word)?)
+    optional!(parser, word, map_of(parser, language, levels, word)?)
 }
 
 /// An instance behind its label, in which so many levels may be opened.
 #[tactic(auto, unfolding(crate::specs::reader::Instance::instance))]
-pub fn instance(parser: &mut Parser<'_>, levels: usize) -> Result<Instance, Stop>
-    ensures { Reads instance_view (read.instance levels parser.old) result parser.new }
+pub fn instance(
+    parser: &mut Parser<'_>,
+    language: Language,
+    levels: usize,
+) -> Result<Instance, Stop>
+    ensures { Reads instance_view (read.instance language levels parser.old) result parser.new }
 {
     let unit = instantiated(parser, levels)?;
-    let generics = optional_map(parser, levels, TokenKind::Generic)?;
-    let ports = optional_map(parser, levels, TokenKind::Port)?;
+    let generics = optional_map(parser, language, levels, TokenKind::Generic)?;
+    let ports = optional_map(parser, language, levels, TokenKind::Port)?;
     let found = Instance {
         unit,
         generics,

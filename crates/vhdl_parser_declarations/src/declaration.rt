@@ -1,22 +1,28 @@
 //! Declarations of an architecture.
 
 ghost use Rattle.std.specs.Prelude.{◌≡◌};
-ghost use Rattle.vhdl_tree.specs.View.{value_view, signals_view, constants_view, enumeration_view, component_view, declaration_view, declarations_view};
+ghost use Rattle.vhdl_tree.specs.View.{signals_view, component_view, declaration_view, declarations_view};
 ghost use Rattle.vhdl_parser_declarations.specs.reader.Declarations as read;
-ghost use Rattle.vhdl_parser_expressions.specs.reader.Input as input;
 ghost use Rattle.vhdl_parser_expressions.specs.reader.Input.{Reads};
 
 use crate::interface::{optional_generics, optional_ports};
-use vhdl_lexer::TokenKind;
-use vhdl_parser_expressions::{Parser, Stop, below, followed, many};
-use vhdl_parser_statements::{ended, identifiers, object_declaration, subtype};
-use vhdl_tree::{Component, Constants, Declaration, Enumeration, Signals, Value};
+use vhdl_lexer::{Language, TokenKind};
+use vhdl_parser_expressions::{Parser, Stop, many};
+use vhdl_parser_statements::{
+    constants, ended, enumeration, is_wide, object_declaration, subtype_declaration, text,
+};
+use vhdl_tree::{Component, Declaration, Signals};
 
 #[tactic(auto, unfolding(crate::specs::reader::Declarations::signals_of))]
-fn signals(parser: &mut Parser<'_>, levels: usize) -> Result<Signals, Stop>
-    ensures { Reads signals_view (read.signals_of levels parser.old) result parser.new }
+fn signals(parser: &mut Parser<'_>, language: Language, levels: usize) -> Result<Signals, Stop>
+    ensures { Reads signals_view (read.signals_of language levels parser.old) result parser.new }
 {
-    let (names, subtype, default) = object_declaration(parser, levels, TokenKind::Signal)?;
+    let (names, subtype, default) = object_declaration(
+        parser,
+        language,
+        levels,
+        TokenKind::Signal,
+    )?;
     Ok(Signals {
         names,
         subtype,
@@ -24,56 +30,15 @@ fn signals(parser: &mut Parser<'_>, levels: usize) -> Result<Signals, Stop>
     })
 }
 
-/// The value behind a constant's subtype, and the semicolon behind it.
-#[tactic(auto, unfolding(crate::specs::reader::Declarations::constant_value))]
-fn constant_value(parser: &mut Parser<'_>, levels: usize) -> Result<Value, Stop>
-    ensures { Reads value_view (read.constant_value levels parser.old) result parser.new }
-{
-    parser.expect(TokenKind::Assign)?;
-    let value = parser.value(levels)?;
-    followed(parser, value, TokenKind::Semicolon)
-}
-
-#[tactic(auto, unfolding(crate::specs::reader::Declarations::constants_of))]
-fn constants(parser: &mut Parser<'_>, levels: usize) -> Result<Constants, Stop>
-    ensures { Reads constants_view (read.constants_of levels parser.old) result parser.new }
-{
-    parser.expect(TokenKind::Constant)?;
-    let names = identifiers(parser)?;
-    let names = followed(parser, names, TokenKind::Colon)?;
-    let subtype = subtype(parser, levels)?;
-    let value = constant_value(parser, levels)?;
-    Ok(Constants {
-        names,
-        subtype,
-        value,
-    })
-}
-
-#[tactic(auto, unfolding(crate::specs::reader::Declarations::enumeration_of))]
-fn enumeration(parser: &mut Parser<'_>, levels: usize) -> Result<Enumeration, Stop>
-    ensures { Reads enumeration_view (read.enumeration_of levels parser.old) result parser.new }
-{
-    parser.expect(TokenKind::Type)?;
-    let name = parser.identifier()?;
-    let name = followed(parser, name, TokenKind::Is)?;
-    let name = followed(parser, name, TokenKind::LeftParen)?;
-    below(levels)?;
-    let literals = identifiers(parser)?;
-    let literals = followed(parser, literals, TokenKind::RightParen)?;
-    let literals = followed(parser, literals, TokenKind::Semicolon)?;
-    Ok(Enumeration { name, literals })
-}
-
 #[tactic(auto, unfolding(crate::specs::reader::Declarations::component_of))]
-fn component(parser: &mut Parser<'_>, levels: usize) -> Result<Component, Stop>
-    ensures { Reads component_view (read.component_of levels parser.old) result parser.new }
+fn component(parser: &mut Parser<'_>, language: Language, levels: usize) -> Result<Component, Stop>
+    ensures { Reads component_view (read.component_of language levels parser.old) result parser.new }
 {
     parser.expect(TokenKind::Component)?;
     let name = parser.identifier()?;
     let is_word = parser.eat(TokenKind::Is)?;
-    let generics = optional_generics(parser, levels)?;
-    let ports = optional_ports(parser, levels)?;
+    let generics = optional_generics(parser, language, levels)?;
+    let ports = optional_ports(parser, language, levels)?;
     let found = (name, generics, ports);
     let ((name, generics, ports), end_name) = ended(parser, found, TokenKind::Component)?;
     Ok(Component {
@@ -86,39 +51,61 @@ fn component(parser: &mut Parser<'_>, levels: usize) -> Result<Component, Stop>
 }
 
 #[tactic(auto, unfolding(crate::specs::reader::Declarations::declaration))]
-fn declaration(parser: &mut Parser<'_>, levels: usize) -> Result<Declaration, Stop>
-    ensures { Reads declaration_view (read.declaration levels parser.old) result parser.new }
+fn declaration(
+    parser: &mut Parser<'_>,
+    language: Language,
+    levels: usize,
+) -> Result<Declaration, Stop>
+    ensures { Reads declaration_view (read.declaration language levels parser.old) result parser.new }
 {
     match parser.peek() {
-        Some(TokenKind::Signal) => Ok(Declaration::Signals(signals(parser, levels)?)),
-        Some(TokenKind::Constant) => Ok(Declaration::Constants(constants(parser, levels)?)),
+        Some(TokenKind::Signal) => Ok(Declaration::Signals(signals(parser, language, levels)?)),
+        Some(TokenKind::Constant) => Ok(Declaration::Constants(constants(
+            parser, language, levels,
+        )?)),
         Some(TokenKind::Type) => Ok(Declaration::Enumeration(enumeration(parser, levels)?)),
-        Some(TokenKind::Component) => Ok(Declaration::Component(component(parser, levels)?)),
+        Some(TokenKind::Component) => Ok(Declaration::Component(component(
+            parser, language, levels,
+        )?)),
+        Some(TokenKind::Subtype) => Ok(Declaration::Subtype(subtype_declaration(
+            parser, language, levels,
+        )?)),
+        Some(TokenKind::Attribute) => Ok(Declaration::Attribute(text(
+            parser,
+            language,
+            levels,
+            TokenKind::Attribute,
+        )?)),
         _ => Err(parser.refuse()),
     }
 }
 
-fn begins_declaration(parser: &Parser<'_>) -> bool
-    ensures { result ≡ read.begins_declaration (input.next_kind parser.now) }
+fn begins_declaration(language: Language, kind: Option<TokenKind>) -> bool
+    ensures { result ≡ read.begins_declaration language kind }
 {
-    match parser.peek() {
+    match kind {
         Some(TokenKind::Signal)
         | Some(TokenKind::Constant)
         | Some(TokenKind::Type)
         | Some(TokenKind::Component) => true,
+        Some(TokenKind::Subtype) | Some(TokenKind::Attribute) => is_wide(language),
         _ => false,
     }
 }
 
 /// The declarations of an architecture, in which so many levels may be opened.
-pub fn declarations(parser: &mut Parser<'_>, levels: usize) -> Result<Vec<Declaration>, Stop>
-    ensures { Reads declarations_view (read.declarations levels parser.old) result parser.new }
+pub fn declarations(
+    parser: &mut Parser<'_>,
+    language: Language,
+    levels: usize,
+) -> Result<Vec<Declaration>, Stop>
+    ensures { Reads declarations_view (read.declarations language levels parser.old) result parser.new }
 {
     let found = Vec::new(parser.alloc);
     many(
         parser,
-        begins_declaration,
-        |parser| declaration(parser, levels),
+        |parser| begins_declaration(language, parser.peek()),
+        |parser| declaration(parser, language, levels),
         found,
     )
 }

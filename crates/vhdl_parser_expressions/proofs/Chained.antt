@@ -2,13 +2,13 @@
 use Rattle.std.proofs.Common.{◌≡◌, ℕ, zero, suc, ◌≤◌, Bool, true, false, cond, List, [], ◌∷◌, length, Ok, Option, Some, None, refl, sym, ◌∙◌, arith}
 use Rattle.vhdl_tree.specs.declared.operator.Operator.{Operator}
 use Rattle.vhdl_parser_expressions.specs.declared.operator.Level.{Level}
-use Rattle.vhdl_parser_expressions.specs.declared.operator.Level.TheVariants.{Logical, Relation, Adding, Multiplying}
+use Rattle.vhdl_parser_expressions.specs.declared.operator.Level.TheVariants.{Logical}
 use Rattle.vhdl_tree.specs.Lexeme.{Lexeme}
-use Rattle.vhdl_tree.specs.Tree.{Expr, Pair, joined}
+use Rattle.vhdl_tree.specs.Tree.{Expr, Pair, joined, begun}
 use Rattle.vhdl_tree.specs.grammar.Expressions.{kind_of, repeats}
 use Rattle.vhdl_parser_expressions.specs.reader.Input.{Parser, expect, next_kind}
-use Rattle.vhdl_parser_expressions.specs.reader.Expressions.{next_operator, pair, turn, more_from, more}
-use Rattle.vhdl_parser_expressions.proofs.Steady.{Steady, steady_pure, steady_take, steady_then, steady_map, steady_choose, steady_turns, Advances, then_alike, advances_then, advances_token}
+use Rattle.vhdl_parser_expressions.specs.reader.Expressions.{operator_at, next_operator, pair, turn, more_from, more, begin_by, begin, chain}
+use Rattle.vhdl_parser_expressions.proofs.Steady.{left_of, then_shorter, Steady, steady_pure, steady_take, steady_then, steady_map, steady_choose, steady_turns, Advances, then_alike, advances_then, advances_token}
 
 -- behind the last token no operator goes on
 no_operator : (level : Level) (last : Operator) → next_operator level last None ≡ None
@@ -20,16 +20,12 @@ no_operator Logical last = by_test (repeats last)
     by_test false = refl
 no_operator _ last = refl
 
-module _ {operand : Parser Expr} (each : Steady operand) where
-  pair_steady : (op : Operator) → Steady (pair operand op)
-  unfolding pair expect
-  pair_steady op = steady_then (steady_take (λ l. l.at) (kind_of op)) (λ ts at rest h. steady_map (λ right. record { operator = op; at = at; operand = right }) each)
-
-  pair_advances : (op : Operator) → Advances (pair operand op)
+module _ (operand : Parser Expr) (short : (ts : List Lexeme) → length (left_of (operand ts)) ≤ length ts) where
+  pub pair_advances : (op : Operator) → Advances (pair operand op)
   unfolding pair expect
   pair_advances op =
       advances_then _ (advances_then _ (advances_token (kind_of op)) (λ l us. omega arith))
-      (λ at us. (steady_map (λ right. record { operator = op; at = at; operand = right }) each).shorter us)
+      (λ at us. then_shorter (λ right vs. Ok (record { operator = op; at = at; operand = right }, vs)) (operand us) us (short us) (λ x h. omega arith))
 
   no_turn : (n : ℕ) (level : Level) (last : Operator) (left : Expr) → more_from operand n level last left [] ≡ Ok (left, [])
   unfolding more_from next_kind
@@ -42,7 +38,7 @@ module _ {operand : Parser Expr} (each : Steady operand) where
   turn_alike f g left ts same None = refl
   turn_alike f g left ts same (Some op) = then_alike (pair operand op ts) (λ p. f op (joined left p)) (λ p. g op (joined left p)) (same op)
 
-  more_enough : (n m : ℕ) (level : Level) (last : Operator) (left : Expr) (ts : List Lexeme) → length ts ≤ n → length ts ≤ m → more_from operand n level last left ts ≡ more_from operand m level last left ts
+  pub more_enough : (n m : ℕ) (level : Level) (last : Operator) (left : Expr) (ts : List Lexeme) → length ts ≤ n → length ts ≤ m → more_from operand n level last left ts ≡ more_from operand m level last left ts
   unfolding more_from
   more_enough n m level last left [] le also = no_turn n level last left ∙ sym (no_turn m level last left)
   more_enough zero m level last left (l ∷ ts) le also = absurd (omega (arith, le))
@@ -51,6 +47,11 @@ module _ {operand : Parser Expr} (each : Steady operand) where
       turn_alike (more_from operand n level) (more_from operand m level) left (l ∷ ts)
       (λ op p rest h. let less = pair_advances op (l ∷ ts) p rest h in more_enough n m level op (joined left p) rest (omega (arith, le, less)) (omega (arith, also, less)))
       (next_operator level last (next_kind (l ∷ ts)))
+
+module _ {operand : Parser Expr} (each : Steady operand) where
+  pair_steady : (op : Operator) → Steady (pair operand op)
+  unfolding pair expect
+  pair_steady op = steady_then (steady_take (λ l. l.at) (kind_of op)) (λ ts at rest h. steady_map (λ right. record { operator = op; at = at; operand = right }) each)
 
   turn_steady : (f : Operator → Expr → Parser Expr) (left : Expr) → ((op : Operator) (p : Pair) → Steady (f op (joined left p))) → (o : Option Operator) → Steady (turn operand o f left)
   turn_steady f left later None = steady_pure
@@ -63,4 +64,12 @@ module _ {operand : Parser Expr} (each : Steady operand) where
 
   pub steady_more : (level : Level) (last : Operator) (left : Expr) → Steady (more operand level last left)
   unfolding more
-  steady_more level last left = steady_turns (λ n. more_from operand n level last left) (λ n. more_steady n level last left) (λ n m ts le also. more_enough n m level last left ts le also)
+  steady_more level last left = steady_turns (λ n. more_from operand n level last left) (λ n. more_steady n level last left) (λ n m ts le also. more_enough operand each.shorter n m level last left ts le also)
+
+  begin_steady : (level : Level) (first : Expr) (o : Option Operator) → Steady (begin_by operand level first o)
+  begin_steady level first None = steady_pure
+  begin_steady level first (Some op) = steady_then (pair_steady op) (λ ts p rest h. steady_more level op (begun first p))
+
+  pub steady_chain : {first : Parser Expr} (level : Level) → Steady first → Steady (chain first operand level)
+  unfolding begin
+  steady_chain level leads = steady_then leads (λ ts left rest h. steady_choose (λ next. begin_steady level left (operator_at level next)))

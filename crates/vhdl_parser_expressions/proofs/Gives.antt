@@ -4,7 +4,7 @@ use Rattle.vhdl_lexer.specs.declared.token.TokenKind.{TokenKind}
 use Rattle.vhdl_lexer.specs.declared.token.TokenKind.TheVariants as k
 use Rattle.vhdl_tree.specs.Lexeme.{Lexeme, same_kind}
 use Rattle.vhdl_tree.specs.Tree.{Ident}
-use Rattle.vhdl_tree.specs.Pieces.{Piece, some, one_at, word_at, literal_at, text_at, Is, Spells, spell_word, spell_option, spell_each, spell_list, IsEach, IsList, IsOption}
+use Rattle.vhdl_tree.specs.Pieces.{Piece, some, one_at, word_at, Is, Spells, spell_word, spell_option, spell_each, spell_list, IsEach, IsList, IsOption}
 use Rattle.vhdl_tree.proofs.Room.{kind_of_piece, kind_is}
 use Rattle.vhdl_parser_expressions.specs.reader.Input.{Outcome, Parser, and_then, token, expect, identifier, next_kind, is_kind, test, eat, optional, many_from, many, separated, below}
 use Rattle.vhdl_parser_expressions.proofs.Steps.{spells_split, spells_length, kind_same, takes}

@@ -11,7 +11,7 @@ use Rattle.vhdl_tree.specs.declared.operator.Operator.TheVariants.{And, Or, Xor,
 use Rattle.vhdl_parser_expressions.specs.declared.operator.Level.{Level}
 use Rattle.vhdl_parser_expressions.specs.declared.operator.Level.TheVariants.{Logical, Relation, Adding, Multiplying}
 use Rattle.vhdl_tree.specs.Lexeme.{same_kind}
-use Rattle.vhdl_tree.specs.Tree.{Expr, integer, character, string, bits, named, parens, negation, signed, binary}
+use Rattle.vhdl_tree.specs.Tree.{Expr, signed, binary}
 use Rattle.vhdl_tree.specs.grammar.Expressions.{kind_of, token_rank, rank, repeats, binding, Chains, GoesOn, IsSigned, Leads}
 use Rattle.vhdl_parser_expressions.specs.reader.Input.{is_kind}
 use Rattle.vhdl_parser_expressions.specs.reader.Expressions.{operator_among, operator_at, next_operator}

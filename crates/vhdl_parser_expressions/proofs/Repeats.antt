@@ -9,7 +9,7 @@ use Rattle.vhdl_parser_expressions.specs.reader.Input.{Outcome, Parser, IsRefuse
 use Rattle.vhdl_parser_expressions.proofs.Steps.{bind_ok, bind_err, at_pure, pure_err, spells_append, spells_length}
 use Rattle.vhdl_parser_expressions.proofs.Halts.{Halts, halt_after, halt_map}
 use Rattle.vhdl_parser_expressions.proofs.Steady.{Advances, steady_many}
-use Rattle.vhdl_parser_expressions.proofs.Walks.{Walk, walk_none, walk_append, Deep, deep_after, Walks, Rule, afresh, w_then, w_rule}
+use Rattle.vhdl_parser_expressions.proofs.Walks.{Walk, walk_none, walk_append, Deep, deep_after, Rule, afresh, w_then, w_as, w_rule}
 use Rattle.vhdl_parser_expressions.proofs.Rules.{is_neutral, w_some}
 
 module _ {A : Type 0} {n d : ℕ} {part : A → List Piece} {Part : A → Type 0} (begins : Option TokenKind → Bool) (item : Parser A) (le : d ≤ n) (each : Rule n d item part Part) where
@@ -105,11 +105,36 @@ module _ {A : Type 0} {n d : ℕ} {part : A → List Piece} {Part : A → Type 0
     steady = steady_many begins none each.steady (item_on long) [];
   }
 
+-- the items behind the first one
+abbrev pub spell_behind : {A : Type 0} → (A → List Piece) → List A → List Piece
+spell_behind part [] = []
+spell_behind part (x ∷ xs) = spell_each part xs
+
+-- all items, of which the first one was read
+abbrev pub Behind : {A : Type 0} → (A → Type 0) → A → List A → Type 0
+Behind {A} Part first all = (more : List A) × (all ≡ first ∷ more) × IsEach Part more
+
+-- { item }, behind the first one
+pub behind_rule : {A : Type 0} {n d : ℕ} {item : Parser A} {part : A → List Piece} {Part : A → Type 0} (begins : Option TokenKind → Bool) → begins None ≡ false → d ≤ n → Rule n d item part Part → ((a : A) → 1 ≤ length (part a)) → (first : A) →
+    Rule n d (many begins item (first ∷ [])) (spell_behind part) (Behind Part first)
+behind_rule {A} {n} {d} {item} {part} {Part} begins none le each long first = record {
+  reads = λ ts all rest h.
+      let m = many_made begins item le each (length ts) (first ∷ []) ts all rest h in
+      record { more = spell_each part m.more; is = ap (spell_behind part) m.all_is; spelled = m.spelled; formed = (m.more, m.all_is, m.formed); walk = m.walk };
+  deep = λ ts at h. many_deep begins item le each (length ts) (first ∷ []) ts at h;
+  example = λ _. record { tree = first ∷ []; more = []; is = refl; formed = ([], refl, tt) };
+  stuck = λ _ ts why at h met.
+      let s = many_stuck begins item le each (length ts) (first ∷ []) ts why at h met in
+      let x = s.example in
+      halt_map s (record { tree = first ∷ x.tree; more = x.more; is = x.is; formed = (x.tree, refl, x.formed) }) refl;
+  steady = steady_many begins none each.steady (item_on begins item le each long) (first ∷ []);
+}
+
 -- item { separator item }
 pub separated_rule : {A : Type 0} {n d : ℕ} {item : Parser A} {part : A → List Piece} {Part : A → Type 0} (separator : TokenKind) → is_neutral separator ≡ true → d ≤ n → Rule n d item part Part →
     Rule n d (separated separator item) (spell_list separator part) (IsList Part)
 unfolding separated
-separated_rule {A} {n} {d} {item} {part} {Part} separator ok le each = w_then each (λ first good le. rest_of first good)
+separated_rule {A} {n} {d} {item} {part} {Part} separator ok le each = w_then each (λ first good le. w_as (whole first good) (behind_rule (is_kind separator) refl le more (λ x. omega arith) first))
   where
     next : Parser A
     next = λ ts. and_then (expect separator ts) (λ _. item)
@@ -117,16 +142,8 @@ separated_rule {A} {n} {d} {item} {part} {Part} separator ok le each = w_then ea
     more : Rule n d next (λ x. some separator ∷ part x) Part
     more = w_some separator ok (λ _. w_rule (λ x. refl) each)
 
-    rest_of : (first : A) → Part first → Walks n d false d (λ r. part first ++ r) (λ us. many (is_kind separator) next (first ∷ []) us) (spell_list separator part) (IsList Part)
-    rest_of first good = record {
-      reads = λ ts all rest h.
-          let m = many_made (is_kind separator) next le more (length ts) (first ∷ []) ts all rest h in
-          record { more = spell_each (λ x. some separator ∷ part x) m.more; is = ap (spell_list separator part) m.all_is; spelled = m.spelled; formed = subst (IsList Part) (sym m.all_is) (good, m.formed); walk = m.walk };
-      deep = λ ts at h. many_deep (is_kind separator) next le more (length ts) (first ∷ []) ts at h;
-      example = λ _. record { tree = first ∷ []; more = []; is = refl; formed = (good, tt) };
-      stuck = λ _ ts why at h met.
-          let s = many_stuck (is_kind separator) next le more (length ts) (first ∷ []) ts why at h met in
-          let x = s.example in
-          halt_map s (record { tree = first ∷ x.tree; more = x.more; is = ap (λ ps. part first ++ ps) x.is; formed = (good, x.formed) }) refl;
-      steady = steady_many (is_kind separator) refl more.steady (item_on (is_kind separator) next le more (λ x. omega arith)) (first ∷ []);
-    }
+    whole : (first : A) → Part first → (all : List A) (ps : List Piece) → Behind Part first all → spell_behind (λ x. some separator ∷ part x) all ≡ ps → (spell_list separator part all ≡ part first ++ ps) × IsList Part all
+    whole first good all ps b is = (
+      ap (spell_list separator part) b.1 ∙ ap (λ qs. part first ++ qs) (sym (ap (spell_behind (λ x. some separator ∷ part x)) b.1) ∙ is),
+      subst (IsList Part) (sym b.1) (good, b.2),
+    )

@@ -14,7 +14,7 @@ use Rattle.vhdl_parser_expressions.proofs.Steps.{bind_ok, bind_err, err_why, err
 use Rattle.vhdl_parser_expressions.proofs.Halts.{Example, Sticks, halt_here, halt_after}
 use Rattle.vhdl_parser_expressions.proofs.Steady.{Steady, steady_pure, steady_deep, steady_refuse, steady_token, steady_then, steady_same, steady_choose}
 use Rattle.vhdl_parser_expressions.proofs.Ahead.{Eager, steady_both}
-use Rattle.vhdl_parser_expressions.proofs.Walks.{walk_append, walk_under, walk_least, walk_token, Deep, deep_token, deep_under, deep_here, Walks, Rule, afresh, w_pure, w_then, w_as, w_last}
+use Rattle.vhdl_parser_expressions.proofs.Walks.{walk_append, walk_under, walk_least, walk_token, Deep, deep_token, deep_under, deep_here, Makes, MakesOf, makes_of, Walks, made, walks, Rule, afresh, w_pure, w_then, w_as, w_last}
 
 -- ---- tokens
 
@@ -63,11 +63,11 @@ stick_take {A} {B} {before} {f} {spell} {Good} of kind part is example next ts w
     (bind_err (and_then (token kind ts) (λ l us. Ok (of l, us))) f (why, at) h)
 
 -- a token of this kind, after which d2 levels are open
-pub w_take_by : {A B : Type 0} {n d d2 d3 : ℕ} {e e2 : Bool} {before : List Piece → List Piece} {f : A → Parser B} {spell : B → List Piece} {Good : B → Type 0} (of : Lexeme → A) (kind : TokenKind) (part : A → Piece) →
+pub m_take_by : {A B : Type 0} {n d d2 d3 : ℕ} {e e2 : Bool} {before : List Piece → List Piece} {f : A → Parser B} {spell : B → List Piece} {Good : B → Type 0} (of : Lexeme → A) (kind : TokenKind) (part : A → Piece) →
     (d2 ≤ n → d ≤ n) → d + opening e kind ≡ d2 + closing e kind → is_end kind ≡ e2 → ((l : Lexeme) → l.kind ≡ kind → Is (part (of l)) l) →
     (d ≤ n → (a : A) → Example (λ r. before (part a ∷ r)) spell Good) → (d ≤ n → (a : A) → Sticks (λ r. before (part a ∷ r)) (f a) spell Good) →
-    ((a : A) → Walks n d2 e2 d3 (λ r. before (part a ∷ r)) (f a) spell Good) → Walks n d e d3 before (λ ts. and_then (and_then (token kind ts) (λ l us. Ok (of l, us))) f) spell Good
-w_take_by {A} {B} {n} {d} {d2} {d3} {e} {e2} {before} {f} {spell} {Good} of kind part bound b last is example further next = record {
+    ((a : A) → Makes n d2 e2 d3 (λ r. before (part a ∷ r)) (f a) spell Good) → Makes n d e d3 before (λ ts. and_then (and_then (token kind ts) (λ l us. Ok (of l, us))) f) spell Good
+m_take_by {A} {B} {n} {d} {d2} {d3} {e} {e2} {before} {f} {spell} {Good} of kind part bound b last is example further next = record {
   reads = λ ts x rest h.
       let a = bind_ok (and_then (token kind ts) (λ l us. Ok (of l, us))) f (x, rest) h in
       let t = taken kind of ts a.0.0 a.0.1 a.1 in
@@ -85,11 +85,17 @@ w_take_by {A} {B} {n} {d} {d2} {d3} {e} {e2} {before} {f} {spell} {Good} of kind
       (bind_err (and_then (token kind ts) (λ l us. Ok (of l, us))) f (TooDeep, at) h);
   example = λ le. example_behind of kind part (example le);
   stuck = λ le. stick_take of kind part is (example le) (further le);
-  steady = steady_then (steady_then (steady_token kind) (λ ts l rest h. steady_pure)) (λ ts a rest h. (next a).steady);
 }
   where
     level : {ts : List Lexeme} {a : A} {rest : List Lexeme} (t : Taken kind of ts a rest) → d + opening e t.token.kind ≡ d2 + closing e t.token.kind
     level t = ap (λ y. d + opening e y) t.kind_is ∙ b ∙ ap (λ y. d2 + closing e y) (sym t.kind_is)
+
+pub w_take_by : {A B : Type 0} {n d d2 d3 : ℕ} {e e2 : Bool} {before : List Piece → List Piece} {f : A → Parser B} {spell : B → List Piece} {Good : B → Type 0} (of : Lexeme → A) (kind : TokenKind) (part : A → Piece) →
+    (d2 ≤ n → d ≤ n) → d + opening e kind ≡ d2 + closing e kind → is_end kind ≡ e2 → ((l : Lexeme) → l.kind ≡ kind → Is (part (of l)) l) →
+    (d ≤ n → (a : A) → Example (λ r. before (part a ∷ r)) spell Good) → (d ≤ n → (a : A) → Sticks (λ r. before (part a ∷ r)) (f a) spell Good) →
+    ((a : A) → Walks n d2 e2 d3 (λ r. before (part a ∷ r)) (f a) spell Good) → Walks n d e d3 before (λ ts. and_then (and_then (token kind ts) (λ l us. Ok (of l, us))) f) spell Good
+w_take_by of kind part bound b last is example further next = walks (m_take_by of kind part bound b last is example further (λ a. made (next a)))
+    (steady_then (steady_then (steady_token kind) (λ ts l rest h. steady_pure)) (λ ts a rest h. (next a).steady))
 
 -- a token that opens no level
 pub w_take : {A B : Type 0} {n d d2 d3 : ℕ} {e e2 : Bool} {before : List Piece → List Piece} {f : A → Parser B} {spell : B → List Piece} {Good : B → Type 0} (of : Lexeme → A) (kind : TokenKind) (part : A → Piece) →
@@ -154,6 +160,42 @@ module _ {B : Type 0} {n d d2 : ℕ} {e : Bool} {before : List Piece → List Pi
   pub w_literal : {f : (ℕ × ℕ) → Parser B} → ((c : ℕ × ℕ) → Walks n d false d2 (λ r. before (literal_at c.0 c.1 ∷ r)) (f c) spell Good) → Walks n d e d2 before (λ ts. and_then (literal ts) f) spell Good
   unfolding literal same_kind
   w_literal next = w_take (λ l. (l.at, slice_index l.text 1)) k.Character (λ c. literal_at c.0 c.1) (λ le. le) (omega arith) refl refl (λ l i. (i, refl, refl)) next
+
+-- the same of what is made alone
+module _ {B : Type 0} {n d d2 : ℕ} {e : Bool} {before : List Piece → List Piece} {spell : B → List Piece} {Good : B → Type 0} where
+  pub m_at : {f : ℕ → Parser B} (kind : TokenKind) → is_neutral kind ≡ true → ((at : ℕ) → Makes n d false d2 (λ r. before (one_at kind at ∷ r)) (f at) spell Good) → Makes n d e d2 before (λ ts. and_then (expect kind ts) f) spell Good
+  unfolding expect
+  m_at kind ok next =
+      let u = neutral kind ok in
+      m_take_by (λ l. l.at) kind (one_at kind) (λ le. le) (omega (arith, u.opens_none e, u.closes_none e)) u.no_end (λ l i. (i, refl)) (λ le at. (next at).example le) (λ le at. (next at).stuck le) next
+
+  pub m_choose : {by : Option TokenKind → Parser B} → ((next : Option TokenKind) → Makes n d e d2 before (by next) spell Good) → Makes n d e d2 before (λ ts. by (next_kind ts) ts) spell Good
+  m_choose each = record {
+    reads = λ ts b rest h. (each (next_kind ts)).reads ts b rest h;
+    deep = λ ts at h. (each (next_kind ts)).deep ts at h;
+    example = λ le. (each None).example le;
+    stuck = λ le ts why at h met. (each (next_kind ts)).stuck le ts why at h met;
+  }
+
+  pub m_test : {p q : Parser B} (begins : Option TokenKind → Bool) → Makes n d e d2 before p spell Good → Makes n d e d2 before q spell Good → Makes n d e d2 before (test begins p q) spell Good
+  m_test {p} {q} begins one other = m_choose {by = λ next ts. cond {A = Outcome B} (begins next) (p ts) (q ts)} (λ next. by (begins next))
+    where
+      by : (t : Bool) → Makes n d e d2 before (λ ts. cond {A = Outcome B} t (p ts) (q ts)) spell Good
+      by true = one
+      by false = other
+
+  -- by the tokens ahead, where one way is known to be right where they say so
+  pub m_by : {p q : Parser B} (c : List Lexeme → Bool) → ((ts : List Lexeme) → c ts ≡ true → MakesOf n d e d2 before (p ts) spell Good ts) → Makes n d e d2 before q spell Good → Makes n d e d2 before (λ ts. cond {A = Outcome B} (c ts) (p ts) (q ts)) spell Good
+  m_by {p} {q} c one other = record {
+    reads = λ ts. (by ts (c ts) refl).reads;
+    deep = λ ts. (by ts (c ts) refl).deep;
+    example = other.example;
+    stuck = λ le ts. (by ts (c ts) refl).stuck le;
+  }
+    where
+      by : (ts : List Lexeme) (t : Bool) → c ts ≡ t → MakesOf n d e d2 before (cond {A = Outcome B} t (p ts) (q ts)) spell Good ts
+      by ts true holds = one ts holds
+      by ts false holds = makes_of other ts
 
 -- ---- tokens that open a level
 

@@ -90,7 +90,7 @@ steady_token kind = record { shorter = short; twins = alike }
 -- ---- a reader, and what follows it
 
 module _ {A B : Type 0} (f : A → Parser B) where
-  then_shorter : (o : Outcome A) (ts : List Lexeme) → length (left_of o) ≤ length ts → ((x : A × List Lexeme) → o ≡ Ok x → length (left_of (f x.0 x.1)) ≤ length x.1) → length (left_of (and_then o f)) ≤ length ts
+  pub then_shorter : (o : Outcome A) (ts : List Lexeme) → length (left_of o) ≤ length ts → ((x : A × List Lexeme) → o ≡ Ok x → length (left_of (f x.0 x.1)) ≤ length x.1) → length (left_of (and_then o f)) ≤ length ts
   then_shorter (Ok x) ts le next = omega (arith, le, next x refl)
   then_shorter (Err e) ts le next = le
 

@@ -1,13 +1,14 @@
 -- What a reader reads is spelled so and well formed, and what it refuses for its depth is too deep: one lemma for each way in which readers are made.
 use Rattle.std.proofs.Common.{◌≡◌, ℕ, zero, suc, ◌+◌, ◌≤◌, ◌<◌, Bool, false, List, [], ◌∷◌, ◌++◌, length, take, Ok, Err, ⊎_elim, refl, sym, ap, ◌∙◌, subst, append_assoc, arith}
 use Rattle.std.proofs.Math.Seq.{take-append_seam}
+use Rattle.vhdl_parser_expressions.specs.declared.stop.Stop.{Stop}
 use Rattle.vhdl_parser_expressions.specs.declared.stop.Stop.TheVariants.{TooDeep}
 use Rattle.vhdl_tree.specs.Lexeme.{Lexeme}
 use Rattle.vhdl_tree.specs.Pieces.{Piece, Spells}
 use Rattle.vhdl_tree.specs.Levels.{is_end, opening, closing, opens, closes, IsDeep}
-use Rattle.vhdl_parser_expressions.specs.reader.Input.{Parser, and_then}
+use Rattle.vhdl_parser_expressions.specs.reader.Input.{Outcome, Parser, IsRefused, and_then}
 use Rattle.vhdl_parser_expressions.proofs.Steps.{bind_ok, bind_err, at_pure, pure_err, spells_append}
-use Rattle.vhdl_parser_expressions.proofs.Halts.{Example, Sticks, halt_first, halt_after, halt_map}
+use Rattle.vhdl_parser_expressions.proofs.Halts.{Example, Halts, Sticks, halt_first, halt_after, halt_map}
 use Rattle.vhdl_parser_expressions.proofs.Steady.{Steady, steady_pure, steady_then}
 
 -- ---- counting levels
@@ -145,13 +146,37 @@ pub record Made {B : Type 0} (n d : ℕ) (e : Bool) (d2 : ℕ) (before : List Pi
   pub walk : Walk n d e d2 false ts rest
 
 -- What a reader makes where d levels are open and `before` was read of the tree, and what it refuses: for its depth where
--- it is too deep, and otherwise at a token up to which the tokens go on to a tree, and by nothing that follows this token.
+-- it is too deep, and otherwise at a token up to which the tokens go on to a tree.
+pub record Makes {B : Type 0} (n d : ℕ) (e : Bool) (d2 : ℕ) (before : List Piece → List Piece) (p : Parser B) (spell : B → List Piece) (Good : B → Type 0) : Type 0 where
+  pub reads : (ts : List Lexeme) (b : B) (rest : List Lexeme) → p ts ≡ Ok (b, rest) → Made n d e d2 before spell Good ts b rest
+  pub deep : (ts at : List Lexeme) → p ts ≡ Err (TooDeep, at) → Deep n d e ts
+  pub example : d ≤ n → Example before spell Good
+  pub stuck : d ≤ n → Sticks before p spell Good
+
+-- what it makes of these tokens, by what it says of them
+pub record MakesOf {B : Type 0} (n d : ℕ) (e : Bool) (d2 : ℕ) (before : List Piece → List Piece) (o : Outcome B) (spell : B → List Piece) (Good : B → Type 0) (ts : List Lexeme) : Type 0 where
+  pub reads : (b : B) (rest : List Lexeme) → o ≡ Ok (b, rest) → Made n d e d2 before spell Good ts b rest
+  pub deep : (at : List Lexeme) → o ≡ Err (TooDeep, at) → Deep n d e ts
+  pub stuck : d ≤ n → (why : Stop) (at : List Lexeme) → o ≡ Err (why, at) → IsRefused why → Halts before spell Good ts at
+
+pub makes_of : {B : Type 0} {n d d2 : ℕ} {e : Bool} {before : List Piece → List Piece} {p : Parser B} {spell : B → List Piece} {Good : B → Type 0} →
+    Makes n d e d2 before p spell Good → (ts : List Lexeme) → MakesOf n d e d2 before (p ts) spell Good ts
+makes_of m ts = record { reads = m.reads ts; deep = m.deep ts; stuck = λ le. m.stuck le ts }
+
+-- The same, and it refuses by nothing that follows the token.
 pub record Walks {B : Type 0} (n d : ℕ) (e : Bool) (d2 : ℕ) (before : List Piece → List Piece) (p : Parser B) (spell : B → List Piece) (Good : B → Type 0) : Type 0 where
   pub reads : (ts : List Lexeme) (b : B) (rest : List Lexeme) → p ts ≡ Ok (b, rest) → Made n d e d2 before spell Good ts b rest
   pub deep : (ts at : List Lexeme) → p ts ≡ Err (TooDeep, at) → Deep n d e ts
   pub example : d ≤ n → Example before spell Good
   pub stuck : d ≤ n → Sticks before p spell Good
   pub steady : Steady p
+
+module _ {B : Type 0} {n d d2 : ℕ} {e : Bool} {before : List Piece → List Piece} {p : Parser B} {spell : B → List Piece} {Good : B → Type 0} where
+  pub made : Walks n d e d2 before p spell Good → Makes n d e d2 before p spell Good
+  made w = record { reads = w.reads; deep = w.deep; example = w.example; stuck = w.stuck }
+
+  pub walks : Makes n d e d2 before p spell Good → Steady p → Walks n d e d2 before p spell Good
+  walks m s = record { reads = m.reads; deep = m.deep; example = m.example; stuck = m.stuck; steady = s }
 
 abbrev pub afresh : List Piece → List Piece
 afresh ps = ps
@@ -160,20 +185,23 @@ afresh ps = ps
 abbrev pub Rule : {B : Type 0} → ℕ → ℕ → Parser B → (B → List Piece) → (B → Type 0) → Type 0
 Rule n d p spell Good = Walks n d false d afresh p spell Good
 
-pub w_pure : {B : Type 0} {n d : ℕ} {before : List Piece → List Piece} {b : B} {spell : B → List Piece} {Good : B → Type 0} →
-    d ≤ n → spell b ≡ before [] → Good b → Walks n d false d before (λ ts. Ok (b, ts)) spell Good
-w_pure {B} {n} {d} {before} {b} {spell} {Good} le is good = record {
+pub m_pure : {B : Type 0} {n d : ℕ} {before : List Piece → List Piece} {b : B} {spell : B → List Piece} {Good : B → Type 0} →
+    d ≤ n → spell b ≡ before [] → Good b → Makes n d false d before (λ ts. Ok (b, ts)) spell Good
+m_pure {B} {n} {d} {before} {b} {spell} {Good} le is good = record {
   reads = λ ts x rest h. at_pure (λ y us. Made n d false d before spell Good ts y us) b x ts rest h (record { more = []; is = is; spelled = refl; formed = good; walk = walk_none n d false ts le });
   deep = λ ts at h. pure_err _ (TooDeep, at) h;
   example = λ _. record { tree = b; more = []; is = is; formed = good };
   stuck = λ _ ts why at h met. pure_err _ (why, at) h;
-  steady = steady_pure;
 }
 
+pub w_pure : {B : Type 0} {n d : ℕ} {before : List Piece → List Piece} {b : B} {spell : B → List Piece} {Good : B → Type 0} →
+    d ≤ n → spell b ≡ before [] → Good b → Walks n d false d before (λ ts. Ok (b, ts)) spell Good
+w_pure le is good = walks (m_pure le is good) steady_pure
+
 -- a rule, and what follows it
-pub w_then : {A B : Type 0} {n d d2 : ℕ} {before : List Piece → List Piece} {p : Parser A} {f : A → Parser B} {part : A → List Piece} {Part : A → Type 0} {spell : B → List Piece} {Good : B → Type 0} →
-    Walks n d false d afresh p part Part → ((a : A) → Part a → d ≤ n → Walks n d false d2 (λ r. before (part a ++ r)) (f a) spell Good) → Walks n d false d2 before (λ ts. and_then (p ts) f) spell Good
-w_then {A} {B} {n} {d} {d2} {before} {p} {f} {part} {Part} {spell} {Good} first next = record {
+pub m_then : {A B : Type 0} {n d d2 : ℕ} {before : List Piece → List Piece} {p : Parser A} {f : A → Parser B} {part : A → List Piece} {Part : A → Type 0} {spell : B → List Piece} {Good : B → Type 0} →
+    Makes n d false d afresh p part Part → ((a : A) → Part a → d ≤ n → Makes n d false d2 (λ r. before (part a ++ r)) (f a) spell Good) → Makes n d false d2 before (λ ts. and_then (p ts) f) spell Good
+m_then {A} {B} {n} {d} {d2} {before} {p} {f} {part} {Part} {spell} {Good} first next = record {
   reads = λ ts b rest h.
       let a = bind_ok (p ts) f (b, rest) h in
       let m = first.reads ts a.0.0 a.0.1 a.1 in
@@ -190,11 +218,15 @@ w_then {A} {B} {n} {d} {d2} {before} {p} {f} {part} {Part} {spell} {Good} first 
       (λ e. let a = first.stuck le ts why at e met in halt_first a ((next a.example.tree a.example.formed le).example le))
       (λ a. let m = first.reads ts a.0.0 a.0.1 a.1 in halt_after (part a.0.0) (whole m) ((next a.0.0 m.formed le).stuck le a.0.1 why at a.2 met))
       (bind_err (p ts) f (why, at) h);
-  steady = steady_then first.steady (λ ts a rest h. let m = first.reads ts a rest h in (next a m.formed (walk_least m.walk)).steady);
 }
   where
     whole : {ts : List Lexeme} {a : A} {rest : List Lexeme} → Made n d false d afresh part Part ts a rest → Spells (part a) ts rest
     whole {ts} {a} {rest} m = subst (λ ps. Spells ps ts rest) (sym m.is) m.spelled
+
+pub w_then : {A B : Type 0} {n d d2 : ℕ} {before : List Piece → List Piece} {p : Parser A} {f : A → Parser B} {part : A → List Piece} {Part : A → Type 0} {spell : B → List Piece} {Good : B → Type 0} →
+    Walks n d false d afresh p part Part → ((a : A) → Part a → d ≤ n → Walks n d false d2 (λ r. before (part a ++ r)) (f a) spell Good) → Walks n d false d2 before (λ ts. and_then (p ts) f) spell Good
+w_then first next = walks (m_then (made first) (λ a good le. made (next a good le)))
+    (steady_then first.steady (λ ts a rest h. let m = first.reads ts a rest h in (next a m.formed (walk_least m.walk)).steady))
 
 -- What a tree spells in place of another one, behind what was read of that.
 abbrev pub Shows : {A B : Type 0} → (List Piece → List Piece) → (List Piece → List Piece) → (A → List Piece) → (A → Type 0) → (B → List Piece) → (B → Type 0) → (A → B) → Type 0
@@ -221,9 +253,9 @@ w_map {A} {B} {n} {d} {d2} {e} {before} {other} {p} {part} {Part} {spell} {Good}
 }
 
 -- the same tree, spelled and well formed in another way
-pub w_as : {B : Type 0} {n d d2 : ℕ} {e : Bool} {before other : List Piece → List Piece} {p : Parser B} {part spell : B → List Piece} {Part Good : B → Type 0} →
-    Shows other before part Part spell Good (λ b. b) → Walks n d e d2 other p part Part → Walks n d e d2 before p spell Good
-w_as {B} {n} {d} {d2} {e} {before} {other} {p} {part} {spell} {Part} {Good} shows w = record {
+pub m_as : {B : Type 0} {n d d2 : ℕ} {e : Bool} {before other : List Piece → List Piece} {p : Parser B} {part spell : B → List Piece} {Part Good : B → Type 0} →
+    Shows other before part Part spell Good (λ b. b) → Makes n d e d2 other p part Part → Makes n d e d2 before p spell Good
+m_as {B} {n} {d} {d2} {e} {before} {other} {p} {part} {spell} {Part} {Good} shows w = record {
   reads = λ ts b rest h.
       let m = w.reads ts b rest h in
       let i = shows b m.more m.formed m.is in
@@ -231,13 +263,46 @@ w_as {B} {n} {d} {d2} {e} {before} {other} {p} {part} {spell} {Part} {Good} show
   deep = w.deep;
   example = λ le. shown (λ b. b) shows (w.example le);
   stuck = λ le ts why at h met. let s = w.stuck le ts why at h met in halt_map s (shown (λ b. b) shows s.example) refl;
-  steady = w.steady;
 }
+
+pub w_as : {B : Type 0} {n d d2 : ℕ} {e : Bool} {before other : List Piece → List Piece} {p : Parser B} {part spell : B → List Piece} {Part Good : B → Type 0} →
+    Shows other before part Part spell Good (λ b. b) → Walks n d e d2 other p part Part → Walks n d e d2 before p spell Good
+w_as shows w = walks (m_as shows (made w)) w.steady
 
 -- a rule, and nothing more
 pub w_last : {A B : Type 0} {n d : ℕ} {before : List Piece → List Piece} {p : Parser A} {part : A → List Piece} {Part : A → Type 0} {spell : B → List Piece} {Good : B → Type 0} (g : A → B) →
     Walks n d false d afresh p part Part → ((a : A) → Part a → (spell (g a) ≡ before (part a)) × Good (g a)) → Walks n d false d before (λ ts. and_then (p ts) (λ a us. Ok (g a, us))) spell Good
 w_last {A} {B} {n} {d} {before} g first is = w_map g (λ a more good same. let i = is a good in (i.0 ∙ ap before same, i.1)) first
+
+-- a rule, and nothing more, where what is spelled as its tree is also spelled as the other one
+pub w_spelled : {A B : Type 0} {n d : ℕ} {p : Parser A} {part : A → List Piece} {Part : A → Type 0} {spell : B → List Piece} {Good : B → Type 0} (g : A → B) →
+    Rule n d p part Part → ((a : A) → Part a → ((ts rest : List Lexeme) → Spells (part a) ts rest → Spells (spell (g a)) ts rest) × Good (g a)) → Rule n d (λ ts. and_then (p ts) (λ a us. Ok (g a, us))) spell Good
+w_spelled {A} {B} {n} {d} {p} {part} {Part} {spell} {Good} g w is = record {
+  reads = λ ts b rest h.
+      let a = bind_ok (p ts) (λ x us. Ok (g x, us)) (b, rest) h in
+      let m = w.reads ts a.0.0 a.0.1 a.1 in
+      let i = is a.0.0 m.formed in
+      at_pure (λ y us. Made n d false d afresh spell Good ts y us) (g a.0.0) b a.0.1 rest a.2
+      (record { more = spell (g a.0.0); is = refl; spelled = i.0 ts a.0.1 (subst (λ ps. Spells ps ts a.0.1) (sym m.is) m.spelled); formed = i.1; walk = m.walk });
+  deep = λ ts at h. ⊎_elim (w.deep ts at) (λ a. pure_err _ (TooDeep, at) a.2) (bind_err (p ts) (λ a us. Ok (g a, us)) (TooDeep, at) h);
+  example = λ le. other (w.example le);
+  stuck = λ le ts why at h met. ⊎_elim (λ x. halts (w.stuck le ts why at x met)) (λ a. pure_err _ (why, at) a.2) (bind_err (p ts) (λ a us. Ok (g a, us)) (why, at) h);
+  steady = steady_then w.steady (λ ts a rest h. steady_pure);
+}
+  where
+    other : Example afresh part Part → Example afresh spell Good
+    other x = record { tree = g x.tree; more = spell (g x.tree); is = refl; formed = (is x.tree x.formed).1 }
+
+    halts : {ts at : List Lexeme} → Halts afresh part Part ts at → Halts afresh spell Good ts at
+    halts h =
+        let x = h.example in
+        record {
+          front = h.front;
+          split = h.split;
+          behind = h.behind;
+          example = other x;
+          spelled = (is x.tree x.formed).0 (h.front ++ h.behind) [] (subst (λ ps. Spells ps (h.front ++ h.behind) []) (sym x.is) h.spelled);
+        }
 
 -- a rule that ends what is read
 pub w_ends : {B : Type 0} {n d : ℕ} {before : List Piece → List Piece} {p : Parser B} {part spell : B → List Piece} {Part Good : B → Type 0} →
@@ -256,3 +321,11 @@ w_weaken good w = w_as (λ b more part same. (same, good b part)) w
 pub w_before : {B : Type 0} {n d d2 : ℕ} {e : Bool} {before other : List Piece → List Piece} {p : Parser B} {spell : B → List Piece} {Good : B → Type 0} →
     ((ps : List Piece) → other ps ≡ before ps) → Walks n d e d2 other p spell Good → Walks n d e d2 before p spell Good
 w_before same w = w_as (λ b more good is. (is ∙ same more, good)) w
+
+pub m_weaken : {B : Type 0} {n d d2 : ℕ} {e : Bool} {before : List Piece → List Piece} {p : Parser B} {spell : B → List Piece} {Part Good : B → Type 0} →
+    ((b : B) → Part b → Good b) → Makes n d e d2 before p spell Part → Makes n d e d2 before p spell Good
+m_weaken good w = m_as (λ b more part same. (same, good b part)) w
+
+pub m_before : {B : Type 0} {n d d2 : ℕ} {e : Bool} {before other : List Piece → List Piece} {p : Parser B} {spell : B → List Piece} {Good : B → Type 0} →
+    ((ps : List Piece) → other ps ≡ before ps) → Makes n d e d2 other p spell Good → Makes n d e d2 before p spell Good
+m_before same w = m_as (λ b more good is. (is ∙ same more, good)) w

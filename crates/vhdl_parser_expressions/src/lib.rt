@@ -3,8 +3,10 @@
 #![tactic(auto)]
 
 mod behind;
+mod element;
 mod expr;
 mod list;
+mod name;
 mod operator;
 mod parser;
 mod stop;

@@ -5,6 +5,7 @@ ghost use Rattle.vhdl_lexer.specs.Cut.{AreWithin};
 ghost use Rattle.vhdl_lexer.specs.declared.token.TokenKind.TheVariants as k;
 ghost use Rattle.vhdl_tree.specs.Lexeme.{Lexeme, lexemes, same_kind};
 ghost use Rattle.vhdl_tree.specs.View.{ident_view, option_ident_view, literal_view};
+ghost use Rattle.vhdl_parser_expressions.specs.reader.Expressions.{sees_power};
 ghost use Rattle.vhdl_parser_expressions.specs.reader.Input as read;
 ghost use Rattle.vhdl_parser_expressions.specs.reader.Input.{Reads, Takes};
 
@@ -109,6 +110,24 @@ impl<'a> Parser<'a> {
         match self.tokens.split_first() {
             None => false,
             Some((_, rest)) => self.sees(first) && begins(rest, second),
+        }
+    }
+
+    /// Whether two stars that touch come next.
+    #[tactic(auto, unfolding(crate::specs::reader::Expressions::sees_power, vhdl_tree::specs::Lexeme::lexeme))]
+    pub fn sees_power(&self) -> bool
+        ensures { result ≡ sees_power self.now }
+    {
+        let Some((first, rest)) = self.tokens.split_first() else {
+            return false;
+        };
+        match rest.first() {
+            None => false,
+            Some(second) => {
+                first.kind == TokenKind::Star
+                    && second.kind == TokenKind::Star
+                    && second.start as usize == first.start as usize + 1
+            }
         }
     }
 

@@ -1,5 +1,6 @@
 -- The branches of an assignment take no more turns than tokens, and what is read of them doesn't hang on the tokens behind.
 use Rattle.std.proofs.Common.{◌≡◌, ℕ, zero, suc, ◌≤◌, cond, List, [], ◌∷◌, ◌++◌, length, Ok, Option, Some, None, refl, sym, ap, ◌∙◌, arith}
+use Rattle.vhdl_lexer.specs.declared.language.Language.{Language}
 use Rattle.vhdl_lexer.specs.declared.token.TokenKind.TheVariants as k
 use Rattle.vhdl_tree.specs.Lexeme.{Lexeme}
 use Rattle.vhdl_tree.specs.Tree.{Expr, Value, Branch}
@@ -19,37 +20,37 @@ go_steady : (f : List Branch → Parser Waveforms) → ((all : List Branch) → 
 go_steady f each found v None = steady_pure
 go_steady f each found v (Some c) = each (found ++ record { value = v; condition = c } ∷ [])
 
-no_turn : (n turns : ℕ) (found : List Branch) → more_branches_from n turns found [] ≡ ended found []
+no_turn : (language : Language) (n turns : ℕ) (found : List Branch) → more_branches_from language n turns found [] ≡ ended found []
 unfolding more_branches_from next_kind
-no_turn n zero found = refl
-no_turn n (suc turns) found = refl
+no_turn language n zero found = refl
+no_turn language n (suc turns) found = refl
 
-module _ (n : ℕ) (each : Steady (part n)) where
-  else_steady : Steady (else_part n)
+module _ (language : Language) (n : ℕ) (each : Steady (part language n)) where
+  else_steady : Steady (else_part language n)
   unfolding else_part expect
   else_steady = steady_then (steady_take (λ l. l.at) k.Else) (λ ts at rest h. each)
 
-  else_advances : Advances (else_part n)
+  else_advances : Advances (else_part language n)
   unfolding else_part expect
   else_advances = advances_then _ (advances_then _ (advances_token k.Else) (λ l us. omega arith)) (λ at us. each.shorter us)
 
-  from_steady : (turns : ℕ) (found : List Branch) → Steady (more_branches_from n turns found)
+  from_steady : (turns : ℕ) (found : List Branch) → Steady (more_branches_from language n turns found)
   unfolding more_branches_from
   from_steady zero found = steady_pure
-  from_steady (suc turns) found = steady_test (is_kind k.Else) (steady_then else_steady (λ ts p rest h. go_steady (more_branches_from n turns) (from_steady turns) found p.value p.condition)) steady_pure
+  from_steady (suc turns) found = steady_test (is_kind k.Else) (steady_then else_steady (λ ts p rest h. go_steady (more_branches_from language n turns) (from_steady turns) found p.value p.condition)) steady_pure
 
-  enough : (a b : ℕ) (found : List Branch) (ts : List Lexeme) → length ts ≤ a → length ts ≤ b → more_branches_from n a found ts ≡ more_branches_from n b found ts
+  enough : (a b : ℕ) (found : List Branch) (ts : List Lexeme) → length ts ≤ a → length ts ≤ b → more_branches_from language n a found ts ≡ more_branches_from language n b found ts
   unfolding more_branches_from
-  enough a b found [] le also = no_turn n a found ∙ sym (no_turn n b found)
+  enough a b found [] le also = no_turn language n a found ∙ sym (no_turn language n b found)
   enough zero b found (l ∷ ts) le also = absurd (omega (arith, le))
   enough (suc a) zero found (l ∷ ts) le also = absurd (omega (arith, also))
   enough (suc a) (suc b) found (l ∷ ts) le also =
       ap (λ o. cond {A = Outcome Waveforms} (is_kind k.Else (next_kind (l ∷ ts))) o (ended found (l ∷ ts)))
-      (then_alike (else_part n (l ∷ ts)) (λ p. go_on (more_branches_from n a) found p.value p.condition) (λ p. go_on (more_branches_from n b) found p.value p.condition)
+      (then_alike (else_part language n (l ∷ ts)) (λ p. go_on (more_branches_from language n a) found p.value p.condition) (λ p. go_on (more_branches_from language n b) found p.value p.condition)
       (λ p rest h.
       let less = else_advances (l ∷ ts) p rest h in
-      go_alike (more_branches_from n a) (more_branches_from n b) found p.value p.condition rest (λ all. enough a b all rest (omega (arith, le, less)) (omega (arith, also, less)))))
+      go_alike (more_branches_from language n a) (more_branches_from language n b) found p.value p.condition rest (λ all. enough a b all rest (omega (arith, le, less)) (omega (arith, also, less)))))
 
-  pub steady_more_branches : (found : List Branch) → Steady (more_branches n found)
+  pub steady_more_branches : (found : List Branch) → Steady (more_branches language n found)
   unfolding more_branches
-  steady_more_branches found = steady_turns (λ turns. more_branches_from n turns found) (λ turns. from_steady turns found) (λ a b ts le also. enough a b found ts le also)
+  steady_more_branches found = steady_turns (λ turns. more_branches_from language n turns found) (λ turns. from_steady turns found) (λ a b ts le also. enough a b found ts le also)

@@ -9,3 +9,6 @@ pub mod Deeper
 pub mod Alone
 pub mod Branched
 pub mod Taken
+pub mod Followed
+pub mod WalkTexts
+pub mod GiveTexts

@@ -1,4 +1,4 @@
-//! What concurrent assignments assign: conditional and selected waveforms (IEEE 1076-2008, 10.5,
+//! What assignments assign: conditional and selected waveforms (IEEE 1076-2008, 10.5,
 //! 11.6).
 
 ghost use Rattle.std.specs.Prelude.{◌≡◌};
@@ -9,57 +9,80 @@ ghost use Rattle.vhdl_parser_expressions.specs.reader.Input.{Reads};
 ghost use Rattle.vhdl_parser_statements.specs.reader.Waveforms as read;
 ghost use Rattle.vhdl_parser_statements.specs.reader.Waveforms.{part_view, conditional_view};
 
-use vhdl_lexer::TokenKind;
+use vhdl_lexer::{Language, TokenKind};
 use vhdl_parser_expressions::{Parser, Stop, followed, optional, separated};
 use vhdl_tree::{Branch, Expr, SelectedAssignment, Value, Waveform};
 
 #[tactic(auto, unfolding(crate::specs::reader::Waveforms::condition))]
-fn waveform_condition(parser: &mut Parser<'_>, levels: usize) -> Result<Expr, Stop>
-    ensures { Reads view (read.condition levels parser.old) result parser.new }
+fn waveform_condition(
+    parser: &mut Parser<'_>,
+    language: Language,
+    levels: usize,
+) -> Result<Expr, Stop>
+    ensures { Reads view (read.condition language levels parser.old) result parser.new }
 {
     parser.expect(TokenKind::When)?;
-    parser.expr(levels)
+    parser.expr(language, levels)
 }
 
 #[tactic(auto, unfolding(vhdl_parser_expressions::specs::reader::Input::optional))]
-fn optional_condition(parser: &mut Parser<'_>, levels: usize) -> Result<Option<Expr>, Stop>
-    ensures { Reads option_expr_view (input.optional (input.is_kind k.When) (read.condition levels) parser.old) result
+fn optional_condition(
+    parser: &mut Parser<'_>,
+    language: Language,
+    levels: usize,
+) -> Result<Option<Expr>, Stop>
+    ensures { Reads option_expr_view
+        (input.optional (input.is_kind k.When) (read.condition language levels) parser.old) result
         parser.new }
 {
-    optional!(parser, TokenKind::When, waveform_condition(parser, levels)?)
+    optional!(
+        parser,
+        TokenKind::When,
+        waveform_condition(parser, language, levels)?
+    )
 }
 
 /// A value and the condition behind it, if there is one.
 #[tactic(auto, unfolding(crate::specs::reader::Waveforms::part))]
-fn part(parser: &mut Parser<'_>, levels: usize) -> Result<(Value, Option<Expr>), Stop>
-    ensures { Reads part_view (read.part levels parser.old) result parser.new }
+fn part(
+    parser: &mut Parser<'_>,
+    language: Language,
+    levels: usize,
+) -> Result<(Value, Option<Expr>), Stop>
+    ensures { Reads part_view (read.part language levels parser.old) result parser.new }
 {
-    let value = parser.value(levels)?;
-    let condition = optional_condition(parser, levels)?;
+    let value = parser.value(language, levels)?;
+    let condition = optional_condition(parser, language, levels)?;
     Ok((value, condition))
 }
 
 #[tactic(auto, unfolding(crate::specs::reader::Waveforms::else_part))]
-fn else_part(parser: &mut Parser<'_>, levels: usize) -> Result<(Value, Option<Expr>), Stop>
-    ensures { Reads part_view (read.else_part levels parser.old) result parser.new }
+fn else_part(
+    parser: &mut Parser<'_>,
+    language: Language,
+    levels: usize,
+) -> Result<(Value, Option<Expr>), Stop>
+    ensures { Reads part_view (read.else_part language levels parser.old) result parser.new }
 {
     parser.expect(TokenKind::Else)?;
-    part(parser, levels)
+    part(parser, language, levels)
 }
 
 /// The branches behind those found, and the last value.
 fn more_branches(
     parser: &mut Parser<'_>,
+    language: Language,
     levels: usize,
     mut found: Vec<Branch>,
 ) -> Result<(Vec<Branch>, Option<Value>), Stop>
-    ensures { Reads conditional_view (read.more_branches levels (branches_view found) parser.old) result parser.new }
+    ensures { Reads conditional_view
+        (read.more_branches language levels (branches_view found) parser.old) result parser.new }
 {
     for _turn in 0..parser.left() {
         if !parser.sees(TokenKind::Else) {
             return Ok((found, None));
         }
-        let (value, condition) = else_part(parser, levels)?;
+        let (value, condition) = else_part(parser, language, levels)?;
         let Some(condition) = condition else {
             return Ok((found, Some(value)));
         };
@@ -72,49 +95,59 @@ fn more_branches(
 #[tactic(auto, unfolding(crate::specs::reader::Waveforms::conditional_waveforms))]
 pub fn conditional_waveforms(
     parser: &mut Parser<'_>,
+    language: Language,
     levels: usize,
 ) -> Result<(Vec<Branch>, Option<Value>), Stop>
-    ensures { Reads conditional_view (read.conditional_waveforms levels parser.old) result parser.new }
+    ensures { Reads conditional_view (read.conditional_waveforms language levels parser.old) result parser.new }
 {
-    let (value, condition) = part(parser, levels)?;
+    let (value, condition) = part(parser, language, levels)?;
     let mut found = Vec::new(parser.alloc);
     let Some(condition) = condition else {
         return Ok((found, Some(value)));
     };
     found.push(Branch { value, condition })?;
-    more_branches(parser, levels, found)
+    more_branches(parser, language, levels, found)
 }
 
 #[tactic(auto, unfolding(crate::specs::reader::Waveforms::waveform))]
-fn waveform(parser: &mut Parser<'_>, levels: usize) -> Result<Waveform, Stop>
-    ensures { Reads waveform_view (read.waveform levels parser.old) result parser.new }
+fn waveform(parser: &mut Parser<'_>, language: Language, levels: usize) -> Result<Waveform, Stop>
+    ensures { Reads waveform_view (read.waveform language levels parser.old) result parser.new }
 {
-    let value = parser.value(levels)?;
+    let value = parser.value(language, levels)?;
     let value = followed(parser, value, TokenKind::When)?;
-    let choices = parser.choices(levels)?;
+    let choices = parser.choices(language, levels)?;
     Ok(Waveform { value, choices })
 }
 
-fn waveforms(parser: &mut Parser<'_>, levels: usize) -> Result<Vec<Waveform>, Stop>
-    ensures { Reads waveforms_view (read.waveforms levels parser.old) result parser.new }
+fn waveforms(
+    parser: &mut Parser<'_>,
+    language: Language,
+    levels: usize,
+) -> Result<Vec<Waveform>, Stop>
+    ensures { Reads waveforms_view (read.waveforms language levels parser.old) result parser.new }
 {
-    separated(parser, TokenKind::Comma, |parser| waveform(parser, levels))
+    separated(
+        parser,
+        TokenKind::Comma,
+        |parser| waveform(parser, language, levels),
+    )
 }
 
 /// A selected assignment behind its label, in which so many levels may be opened.
 #[tactic(auto, unfolding(crate::specs::reader::Waveforms::selected))]
 pub fn selected_assignment(
     parser: &mut Parser<'_>,
+    language: Language,
     levels: usize,
 ) -> Result<SelectedAssignment, Stop>
-    ensures { Reads selected_assignment_view (read.selected levels parser.old) result parser.new }
+    ensures { Reads selected_assignment_view (read.selected language levels parser.old) result parser.new }
 {
     let at = parser.expect(TokenKind::With)?;
-    let selector = parser.expr(levels)?;
+    let selector = parser.expr(language, levels)?;
     let selector = followed(parser, selector, TokenKind::Select)?;
-    let target = parser.name(levels)?;
+    let target = parser.name(language, levels)?;
     let parts = followed(parser, (selector, target), TokenKind::LessEqual)?;
-    let waveforms = waveforms(parser, levels)?;
+    let waveforms = waveforms(parser, language, levels)?;
     let ((selector, target), waveforms) = followed(
         parser,
         (parts, waveforms),

@@ -1,7 +1,9 @@
 -- How the parser reads expressions.
-use Rattle.std.specs.Prelude.{ℕ, zero, suc, if◌then◌else◌, List, [], ◌∷◌, length, find, Option, Some, None}
+use Rattle.std.specs.Prelude.{ℕ, zero, suc, ◌==◌, ◌&&◌, ◌||◌, Bool, false, if◌then◌else◌, List, [], ◌∷◌, length, find, Option, Some, None}
 use denote.Enum.Bare.{sameb}
 use Rattle.vhdl_lexer.specs.contracts.token.TokenKind.{the_type}
+use Rattle.vhdl_lexer.specs.declared.language.Language.{Language}
+use Rattle.vhdl_lexer.specs.declared.language.Language.TheVariants.{Profile, Wide}
 use Rattle.vhdl_lexer.specs.declared.token.TokenKind.{TokenKind}
 use Rattle.vhdl_lexer.specs.declared.token.TokenKind.TheVariants as k
 use Rattle.vhdl_tree.specs.declared.operator.Operator.{Operator}
@@ -13,8 +15,9 @@ use Rattle.vhdl_tree.specs.declared.operator.Sign.TheVariants.{Plus, Minus}
 use Rattle.vhdl_tree.specs.declared.operator.Direction.{Direction}
 use Rattle.vhdl_tree.specs.declared.operator.Direction.TheVariants.{To, Downto}
 use Rattle.vhdl_tree.specs.grammar.Expressions.{kind_of, repeats, sign_kind, direction_kind}
-use Rattle.vhdl_tree.specs.Tree.{Ident, Expr, integer, character, string, bits, named, parens, negation, signed, Suffix, plain, arguments, sliced, exprs_of, Pair, joined, begun, Name, Range, Value, single, others, Choice, chosen, otherwise, Actual, actual, left_open, Association}
-use Rattle.vhdl_parser_expressions.specs.reader.Input.{Parser, ◌>>=◌, ◌>>◌, ◌<$>◌, pure, refuse, too_deep, is_kind, choose, test, test_both, expect, many, many_from, separated, optional, identifier, text}
+use Rattle.vhdl_tree.specs.Lexeme.{Lexeme, same_kind}
+use Rattle.vhdl_tree.specs.Tree.{Ident, Attribute, called, of_range, Expr, integer, character, string, bits, named, parens, negation, absolute, power, signed, qualified, enclosed, Suffix, plain, arguments, sliced, exprs_of, Element, element_by, elements_of, Pair, joined, begun, Name, Choice, chosen, chosen_range, otherwise}
+use Rattle.vhdl_parser_expressions.specs.reader.Input.{Parser, ◌>>=◌, ◌>>◌, ◌<$>◌, pure, refuse, too_deep, is_kind, choose, test, test_both, test_in, expect, many, optional, identifier, text, below}
 use Rattle.vhdl_parser_expressions.specs.reader.Input as input
 
 abbrev pub name_expr : Name → Expr
@@ -62,25 +65,112 @@ direction_at (Some k.To) = Some To
 direction_at (Some k.Downto) = Some Downto
 direction_at _ = None
 
-unfoldable pub attribute : Parser Ident
-attribute = expect k.Tick >> identifier
+-- behind a tick
+abbrev pub attribute_name : Language → Parser Attribute
+attribute_name language = test_in language (is_kind k.Range) (of_range <$> expect k.Range) (called <$> identifier)
 
--- The parameter reads what stands in a parenthesis.
-module _ (inside : Parser Expr) where
-  unfoldable pub parenthesis : Parser Expr
-  parenthesis = do
+unfoldable pub attribute : Language → Parser Attribute
+attribute language = expect k.Tick >> attribute_name language
+
+-- ---- choices and elements, by the parser of the expressions in them
+
+-- whether what stands before is a choice and no value
+abbrev pub is_choice : Option TokenKind → Bool
+is_choice next = is_kind k.Bar next || is_kind k.Arrow next
+
+module _ (item : Parser Expr) where
+  abbrev pub choice_by : Expr → Option Direction → Parser Choice
+  choice_by left None = pure (chosen left)
+  choice_by left (Some direction) = do
+    expect (direction_kind direction)
+    right ← item
+    pure (chosen_range left direction right)
+
+  -- behind an expression, which in the wider language may begin a range
+  unfoldable pub choice_from : Language → Expr → Parser Choice
+  choice_from Profile left = pure (chosen left)
+  choice_from Wide left = choose (λ next. choice_by left (direction_at next))
+
+  unfoldable pub choice_of : Language → Parser Choice
+  choice_of language = test (is_kind k.Others) (otherwise <$> expect k.Others) (item >>= choice_from language)
+
+  -- | choice
+  unfoldable pub next_choice : Parser Choice
+  next_choice = expect k.Bar >> choice_of Wide
+
+  -- an element behind its first choice
+  unfoldable pub chosen_element : Choice → Parser Element
+  chosen_element first = do
+    all ← many (is_kind k.Bar) next_choice (first ∷ [])
+    expect k.Arrow
+    value ← item
+    pure (element_by all value)
+
+  -- an element behind its first expression
+  abbrev pub element_from : Expr → Option Direction → Parser Element
+  element_from first None = test is_choice (chosen_element (chosen first)) (pure (element_by [] first))
+  element_from first (Some direction) = choice_by first (Some direction) >>= chosen_element
+
+  unfoldable pub element_behind : Expr → Parser Element
+  element_behind first = choose (λ next. element_from first (direction_at next))
+
+  unfoldable pub element_item : Parser Element
+  element_item = test (is_kind k.Others) ((otherwise <$> expect k.Others) >>= chosen_element) (item >>= element_behind)
+
+  -- , element
+  unfoldable pub next_element : Parser Element
+  next_element = expect k.Comma >> element_item
+
+  abbrev pub element_items : Parser (List Element)
+  element_items = do
+    first ← element_item
+    many (is_kind k.Comma) next_element (first ∷ [])
+
+-- ---- `**`
+
+-- whether two stars that touch come next
+unfoldable pub sees_power : List Lexeme → Bool
+sees_power [] = false
+sees_power (l ∷ []) = false
+sees_power (l ∷ m ∷ ts) = same_kind l.kind k.Star && (same_kind m.kind k.Star && (m.at == suc l.at))
+
+-- the language, how many levels may be opened, and what reads an expression in a parenthesis
+pub record Inner : Type 0 where
+  pub language : Language
+  pub levels : ℕ
+  pub inside : Parser Expr
+
+module _ (i : Inner) where
+  -- where `(` starts, and the elements up to `)`
+  unfoldable pub elements : Parser (ℕ × List Element)
+  elements = do
     at ← expect k.LeftParen
-    inner ← inside
+    below i.levels
+    all ← element_items i.inside
+    expect k.RightParen
+    pure (at, all)
+
+  unfoldable pub narrow_parenthesis : Parser Expr
+  narrow_parenthesis = do
+    at ← expect k.LeftParen
+    inner ← i.inside
     expect k.RightParen
     pure (parens at inner)
 
+  abbrev pub parenthesis_in : Language → Parser Expr
+  parenthesis_in Profile = narrow_parenthesis
+  parenthesis_in Wide = (λ p. enclosed p.0 (elements_of p.1)) <$> elements
+
+  unfoldable pub parenthesis : Parser Expr
+  parenthesis = parenthesis_in i.language
+
   unfoldable pub argument : Parser Expr
-  argument = expect k.Comma >> inside
+  argument = expect k.Comma >> i.inside
 
   unfoldable pub range_from : Expr → Direction → Parser Suffix
   range_from left direction = do
     expect (direction_kind direction)
-    right ← inside
+    right ← i.inside
     expect k.RightParen
     pure (sliced left direction right)
 
@@ -97,21 +187,39 @@ module _ (inside : Parser Expr) where
   unfoldable pub suffix : Parser Suffix
   suffix = do
     expect k.LeftParen
-    first ← inside
+    first ← i.inside
     choose (λ next. suffix_by first (direction_at next))
 
   unfoldable pub optional_suffix : Parser Suffix
   optional_suffix = test (is_kind k.LeftParen) suffix (pure plain)
 
-  unfoldable pub name : Parser Name
-  name = do
-    n ← identifier
+  -- a name behind its identifier
+  unfoldable pub name_from : Ident → Parser Name
+  name_from word = do
     s ← optional_suffix
-    a ← optional (is_kind k.Tick) attribute
-    pure (record { identifier = n; suffix = s; attribute = a })
+    a ← optional (is_kind k.Tick) (attribute i.language)
+    pure (record { identifier = word; suffix = s; attribute = a })
+
+  unfoldable pub name : Parser Name
+  name = identifier >>= name_from
+
+  -- a qualified expression behind its type's name
+  unfoldable pub qualified_from : Ident → Parser Expr
+  qualified_from mark = do
+    expect k.Tick
+    p ← elements
+    pure (qualified mark p.0 (elements_of p.1))
+
+  -- what begins with an identifier, behind it
+  abbrev pub named_in : Language → Ident → Parser Expr
+  named_in Profile word = name_expr <$> name_from word
+  named_in Wide word = test_both k.Tick k.LeftParen (qualified_from word) (name_expr <$> name_from word)
+
+  unfoldable pub named_from : Ident → Parser Expr
+  named_from word = named_in i.language word
 
   abbrev pub primary_by : Option TokenKind → Parser Expr
-  primary_by (Some k.Identifier) = name_expr <$> name
+  primary_by (Some k.Identifier) = identifier >>= named_from
   primary_by (Some k.Integer) = (λ l. integer l.0 l.1) <$> text k.Integer
   primary_by (Some k.Character) = (λ c. character c.0 c.1) <$> input.literal
   primary_by (Some k.String) = (λ l. string l.0 l.1) <$> text k.String
@@ -128,8 +236,29 @@ module _ (inside : Parser Expr) where
     operand ← primary
     pure (negation at operand)
 
+  unfoldable pub magnitude : Parser Expr
+  magnitude = do
+    at ← expect k.Abs
+    operand ← primary
+    pure (absolute at operand)
+
+  unfoldable pub raised : Expr → Parser Expr
+  raised base = do
+    at ← expect k.Star
+    expect k.Star
+    exponent ← primary
+    pure (power base at exponent)
+
+  -- a primary, and in the wider language its power
+  abbrev pub power_in : Language → Parser Expr
+  power_in Profile = primary
+  power_in Wide = primary >>= (λ base. λ ts. if sees_power ts then raised base ts else pure base ts)
+
+  unfoldable pub optional_power : Parser Expr
+  optional_power = power_in i.language
+
   unfoldable pub factor : Parser Expr
-  factor = test (is_kind k.Not) inverse primary
+  factor = test (is_kind k.Not) inverse (test_in i.language (is_kind k.Abs) magnitude optional_power)
 
 -- Chains, by the parser of their right operands.
 module _ (operand : Parser Expr) where
@@ -175,9 +304,9 @@ module _ (term : Parser Expr) where
 abbrev pub chain : Parser Expr → Parser Expr → Level → Parser Expr
 chain first operand level = first >>= begin operand level
 
-module _ (inside : Parser Expr) where
+module _ (i : Inner) where
   abbrev pub term : Parser Expr
-  term = chain (factor inside) (factor inside) Multiplying
+  term = chain (factor i) (factor i) Multiplying
 
   abbrev pub sum : Parser Expr
   sum = chain (leading term) term Adding
@@ -193,76 +322,26 @@ module _ (inside : Parser Expr) where
   operand_of Logical = relation
   operand_of Relation = sum
   operand_of Adding = term
-  operand_of Multiplying = factor inside
+  operand_of Multiplying = factor i
 
   -- its first operands
   abbrev pub first_of : Level → Parser Expr
   first_of Logical = relation
   first_of Relation = sum
   first_of Adding = leading term
-  first_of Multiplying = factor inside
+  first_of Multiplying = factor i
 
   abbrev pub chain_of : Level → Parser Expr
   chain_of level = chain (first_of level) (operand_of level) level
 
 -- what stands in a parenthesis, where so many levels may be opened, that parenthesis among them
-unfoldable pub inside : ℕ → Parser Expr
-inside zero = too_deep
-inside (suc n) = whole (inside n)
+unfoldable pub inside : Language → ℕ → Parser Expr
+inside language zero = too_deep
+inside language (suc n) = whole (record { language = language; levels = n; inside = inside language n })
+
+abbrev pub inner : Language → ℕ → Inner
+inner language n = record { language = language; levels = n; inside = inside language n }
 
 -- an expression, in which so many levels may be opened
-abbrev pub expr : ℕ → Parser Expr
-expr n = whole (inside n)
-
--- ---- ranges, values, choices and associations, in which so many levels may be opened
-
-abbrev pub range_by : ℕ → Expr → Option Direction → Parser Range
-range_by n left None = refuse
-range_by n left (Some direction) = do
-  expect (direction_kind direction)
-  right ← expr n
-  pure (record { left = left; direction = direction; right = right })
-
-unfoldable pub range : ℕ → Parser Range
-range n = do
-  left ← expr n
-  choose (λ next. range_by n left (direction_at next))
-
-unfoldable pub others_value : ℕ → Parser Value
-others_value n = do
-  at ← expect k.LeftParen
-  expect k.Others
-  expect k.Arrow
-  e ← inside n
-  expect k.RightParen
-  pure (others at e)
-
-unfoldable pub value : ℕ → Parser Value
-value n = test_both k.LeftParen k.Others (others_value n) (single <$> expr n)
-
-unfoldable pub choice : ℕ → Parser Choice
-choice n = test (is_kind k.Others) (otherwise <$> expect k.Others) (chosen <$> expr n)
-
-abbrev pub choices : ℕ → Parser (List Choice)
-choices n = separated k.Bar (choice n)
-
-unfoldable pub formal : Parser Ident
-formal = do
-  n ← identifier
-  expect k.Arrow
-  pure n
-
-unfoldable pub optional_formal : Parser (Option Ident)
-optional_formal = test_both k.Identifier k.Arrow (Some <$> formal) (pure None)
-
-unfoldable pub actual_of : ℕ → Parser Actual
-actual_of n = test (is_kind k.Open) (left_open <$> expect k.Open) (actual <$> expr n)
-
-unfoldable pub association : ℕ → Parser Association
-association n = do
-  f ← optional_formal
-  a ← actual_of n
-  pure (record { formal = f; actual = a })
-
-abbrev pub associations : ℕ → Parser (List Association)
-associations n = separated k.Comma (association n)
+abbrev pub expr : Language → ℕ → Parser Expr
+expr language n = whole (inner language n)

@@ -1,6 +1,8 @@
 -- What a parser reads from, and the steps that every rule is made of.
 use Rattle.std.specs.Prelude.{◌≡◌, ◌≢◌, ℕ, zero, suc, Bool, true, false, ◌&&◌, if◌then◌else◌, List, [], ◌∷◌, ◌++◌, length, slice_index, Option, Some, None, Result, Ok, Err}
 use Rattle.std.specs.Borrow.{Bor}
+use Rattle.vhdl_lexer.specs.declared.language.Language.{Language}
+use Rattle.vhdl_lexer.specs.declared.language.Language.TheVariants.{Profile, Wide}
 use Rattle.vhdl_lexer.specs.declared.token.TokenKind.{TokenKind}
 use Rattle.vhdl_lexer.specs.declared.token.TokenKind.TheVariants as k
 use Rattle.vhdl_lexer.specs.declared.token.Token.{Token}
@@ -88,6 +90,11 @@ choose by = λ ts. by (next_kind ts) ts
 -- goes on by whether the next token begins something
 abbrev pub test : {A : Type 0} → (Option TokenKind → Bool) → Parser A → Parser A → Parser A
 test begins p q = λ ts. if begins (next_kind ts) then p ts else q ts
+
+-- goes on by whether the next token begins what only the wider language has
+abbrev pub test_in : {A : Type 0} → Language → (Option TokenKind → Bool) → Parser A → Parser A → Parser A
+test_in Profile begins p q = q
+test_in Wide begins p q = test begins p q
 
 -- the next token, which is of this kind
 unfoldable pub token : TokenKind → Parser Lexeme

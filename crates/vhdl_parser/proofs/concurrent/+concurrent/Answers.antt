@@ -11,7 +11,7 @@ use Rattle.vhdl_parser.proofs.concurrent.+concurrent.Goals as goal
 pub concurrents-loop-turn-preserved : goal.concurrents-loop-turn-preserved
 unfolding many_from
 concurrents-loop-turn-preserved t c =
-    let e = one_more (λ n. many_from read.begins_concurrent (read.concurrent c.args.language c.args.levels (read.deeper_concurrents c.args.language c.args.levels)) n (concurrents_view c.loop-turn.found) c.loop-turn.parser) _ c.loop-turn._turn c.loop-turn-test.true c.loop-turn.invariant in
+    let e = one_more (λ n. many_from (read.begins_concurrent c.args.language) (read.concurrent c.args.language c.args.levels (read.deeper_concurrents c.args.language c.args.levels)) n (concurrents_view c.loop-turn.found) c.loop-turn.parser) _ c.loop-turn._turn c.loop-turn-test.true c.loop-turn.invariant in
     first_of (search rules, grind (arith, common_steps))
 
 pub for_generate-returns : goal.for_generate-returns

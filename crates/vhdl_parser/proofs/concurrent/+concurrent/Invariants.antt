@@ -29,4 +29,4 @@ decreases-generate_body l = 40 * l.levels + 30
 -- what is still to be read gives what was to be read
 abbrev pub invariant-concurrents-loop-turn : goal.invariant-concurrents-loop-turn
 invariant-concurrents-loop-turn l =
-    read.concurrents l.language l.levels l.fn.parser ≡ many_from read.begins_concurrent (read.concurrent l.language l.levels (read.deeper_concurrents l.language l.levels)) (l._turn-end - l._turn) (concurrents_view l.found) l.parser
+    read.concurrents l.language l.levels l.fn.parser ≡ many_from (read.begins_concurrent l.language) (read.concurrent l.language l.levels (read.deeper_concurrents l.language l.levels)) (l._turn-end - l._turn) (concurrents_view l.found) l.parser

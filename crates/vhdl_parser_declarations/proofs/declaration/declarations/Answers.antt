@@ -7,5 +7,5 @@ use Rattle.vhdl_parser_declarations.proofs.declaration.declarations.Goals as goa
 pub returns : goal.returns
 unfolding declarations
 returns c =
-    let e = reads_many declaration_view begins_declaration (declaration c.args.levels) (λ ts b h. search rules) (λ ts r rest h. search rules) c.many.ensures in
+    let e = reads_many declaration_view (begins_declaration c.args.language) (declaration c.args.language c.args.levels) (λ ts b h. search rules) (λ ts r rest h. search rules) c.many.ensures in
     search rules

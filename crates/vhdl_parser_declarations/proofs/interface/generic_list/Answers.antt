@@ -6,4 +6,4 @@ use Rattle.vhdl_parser_expressions.proofs.Lists.{reads_separated}
 use Rattle.vhdl_parser_declarations.proofs.interface.generic_list.Goals as goal
 
 pub returns : goal.returns
-returns c = reads_separated generic_view k.Semicolon (generic c.args.levels) (λ ts r rest h. search rules) c.separated.ensures
+returns c = reads_separated generic_view k.Semicolon (generic c.args.language c.args.levels) (λ ts r rest h. search rules) c.separated.ensures

@@ -12,35 +12,35 @@ use Rattle.vhdl_parser_statements.proofs.sequential.+statement.Goals as goal
 pub statements-loop-turn-preserved : goal.statements-loop-turn-preserved
 unfolding many_from
 statements-loop-turn-preserved t c =
-    let e = one_more (λ n. many_from (read.begins_sequential) (read.sequential c.args.levels (read.deeper c.args.levels)) n (sequentials_view c.loop-turn.found) c.loop-turn.parser) _ c.loop-turn._turn c.loop-turn-test.true c.loop-turn.invariant in
+    let e = one_more (λ n. many_from (read.begins_sequential c.args.language) (read.sequential c.args.language c.args.levels (read.deeper c.args.language c.args.levels)) n (sequentials_view c.loop-turn.found) c.loop-turn.parser) _ c.loop-turn._turn c.loop-turn-test.true c.loop-turn.invariant in
     grind (arith, common_steps)
 
 pub branches-loop-turn-preserved : goal.branches-loop-turn-preserved
 unfolding many_from
 branches-loop-turn-preserved t c =
-    let e = one_more (λ n. many_from (is_kind k.Elsif) (expect k.Elsif >> read.condition c.args.levels (read.statements c.args.levels)) n (conditionals_view c.loop-turn.found) c.loop-turn.parser) _ c.loop-turn._turn c.loop-turn-test.true c.loop-turn.invariant in
+    let e = one_more (λ n. many_from (is_kind k.Elsif) (expect k.Elsif >> read.condition c.args.language c.args.levels (read.statements c.args.language c.args.levels)) n (conditionals_view c.loop-turn.found) c.loop-turn.parser) _ c.loop-turn._turn c.loop-turn-test.true c.loop-turn.invariant in
     grind (arith, common_steps)
 
 pub alternatives-loop-turn-preserved : goal.alternatives-loop-turn-preserved
 unfolding many_from
 alternatives-loop-turn-preserved t c =
-    let e = one_more (λ n. many_from (is_kind k.When) (expect k.When >> read.alternative_part c.args.levels (read.statements c.args.levels)) n (alternatives_view c.loop-turn.found) c.loop-turn.parser) _ c.loop-turn._turn c.loop-turn-test.true c.loop-turn.invariant in
+    let e = one_more (λ n. many_from (is_kind k.When) (expect k.When >> read.alternative_part c.args.language c.args.levels (read.statements c.args.language c.args.levels)) n (alternatives_view c.loop-turn.found) c.loop-turn.parser) _ c.loop-turn._turn c.loop-turn-test.true c.loop-turn.invariant in
     grind (arith, common_steps)
 
 pub if_statement-returns : goal.if_statement-returns
 unfolding if_statement
 if_statement-returns t c =
-    let e = statements_below c.args.levels c.in_ok-inner.inner [] (c.in_ok-inner.ensures.value []) in
+    let e = statements_below c.args.language c.args.levels c.in_ok-inner.inner [] (c.in_ok-inner.ensures.value []) in
     search rules
 
 pub case_statement-returns : goal.case_statement-returns
 unfolding case_statement
 case_statement-returns t c =
-    let e = statements_below c.args.levels c.in_ok-inner.inner [] (c.in_ok-inner.ensures.value []) in
+    let e = statements_below c.args.language c.args.levels c.in_ok-inner.inner [] (c.in_ok-inner.ensures.value []) in
     search rules
 
 pub for_statement-returns : goal.for_statement-returns
 unfolding for_statement
 for_statement-returns t c =
-    let e = statements_below c.args.levels c.in_ok-inner.inner [] (c.in_ok-inner.ensures.value []) in
+    let e = statements_below c.args.language c.args.levels c.in_ok-inner.inner [] (c.in_ok-inner.ensures.value []) in
     search rules

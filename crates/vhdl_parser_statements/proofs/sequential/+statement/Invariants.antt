@@ -51,14 +51,14 @@ decreases-for_rest l = 40 * l.levels + 30
 -- what is still to be read gives what was to be read
 abbrev pub invariant-statements-loop-turn : goal.invariant-statements-loop-turn
 invariant-statements-loop-turn l =
-    read.statements l.levels l.fn.parser ≡ many_from read.begins_sequential (read.sequential l.levels (read.deeper l.levels)) (l._turn-end - l._turn) (sequentials_view l.found) l.parser
+    read.statements l.language l.levels l.fn.parser ≡ many_from (read.begins_sequential l.language) (read.sequential l.language l.levels (read.deeper l.language l.levels)) (l._turn-end - l._turn) (sequentials_view l.found) l.parser
 
 abbrev pub invariant-branches-loop-turn : goal.invariant-branches-loop-turn
 invariant-branches-loop-turn l =
-    read.branches l.levels (read.statements l.levels) l.fn.parser
-    ≡ many_from (is_kind k.Elsif) (expect k.Elsif >> read.condition l.levels (read.statements l.levels)) (l._turn-end - l._turn) (conditionals_view l.found) l.parser
+    read.branches l.language l.levels (read.statements l.language l.levels) l.fn.parser
+    ≡ many_from (is_kind k.Elsif) (expect k.Elsif >> read.condition l.language l.levels (read.statements l.language l.levels)) (l._turn-end - l._turn) (conditionals_view l.found) l.parser
 
 abbrev pub invariant-alternatives-loop-turn : goal.invariant-alternatives-loop-turn
 invariant-alternatives-loop-turn l =
-    read.alternatives l.levels (read.statements l.levels) l.fn.parser
-    ≡ many_from (is_kind k.When) (expect k.When >> read.alternative_part l.levels (read.statements l.levels)) (l._turn-end - l._turn) (alternatives_view l.found) l.parser
+    read.alternatives l.language l.levels (read.statements l.language l.levels) l.fn.parser
+    ≡ many_from (is_kind k.When) (expect k.When >> read.alternative_part l.language l.levels (read.statements l.language l.levels)) (l._turn-end - l._turn) (alternatives_view l.found) l.parser

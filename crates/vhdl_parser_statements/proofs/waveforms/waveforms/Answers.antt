@@ -6,4 +6,4 @@ use Rattle.vhdl_parser_expressions.proofs.Lists.{reads_separated}
 use Rattle.vhdl_parser_statements.proofs.waveforms.waveforms.Goals as goal
 
 pub returns : goal.returns
-returns c = reads_separated waveform_view k.Comma (waveform c.args.levels) (λ ts r rest h. search rules) c.separated.ensures
+returns c = reads_separated waveform_view k.Comma (waveform c.args.language c.args.levels) (λ ts r rest h. search rules) c.separated.ensures
