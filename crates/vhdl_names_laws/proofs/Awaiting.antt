@@ -48,7 +48,7 @@ module _ (i : Inside) (vs : List Form) where
   outside = record i { variables = vs; loops = 0 }
 
   numbers : HasNumbers outside i
-  numbers = record { generics = omega arith; integers = omega arith; generates = omega arith; loops = omega arith }
+  numbers = record { generics = omega arith; integers = omega arith; ranges = omega arith; generates = omega arith; loops = omega arith }
 
   part_is : (f : Form) (p : Part) → fits_shape one (part_shape outside f p) ≡ true → is_some (part_shape i f p) ≡ true
   part_is f e.whole h = refl

@@ -28,8 +28,8 @@ use Rattle.vhdl_names_rules.specs.sound.Statements.{choice_fits, selector_fits, 
 use Rattle.vhdl_names_rules.specs.sound.Units.{fixed_fits}
 use Rattle.vhdl_names_laws.specs.Meanings.{Counts, kind_shape, type_shape, IsCounted, MeaningFits, IsInside, TypedFits}
 use Rattle.vhdl_names_laws.proofs.Statics.{some_same, meant}
-use Rattle.vhdl_names_laws.proofs.Operators as p
-use Rattle.vhdl_names_laws.proofs.Operators.{same_shapes}
+use Rattle.vhdl_names_laws.proofs.Shapes as p
+use Rattle.vhdl_names_laws.proofs.Shapes.{same_shapes}
 use Rattle.vhdl_names_rules.proofs.kept.Keeping.{mapped}
 use Rattle.vhdl_names_rules.proofs.laws.Rules.{comes, kept}
 use Rattle.vhdl_names_laws.proofs.Values.{literal_values_fit, same_count}
@@ -124,6 +124,7 @@ chosen_fits i counts sight h w type f n d c q = literal_fits i w type d c f q
 choice_is : (i : Inside) (counts : Counts) (sight : Sight) → IsInside i counts sight → (w : Option Shape) (type : ObjectType) → Selects w type → IsCounted counts type
     → (d : t.Choice) (c : Choice) → choice sight type d ≡ Some c → choice_fits w c ≡ true
 choice_is i counts sight h w type f n (t.chosen d) c q = chosen_fits i counts sight h w type f n d c q
+choice_is i counts sight h w type f n (t.chosen_range d direction g) c q = absurd cc
 choice_is i counts sight h w type f n (t.otherwise at) c q = absurd cc
 
 pub each_all : {A B : Type 0} (f : A → Option B) (test : B → Bool) → ((x : A) (y : B) → f x ≡ Some y → test y ≡ true)

@@ -1,12 +1,11 @@
 -- The formals of an interface are its generics and ports, in order (IEEE 1076-2008, 6.5.6).
-use Rattle.std.proofs.Common.{◌≡◌, ℕ, suc, ◌+◌, List, [], ◌∷◌, ◌++◌, length, Option, Some, None, refl, ap, sym, ◌∙◌, subst, arith}
+use Rattle.std.proofs.Common.{◌≡◌, List, [], ◌∷◌, ◌++◌, Option, Some, None, refl, ap, sym, ◌∙◌, subst}
 use Rattle.std.specs.List.{filter_map, cons_option}
-use Rattle.std.proofs.lemmas.List.{length-append, append-nil}
+use Rattle.std.proofs.lemmas.List.{append-nil}
 use Rattle.vhdl_names_rules.specs.units.Units as u
-use Rattle.vhdl_names_rules.specs.Visibility as visibility
-use Rattle.vhdl_names_rules.specs.Visibility.{Name, Declared, declare}
-use Rattle.vhdl_names_rules.specs.Declarations.{literals}
-use Rattle.vhdl_names_rules.specs.Instances.{Formal, generic_name, port_formal}
+use Rattle.vhdl_names_rules.specs.Visibility.{Declared}
+use Rattle.vhdl_names_rules.specs.Instances as n
+use Rattle.vhdl_names_rules.specs.Instances.{Formal, GenericKind, GenericFormal}
 use Rattle.vhdl_names_rules.specs.sound.Expressions.{shape_of}
 use Rattle.vhdl_names_laws.specs.Meanings.{kind_shape}
 
@@ -16,16 +15,28 @@ pub record IsFormal (f : Formal) (p : u.Port) : Type 0 where
   pub mode : p.mode ≡ f.mode
   pub shape : shape_of p.object.form ≡ kind_shape f.kind
 
-abbrev pub AreFormals : List Formal → List u.Port → Type 0
-AreFormals [] [] = Unit {0}
-AreFormals [] (p ∷ ps) = ⊥
-AreFormals (f ∷ fs) [] = ⊥
-AreFormals (f ∷ fs) (p ∷ ps) = IsFormal f p × AreFormals fs ps
+-- a generic as it is associated is of its type
+abbrev pub IsOfType : GenericKind → u.GenericType → Type 0
+IsOfType n.integer (u.integers s) = Unit {0}
+IsOfType n.boolean u.truths = Unit {0}
+IsOfType (n.elements k) (u.values f) = shape_of f ≡ kind_shape k
+IsOfType _ _ = ⊥
 
-formals_append : (fs gs : List Formal) (ps qs : List u.Port) → AreFormals fs ps → AreFormals gs qs → AreFormals (fs ++ gs) (ps ++ qs)
-formals_append [] gs [] qs h k = k
-formals_append (f ∷ fs) gs (p ∷ ps) qs h k = (h.0, formals_append fs gs ps qs h.1 k)
-formals_append _ gs _ qs h k = absurd h
+pub record IsGeneric (f : GenericFormal) (g : u.Generic) : Type 0 where
+  pub «type» : IsOfType f.kind g.type
+
+-- each of the one is that of the other at its place
+abbrev pub Match : {A B : Type 0} → (A → B → Type 0) → List A → List B → Type 0
+Match Is [] [] = Unit {0}
+Match Is [] (p ∷ ps) = ⊥
+Match Is (f ∷ fs) [] = ⊥
+Match Is (f ∷ fs) (p ∷ ps) = Is f p × Match Is fs ps
+
+abbrev pub AreFormals : List Formal → List u.Port → Type 0
+AreFormals = Match IsFormal
+
+abbrev pub AreGenerics : List GenericFormal → List u.Generic → Type 0
+AreGenerics = Match IsGeneric
 
 picked_append : {A B : Type 0} (pick : A → Option B) (ds es : List A) → filter_map pick (ds ++ es) ≡ filter_map pick ds ++ filter_map pick es
 picked_append pick [] es = refl
@@ -36,31 +47,22 @@ picked_append {A} {B} pick (d ∷ ds) es = go (pick d) (picked_append pick ds es
     go None h = h
     go (Some c) h = ap (λ xs. c ∷ xs) h
 
--- what has no formals adds none
-pub same_names : (ds es : List Declared) (n : ℕ) → filter_map generic_name es ≡ [] → length (filter_map generic_name ds) ≡ n → length (filter_map generic_name (ds ++ es)) ≡ n
-same_names ds es n e h =
-    ap length (picked_append generic_name ds es) ∙ ap (λ ns. length (filter_map generic_name ds ++ ns)) e ∙ ap length (append-nil (filter_map generic_name ds)) ∙ h
+-- where neither has a formal
+pub none_picked : {A : Type 0} (pick : Declared → Option A) (ds es : List Declared) → filter_map pick ds ≡ [] → filter_map pick es ≡ [] → filter_map pick (ds ++ es) ≡ []
+none_picked pick ds es h e = picked_append pick ds es ∙ ap (λ fs. fs ++ filter_map pick es) h ∙ e
 
-pub same_formals : (ds es : List Declared) (ps : List u.Port) → filter_map port_formal es ≡ [] → AreFormals (filter_map port_formal ds) ps → AreFormals (filter_map port_formal (ds ++ es)) ps
-same_formals ds es ps e h =
-    subst (λ fs. AreFormals fs ps) (sym (picked_append port_formal ds es ∙ ap (λ fs. filter_map port_formal ds ++ fs) e ∙ append-nil (filter_map port_formal ds))) h
+module _ {A B : Type 0} (Is : A → B → Type 0) where
+  match_append : (fs gs : List A) (ps qs : List B) → Match Is fs ps → Match Is gs qs → Match Is (fs ++ gs) (ps ++ qs)
+  match_append [] gs [] qs h k = k
+  match_append (f ∷ fs) gs (p ∷ ps) qs h k = (h.0, match_append fs gs ps qs h.1 k)
+  match_append _ gs _ qs h k = absurd h
 
-pub one_name : (ds : List Declared) (n : Name) (k count : ℕ) → length (filter_map generic_name ds) ≡ count → length (filter_map generic_name (ds ++ declare n (visibility.generic k) ∷ [])) ≡ suc count
-one_name ds n k count h =
-    let a : length (filter_map generic_name ds ++ n ∷ []) ≡ length (filter_map generic_name ds) + 1 = length-append (filter_map generic_name ds) (n ∷ []) in
-    ap length (picked_append generic_name ds (declare n (visibility.generic k) ∷ [])) ∙ omega (arith, a, h)
+  module _ (pick : Declared → Option A) (ds es : List Declared) (ps : List B) where
+    -- what has no formals adds none
+    pub same_formals : filter_map pick es ≡ [] → Match Is (filter_map pick ds) ps → Match Is (filter_map pick (ds ++ es)) ps
+    same_formals e h = subst (λ fs. Match Is fs ps) (sym (picked_append pick ds es ∙ ap (λ fs. filter_map pick ds ++ fs) e ∙ append-nil (filter_map pick ds))) h
 
-pub one_formal : (ds : List Declared) (d : Declared) (f : Formal) (ps : List u.Port) (p : u.Port) → filter_map port_formal (d ∷ []) ≡ f ∷ [] → AreFormals (filter_map port_formal ds) ps → IsFormal f p
-    → AreFormals (filter_map port_formal (ds ++ d ∷ [])) (ps ++ p ∷ [])
-one_formal ds d f ps p e h k =
-    subst (λ fs. AreFormals fs (ps ++ p ∷ [])) (sym (picked_append port_formal ds (d ∷ []) ∙ ap (λ fs. filter_map port_formal ds ++ fs) e))
-    (formals_append (filter_map port_formal ds) (f ∷ []) ps (p ∷ []) h (k, tt))
-
--- literals are no formals
-pub no_names : (e count p : ℕ) (ns : List Name) → filter_map generic_name (literals e count p ns) ≡ []
-no_names e count p [] = refl
-no_names e count p (n ∷ ns) = no_names e count (suc p) ns
-
-pub no_formals : (e count p : ℕ) (ns : List Name) → filter_map port_formal (literals e count p ns) ≡ []
-no_formals e count p [] = refl
-no_formals e count p (n ∷ ns) = no_formals e count (suc p) ns
+    pub more_formals : (f : A) (p : B) → filter_map pick es ≡ f ∷ [] → Match Is (filter_map pick ds) ps → Is f p → Match Is (filter_map pick (ds ++ es)) (ps ++ p ∷ [])
+    more_formals f p e h k =
+        subst (λ fs. Match Is fs (ps ++ p ∷ [])) (sym (picked_append pick ds es ∙ ap (λ fs. filter_map pick ds ++ fs) e))
+        (match_append (filter_map pick ds) (f ∷ []) ps (p ∷ []) h (k, tt))

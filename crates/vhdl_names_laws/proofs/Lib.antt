@@ -1,7 +1,12 @@
 pub mod Statics
+pub mod Shapes
+pub mod Aggregates
+pub mod Ranges
+pub mod More
 pub mod Operators
 pub mod Names
 pub mod Parts
+pub mod Served
 pub mod Expressions
 pub mod Values
 pub mod Choices
@@ -11,6 +16,7 @@ pub mod Subtypes
 pub mod Formals
 pub mod Known
 pub mod Ports
+pub mod Constants
 pub mod Declarations
 pub mod Awaiting
 pub mod Processes

@@ -4,6 +4,7 @@ use Rattle.std.specs.List.{list_all, cons_option, AllByRecursion}
 use Rattle.std.specs.Str.{bytes_eq}
 use Rattle.std.proofs.lemmas.Bool.{and_from}
 use Rattle.vhdl_lexer.specs.declared.token.TokenKind.TheVariants as k
+use Rattle.vhdl_lexer.specs.declared.language.Language.{Language}
 use Rattle.vhdl_tree.specs.Tree as t
 use Rattle.vhdl_tree.specs.Tree.{File, DesignUnit, LibraryUnit, ContextItem}
 use Rattle.vhdl_tree.specs.Pieces.{spell_word, spell_idents, spell_option, spell_each, spell_list}
@@ -16,7 +17,7 @@ use Rattle.vhdl_names_rules.specs.Rules.{each, if_any, all_of}
 use Rattle.vhdl_names_rules.specs.Visibility.{Name, are_distinct, Sight, with_declared}
 use Rattle.vhdl_names_rules.specs.Packages.{sight_of}
 use Rattle.vhdl_names_rules.specs.Declarations.{in_order, generic, port}
-use Rattle.vhdl_names_rules.specs.Interfaces.{Interface, EntityView, declared_names, interface, entity}
+use Rattle.vhdl_names_rules.specs.Interfaces.{Interface, EntityView, declared_names, interface, assertion_labels, with_labels, entity}
 use Rattle.vhdl_names_rules.specs.Files.{as_entity, as_architecture, entities_of, architectures_of, architecture_of, viewed, declaration, architecture, unit, units_of}
 use Rattle.vhdl_names_rules.specs.sound.Named.{has_text, objects_are_named, declaration_is_named, concurrents_are_named, architecture_is_named, entity_is_named, are_named}
 use Rattle.vhdl_names_laws.specs.Words.{small, AreWords, HasWords}
@@ -66,12 +67,21 @@ interface_named sight gs ps x h q =
     subst (λ (x : Interface). AllByRecursion PortIsWord x.ports) (some_same _ x w.1)
     (all_in_order with_declared port (λ (d : t.Port). NamesAreWords d.names) PortIsWord (λ sight d y g e. port_named sight d y g e) (all_of ps) (with_declared sight g.value.declared) d.value h d.is)
 
-entity_named_is : (items : List ContextItem) (e : t.Entity) (a : Option Name) (v : EntityView) → AreWords (spell_entity e) → entity items e a ≡ Some v → ViewIsNamed v
-entity_named_is items e a v h q =
-    let p = entity_parts items e a v q in
+labelled_ports : (x : Interface) (ns : List Name) → (with_labels x ns).ports ≡ x.ports
+labelled_ports x [] = refl
+labelled_ports x (n ∷ ns) = refl
+
+entity_named_is : (language : Language) (items : List ContextItem) (e : t.Entity) (a : Option Name) (v : EntityView) → AreWords (spell_entity e) → entity language items e a ≡ Some v → ViewIsNamed v
+entity_named_is language items e a v h q =
+    let p = entity_parts language items e a v q in
     let behind = right (spell_option spell_generics e.generics) _ h.1.1.1 in
     subst ViewIsNamed p.is
-    (record { name = h.1.0.some; ports = interface_named (sight_of p.seen.value []) e.generics e.ports p.own.value (ports_words e.ports (left (spell_option spell_ports e.ports) _ behind)) p.own.is })
+    (record {
+      name = h.1.0.some;
+      ports =
+          subst (AllByRecursion PortIsWord) (sym (labelled_ports p.own.value (assertion_labels e.statements)))
+          (interface_named (sight_of p.seen.value []) e.generics e.ports p.own.value (ports_words e.ports (left (spell_option spell_ports e.ports) _ behind)) p.own.is);
+    })
 
 -- the units of a file, by what they are
 entity_at : (items : List ContextItem) (x : LibraryUnit) (es : List (List ContextItem × t.Entity)) → AreWords (spell_library_unit x) → AllByRecursion (λ (e : List ContextItem × t.Entity). AreWords (spell_entity e.1)) es
@@ -132,10 +142,10 @@ unit_named entities ds e x words h q =
         (architecture_named entities e p.0 p.1 b.value
         (found (λ (a : List ContextItem × t.Architecture). AreWords (spell_architecture a.1)) (λ (a : List ContextItem × t.Architecture). bytes_eq e.name a.1.entity.text) (architectures_of ds) p (architectures_words ds words) w) b.is)
 
-units_named : (f : File) (units : Units) → HasWords f → units_of f ≡ Some units → AllByRecursion UnitIsNamed units
-units_named f units words q =
-    let p = file_parts f units q in
-    let views = each_from (viewed f.units) (λ (e : List ContextItem × t.Entity). AreWords (spell_entity e.1)) ViewIsNamed (λ e y w g. entity_named_is e.0 e.1 _ y w g) (entities_of f.units) p.views.value (entities_words f.units words) p.views.is in
+units_named : (language : Language) (f : File) (units : Units) → HasWords f → units_of language f ≡ Some units → AllByRecursion UnitIsNamed units
+units_named language f units words q =
+    let p = file_parts language f units q in
+    let views = each_from (viewed language f.units) (λ (e : List ContextItem × t.Entity). AreWords (spell_entity e.1)) ViewIsNamed (λ e y w g. entity_named_is language e.0 e.1 _ y w g) (entities_of f.units) p.views.value (entities_words f.units words) p.views.is in
     each_from (unit p.views.value f.units) ViewIsNamed UnitIsNamed (λ e x w g. unit_named p.views.value f.units e x words w g) p.views.value units views p.gives
 
 all_units_named : (units : Units) → AllByRecursion UnitIsNamed units → list_all entity_is_named units ≡ true
@@ -144,7 +154,7 @@ all_units_named (x ∷ units) h = and_from (entity_is_named x) (list_all entity_
 
 pub units_are_named : UnitsAreNamed
 unfolding are_named
-units_are_named f units words q = all_units_named units (units_named f units words q)
+units_are_named language f units words q = all_units_named units (units_named language f units words q)
 
 -- ---- names of ports in small letters
 
@@ -164,4 +174,4 @@ small_distinct units h q = same units h ∙ q
         ∙ ap (λ b. are_distinct (map (λ (p : u.Port). p.object.name) x.ports) && b) (same units h.1)
 
 pub small_ports_distinct : SmallPortsAreDistinct
-small_ports_distinct f units words q = small_distinct units (units_named f units words q) (ports_distinct f units q)
+small_ports_distinct language f units words q = small_distinct units (units_named language f units words q) (ports_distinct language f units q)

@@ -1,13 +1,15 @@
 -- What names denote is what their meanings say (IEEE 1076-2008, clause 8).
 use Rattle.std.proofs.Common.{◌≡◌, ℕ, Bool, true, false, not, List, [], ◌∷◌, Option, Some, None, refl, ap, sym, ◌∙◌, subst, cond}
-use Rattle.std.specs.Prelude.{codes}
+use Rattle.std.specs.Prelude.{codes, if◌then◌else◌, nat_lt, ◌&&◌}
 use Rattle.std.specs.List.{slice_get}
 use Rattle.std.specs.Option.{option_map}
 use Rattle.std.specs.Str.{bytes_eq}
 use Rattle.std.proofs.lemmas.Bool.{and_parts, and_from}
 use Rattle.std.proofs.lemmas.Option.{slice_get-map}
 use Rattle.vhdl_values.specs.declared.kinds.Edge.{Edge}
-use Rattle.vhdl_tree.specs.Tree.{Ident}
+use Rattle.vhdl_lexer.specs.declared.language.Language.{Language}
+use Rattle.vhdl_tree.specs.Tree as tree
+use Rattle.vhdl_tree.specs.Tree.{Attribute}
 use Rattle.vhdl_tree.specs.declared.declaration.Mode.{Mode}
 use Rattle.vhdl_names_rules.specs.declared.kind.ElementKind.{ElementKind}
 use Rattle.vhdl_names_rules.specs.declared.kind.ElementKind.TheVariants.{Element, LogicVector, Unsigned, OpenVector}
@@ -19,31 +21,22 @@ use Rattle.vhdl_names_rules.specs.units.Expressions as e
 use Rattle.vhdl_names_rules.specs.units.Expressions.{Static, Range, Part, SignalPart, Signal, Vector}
 use Rattle.vhdl_names_rules.specs.units.Units as u
 use Rattle.vhdl_names_rules.specs.units.Units.{Form}
-use Rattle.vhdl_names_rules.specs.Rules.{◌>>=◌, then_some}
+use Rattle.vhdl_names_rules.specs.Rules.{◌>>=◌, then_some, wider}
 use Rattle.vhdl_names_rules.specs.Visibility as visibility
-use Rattle.vhdl_names_rules.specs.Visibility.{Meaning}
+use Rattle.vhdl_names_rules.specs.Visibility.{Meaning, DeclaredRange, Declared}
 use Rattle.vhdl_names_rules.specs.Operators as o
 use Rattle.vhdl_names_rules.specs.Operators.{Typed}
 use Rattle.vhdl_names_rules.specs.Names as n
 use Rattle.vhdl_names_rules.specs.Names.{Suffix, part, part_of, place_of, if_plain, read_by, converted, is_static, is_static_part, edge_signal, edge_of, counted, encoding, called, denoted, attributed}
+use Rattle.vhdl_names_rules.specs.Ranges.{range_attribute, sized_by}
+use Rattle.vhdl_names_rules.specs.Expressions.{named}
 use Rattle.vhdl_names_rules.specs.sound.Expressions.{Inside, one, vector, state, shape_of, static_fits, range_fits, part_shape, port_form, signal_form, place_shape, is_elements, with_static, vector_shape, value_shape, state_shape, edge_fits}
-use Rattle.vhdl_names_laws.specs.Meanings.{Counts, kind_shape, type_shape, IsForm, IsCounted, IsPort, MeaningFits, TypedFits}
+use Rattle.vhdl_names_laws.specs.Meanings.{Counts, kind_shape, type_shape, IsForm, IsCounted, IsPort, MeaningFits, DeclaredFits, TypedFits}
 use Rattle.vhdl_names_laws.proofs.Statics.{some_same}
-use Rattle.vhdl_names_laws.proofs.Operators.{given, shape_elements, fits_self}
+use Rattle.vhdl_names_laws.proofs.Ranges.{RangeFits, EachFits, SuffixFits, range_attribute_fits, sized_fits}
+use Rattle.vhdl_names_laws.proofs.Shapes.{given, shape_elements, fits_self, of_either, wider_is}
 use Rattle.vhdl_names_rules.proofs.kept.Keeping.{mapped}
 use Rattle.vhdl_names_rules.proofs.laws.Rules.{comes, kept}
-
--- ---- suffixes
-
--- each of several things
-abbrev pub EachFits : Inside → Counts → List Typed → Type 0
-EachFits i counts [] = Unit {0}
-EachFits i counts (x ∷ xs) = TypedFits i counts x × EachFits i counts xs
-
-abbrev pub SuffixFits : Inside → Counts → Suffix → Type 0
-SuffixFits i counts n.plain = Unit {0}
-SuffixFits i counts (n.arguments b xs) = EachFits i counts xs
-SuffixFits i counts (n.range r) = range_fits i r ≡ true
 
 -- ---- parts of an object
 
@@ -128,11 +121,20 @@ module _ (i : Inside) (counts : Counts) where
 
   -- ---- conversions and calls
 
+  -- a conversion is of its type's kind
+  record Converted (k : ElementKind) (y : Typed) : Type 0 where
+    value : Vector
+    is : o.elements k value ≡ y
+    shape : vector_shape i value ≡ Some vector
+
+  converted_is : (k : ElementKind) (s : Suffix) (y : Typed) → SuffixFits i counts s → converted k s ≡ Some y → Converted k y
+  converted_is k (n.arguments b (o.elements LogicVector x ∷ [])) y t g = record { value = x; is = some_same (o.elements k x) y g; shape = t.0 }
+  converted_is k (n.arguments b (o.elements Unsigned x ∷ [])) y t g = record { value = x; is = some_same (o.elements k x) y g; shape = t.0 }
+  converted_is k (n.arguments b (o.elements OpenVector x ∷ [])) y t g = record { value = x; is = some_same (o.elements k x) y g; shape = t.0 }
+  converted_is k _ y t g = absurd cc
+
   converted_fits : (k : ElementKind) (s : Suffix) (y : Typed) → kind_shape k ≡ vector → SuffixFits i counts s → converted k s ≡ Some y → TypedFits i counts y
-  converted_fits k (n.arguments b (o.elements LogicVector x ∷ [])) y v t g = subst (TypedFits i counts) (some_same (o.elements k x) y g) (t.0 ∙ ap Some (sym v))
-  converted_fits k (n.arguments b (o.elements Unsigned x ∷ [])) y v t g = subst (TypedFits i counts) (some_same (o.elements k x) y g) (t.0 ∙ ap Some (sym v))
-  converted_fits k (n.arguments b (o.elements OpenVector x ∷ [])) y v t g = subst (TypedFits i counts) (some_same (o.elements k x) y g) (t.0 ∙ ap Some (sym v))
-  converted_fits k _ y v t g = absurd cc
+  converted_fits k s y v t g = let c = converted_is k s y t g in subst (TypedFits i counts) c.is (c.shape ∙ ap Some (sym v))
 
   counted_fits : (f : Vector → Static → Vector) → ((x : Vector) (s : Static) → vector_shape i (f x s) ≡ with_static i (vector_shape i x) s)
       → (s : Suffix) (y : Typed) → SuffixFits i counts s → counted f s ≡ Some y → TypedFits i counts y
@@ -154,6 +156,13 @@ module _ (i : Inside) (counts : Counts) where
   outside_loops (e.number k) h t = refl
   outside_loops (e.loop_parameter k) h t = absurd cc
   outside_loops (e.Static.negated at s) h t = outside_loops s h t
+  outside_loops (e.absolute at s) h t = outside_loops s h t
+  outside_loops (e.slice_bound at b k s d r) h t =
+      let a = and_parts (is_static s) (is_static r) h in
+      let p = and_parts (nat_lt k i.ranges && static_fits i s) (static_fits i r) t in
+      let q = and_parts (nat_lt k i.ranges) (static_fits i s) p.0 in
+      and_from (nat_lt k i.ranges && static_fits (record i { loops = 0 }) s) (static_fits (record i { loops = 0 }) r)
+      (and_from (nat_lt k i.ranges) (static_fits (record i { loops = 0 }) s) q.0 (outside_loops s a.0 q.1)) (outside_loops r a.1 p.1)
   outside_loops (e.Static.binary at by s r) h t =
       let a = and_parts (is_static s) (is_static r) h in
       let b = and_parts (static_fits i s) (static_fits i r) t in
@@ -201,11 +210,14 @@ module _ (i : Inside) (counts : Counts) where
 
   -- ---- all names
 
-  pub denoted_fits : (at : ℕ) (d : Meaning) (s : Suffix) (y : Typed) → MeaningFits i counts d → SuffixFits i counts s → denoted at d s ≡ Some y → TypedFits i counts y
+  denoted_fits : (at : ℕ) (d : Meaning) (s : Suffix) (y : Typed) → MeaningFits i counts d → SuffixFits i counts s → denoted at d s ≡ Some y → TypedFits i counts y
   denoted_fits at (visibility.generic k) s y h t g = plain_fits s (o.integer (e.generic k)) y h g
   denoted_fits at (visibility.integer_constant k) s y h t g = plain_fits s (o.integer (e.Static.constant k)) y h g
   denoted_fits at (visibility.generate_parameter k) s y h t g = plain_fits s (o.integer (e.generate_parameter k)) y h g
   denoted_fits at (visibility.loop_parameter k) s y h t g = plain_fits s (o.integer (e.loop_parameter k)) y h g
+  denoted_fits at (visibility.boolean_generic k) s y h t g = plain_fits s (n.known at (e.generic k)) y h g
+  denoted_fits at (visibility.boolean_constant k) s y h t g = plain_fits s (n.known at (e.Static.constant k)) y h g
+  denoted_fits at (visibility.boolean_literal b) s y h t g = plain_fits s (n.known at (e.number (if b then 1 else 0))) y refl g
   denoted_fits at (visibility.port k mode kind) s y h t g =
       read_fits (λ p. e.of_signal (place_of at (e.port k) p)) (port_form h.port) (read_place at (e.port k) (port_form h.port) (port_form_is k mode kind h)) kind h.shape s y t g
   denoted_fits at (visibility.signal k (Elements kind)) s y h t g =
@@ -230,9 +242,27 @@ module _ (i : Inside) (counts : Counts) where
   denoted_fits at (visibility.function f) s y h t g = called_fits at f s y t g
   denoted_fits at _ s y h t g = absurd cc
 
-  pub attributed_fits : (a : Option Ident) (x y : Typed) → TypedFits i counts x → attributed a x ≡ Some y → TypedFits i counts y
+  -- and of a type with a range
+  valued_fits : (at : ℕ) (d : Meaning) (r : Option DeclaredRange) (s : Suffix) (y : Typed) → MeaningFits i counts d → RangeFits i r → SuffixFits i counts s → denoted at d s ≡ Some y
+      → TypedFits i counts (sized_by at d r y)
+  valued_fits at (visibility.vector_type k b) r s y h f t g =
+      let c = converted_is k s y t g in
+      subst (λ y. TypedFits i counts (sized_by at (visibility.vector_type k b) r y)) c.is (sized_fits i counts at k b r c.value f h c.shape)
+  valued_fits at d r s y h f t g = denoted_fits at d s y h t g
+
+  attributed_fits : (a : Option Attribute) (x y : Typed) → TypedFits i counts x → attributed a x ≡ Some y → TypedFits i counts y
   attributed_fits None x y t g = subst (TypedFits i counts) (some_same x y g) t
-  attributed_fits (Some a) x y t g =
+  attributed_fits (Some (tree.of_range at)) x y t g = absurd cc
+  attributed_fits (Some (tree.called a)) x y t g =
       let k = kept (bytes_eq a.text (codes "event")) _ y g in
       let c = comes (edge_signal x) (λ p. Some (o.truth (e.event p))) y k.1 in
       subst (TypedFits i counts) (some_same (o.truth (e.event c.value)) y c.rest) (edge_place x c.value t c.is)
+
+  pub named_fits : (language : Language) (at : ℕ) (a : Option Attribute) (d : Declared) (s : Suffix) (x : Typed) → DeclaredFits i counts d → SuffixFits i counts s
+      → named language at a d s ≡ Some x → TypedFits i counts x
+  named_fits language at a d s x h t g =
+      of_either (TypedFits i counts) (wider language (range_attribute at a d s)) (denoted at d.meaning s >>= λ x. attributed a (sized_by at d.meaning d.range x)) x
+      (λ z e. range_attribute_fits i counts at a d s z h t (wider_is language (range_attribute at a d s) z e))
+      (λ z e.
+      let c = comes (denoted at d.meaning s) _ z e in
+      attributed_fits a (sized_by at d.meaning d.range c.value) z (valued_fits at d.meaning d.range s c.value h.meaning h.range t c.is) c.rest) g

@@ -1,7 +1,7 @@
 -- Operators make of operands that are what their types say such results (IEEE 1076-2008, 9.2).
 use Rattle.std.proofs.Common.{◌≡◌, ℕ, Bool, true, false, ◌&&◌, ◌==◌, Option, Some, None, refl, ap, sym, ◌∙◌, subst}
 use Rattle.std.specs.Prelude.{slice_get}
-use Rattle.std.proofs.lemmas.Bool.{and_from, eqb-true, eq-eqb}
+use Rattle.std.proofs.lemmas.Bool.{and_from, eqb-true}
 use Rattle.vhdl_values.specs.declared.kinds.Logic.{Logic}
 use Rattle.vhdl_values.specs.declared.kinds.Cmp.{Cmp}
 use Rattle.vhdl_tree.specs.declared.operator.Operator.{Operator}
@@ -16,40 +16,17 @@ use Rattle.vhdl_names_rules.specs.units.Expressions as e
 use Rattle.vhdl_names_rules.specs.units.Expressions.{Static, Vector, Value, Test}
 use Rattle.vhdl_names_rules.specs.Rules.{◌>>=◌, met, then_some}
 use Rattle.vhdl_names_rules.specs.Operators as o
-use Rattle.vhdl_names_rules.specs.Operators.{Typed, common_kind, joined_kind, is_number, are_numbers, binary, both, negated, logical, inverse, concatenated, integral, arithmetic, integers_compared, equal_by, equality, ordering, operated}
+use Rattle.vhdl_names_rules.specs.Operators.{Typed, common_kind, joined_kind, is_number, are_numbers, binary, both, negated, logical, inverse, concatenated, integral, arithmetic, integers_compared, equal_by, equality, ordering, operated, beside_vector}
+use Rattle.vhdl_names_rules.specs.Types.{TypedElements}
 use Rattle.vhdl_names_rules.specs.sound.Expressions.{Inside, Shape, one, vector, state, static_fits, static_test_fits, same_shape, is_elements, operated_shape, with_static, vector_shape, value_shape, fits_shape, value_fits, value_fits_beside, values_fit, test_fits}
-use Rattle.vhdl_names_laws.specs.Meanings.{Counts, kind_shape, TypedFits}
+use Rattle.vhdl_names_laws.specs.Meanings.{Counts, kind_shape, TypedFits, ElementsFit}
 use Rattle.vhdl_names_laws.proofs.Statics.{some_same}
+use Rattle.vhdl_names_laws.proofs.Shapes.{Given, given, shape_elements, same_self, same_shapes, fits_self, kind_is_vector}
+use Rattle.vhdl_names_laws.proofs.Aggregates.{aggregate_fits}
 use Rattle.vhdl_names_rules.proofs.kept.Keeping.{mapped}
-
--- ---- options
-
-pub record Given {A : Type 0} (b : Bool) (x y : A) : Type 0 where
-  pub holds : b ≡ true
-  pub is : x ≡ y
-
-pub given : {A : Type 0} (b : Bool) (x y : A) → then_some b x ≡ Some y → Given b x y
-given true x y h = record { holds = refl; is = some_same x y h }
-given false x y h = absurd cc
+use Rattle.vhdl_names_rules.proofs.laws.Rules.{kept}
 
 -- ---- shapes
-
-pub shape_elements : (k : ElementKind) → is_elements (kind_shape k) ≡ true
-shape_elements Element = refl
-shape_elements _ = refl
-
-pub same_self : (x : Shape) → same_shape x x ≡ true
-same_self (state n) = eq-eqb n n refl
-same_self _ = refl
-
-pub same_shapes : (x y : Shape) → same_shape x y ≡ true → x ≡ y
-same_shapes one one h = refl
-same_shapes vector vector h = refl
-same_shapes (state m) (state n) h = ap state (eqb-true m n h)
-same_shapes _ _ h = absurd cc
-
-pub fits_self : (x : Shape) (o : Option Shape) → o ≡ Some x → fits_shape x o ≡ true
-fits_self x o h = ap (fits_shape x) h ∙ same_self x
 
 -- a number is a vector
 number_shape : (k : ElementKind) → is_number k ≡ true → kind_shape k ≡ vector
@@ -171,7 +148,7 @@ module _ (i : Inside) (counts : Counts) where
       ∙ ap Some (sym (joined j k c.value c.from)))
   concatenated_fits at _ _ z h t g = absurd cc
 
-  integral_fits : (at : ℕ) (op : Arithmetic) (x y z : Typed) → TypedFits i counts x → TypedFits i counts y → integral at op x y ≡ Some z → TypedFits i counts z
+  pub integral_fits : (at : ℕ) (op : Arithmetic) (x y z : Typed) → TypedFits i counts x → TypedFits i counts y → integral at op x y ≡ Some z → TypedFits i counts z
   integral_fits at op (o.integer s) (o.integer r) z h t g = known (o.integer (e.Static.binary at op s r)) z g (and_from (static_fits i s) (static_fits i r) h t)
   integral_fits at op _ _ z h t g = absurd cc
 
@@ -215,6 +192,12 @@ module _ (i : Inside) (counts : Counts) where
   counted : (d e m n : ℕ) → (d == e) ≡ true → slice_get counts d ≡ Some m → slice_get counts e ≡ Some n → m ≡ n
   counted d e m n h s t = some_same m n (sym s ∙ (ap (slice_get counts) (eqb-true d e h) ∙ t))
 
+  -- an aggregate beside a vector has its shape
+  beside_fits : (k : ElementKind) (p : ℕ) (es : TypedElements) (y : Vector) → ElementsFit i counts es → beside_vector k p es ≡ Some y → vector_shape i y ≡ Some (kind_shape k)
+  beside_fits k p es y h g =
+      let v = kept (o.is_vector k) _ y g in
+      aggregate_fits i counts k p None es y refl h v.1 ∙ ap Some (sym (kind_is_vector k v.0))
+
   equality_fits : (at : ℕ) (op : Cmp) (same : Value → Value → Test) → Compares same → (x y z : Typed) → TypedFits i counts x → TypedFits i counts y
       → equality at op same x y ≡ Some z → TypedFits i counts z
   equality_fits at op same c (o.integer s) (o.integer r) z h t g = known (integers_compared at op s r) z g (and_from (static_fits i s) (static_fits i r) h t)
@@ -230,6 +213,12 @@ module _ (i : Inside) (counts : Counts) where
       let f = given (d == e) (o.truth (same x y)) z g in
       let s = counted d e m n f.holds h.1 t.1 in
       subst (TypedFits i counts) f.is (c x y ∙ states_fit i n x y (ap (λ m. value_fits i (state m) x) (sym s) ∙ h.0) t.0)
+  equality_fits at op same c (o.elements k x) (o.composite p es) z h t g =
+      let f = mapped (λ y. equal_by at op same x y k) (beside_vector k p es) z g in
+      subst (TypedFits i counts) f.is (equal_fits at op same c x f.value k h (beside_fits k p es f.value t f.from))
+  equality_fits at op same c (o.composite p es) (o.elements k y) z h t g =
+      let f = mapped (λ x. equal_by at op same x y k) (beside_vector k p es) z g in
+      subst (TypedFits i counts) f.is (equal_fits at op same c f.value y k (beside_fits k p es f.value h f.from) t)
   equality_fits at op same c _ _ z h t g = absurd cc
 
   ordering_fits : (numbers : Bool) (at : ℕ) (op : Cmp) (x y z : Typed) → TypedFits i counts x → TypedFits i counts y → ordering numbers at op x y ≡ Some z → TypedFits i counts z

@@ -3,25 +3,25 @@ use Rattle.std.proofs.Common.{◌≡◌, ℕ, Option, Some}
 use Rattle.std.specs.Prelude.{is_none}
 use Rattle.vhdl_tree.specs.Tree as t
 use Rattle.vhdl_names_rules.specs.Rules.{◌>>=◌, ◌>>◌, met}
-use Rattle.vhdl_names_rules.specs.Visibility.{Meaning, meaning, Sight}
+use Rattle.vhdl_names_rules.specs.Visibility.{Declared, declaration, Sight}
 use Rattle.vhdl_names_rules.specs.Names.{Suffix}
 use Rattle.vhdl_names_rules.specs.Expressions.{typed_suffix}
 use Rattle.vhdl_names_rules.specs.Statements.{SignalName, VariableName, as_signal, as_variable, signal, variable}
 use Rattle.vhdl_names_rules.proofs.laws.Rules.{comes, kept}
 use Rattle.vhdl_names_rules.proofs.laws.Parts.{Given}
 
-pub record NameParts {A : Type 0} (by : ℕ → Meaning → Suffix → Option A) (sight : Sight) (n : t.Name) (x : A) : Type 0 where
+pub record NameParts {A : Type 0} (by : ℕ → Declared → Suffix → Option A) (sight : Sight) (n : t.Name) (x : A) : Type 0 where
   pub suffix : Given (typed_suffix sight n.suffix)
-  pub meant : Given (meaning sight n.identifier.text)
+  pub meant : Given (declaration sight n.identifier.text)
   pub is : by n.identifier.at meant.value suffix.value ≡ Some x
 
-name_parts : {A : Type 0} (by : ℕ → Meaning → Suffix → Option A) (sight : Sight) (n : t.Name) (x : A)
-    → (met (is_none n.attribute) >> (typed_suffix sight n.suffix >>= λ suffix. meaning sight n.identifier.text >>= λ d. by n.identifier.at d suffix)) ≡ Some x
+name_parts : {A : Type 0} (by : ℕ → Declared → Suffix → Option A) (sight : Sight) (n : t.Name) (x : A)
+    → (met (is_none n.attribute) >> (typed_suffix sight n.suffix >>= λ suffix. declaration sight n.identifier.text >>= λ d. by n.identifier.at d suffix)) ≡ Some x
     → NameParts by sight n x
 name_parts by sight n x h =
     let a = kept (is_none n.attribute) _ x h in
     let b = comes (typed_suffix sight n.suffix) _ x a.1 in
-    let c = comes (meaning sight n.identifier.text) (λ d. by n.identifier.at d b.value) x b.rest in
+    let c = comes (declaration sight n.identifier.text) (λ d. by n.identifier.at d b.value) x b.rest in
     record { suffix = record { value = b.value; is = b.is }; meant = record { value = c.value; is = c.is }; is = c.rest }
 
 pub signal_parts : (sight : Sight) (n : t.Name) (x : SignalName) → signal sight n ≡ Some x → NameParts as_signal sight n x

@@ -1,5 +1,6 @@
 -- Each sequential statement fits where it stands (IEEE 1076-2008, clause 10).
-use Rattle.std.proofs.Common.{◌≡◌, ℕ, suc, true, false, ◌&&◌, not, List, [], ◌∷◌, length, Option, Some, None, refl, ap, ◌∙◌, subst, arith}
+use Rattle.std.proofs.Common.{◌≡◌, ℕ, suc, Bool, true, false, ◌&&◌, not, List, [], ◌∷◌, length, Option, Some, None, refl, ap, ◌∙◌, subst, arith}
+use Rattle.std.specs.Option.{option_map}
 use Rattle.std.specs.List.{slice_get, list_all}
 use Rattle.std.proofs.lemmas.Bool.{and_from, lt-ltb}
 use Rattle.vhdl_tree.specs.declared.declaration.Mode.{Mode}
@@ -7,24 +8,29 @@ use Rattle.vhdl_tree.specs.declared.declaration.Mode.TheVariants.{In, Out}
 use Rattle.vhdl_tree.specs.Tree as t
 use Rattle.vhdl_tree.specs.Tree.{Ident}
 use Rattle.vhdl_names_rules.specs.declared.kind.ElementKind.{ElementKind}
+use Rattle.vhdl_names_rules.specs.declared.kind.ElementKind.TheVariants.{Element, LogicVector, Unsigned}
 use Rattle.vhdl_names_rules.specs.declared.kind.ObjectType.{ObjectType}
-use Rattle.vhdl_names_rules.specs.declared.kind.ObjectType.TheVariants.{Elements}
+use Rattle.vhdl_names_rules.specs.declared.kind.ObjectType.TheVariants.{Elements, Enumeration}
 use Rattle.vhdl_names_rules.specs.units.Expressions as e
 use Rattle.vhdl_names_rules.specs.units.Expressions.{Part}
 use Rattle.vhdl_names_rules.specs.units.Statements as s
 use Rattle.vhdl_names_rules.specs.Rules.{◌>>=◌}
 use Rattle.vhdl_names_rules.specs.Visibility as visibility
-use Rattle.vhdl_names_rules.specs.Visibility.{Meaning, Sight, label_ends}
-use Rattle.vhdl_names_rules.specs.Names.{Suffix, part_of}
+use Rattle.vhdl_names_rules.specs.Visibility.{Name, Meaning, DeclaredRange, Sight, label_ends}
+use Rattle.vhdl_names_rules.specs.Operators as o
+use Rattle.vhdl_names_rules.specs.Names as n'
+use Rattle.vhdl_names_rules.specs.Names.{Suffix, part, part_of}
 use Rattle.vhdl_names_rules.specs.Expressions.{static_range, condition, value_given}
-use Rattle.vhdl_names_rules.specs.Statements.{SignalName, named_part, as_signal, signal, is_input, target, VariableName, as_variable, variable, choice_lists, statement, statements, conditionals, otherwise, alternatives}
-use Rattle.vhdl_names_rules.specs.sound.Expressions.{Inside, Shape, range_fits, part_shape, port_form, place_shape, value_shape, test_fits}
+use Rattle.vhdl_names_rules.specs.Statements.{part_range, SignalName, named_part, as_signal, signal, is_input, target, VariableName, variable_part, as_variable, variable, Target, target_by, assignment, alone, last_branch, branches, conditional, before, choice_lists, statement, statements, conditionals, otherwise, alternatives}
+use Rattle.vhdl_names_rules.specs.sound.Expressions.{Inside, Shape, range_fits, any_range_fits, part_shape, port_form, place_shape, value_shape, test_fits}
 use Rattle.vhdl_names_rules.specs.sound.Statements as w
 use Rattle.vhdl_names_rules.specs.sound.Statements.{given_fits, given_fits_target, is_out, is_driven, selector_fits, statement_fits, statements_fit, branches_fit, alternatives_fit}
 use Rattle.vhdl_names_laws.specs.Meanings.{Counts, type_shape, IsCounted, IsPort, MeaningFits, IsInside}
-use Rattle.vhdl_names_laws.proofs.Statics.{some_same, HasMore, more_of, keeps_all, all_more, meant}
+use Rattle.vhdl_names_laws.proofs.Statics.{some_same, HasMore, more_of, keeps_all, all_more, found}
+use Rattle.vhdl_names_laws.proofs.Ranges.{RangeFits, SuffixFits, any_declared_fits}
 use Rattle.vhdl_names_rules.proofs.kept.Keeping.{mapped}
-use Rattle.vhdl_names_laws.proofs.Names.{SuffixFits, part_of_fits, port_form_is, the_form}
+use Rattle.vhdl_names_laws.proofs.Names.{part_of_fits, port_form_is, the_form}
+use Rattle.vhdl_names_laws.proofs.Served.{served}
 use Rattle.vhdl_names_laws.proofs.Expressions.{typed_fits, suffix_fits, static_range_fits}
 use Rattle.vhdl_names_laws.proofs.Values.{given_is, condition_fits}
 use Rattle.vhdl_names_laws.proofs.Choices.{selector_is, covered_fits, arranged_fits}
@@ -39,37 +45,63 @@ pub record SignalFits (i : Inside) (counts : Counts) (x : SignalName) : Type 0 w
   pub shape : place_shape i x.place ≡ Some (type_shape x.type)
   pub counted : IsCounted counts x.type
   pub driven : is_input x.mode ≡ false → is_driven i x.place.signal ≡ true
+  pub range : any_range_fits i x.range ≡ true
 
 out_port : (i : Inside) (k : ℕ) (mode : Mode) (kind : ElementKind) → IsPort i.ports k mode kind → is_input (Some mode) ≡ false → is_driven i (e.port k) ≡ true
 out_port i k In kind h n = absurd cc
 out_port i k Out kind h n =
     ap is_out h.at ∙ ap (λ mode. is_out (Some (record { mode = mode; object = h.port.object }))) h.mode_is
 
-as_signal_fits : (i : Inside) (counts : Counts) (at : ℕ) (d : Meaning) (suffix : Suffix) (x : SignalName) → MeaningFits i counts d → SuffixFits i counts suffix
-    → as_signal at d suffix ≡ Some x → SignalFits i counts x
-as_signal_fits i counts at (visibility.port k mode kind) suffix x h f q =
-    let a = mapped (named_part at (e.port k) (Some mode)) (part_of (Elements kind) suffix) x q in
+-- the range of a part
+module _ (i : Inside) (counts : Counts) (d : Option DeclaredRange) (r : RangeFits i d) where
+  abbrev HasRange : Part → Type 0
+  HasRange p = any_range_fits i (part_range d p) ≡ true
+
+  of_part : (k : ElementKind) (suffix : Suffix) (y : Part × ElementKind) → SuffixFits i counts suffix → part k suffix ≡ Some y → HasRange y.0
+  of_part k n'.plain y f q = subst (λ (y : Part × ElementKind). HasRange y.0) (some_same (e.whole, k) y q) (any_declared_fits i d r)
+  of_part LogicVector (n'.arguments b (o.integer s ∷ [])) y f q = subst (λ (y : Part × ElementKind). HasRange y.0) (some_same (e.Part.element s, Element) y q) refl
+  of_part Unsigned (n'.arguments b (o.integer s ∷ [])) y f q = subst (λ (y : Part × ElementKind). HasRange y.0) (some_same (e.Part.element s, Element) y q) refl
+  of_part LogicVector (n'.range z) y f q = subst (λ (y : Part × ElementKind). HasRange y.0) (some_same (e.slice z, LogicVector) y q) f
+  of_part Unsigned (n'.range z) y f q = subst (λ (y : Part × ElementKind). HasRange y.0) (some_same (e.slice z, Unsigned) y q) f
+  of_part _ _ y f q = absurd cc
+
+  part_range_fits : (type : ObjectType) (suffix : Suffix) (p : Part × ObjectType) → SuffixFits i counts suffix → part_of type suffix ≡ Some p → HasRange p.0
+  part_range_fits (Elements k) suffix p f q =
+      let a = mapped (λ (p : Part × ElementKind). (p.0, Elements p.1)) (part k suffix) p q in
+      subst (λ (p : Part × ObjectType). HasRange p.0) a.is (of_part k suffix a.value f a.from)
+  part_range_fits (Enumeration n count) n'.plain p f q = subst (λ (p : Part × ObjectType). HasRange p.0) (some_same (e.whole, Enumeration n count) p q) (any_declared_fits i d r)
+  part_range_fits (Enumeration n count) _ p f q = absurd cc
+
+as_signal_fits : (i : Inside) (counts : Counts) (at : ℕ) (name : Name) (d : Meaning) (r : Option DeclaredRange) (b : Bool) (suffix : Suffix) (x : SignalName)
+    → MeaningFits i counts d → RangeFits i r → SuffixFits i counts suffix
+    → as_signal at (record { name = name; meaning = d; range = r; is_global = b }) suffix ≡ Some x → SignalFits i counts x
+as_signal_fits i counts at name (visibility.port k mode kind) r b suffix x h z f q =
+    let a = mapped (named_part at (e.port k) (Some mode) r) (part_of (Elements kind) suffix) x q in
     let p = part_of_fits i counts (port_form h.port) (Elements kind) suffix a.value h.shape tt f a.from in
     subst (SignalFits i counts) a.is (record {
       shape = ap (λ w. w >>= λ f. part_shape i f a.value.0) (port_form_is i counts k mode kind h) ∙ p.0;
       counted = p.1;
       driven = λ n. out_port i k mode kind h n;
+      range = part_range_fits i counts r z (Elements kind) suffix a.value f a.from;
     })
-as_signal_fits i counts at (visibility.signal k type) suffix x h f q =
-    let a = mapped (named_part at (e.Signal.signal k) None) (part_of type suffix) x q in
+as_signal_fits i counts at name (visibility.signal k type) r b suffix x h z f q =
+    let a = mapped (named_part at (e.Signal.signal k) None r) (part_of type suffix) x q in
     let g = the_form i counts type (slice_get i.signals k) h in
     let p = part_of_fits i counts g.0 type suffix a.value g.2 h.counted f a.from in
     subst (SignalFits i counts) a.is (record {
       shape = ap (λ w. w >>= λ f. part_shape i f a.value.0) g.1 ∙ p.0;
       counted = p.1;
       driven = λ n. refl;
+      range = part_range_fits i counts r z type suffix a.value f a.from;
     })
-as_signal_fits i counts at _ suffix x h f q = absurd cc
+as_signal_fits i counts at name _ r b suffix x h z f q = absurd cc
 
 pub signal_fits : (i : Inside) (counts : Counts) (sight : Sight) (n : t.Name) (x : SignalName) → IsInside i counts sight → signal sight n ≡ Some x → SignalFits i counts x
 signal_fits i counts sight n x h q =
     let p = signal_parts sight n x q in
-    as_signal_fits i counts n.identifier.at p.meant.value p.suffix.value x (meant i counts sight h n.identifier.text p.meant.value p.meant.is) (suffix_fits n.suffix i counts sight p.suffix.value h p.suffix.is) p.is
+    let d = p.meant.value in
+    let f = found i counts sight h n.identifier.text d p.meant.is in
+    as_signal_fits i counts n.identifier.at d.name d.meaning d.range d.is_global p.suffix.value x f.meaning f.range (suffix_fits n.suffix i counts sight p.suffix.value (served i counts sight h) p.suffix.is) p.is
 
 pub record TargetFits (i : Inside) (counts : Counts) (x : SignalName) : Type 0 where
   pub fits : SignalFits i counts x
@@ -86,34 +118,41 @@ target_fits i counts sight n x h q =
 pub record VariableFits (i : Inside) (counts : Counts) (x : VariableName) : Type 0 where
   pub shape : (slice_get i.variables x.number >>= λ f. part_shape i f x.part) ≡ Some (type_shape x.type)
   pub counted : IsCounted counts x.type
+  pub range : any_range_fits i x.range ≡ true
 
-as_variable_fits : (i : Inside) (counts : Counts) (at : ℕ) (d : Meaning) (suffix : Suffix) (x : VariableName) → MeaningFits i counts d → SuffixFits i counts suffix
-    → as_variable at d suffix ≡ Some x → VariableFits i counts x
-as_variable_fits i counts at (visibility.variable k type) suffix x h f q =
-    let make : Part × ObjectType → VariableName = λ p. record { at = at; number = k; part = p.0; type = p.1 } in
-    let a = mapped make (part_of type suffix) x q in
+as_variable_fits : (i : Inside) (counts : Counts) (at : ℕ) (name : Name) (d : Meaning) (r : Option DeclaredRange) (b : Bool) (suffix : Suffix) (x : VariableName)
+    → MeaningFits i counts d → RangeFits i r → SuffixFits i counts suffix
+    → as_variable at (record { name = name; meaning = d; range = r; is_global = b }) suffix ≡ Some x → VariableFits i counts x
+as_variable_fits i counts at name (visibility.variable k type) r b suffix x h z f q =
+    let a = mapped (variable_part at k r) (part_of type suffix) x q in
     let g = the_form i counts type (slice_get i.variables k) h in
     let p = part_of_fits i counts g.0 type suffix a.value g.2 h.counted f a.from in
-    subst (VariableFits i counts) a.is (record { shape = ap (λ w. w >>= λ f. part_shape i f a.value.0) g.1 ∙ p.0; counted = p.1 })
-as_variable_fits i counts at _ suffix x h f q = absurd cc
+    subst (VariableFits i counts) a.is (record {
+      shape = ap (λ w. w >>= λ f. part_shape i f a.value.0) g.1 ∙ p.0;
+      counted = p.1;
+      range = part_range_fits i counts r z type suffix a.value f a.from;
+    })
+as_variable_fits i counts at name _ r b suffix x h z f q = absurd cc
 
 pub variable_fits : (i : Inside) (counts : Counts) (sight : Sight) (n : t.Name) (x : VariableName) → IsInside i counts sight → variable sight n ≡ Some x → VariableFits i counts x
 variable_fits i counts sight n x h q =
     let p = variable_parts sight n x q in
-    as_variable_fits i counts n.identifier.at p.meant.value p.suffix.value x (meant i counts sight h n.identifier.text p.meant.value p.meant.is) (suffix_fits n.suffix i counts sight p.suffix.value h p.suffix.is) p.is
+    let d = p.meant.value in
+    let f = found i counts sight h n.identifier.text d p.meant.is in
+    as_variable_fits i counts n.identifier.at d.name d.meaning d.range d.is_global p.suffix.value x f.meaning f.range (suffix_fits n.suffix i counts sight p.suffix.value (served i counts sight h) p.suffix.is) p.is
 
 -- ---- loops
 
 more_loops : (i : Inside) (counts : Counts) → HasMore i (w.within_loop i) counts counts
 more_loops i counts =
-    more_of i (w.within_loop i) counts (record { generics = omega arith; integers = omega arith; generates = omega arith; loops = omega arith })
+    more_of i (w.within_loop i) counts (record { generics = omega arith; integers = omega arith; ranges = omega arith; generates = omega arith; loops = omega arith })
     (keeps_all i.constants) (keeps_all i.ports) (keeps_all i.signals) (keeps_all i.variables)
 
 inside_loop : (i : Inside) (counts : Counts) (sight : Sight) (n : Ident) → IsInside i counts sight → IsInside (w.within_loop i) counts (visibility.within_loop sight n)
 inside_loop i counts sight n h =
     let same : length sight.loops ≡ i.loops = h.loop_count in
     record {
-      loops = (lt-ltb (length sight.loops) (suc i.loops) (omega (arith, same)), all_more i (w.within_loop i) counts counts (more_loops i counts) sight.loops h.loops);
+      loops = (record { meaning = lt-ltb (length sight.loops) (suc i.loops) (omega (arith, same)); range = tt }, all_more i (w.within_loop i) counts counts (more_loops i counts) sight.loops h.loops);
       variables = all_more i (w.within_loop i) counts counts (more_loops i counts) sight.variables h.variables;
       generates = all_more i (w.within_loop i) counts counts (more_loops i counts) sight.generates h.generates;
       region = all_more i (w.within_loop i) counts counts (more_loops i counts) sight.region h.region;
@@ -136,6 +175,76 @@ assigned_fits i counts x g h f =
     and_from (is_driven i x.place.signal) (given_fits_target i (place_shape i x.place) g) h.driven
     (given_to i (place_shape i x.place) (type_shape x.type) g h.fits.shape f)
 
+-- what is given to a target fits, and so does the assignment
+pub record GivenFits (i : Inside) (counts : Counts) (x : Target) : Type 0 where
+  pub fits : (g : s.Given) → given_fits i (type_shape x.type) g ≡ true → statement_fits i (x.assigned g) ≡ true
+  pub counted : IsCounted counts x.type
+  pub range : any_range_fits i x.range ≡ true
+
+variable_assigned_fits : (i : Inside) (counts : Counts) (x : VariableName) (g : s.Given) → VariableFits i counts x → given_fits i (type_shape x.type) g ≡ true
+    → statement_fits i (s.set x.at x.number x.part g) ≡ true
+unfolding statement_fits
+variable_assigned_fits i counts x g h f = given_to i (slice_get i.variables x.number >>= λ f. part_shape i f x.part) (type_shape x.type) g h.shape f
+
+pub target_is : (i : Inside) (counts : Counts) (sight : Sight) (b : Bool) (n : t.Name) (x : Target) → IsInside i counts sight → target_by sight b n ≡ Some x → GivenFits i counts x
+target_is i counts sight false n x h q =
+    let a = comes (target sight n) _ x q in
+    let f = target_fits i counts sight n a.value h a.is in
+    subst (GivenFits i counts) (some_same _ x a.rest) (record { fits = λ g z. assigned_fits i counts a.value g f z; counted = f.fits.counted; range = f.fits.range })
+target_is i counts sight true n x h q =
+    let a = comes (variable sight n) _ x q in
+    let f = variable_fits i counts sight n a.value h a.is in
+    subst (GivenFits i counts) (some_same _ x a.rest) (record { fits = λ g z. variable_assigned_fits i counts a.value g f z; counted = f.counted; range = f.range })
+
+-- ---- assignments, of values alone and under conditions
+
+module _ (i : Inside) (counts : Counts) (sight : Sight) (h : IsInside i counts sight) (x : Target) (f : GivenFits i counts x) where
+  pub assignment_is : (v : t.Value) (y : s.Statement) → assignment sight x v ≡ Some y → statement_fits i y ≡ true
+  assignment_is v y q =
+      let a = mapped x.assigned (value_given sight x.type x.range v) y q in
+      subst (λ y. statement_fits i y ≡ true) a.is (f.fits a.value (given_is i counts sight x.type x.range v a.value (served i counts sight h) f.range f.counted a.from))
+
+  pub alone_fits : (y : s.Statement) → statement_fits i y ≡ true → statements_fit i (alone y) ≡ true
+  unfolding statement_fits
+  alone_fits y t = and_from (statement_fits i y) true t refl
+
+  last_branch_is : (v : Option t.Value) (bs : s.Branches) → last_branch sight x v ≡ Some bs → branches_fit i bs ≡ true
+  unfolding statement_fits
+  last_branch_is None bs q = subst (λ bs. branches_fit i bs ≡ true) (some_same s.no_else bs q) refl
+  last_branch_is (Some v) bs q =
+      let a = mapped (λ y. s.otherwise (alone y)) (assignment sight x v) bs q in
+      subst (λ bs. branches_fit i bs ≡ true) a.is (alone_fits a.value (assignment_is v a.value a.from))
+
+  branches_are : (ws : List t.Branch) (v : Option t.Value) (bs : s.Branches) → branches sight x ws v ≡ Some bs → branches_fit i bs ≡ true
+  unfolding statement_fits
+  branches_are [] v bs q = last_branch_is v bs q
+  branches_are (w ∷ ws) v bs q =
+      let a = comes (assignment sight x w.value) _ bs q in
+      let b = comes (condition sight w.condition) _ bs a.rest in
+      let c = comes (branches sight x ws v) _ bs b.rest in
+      subst (λ bs. branches_fit i bs ≡ true) (some_same (s.branch b.value (alone a.value) c.value) bs c.rest)
+      (and_from (test_fits i b.value && statements_fit i (alone a.value)) (branches_fit i c.value)
+      (and_from (test_fits i b.value) (statements_fit i (alone a.value)) (condition_fits i counts sight w.condition b.value (served i counts sight h) b.is) (alone_fits a.value (assignment_is w.value a.value a.is)))
+      (branches_are ws v c.value c.is))
+
+  by_branches : (ws : List t.Branch) (v : Option t.Value) (y : s.Statement) → option_map (s.if_of x.at) (branches sight x ws v) ≡ Some y → statement_fits i y ≡ true
+  unfolding statement_fits
+  by_branches ws v y q =
+      let a = mapped (s.if_of x.at) (branches sight x ws v) y q in
+      subst (λ y. statement_fits i y ≡ true) a.is (branches_are ws v a.value a.from)
+
+  pub conditional_is : (ws : List t.Branch) (v : Option t.Value) (y : s.Statement) → conditional sight x ws v ≡ Some y → statement_fits i y ≡ true
+  conditional_is [] (Some v) y q = assignment_is v y q
+  conditional_is [] None y q = by_branches [] None y q
+  conditional_is (w ∷ ws) v y q = by_branches (w ∷ ws) v y q
+
+-- statements that are dropped are not there
+before_fits : (i : Inside) (y : t.Statement) (x : s.Statement) (xs : s.Statements) → statement_fits i x ≡ true → statements_fit i xs ≡ true → statements_fit i (before y x xs) ≡ true
+unfolding statement_fits
+before_fits i (t.asserted text) x xs f g = g
+before_fits i (t.reported text) x xs f g = g
+before_fits i _ x xs f g = and_from (statement_fits i x) (statements_fit i xs) f g
+
 mutual
   unfolding statement statement_fits
 
@@ -143,18 +252,16 @@ mutual
       → statement sight label y ≡ Some x → statement_fits i x ≡ true
   statement_is (t.null_of at) i counts sight label x h q = subst (λ x. statement_fits i x ≡ true) (some_same s.null_of x q) refl
   statement_is (t.assigned n v) i counts sight label x h q =
-      let a = comes (target sight n) _ x q in
-      let g = comes (value_given sight a.value.type v) _ x a.rest in
-      let f = target_fits i counts sight n a.value h a.is in
-      subst (λ x. statement_fits i x ≡ true) (some_same _ x g.rest)
-      (assigned_fits i counts a.value g.value f (given_is i counts sight a.value.type v g.value h f.fits.counted g.is))
+      let a = comes (target_by sight false n) _ x q in
+      assignment_is i counts sight h a.value (target_is i counts sight false n a.value h a.is) v x a.rest
   statement_is (t.variable_assigned n v) i counts sight label x h q =
-      let a = comes (variable sight n) _ x q in
-      let g = comes (value_given sight a.value.type v) _ x a.rest in
-      let f = variable_fits i counts sight n a.value h a.is in
-      subst (λ x. statement_fits i x ≡ true) (some_same _ x g.rest)
-      (given_to i (slice_get i.variables a.value.number >>= λ f. part_shape i f a.value.part) (type_shape a.value.type) g.value f.shape
-      (given_is i counts sight a.value.type v g.value h f.counted g.is))
+      let a = comes (target_by sight true n) _ x q in
+      assignment_is i counts sight h a.value (target_is i counts sight true n a.value h a.is) v x a.rest
+  statement_is (t.assigned_when b n ws v) i counts sight label x h q =
+      let a = comes (target_by sight b n) _ x q in
+      conditional_is i counts sight h a.value (target_is i counts sight b n a.value h a.is) ws v x a.rest
+  statement_is (t.asserted text) i counts sight label x h q = subst (λ x. statement_fits i x ≡ true) (some_same s.null_of x q) refl
+  statement_is (t.reported text) i counts sight label x h q = subst (λ x. statement_fits i x ≡ true) (some_same s.null_of x q) refl
   statement_is (t.if_of at bs o end) i counts sight label x h q =
       let a = kept (label_ends label end) _ x q in
       let b = comes (otherwise sight o) _ x a.1 in
@@ -163,7 +270,7 @@ mutual
       (conditionals_are bs i counts sight b.value c.value h (otherwise_is o i counts sight b.value h b.is) c.is)
   statement_is (t.case_of at d alts end) i counts sight label x h q =
       let p = case_parts sight label at d alts end x q in
-      let f = selector_is i counts p.chosen.operand.value p.chosen.by.value (typed_fits d i counts sight p.chosen.operand.value h p.chosen.operand.is) p.chosen.by.is in
+      let f = selector_is i counts p.chosen.operand.value p.chosen.by.value (typed_fits d i counts sight p.chosen.operand.value (served i counts sight h) p.chosen.operand.is) p.chosen.by.is in
       subst (λ x. statement_fits i x ≡ true) p.is
       (and_from (selector_fits i p.chosen.by.value.1) (alternatives_fit i (value_shape i p.chosen.by.value.1) p.chosen.all.value) f.fits
       (arranged_fits i (value_shape i p.chosen.by.value.1) p.chosen.choices.value p.chosen.bodies.value p.chosen.all.value
@@ -174,7 +281,7 @@ mutual
       let b = comes (static_range sight r) _ x a.1 in
       let c = comes (statements (visibility.within_loop sight n) body) _ x b.rest in
       subst (λ x. statement_fits i x ≡ true) (some_same _ x c.rest)
-      (and_from (range_fits i b.value) (statements_fit (w.within_loop i) c.value) (static_range_fits i counts sight r b.value h b.is)
+      (and_from (range_fits i b.value) (statements_fit (w.within_loop i) c.value) (static_range_fits i counts sight r b.value (served i counts sight h) b.is)
       (statements_are body (w.within_loop i) counts (visibility.within_loop sight n) c.value (inside_loop i counts sight n h) c.is))
 
   pub statements_are : (ys : t.Statements) (i : Inside) (counts : Counts) (sight : Sight) (xs : s.Statements) → IsInside i counts sight
@@ -184,7 +291,7 @@ mutual
       let a = comes (statement sight label y) _ xs q in
       let b = comes (statements sight ys) _ xs a.rest in
       subst (λ xs. statements_fit i xs ≡ true) (some_same _ xs b.rest)
-      (and_from (statement_fits i a.value) (statements_fit i b.value) (statement_is y i counts sight label a.value h a.is) (statements_are ys i counts sight b.value h b.is))
+      (before_fits i y a.value b.value (statement_is y i counts sight label a.value h a.is) (statements_are ys i counts sight b.value h b.is))
 
   conditionals_are : (bs : t.Conditionals) (i : Inside) (counts : Counts) (sight : Sight) (last xs : s.Branches) → IsInside i counts sight → branches_fit i last ≡ true
       → conditionals sight last bs ≡ Some xs → branches_fit i xs ≡ true
@@ -195,7 +302,7 @@ mutual
       let c = comes (conditionals sight last bs) _ xs b.rest in
       subst (λ xs. branches_fit i xs ≡ true) (some_same _ xs c.rest)
       (and_from (test_fits i a.value && statements_fit i b.value) (branches_fit i c.value)
-      (and_from (test_fits i a.value) (statements_fit i b.value) (condition_fits i counts sight d a.value h a.is) (statements_are body i counts sight b.value h b.is))
+      (and_from (test_fits i a.value) (statements_fit i b.value) (condition_fits i counts sight d a.value (served i counts sight h) a.is) (statements_are body i counts sight b.value h b.is))
       (conditionals_are bs i counts sight last c.value h f c.is))
 
   otherwise_is : (o : t.Otherwise) (i : Inside) (counts : Counts) (sight : Sight) (x : s.Branches) → IsInside i counts sight → otherwise sight o ≡ Some x → branches_fit i x ≡ true

@@ -1,6 +1,6 @@
 -- Static integers and meanings: what is inside stays so where there is more.
 use Rattle.std.proofs.Common.{◌≡◌, ℕ, zero, suc, ◌<◌, ◌≤◌, Bool, true, false, List, [], ◌∷◌, ◌++◌, length, Option, Some, None, refl, ap, ◌∙◌, subst, cond, arith}
-use Rattle.std.specs.Prelude.{nat_lt}
+use Rattle.std.specs.Prelude.{nat_lt, ◌&&◌, IsTrue, IfSome}
 use Rattle.std.specs.List.{slice_get, find, AllByRecursion}
 use Rattle.std.specs.Option.{option_map}
 use Rattle.std.specs.Str.{bytes_eq}
@@ -15,10 +15,11 @@ use Rattle.vhdl_names_rules.specs.units.Expressions.{Static, Range}
 use Rattle.vhdl_names_rules.specs.units.Units as u
 use Rattle.vhdl_names_rules.specs.units.Units.{Form}
 use Rattle.vhdl_names_rules.specs.Visibility as visibility
-use Rattle.vhdl_names_rules.specs.Visibility.{Name, Meaning, Declared, Sight, in_sight, meaning}
+use Rattle.vhdl_names_rules.specs.Visibility.{Name, Meaning, DeclaredRange, Declared, Sight, in_sight, declaration, meaning}
 use Rattle.vhdl_names_rules.specs.sound.Expressions.{Inside, shape_of, static_fits, range_fits}
 use Rattle.vhdl_names_rules.specs.sound.Units.{fixed_fits}
-use Rattle.vhdl_names_laws.specs.Meanings.{Counts, kind_shape, type_shape, IsForm, IsCounted, IsLiteralOf, MeaningFits, AllFit, IsInside}
+use Rattle.vhdl_names_laws.specs.Meanings.{Counts, kind_shape, type_shape, IsForm, IsCounted, IsLiteralOf, MeaningFits, DeclaredFits, AllFit, IsInside}
+use Rattle.vhdl_names_rules.proofs.kept.Keeping.{mapped}
 
 -- ---- lists
 
@@ -51,6 +52,7 @@ Keeps {A} xs ys = (k : ℕ) (x : A) → slice_get xs k ≡ Some x → slice_get 
 pub record HasNumbers (i j : Inside) : Type 0 where
   pub generics : i.generics ≤ j.generics
   pub integers : i.integers ≤ j.integers
+  pub ranges : i.ranges ≤ j.ranges
   pub generates : i.generates ≤ j.generates
   pub loops : i.loops ≤ j.loops
 
@@ -72,6 +74,13 @@ static_more i j h (e.Static.constant k) t = below k i.integers j.integers h.inte
 static_more i j h (e.generate_parameter k) t = below k i.generates j.generates h.generates t
 static_more i j h (e.loop_parameter k) t = below k i.loops j.loops h.loops t
 static_more i j h (e.Static.negated at s) t = static_more i j h s t
+static_more i j h (e.absolute at s) t = static_more i j h s t
+static_more i j h (e.bound b k) t = below k i.ranges j.ranges h.ranges t
+static_more i j h (e.slice_bound at b k x d y) t =
+    let a = and_parts (nat_lt k i.ranges && static_fits i x) (static_fits i y) t in
+    let b = and_parts (nat_lt k i.ranges) (static_fits i x) a.0 in
+    and_from (nat_lt k j.ranges && static_fits j x) (static_fits j y)
+    (and_from (nat_lt k j.ranges) (static_fits j x) (below k i.ranges j.ranges h.ranges b.0) (static_more i j h x b.1)) (static_more i j h y a.1)
 static_more i j h (e.Static.binary at op x y) t =
     let b = and_parts (static_fits i x) (static_fits i y) t in
     and_from (static_fits j x) (static_fits j y) (static_more i j h x b.0) (static_more i j h y b.1)
@@ -107,6 +116,8 @@ meaning_more i j counts more h (visibility.generic k) f = below k i.generics j.g
 meaning_more i j counts more h (visibility.integer_constant k) f = below k i.integers j.integers h.numbers.integers f
 meaning_more i j counts more h (visibility.generate_parameter k) f = below k i.generates j.generates h.numbers.generates f
 meaning_more i j counts more h (visibility.loop_parameter k) f = below k i.loops j.loops h.numbers.loops f
+meaning_more i j counts more h (visibility.boolean_generic k) f = below k i.generics j.generics h.numbers.generics f
+meaning_more i j counts more h (visibility.boolean_constant k) f = below k i.integers j.integers h.numbers.integers f
 meaning_more i j counts more h (visibility.port k mode kind) f = record { port = f.port; at = h.ports k f.port f.at; mode_is = f.mode_is; shape = f.shape }
 meaning_more i j counts more h (visibility.signal k type) f = form_more counts more type i.signals j.signals k h.counts h.signals f
 meaning_more i j counts more h (visibility.variable k type) f = form_more counts more type i.variables j.variables k h.counts h.variables f
@@ -117,8 +128,15 @@ meaning_more i j counts more h (visibility.vector_type kind r) f = f
 meaning_more i j counts more h (visibility.enumeration_type n count) f = (f.0, h.counts n count f.1)
 meaning_more i j counts more h _ f = tt
 
+ranged_more : (i j : Inside) → HasNumbers i j → (o : Option DeclaredRange) → IfSome o (λ r. IsTrue (nat_lt r.number i.ranges)) → IfSome o (λ r. IsTrue (nat_lt r.number j.ranges))
+ranged_more i j h None f = tt
+ranged_more i j h (Some r) f = below r.number i.ranges j.ranges h.ranges f
+
+pub declared_more : (i j : Inside) (counts more : Counts) → HasMore i j counts more → (d : Declared) → DeclaredFits i counts d → DeclaredFits j more d
+declared_more i j counts more h d f = record { meaning = meaning_more i j counts more h d.meaning f.meaning; range = ranged_more i j h.numbers d.range f.range }
+
 pub all_more : (i j : Inside) (counts more : Counts) → HasMore i j counts more → (ds : List Declared) → AllFit i counts ds → AllFit j more ds
-all_more i j counts more h ds a = each_weaker (λ (d : Declared). MeaningFits i counts d.meaning) (λ (d : Declared). MeaningFits j more d.meaning) (λ d. meaning_more i j counts more h d.meaning) ds a
+all_more i j counts more h ds a = each_weaker (DeclaredFits i counts) (DeclaredFits j more) (declared_more i j counts more h) ds a
 
 pub keeps_all : {A : Type 0} (xs : List A) → Keeps xs xs
 keeps_all xs k x h = h
@@ -132,24 +150,30 @@ pub more_of : (i j : Inside) (counts : Counts) → HasNumbers i j → Keeps i.co
 more_of i j counts n c p s v = record { numbers = n; constants = c; ports = p; signals = s; variables = v; counts = keeps_all counts }
 
 pub same_numbers : (i : Inside) → HasNumbers i i
-same_numbers i = record { generics = omega arith; integers = omega arith; generates = omega arith; loops = omega arith }
+same_numbers i = record { generics = omega arith; integers = omega arith; ranges = omega arith; generates = omega arith; loops = omega arith }
 
 -- ---- what a name means is inside
 
-found_fits : (i : Inside) (counts : Counts) (n : Name) (ds : List Declared) (d : Meaning) → AllFit i counts ds
-    → option_map (λ (d : Declared). d.meaning) (find (λ (d : Declared). bytes_eq n d.name) ds) ≡ Some d → MeaningFits i counts d
-found_fits i counts n [] d a t = absurd cc
-found_fits i counts n (c ∷ ds) d a t = by (bytes_eq n c.name) t (found_fits i counts n ds d a.1)
+find_one : (P : Declared → Type 0) (n : Name) (ds : List Declared) (d : Declared) → AllByRecursion P ds → find (λ (d : Declared). bytes_eq n d.name) ds ≡ Some d → P d
+find_one P n [] d a t = absurd cc
+find_one P n (c ∷ ds) d a t = by (bytes_eq n c.name) t (find_one P n ds d a.1)
   where
-    by : (b : Bool) → option_map (λ (d : Declared). d.meaning) (cond b (Some c) (find (λ (d : Declared). bytes_eq n d.name) ds)) ≡ Some d
-        → (option_map (λ (d : Declared). d.meaning) (find (λ (d : Declared). bytes_eq n d.name) ds) ≡ Some d → MeaningFits i counts d)
-        → MeaningFits i counts d
-    by true t more = subst (MeaningFits i counts) (some_same c.meaning d t) a.0
+    by : (b : Bool) → cond b (Some c) (find (λ (d : Declared). bytes_eq n d.name) ds) ≡ Some d → (find (λ (d : Declared). bytes_eq n d.name) ds ≡ Some d → P d) → P d
+    by true t more = subst P (some_same c d t) a.0
     by false t more = more t
+
+-- what holds of all that is in sight holds of what a name is of
+pub found_in : (P : Declared → Type 0) (sight : Sight) → AllByRecursion P sight.loops → AllByRecursion P sight.variables → AllByRecursion P sight.generates → AllByRecursion P sight.region
+    → AllByRecursion P sight.enclosing → AllByRecursion P sight.packages → (n : Name) (d : Declared) → declaration sight n ≡ Some d → P d
+found_in P sight loops variables generates region enclosing packages n d t =
+    find_one P n (in_sight sight) d
+    (each_append P sight.loops _ loops (each_append P sight.variables _ variables (each_append P sight.generates _ generates
+    (each_append P sight.region _ region (each_append P sight.enclosing _ enclosing packages))))) t
+
+pub found : (i : Inside) (counts : Counts) (sight : Sight) → IsInside i counts sight → (n : Name) (d : Declared) → declaration sight n ≡ Some d → DeclaredFits i counts d
+found i counts sight h n d t = found_in (DeclaredFits i counts) sight h.loops h.variables h.generates h.region h.enclosing h.packages n d t
 
 pub meant : (i : Inside) (counts : Counts) (sight : Sight) → IsInside i counts sight → (n : Name) (d : Meaning) → meaning sight n ≡ Some d → MeaningFits i counts d
 meant i counts sight h n d t =
-    let P : Declared → Type 0 = λ d. MeaningFits i counts d.meaning in
-    found_fits i counts n (in_sight sight) d
-    (each_append P sight.loops _ h.loops (each_append P sight.variables _ h.variables (each_append P sight.generates _ h.generates
-    (each_append P sight.region _ h.region (each_append P sight.enclosing _ h.enclosing h.packages))))) t
+    let a = mapped (λ (d : Declared). d.meaning) (declaration sight n) d t in
+    subst (MeaningFits i counts) a.is (found i counts sight h n a.value a.from).meaning

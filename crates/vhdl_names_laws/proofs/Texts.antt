@@ -1,6 +1,6 @@
 -- A component is the text of its entity: trees that are the same are spelled by the same pieces, but for places and case.
 use denote.Enum.Bare.{same_true}
-use Rattle.std.proofs.Common.{rules, ◌≡◌, ℕ, Bool, true, false, ◌&&◌, List, [], ◌∷◌, ◌++◌, map, Option, Some, None, refl, ap, sym, ◌∙◌}
+use Rattle.std.proofs.Common.{rules, ◌≡◌, ℕ, suc, Bool, true, false, ◌&&◌, List, [], ◌∷◌, ◌++◌, map, Option, Some, None, refl, ap, sym, ◌∙◌}
 use Rattle.std.specs.Char.{to_ascii_lowercase}
 use Rattle.std.proofs.lemmas.Bool.{eqb-true}
 use Rattle.std.proofs.lemmas.List.{map-append}
@@ -12,13 +12,13 @@ use Rattle.vhdl_tree.specs.declared.declaration.Mode.{Mode}
 use Rattle.vhdl_tree.specs.declared.declaration.Mode.TheVariants.{In, Out}
 use Rattle.vhdl_tree.specs.Lexeme.{same_kind}
 use Rattle.vhdl_tree.specs.Tree as t
-use Rattle.vhdl_tree.specs.Tree.{Ident, Expr, Suffix, Exprs, Value, Range, Subtype, Generic, Port}
+use Rattle.vhdl_tree.specs.Tree.{Ident, Attribute, Expr, Suffix, Exprs, Elements, Choices, Choice, Value, Range, DiscreteRange, Constraint, Subtype, Generic, Port}
 use Rattle.vhdl_tree.specs.Pieces as p
 use Rattle.vhdl_tree.specs.Pieces.{Piece, spell_ident, spell_idents, spell_word, spell_option, spell_each, spell_list}
-use Rattle.vhdl_tree.specs.grammar.Expressions.{kind_of, sign_kind, direction_kind, spell, spell_attribute, spell_suffix, spell_exprs, spell_more, spell_value, spell_range}
+use Rattle.vhdl_tree.specs.grammar.Expressions.{kind_of, sign_kind, direction_kind, spell, spell_attribute, spell_suffix, spell_exprs, spell_more, spell_elements, spell_more_elements, spell_chosen, spell_more_chosen, spell_choice, spell_value, spell_range, spell_discrete_range}
 use Rattle.vhdl_tree.specs.grammar.Subtypes.{spell_constraint, spell_subtype, spell_default}
 use Rattle.vhdl_tree.specs.grammar.Declarations.{spell_generic_default, spell_mode, spell_generic, spell_generics, spell_port, spell_ports}
-use Rattle.vhdl_names_rules.specs.SameText.{same_word, same_name, same_bytes, same_option, same_each, same_expr, same_suffix, same_exprs, same_value, same_range, same_subtype, same_mode, same_generic, same_port, same_generics, same_ports}
+use Rattle.vhdl_names_rules.specs.SameText.{same_word, same_name, same_bytes, same_option, same_each, same_attribute, same_expr, same_suffix, same_exprs, same_elements, same_choices, same_choice, same_value, same_range, same_discrete_range, same_constraint, same_subtype, same_mode, same_generic, same_port, same_generics, same_ports}
 use Rattle.vhdl_names_rules.proofs.laws.Rules.{both}
 use Rattle.vhdl_names_rules.proofs.laws.Parts.{component_parts}
 use Rattle.vhdl_names_laws.specs.Words.{small}
@@ -68,9 +68,9 @@ word_text kind _ _ e = absurd cc
 ident_text : (a b : Ident) → same_name a b ≡ true → AreSameText (spell_ident a) (spell_ident b)
 ident_text a b e = record { same = ap (λ x. x ∷ []) (name_same a b e) }
 
-attribute_text : (a b : Option Ident) → same_option same_name a b ≡ true → AreSameText (spell_attribute a) (spell_attribute b)
-attribute_text None None e = alike []
-attribute_text (Some a) (Some b) e = after k.Tick (spell_ident a) (spell_ident b) (ident_text a b e)
+attribute_text : (a b : Attribute) → same_attribute a b ≡ true → AreSameText (spell_attribute a) (spell_attribute b)
+attribute_text (t.called a) (t.called b) e = after k.Tick (spell_ident a) (spell_ident b) (ident_text a b e)
+attribute_text (t.of_range at) (t.of_range at') e = record { same = refl }
 attribute_text _ _ e = absurd cc
 
 -- ---- options and lists
@@ -110,14 +110,20 @@ mutual
   expr_text (t.string at x) (t.string at' x') e = record { same = ap (λ text. p.text_at k.String 0 text ∷ []) (bytes_equal x x' e) }
   expr_text (t.bits at x) (t.bits at' x') e = record { same = ap (λ text. p.text_at k.BitString 0 text ∷ []) (bytes_equal x x' e) }
   expr_text (t.named n s a) (t.named n' s' a') e =
-      let f = both (same_name n n' && same_suffix s s') (same_option same_name a a') e in
+      let f = both (same_name n n' && same_suffix s s') (same_option same_attribute a a') e in
       let g = both (same_name n n') (same_suffix s s') f.0 in
-      behind (p.word_at n.at n.text) (p.word_at n'.at n'.text) (spell_suffix s ++ spell_attribute a) (spell_suffix s' ++ spell_attribute a')
+      behind (p.word_at n.at n.text) (p.word_at n'.at n'.text) (spell_suffix s ++ spell_option spell_attribute a) (spell_suffix s' ++ spell_option spell_attribute a')
       (name_same n n' g.0)
-      (one_by_one (spell_suffix s) (spell_suffix s') (spell_attribute a) (spell_attribute a') (suffix_text s s' g.1) (attribute_text a a' f.1))
+      (one_by_one (spell_suffix s) (spell_suffix s') (spell_option spell_attribute a) (spell_option spell_attribute a') (suffix_text s s' g.1)
+      (option_text same_attribute spell_attribute attribute_text a a' f.1))
   expr_text (t.parens at x) (t.parens at' x') e =
       behind (p.one_at k.LeftParen at) (p.one_at k.LeftParen at') _ _ refl (closed (spell x) (spell x') (expr_text x x' e))
   expr_text (t.negation at x) (t.negation at' x') e = behind (p.one_at k.Not at) (p.one_at k.Not at') (spell x) (spell x') refl (expr_text x x' e)
+  expr_text (t.absolute at x) (t.absolute at' x') e = behind (p.one_at k.Abs at) (p.one_at k.Abs at') (spell x) (spell x') refl (expr_text x x' e)
+  expr_text (t.power x at y) (t.power x' at' y') e =
+      let f = both (same_expr x x') (same_expr y y') e in
+      one_by_one (spell x) (spell x') (p.one_at k.Star at ∷ (p.one_at k.Star (suc at) ∷ spell y)) (p.one_at k.Star at' ∷ (p.one_at k.Star (suc at') ∷ spell y')) (expr_text x x' f.0)
+      (behind (p.one_at k.Star at) (p.one_at k.Star at') _ _ refl (behind (p.one_at k.Star (suc at)) (p.one_at k.Star (suc at')) (spell y) (spell y') refl (expr_text y y' f.1)))
   expr_text (t.signed w at x) (t.signed w' at' x') e =
       let f = both (same_kind (sign_kind w) (sign_kind w')) (same_expr x x') e in
       behind (p.one_at (sign_kind w) at) (p.one_at (sign_kind w') at') (spell x) (spell x')
@@ -129,6 +135,12 @@ mutual
       one_by_one (spell x) (spell x') (p.one_at (kind_of o) at ∷ spell y) (p.one_at (kind_of o') at' ∷ spell y') (expr_text x x' h.1)
       (behind (p.one_at (kind_of o) at) (p.one_at (kind_of o') at') (spell y) (spell y')
       (ap p.some (kind_same (kind_of o) (kind_of o') i.1)) (expr_text y y' f.1))
+  expr_text (t.aggregate at es) (t.aggregate at' es') e =
+      behind (p.one_at k.LeftParen at) (p.one_at k.LeftParen at') _ _ refl (closed (spell_elements es) (spell_elements es') (elements_text es es' e))
+  expr_text (t.qualified n at es) (t.qualified n' at' es') e =
+      let f = both (same_name n n') (same_elements es es') e in
+      behind (p.word_at n.at n.text) (p.word_at n'.at n'.text) _ _ (name_same n n' f.0)
+      (after k.Tick _ _ (behind (p.one_at k.LeftParen at) (p.one_at k.LeftParen at') _ _ refl (closed (spell_elements es) (spell_elements es') (elements_text es es' f.1))))
   expr_text _ _ e = absurd cc
 
   suffix_text : (s s' : Suffix) → same_suffix s s' ≡ true → AreSameText (spell_suffix s) (spell_suffix s')
@@ -157,6 +169,48 @@ mutual
       (one_by_one (spell x) (spell y) (spell_more xs) (spell_more ys) (expr_text x y f.0) (more_text xs ys f.1))
   more_text _ _ e = absurd cc
 
+  elements_text : (es fs : Elements) → same_elements es fs ≡ true → AreSameText (spell_elements es) (spell_elements fs)
+  elements_text t.no_elements t.no_elements e = alike []
+  elements_text (t.element cs x es) (t.element ds y fs) e =
+      let f = both (same_choices cs ds && same_expr x y) (same_elements es fs) e in
+      let g = both (same_choices cs ds) (same_expr x y) f.0 in
+      one_by_one (spell_chosen cs ++ spell x) (spell_chosen ds ++ spell y) (spell_more_elements es) (spell_more_elements fs)
+      (one_by_one (spell_chosen cs) (spell_chosen ds) (spell x) (spell y) (chosen_text cs ds g.0) (expr_text x y g.1)) (more_elements_text es fs f.1)
+  elements_text _ _ e = absurd cc
+
+  more_elements_text : (es fs : Elements) → same_elements es fs ≡ true → AreSameText (spell_more_elements es) (spell_more_elements fs)
+  more_elements_text t.no_elements t.no_elements e = alike []
+  more_elements_text (t.element cs x es) (t.element ds y fs) e =
+      let f = both (same_choices cs ds && same_expr x y) (same_elements es fs) e in
+      let g = both (same_choices cs ds) (same_expr x y) f.0 in
+      after k.Comma _ _ (one_by_one (spell_chosen cs ++ spell x) (spell_chosen ds ++ spell y) (spell_more_elements es) (spell_more_elements fs)
+      (one_by_one (spell_chosen cs) (spell_chosen ds) (spell x) (spell y) (chosen_text cs ds g.0) (expr_text x y g.1)) (more_elements_text es fs f.1))
+  more_elements_text _ _ e = absurd cc
+
+  chosen_text : (cs ds : Choices) → same_choices cs ds ≡ true → AreSameText (spell_chosen cs) (spell_chosen ds)
+  chosen_text t.no_choices t.no_choices e = alike []
+  chosen_text (t.choice c cs) (t.choice d ds) e =
+      let f = both (same_choice c d) (same_choices cs ds) e in
+      one_by_one (spell_choice c) (spell_choice d) (spell_more_chosen cs) (spell_more_chosen ds) (choice_text c d f.0) (more_chosen_text cs ds f.1)
+  chosen_text _ _ e = absurd cc
+
+  more_chosen_text : (cs ds : Choices) → same_choices cs ds ≡ true → AreSameText (spell_more_chosen cs) (spell_more_chosen ds)
+  more_chosen_text t.no_choices t.no_choices e = alike (p.some k.Arrow ∷ [])
+  more_chosen_text (t.choice c cs) (t.choice d ds) e =
+      let f = both (same_choice c d) (same_choices cs ds) e in
+      after k.Bar _ _ (one_by_one (spell_choice c) (spell_choice d) (spell_more_chosen cs) (spell_more_chosen ds) (choice_text c d f.0) (more_chosen_text cs ds f.1))
+  more_chosen_text _ _ e = absurd cc
+
+  choice_text : (c d : Choice) → same_choice c d ≡ true → AreSameText (spell_choice c) (spell_choice d)
+  choice_text (t.chosen x) (t.chosen y) e = expr_text x y e
+  choice_text (t.chosen_range x d y) (t.chosen_range x' d' y') e =
+      let f = both (same_expr x x' && same_kind (direction_kind d) (direction_kind d')) (same_expr y y') e in
+      let g = both (same_expr x x') (same_kind (direction_kind d) (direction_kind d')) f.0 in
+      one_by_one (spell x) (spell x') _ _ (expr_text x x' g.0)
+      (behind (p.some (direction_kind d)) (p.some (direction_kind d')) _ _ (ap p.some (kind_same (direction_kind d) (direction_kind d') g.1)) (expr_text y y' f.1))
+  choice_text (t.otherwise at) (t.otherwise at') e = record { same = refl }
+  choice_text _ _ e = absurd cc
+
 value_text : (v w : Value) → same_value v w ≡ true → AreSameText (spell_value v) (spell_value w)
 value_text (t.single x) (t.single y) e = expr_text x y e
 value_text (t.others at x) (t.others at' y) e =
@@ -164,21 +218,32 @@ value_text (t.others at x) (t.others at' y) e =
     (after k.Others _ _ (after k.Arrow _ _ (closed (spell x) (spell y) (expr_text x y e))))
 value_text _ _ e = absurd cc
 
-range_text : (r s : Range) → same_range r s ≡ true → AreSameText (spell_constraint r) (spell_constraint s)
+range_text : (r s : Range) → same_range r s ≡ true → AreSameText (spell_range r) (spell_range s)
 range_text r s e =
     let f = both (same_expr r.left s.left && same_kind (direction_kind r.direction) (direction_kind s.direction)) (same_expr r.right s.right) e in
     let g = both (same_expr r.left s.left) (same_kind (direction_kind r.direction) (direction_kind s.direction)) f.0 in
-    in_parens (spell_range r) (spell_range s) (one_by_one (spell r.left) (spell s.left) _ _ (expr_text r.left s.left g.0)
+    one_by_one (spell r.left) (spell s.left) _ _ (expr_text r.left s.left g.0)
     (behind (p.some (direction_kind r.direction)) (p.some (direction_kind s.direction)) (spell r.right) (spell s.right)
-    (ap p.some (kind_same (direction_kind r.direction) (direction_kind s.direction) g.1)) (expr_text r.right s.right f.1)))
+    (ap p.some (kind_same (direction_kind r.direction) (direction_kind s.direction) g.1)) (expr_text r.right s.right f.1))
+
+discrete_range_text : (r s : DiscreteRange) → same_discrete_range r s ≡ true → AreSameText (spell_discrete_range r) (spell_discrete_range s)
+discrete_range_text (t.bounds r) (t.bounds s) e = range_text r s e
+discrete_range_text (t.range_named m) (t.range_named n) e =
+    expr_text (t.named m.identifier m.suffix m.attribute) (t.named n.identifier n.suffix n.attribute) e
+discrete_range_text _ _ e = absurd cc
+
+constraint_text : (a b : Constraint) → same_constraint a b ≡ true → AreSameText (spell_constraint a) (spell_constraint b)
+constraint_text (t.index_range r) (t.index_range s) e = in_parens (spell_discrete_range r) (spell_discrete_range s) (discrete_range_text r s e)
+constraint_text (t.value_range r) (t.value_range s) e = after k.Range (spell_discrete_range r) (spell_discrete_range s) (discrete_range_text r s e)
+constraint_text _ _ e = absurd cc
 
 -- ---- interfaces
 
 subtype_text : (a b : Subtype) → same_subtype a b ≡ true → AreSameText (spell_subtype a) (spell_subtype b)
 subtype_text a b e =
-    let f = both (same_name a.mark b.mark) (same_option same_range a.range b.range) e in
-    one_by_one (spell_ident a.mark) (spell_ident b.mark) (spell_option spell_constraint a.range) (spell_option spell_constraint b.range)
-    (ident_text a.mark b.mark f.0) (option_text same_range spell_constraint range_text a.range b.range f.1)
+    let f = both (same_name a.mark b.mark) (same_option same_constraint a.constraint b.constraint) e in
+    one_by_one (spell_ident a.mark) (spell_ident b.mark) (spell_option spell_constraint a.constraint) (spell_option spell_constraint b.constraint)
+    (ident_text a.mark b.mark f.0) (option_text same_constraint spell_constraint constraint_text a.constraint b.constraint f.1)
 
 mode_text : (a b : Mode) → same_mode a b ≡ true → AreSameText (spell_mode a) (spell_mode b)
 mode_text In Out e = absurd cc
@@ -190,7 +255,7 @@ generic_text a b e =
     let words = same_word a.constant_word b.constant_word in
     let names = same_each same_name a.names b.names in
     let modes = same_word a.in_word b.in_word in
-    let marks = same_name a.mark b.mark in
+    let marks = same_subtype a.subtype b.subtype in
     let f = both (words && names && modes && marks) (same_option same_expr a.default b.default) e in
     let g = both (words && names && modes) marks f.0 in
     let h = both (words && names) modes g.0 in
@@ -198,7 +263,7 @@ generic_text a b e =
     one_by_one (spell_word k.Constant a.constant_word) (spell_word k.Constant b.constant_word) _ _ (word_text k.Constant a.constant_word b.constant_word i.0)
     (one_by_one (spell_idents a.names) (spell_idents b.names) _ _ (idents_text a.names b.names i.1)
     (after k.Colon _ _ (one_by_one (spell_word k.In a.in_word) (spell_word k.In b.in_word) _ _ (word_text k.In a.in_word b.in_word h.1)
-    (one_by_one (spell_ident a.mark) (spell_ident b.mark) _ _ (ident_text a.mark b.mark g.1)
+    (one_by_one (spell_subtype a.subtype) (spell_subtype b.subtype) _ _ (subtype_text a.subtype b.subtype g.1)
     (option_text same_expr spell_generic_default (λ x y d. after k.Assign (spell x) (spell y) (expr_text x y d)) a.default b.default f.1)))))
 
 port_text : (a b : Port) → same_port a b ≡ true → AreSameText (spell_port a) (spell_port b)

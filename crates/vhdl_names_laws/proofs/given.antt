@@ -1,5 +1,6 @@
 -- A file that breaks no rule is well typed.
 pub mod Giving
+pub mod Aggregates
 pub mod Expressions
 pub mod Values
 pub mod Choices

@@ -1,4 +1,6 @@
 pub mod Told
+pub mod Starts
+pub mod Aggregates
 pub mod Expressions
 pub mod Subtypes
 pub mod Choices

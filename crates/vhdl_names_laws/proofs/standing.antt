@@ -1,4 +1,5 @@
 pub mod Holding
+pub mod Aggregates
 pub mod Operators
 pub mod Names
 pub mod Expressions

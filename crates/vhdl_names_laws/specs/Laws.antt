@@ -2,6 +2,7 @@
 -- it breaks no rule.
 use Rattle.std.specs.Prelude.{◌≡◌, ℕ, ◌<◌, All, Bool, List, [], length, map, Some, None, IsTrue, IfSome, Contains}
 use Rattle.std.specs.List.{list_all}
+use Rattle.vhdl_lexer.specs.declared.language.Language.{Language}
 use Rattle.vhdl_lexer.specs.declared.language.Language.TheVariants.{Wide}
 use Rattle.vhdl_lexer.specs.declared.token.Token.{Token}
 use Rattle.vhdl_lexer.specs.Cut.{Cuts, AreWithin}
@@ -45,18 +46,24 @@ StatementsFit = (i : Inside) (counts : Counts) (sight : Sight) → IsInside i co
 -- The units of a file that the parser gives, in either language, are sound: each numbers what it names, and each value
 -- has the shape of its type.
 abbrev pub UnitsAreSound : Type 0
-UnitsAreSound = (f : File) (units : Units) → IsFileIn Wide f → units_of f ≡ Some units → IsTrue (are_sound units)
+UnitsAreSound =
+    (language : Language) (f : File) (units : Units) → IsFileIn Wide f → units_of language f ≡ Some units
+    → IsTrue (are_sound units)
 
 -- no two ports of an entity have one name
 abbrev pub ports_are_distinct : Units → Bool
 ports_are_distinct units = list_all (λ (x : u.Entity). are_distinct (map (λ (p : u.Port). p.object.name) x.ports)) units
 
 abbrev pub PortsAreDistinct : Type 0
-PortsAreDistinct = (f : File) (units : Units) → units_of f ≡ Some units → IsTrue (ports_are_distinct units)
+PortsAreDistinct =
+    (language : Language) (f : File) (units : Units) → units_of language f ≡ Some units
+    → IsTrue (ports_are_distinct units)
 
 -- Where each identifier of the file is a word, each name and label of the units has a letter,
 abbrev pub UnitsAreNamed : Type 0
-UnitsAreNamed = (f : File) (units : Units) → HasWords f → units_of f ≡ Some units → IsTrue (are_named units)
+UnitsAreNamed =
+    (language : Language) (f : File) (units : Units) → HasWords f → units_of language f ≡ Some units
+    → IsTrue (are_named units)
 
 -- and no two ports of an entity have one name, whatever the case of its letters.
 abbrev pub small_ports_are_distinct : Units → Bool
@@ -65,7 +72,8 @@ small_ports_are_distinct units =
 
 abbrev pub SmallPortsAreDistinct : Type 0
 SmallPortsAreDistinct =
-    (f : File) (units : Units) → HasWords f → units_of f ≡ Some units → IsTrue (small_ports_are_distinct units)
+    (language : Language) (f : File) (units : Units) → HasWords f → units_of language f ≡ Some units
+    → IsTrue (small_ports_are_distinct units)
 
 -- In a file that the tokens of a text spell each identifier is a word.
 abbrev pub SpelledFilesHaveWords : Type 0
@@ -80,31 +88,38 @@ ComponentsAreTexts = (entities : List EntityView) (sight : Sight) (c : t.Compone
 
 -- A well-typed file breaks no rule.
 abbrev pub WellTypedFilesBreakNoRule : Type 0
-WellTypedFilesBreakNoRule = (f : File) (units : Units) → units_of f ≡ Some units → broken.file f ≡ nothing
+WellTypedFilesBreakNoRule =
+    (language : Language) (f : File) (units : Units) → units_of language f ≡ Some units
+    → broken.file language f ≡ nothing
 
 -- And one that isn't well typed breaks a rule, of which the first has a problem and a byte.
 abbrev pub IllTypedFilesBreakARule : Type 0
-IllTypedFilesBreakARule = (f : File) → units_of f ≡ None → (p : NameProblem) × (at : ℕ) × (broken.file f ≡ Some (p, at))
+IllTypedFilesBreakARule =
+    (language : Language) (f : File) → units_of language f ≡ None
+    → (p : NameProblem) × (at : ℕ) × (broken.file language f ≡ Some (p, at))
 
 -- The byte at which is told that a file breaks a rule is one at which a token of the file starts,
 abbrev pub FaultsStandAtTokens : Type 0
-FaultsStandAtTokens = (f : File) → IsFileIn Wide f → IfSome (broken.file f) (λ told. Contains (bytes_of f) told.1)
+FaultsStandAtTokens =
+    (language : Language) (f : File) → IsFileIn Wide f
+    → IfSome (broken.file language f) (λ told. Contains (bytes_of f) told.1)
 
 -- and lies in the text whose tokens the file spells.
 abbrev pub FaultsLieInTheText : Type 0
 FaultsLieInTheText =
-    (source : List ℕ) (tokens : List Token) (f : File) → Cuts None 0 source tokens
+    (language : Language) (source : List ℕ) (tokens : List Token) (f : File) → Cuts None 0 source tokens
     → Spells (spell_file f) (lexemes source tokens) [] → IsFileIn Wide f
-    → IfSome (broken.file f) (λ told. told.1 < length source)
+    → IfSome (broken.file language f) (λ told. told.1 < length source)
 
 -- Each byte of the units of a file is one at which a token of the file starts,
 abbrev pub UnitsStandAtTokens : Type 0
 UnitsStandAtTokens =
-    (f : File) (units : Units) → units_of f ≡ Some units → All (Contains (bytes_of f)) (units_bytes units)
+    (language : Language) (f : File) (units : Units) → units_of language f ≡ Some units
+    → All (Contains (bytes_of f)) (units_bytes units)
 
 -- and lies in the text whose tokens the file spells.
 abbrev pub UnitsLieInTheText : Type 0
 UnitsLieInTheText =
-    (source : List ℕ) (tokens : List Token) (f : File) (units : Units)
+    (language : Language) (source : List ℕ) (tokens : List Token) (f : File) (units : Units)
     → Cuts None 0 source tokens → Spells (spell_file f) (lexemes source tokens) []
-    → units_of f ≡ Some units → All (λ at. at < length source) (units_bytes units)
+    → units_of language f ≡ Some units → All (λ at. at < length source) (units_bytes units)

@@ -1,6 +1,6 @@
 -- What the declarations in sight of a place are, among what is declared inside a unit there.
-use Rattle.std.specs.Prelude.{◌≡◌, ℕ, nat_lt, nat_le, ◌&&◌, List, length, slice_get, Option, Some, None, option_map, IsTrue}
-use Rattle.std.specs.List.{AllByRecursion}
+use Rattle.std.specs.Prelude.{◌≡◌, ℕ, nat_lt, nat_le, ◌&&◌, List, length, slice_get, Bool, true, Option, Some, None, option_map, IsTrue, IfSome}
+use Rattle.std.specs.List.{AllByRecursion, list_all}
 use Rattle.vhdl_values.specs.declared.scalar.Nine.{Nine}
 use Rattle.vhdl_tree.specs.declared.declaration.Mode.{Mode}
 use Rattle.vhdl_names_rules.specs.declared.kind.ElementKind.{ElementKind}
@@ -13,7 +13,9 @@ use Rattle.vhdl_names_rules.specs.Visibility as visibility
 use Rattle.vhdl_names_rules.specs.Visibility.{Meaning, Declared, Sight}
 use Rattle.vhdl_names_rules.specs.Operators as o
 use Rattle.vhdl_names_rules.specs.Operators.{Typed}
-use Rattle.vhdl_names_rules.specs.sound.Expressions.{Inside, Shape, one, vector, state, shape_of, static_fits, vector_shape, value_fits, test_fits}
+use Rattle.vhdl_names_rules.specs.Types as types
+use Rattle.vhdl_names_rules.specs.Types.{TypedChoice, TypedElements}
+use Rattle.vhdl_names_rules.specs.sound.Expressions.{Inside, Shape, one, vector, state, shape_of, static_fits, range_fits, index_fits, vector_shape, value_fits, test_fits}
 use Rattle.vhdl_names_rules.specs.sound.Units.{fixed_fits}
 
 -- ---- types
@@ -63,6 +65,8 @@ MeaningFits i counts (visibility.generic k) = IsTrue (nat_lt k i.generics)
 MeaningFits i counts (visibility.integer_constant k) = IsTrue (nat_lt k i.integers)
 MeaningFits i counts (visibility.generate_parameter k) = IsTrue (nat_lt k i.generates)
 MeaningFits i counts (visibility.loop_parameter k) = IsTrue (nat_lt k i.loops)
+MeaningFits i counts (visibility.boolean_generic k) = IsTrue (nat_lt k i.generics)
+MeaningFits i counts (visibility.boolean_constant k) = IsTrue (nat_lt k i.integers)
 MeaningFits i counts (visibility.port k mode kind) = IsPort i.ports k mode kind
 MeaningFits i counts (visibility.signal k type) = IsForm counts type (slice_get i.signals k)
 MeaningFits i counts (visibility.variable k type) = IsForm counts type (slice_get i.variables k)
@@ -74,8 +78,13 @@ MeaningFits i counts (visibility.enumeration_type e count) =
     IsTrue (nat_lt 0 count && nat_le count 256) × (slice_get counts e ≡ Some count)
 MeaningFits i counts _ = Unit {0}
 
+-- and so is a range's
+pub record DeclaredFits (i : Inside) (counts : Counts) (d : Declared) : Type 0 where
+  pub meaning : MeaningFits i counts d.meaning
+  pub range : IfSome d.range (λ r. IsTrue (nat_lt r.number i.ranges))
+
 abbrev pub AllFit : Inside → Counts → List Declared → Type 0
-AllFit i counts = AllByRecursion (λ (d : Declared). MeaningFits i counts d.meaning)
+AllFit i counts = AllByRecursion (DeclaredFits i counts)
 
 -- All that is in sight of a place is declared inside.
 pub record IsInside (i : Inside) (counts : Counts) (sight : Sight) : Type 0 where
@@ -90,8 +99,22 @@ pub record IsInside (i : Inside) (counts : Counts) (sight : Sight) : Type 0 wher
 
 -- ---- what an expression is
 
-abbrev pub TypedFits : Inside → Counts → Typed → Type 0
-TypedFits i counts (o.integer s) = IsTrue (static_fits i s)
-TypedFits i counts (o.elements kind x) = vector_shape i x ≡ Some (kind_shape kind)
-TypedFits i counts (o.enumerated e count x) = IsTrue (value_fits i (state count) x) × (slice_get counts e ≡ Some count)
-TypedFits i counts (o.truth t) = IsTrue (test_fits i t)
+abbrev pub choice_fits : Inside → TypedChoice → Bool
+choice_fits i (types.others at) = true
+choice_fits i (types.place is_local x) = index_fits i x
+
+abbrev mutual
+  pub TypedFits : Inside → Counts → Typed → Type 0
+  TypedFits i counts (o.integer s) = IsTrue (static_fits i s)
+  TypedFits i counts (o.elements kind x) = vector_shape i x ≡ Some (kind_shape kind)
+  TypedFits i counts (o.enumerated e count x) =
+      IsTrue (value_fits i (state count) x) × (slice_get counts e ≡ Some count)
+  TypedFits i counts (o.truth t) = IsTrue (test_fits i t)
+  TypedFits i counts (o.interval r) = IsTrue (range_fits i r)
+  TypedFits i counts (o.composite at es) = ElementsFit i counts es
+
+  -- the elements of an aggregate, and the indexes that they are for
+  pub ElementsFit : Inside → Counts → TypedElements → Type 0
+  ElementsFit i counts types.no_elements = Unit {0}
+  ElementsFit i counts (types.element cs at x es) =
+      IsTrue (list_all (choice_fits i) cs) × TypedFits i counts x × ElementsFit i counts es

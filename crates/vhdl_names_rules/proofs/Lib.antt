@@ -3,4 +3,5 @@ pub mod rows
 pub mod Telling
 pub mod Along
 pub mod Memory
+pub mod Passing
 pub mod kept

@@ -1,6 +1,7 @@
 -- What is given breaks no rule.
 pub mod Keeping
 pub mod Twice
+pub mod Operands
 pub mod Expressions
 pub mod Values
 pub mod Choices
@@ -15,3 +16,4 @@ pub mod Labels
 pub mod Concurrent
 pub mod Architectures
 pub mod Files
+pub mod Aggregates

@@ -11,3 +11,4 @@ pub mod Files
 pub mod Targets
 pub mod Instances
 pub mod Parameters
+pub mod Ranged

@@ -40,6 +40,7 @@ chosen sight type e = literal_choice type e
 
 abbrev pub choice : Sight → ObjectType → t.Choice → Option Choice
 choice sight type (t.chosen e) = chosen sight type e
+choice sight type (t.chosen_range d direction e) = None
 choice sight type (t.otherwise at) = None
 
 abbrev pub is_others : List t.Choice → Bool

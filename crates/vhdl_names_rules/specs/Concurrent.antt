@@ -8,12 +8,13 @@ use Rattle.vhdl_names_rules.specs.declared.fault.NameProblem.TheVariants.{Twice,
 use Rattle.vhdl_names_rules.specs.Rules.{◌>>=◌, ◌>>◌, rule, given_that, each}
 use Rattle.vhdl_names_rules.specs.Visibility.{Name, Sight, are_distinct, ends, label_ends, within_generate, with_variables}
 use Rattle.vhdl_names_rules.specs.Edges.{Edge, at_edge, waited_edge}
-use Rattle.vhdl_names_rules.specs.Expressions.{typed, static_range, condition, value_given, as_static_test}
+use Rattle.vhdl_names_rules.specs.Expressions.{typed, static_range, condition, as_static_test}
 use Rattle.vhdl_names_rules.specs.Choices.{covered, selector, arranged}
-use Rattle.vhdl_names_rules.specs.Declarations.{in_order, variables}
+use Rattle.vhdl_names_rules.specs.Declarations.{in_order, process_declaration}
 use Rattle.vhdl_names_rules.specs.Interfaces.{EntityView, declared_names}
 use Rattle.vhdl_names_rules.specs.Instances.{instance}
-use Rattle.vhdl_names_rules.specs.Statements.{SignalName, signal, target, statements, label_names, statement_labels}
+use Rattle.vhdl_names_rules.specs.Statements as sequential
+use Rattle.vhdl_names_rules.specs.Statements.{signal, signal_target, conditional, alone, statements, label_names, statement_labels}
 
 abbrev pub label_of : Option Ident → Option Name
 label_of = option_map (λ l. l.text)
@@ -25,44 +26,17 @@ assigning at label statement =
     u.process (record {
       at = at;
       label = label_of label;
-      variables = [];
+      declarations = [];
       sensitivity = u.as_read;
       body = s.step statement s.done;
     })
 
 -- ---- conditional and selected assignments (11.6)
 
--- what a target of a type is given
-abbrev pub assigned : Sight → SignalName → t.Value → Option s.Statement
-assigned sight x v = do
-  g ← value_given sight x.type v
-  Some (s.assign x.place g)
-
-abbrev pub alone : s.Statement → s.Statements
-alone statement = s.step statement s.done
-
--- value when condition else .., as an if; without a last else it has none
-abbrev pub last_branch : Sight → SignalName → Option t.Value → Option s.Branches
-last_branch sight x None = Some s.no_else
-last_branch sight x (Some v) = option_map (λ y. s.otherwise (alone y)) (assigned sight x v)
-
-abbrev pub branches : Sight → SignalName → List t.Branch → Option t.Value → Option s.Branches
-branches sight x [] o = last_branch sight x o
-branches sight x (b ∷ bs) o = do
-  y ← assigned sight x b.value
-  c ← condition sight b.condition
-  rest ← branches sight x bs o
-  Some (s.branch c (alone y) rest)
-
--- a value alone is assigned as it is
-abbrev pub assignment_body : Sight → (at : ℕ) → SignalName → List t.Branch → Option t.Value → Option s.Statement
-assignment_body sight at x [] (Some v) = assigned sight x v
-assignment_body sight at x bs o = option_map (s.if_of at) (branches sight x bs o)
-
 unfoldable pub assignment : Sight → t.Assignment → Option u.Concurrent
 assignment sight a = do
-  x ← target sight a.target
-  body ← assignment_body sight a.target.identifier.at x a.branches a.otherwise
+  x ← signal_target sight a.target
+  body ← conditional sight x a.branches a.otherwise
   Some (assigning a.target.identifier.at a.label body)
 
 -- with selector select target <= value when choices, .., as a case
@@ -70,9 +44,9 @@ unfoldable pub selected : Sight → Option Ident → t.SelectedAssignment → Op
 selected sight label a = do
   e ← typed sight a.selector
   by ← selector e
-  x ← target sight a.target
+  x ← signal_target sight a.target
   choices ← covered sight by.0 (map (λ w. w.choices) a.waveforms)
-  bodies ← each (λ w. option_map alone (assigned sight x w.value)) a.waveforms
+  bodies ← each (λ w. option_map alone (sequential.assignment sight x w.value)) a.waveforms
   all ← arranged choices bodies
   Some (assigning a.at label (s.case_of a.at by.1 all))
 
@@ -102,20 +76,20 @@ abbrev pub behind_wait : Option t.Wait → Option Edge → s.Statements → s.St
 behind_wait (Some w) (Some e) xs = alone (s.if_of w.at (at_edge e xs))
 behind_wait _ _ xs = xs
 
--- its variables are a region that hides outer names, and so are its labels, which hide none
+-- its declarations are a region that hides outer names, and so are its labels, which hide none
 unfoldable pub process : Sight → Option Ident → t.Process → Option u.Process
 process sight label p = do
   on ← sensitivity sight p.sensitivity (is_some p.wait)
-  vs ← in_order with_variables variables sight p.variables
-  rule Twice (are_distinct (declared_names vs.declared))
+  ds ← in_order with_variables process_declaration sight p.declarations
+  rule Twice (are_distinct (declared_names ds.declared))
   rule Twice (are_distinct (statement_labels (t.statements_of p.statements)))
-  edge ← awaited (with_variables sight vs.declared) p.sensitivity p.wait
-  body ← statements (with_variables sight vs.declared) (t.statements_of p.statements)
+  edge ← awaited (with_variables sight ds.declared) p.sensitivity p.wait
+  body ← statements (with_variables sight ds.declared) (t.statements_of p.statements)
   rule WrongKind (label_ends label p.end_label)
   Some (record {
     at = p.at;
     label = label_of label;
-    variables = vs.analysed;
+    declarations = ds.analysed;
     sensitivity = resumed_by edge on;
     body = behind_wait p.wait edge body;
   })
@@ -128,6 +102,7 @@ concurrent_label (t.selected label a) = label_names label
 concurrent_label (t.process label p) = label_names label
 concurrent_label (t.instance label i) = label.text ∷ []
 concurrent_label (t.generated label at scheme word cs end) = label.text ∷ []
+concurrent_label (t.assertion a) = label_names a.label
 
 abbrev pub concurrent_labels : t.Concurrents → List Name
 concurrent_labels t.no_concurrents = []
@@ -158,9 +133,12 @@ module _ (entities : List EntityView) where
       rule Twice (are_distinct (concurrent_labels cs))
       body ← concurrents (sight_within sight scheme) cs
       generated sight label.text at scheme body
+    concurrent sight (t.assertion a) = None
 
     pub concurrents : Sight → t.Concurrents → Option u.Concurrents
     concurrents sight t.no_concurrents = Some u.no_concurrents
+    -- assert (11.5) is dropped
+    concurrents sight (t.concurrent (t.assertion a) cs) = concurrents sight cs
     concurrents sight (t.concurrent c cs) = do
       x ← concurrent sight c
       xs ← concurrents sight cs

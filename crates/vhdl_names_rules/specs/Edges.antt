@@ -9,6 +9,8 @@ use Rattle.vhdl_values.specs.declared.kinds.Edge.{Edge as EdgeKind}
 use Rattle.vhdl_values.specs.declared.kinds.Edge.TheVariants.{Falling, Rising, To0, To1}
 use Rattle.vhdl_names_rules.specs.declared.operator.Arithmetic.{Arithmetic}
 use Rattle.vhdl_names_rules.specs.declared.operator.Arithmetic.TheVariants as arithmetic
+use Rattle.vhdl_names_rules.specs.declared.operator.Bound.{Bound}
+use Rattle.vhdl_names_rules.specs.declared.operator.Bound.TheVariants as bound
 use Rattle.vhdl_names_rules.specs.units.Expressions as u
 use Rattle.vhdl_names_rules.specs.units.Expressions.{Static, Part, Signal, SignalPart, Test}
 use Rattle.vhdl_names_rules.specs.units.Statements as s
@@ -71,15 +73,26 @@ same_operator arithmetic.Multiply arithmetic.Multiply = true
 same_operator arithmetic.Divide arithmetic.Divide = true
 same_operator arithmetic.Modulo arithmetic.Modulo = true
 same_operator arithmetic.Remainder arithmetic.Remainder = true
+same_operator arithmetic.Power arithmetic.Power = true
 same_operator _ _ = false
 
--- no loop stands round a process
+abbrev pub same_bound : Bound → Bound → Bool
+same_bound bound.Left bound.Left = true
+same_bound bound.Right bound.Right = true
+same_bound bound.High bound.High = true
+same_bound bound.Low bound.Low = true
+same_bound bound.Length bound.Length = true
+same_bound _ _ = false
+
+-- no loop stands round a process; bounds of slices are not looked into
 abbrev pub same_index : Static → Static → Bool
 same_index (u.number j) (u.number k) = j == k
 same_index (u.generic j) (u.generic k) = j == k
 same_index (u.Static.constant j) (u.Static.constant k) = j == k
 same_index (u.generate_parameter j) (u.generate_parameter k) = j == k
 same_index (u.Static.negated at x) (u.Static.negated other y) = same_index x y
+same_index (u.absolute at x) (u.absolute other y) = same_index x y
+same_index (u.bound b j) (u.bound c k) = same_bound b c && j == k
 same_index (u.Static.binary at op x y) (u.Static.binary other by v w) =
     same_operator op by && (same_index x v && same_index y w)
 same_index _ _ = false

@@ -1,6 +1,7 @@
 -- The well-typed file and its units (IEEE 1076-2008, 3.2, 3.3 and clause 13).
-use Rattle.std.specs.Prelude.{◌≡◌, ℕ, take, Bool, List, [], ◌∷◌, ◌++◌, map, find, filter_map, Option, Some, None, option_map, bytes_eq}
+use Rattle.std.specs.Prelude.{ℕ, take, Bool, List, [], ◌∷◌, ◌++◌, map, find, filter_map, Option, Some, None, option_map, bytes_eq}
 use Rattle.std.specs.List.{list_all, enumerate_from}
+use Rattle.vhdl_lexer.specs.declared.language.Language.{Language}
 use Rattle.vhdl_tree.specs.Tree as t
 use Rattle.vhdl_tree.specs.Tree.{File, DesignUnit, LibraryUnit, ContextItem}
 use Rattle.vhdl_names_rules.specs.units.Units as u
@@ -10,7 +11,7 @@ use Rattle.vhdl_names_rules.specs.Rules.{◌>>=◌, ◌>>◌, rule, each, if_any
 use Rattle.vhdl_names_rules.specs.Visibility as visibility
 use Rattle.vhdl_names_rules.specs.Visibility.{Name, Declared, Sight, is_among, are_distinct, ends, all_declared, with_declared, Declares}
 use Rattle.vhdl_names_rules.specs.Packages.{context, sight_of}
-use Rattle.vhdl_names_rules.specs.Declarations.{in_order, signals, constants, enumeration}
+use Rattle.vhdl_names_rules.specs.Declarations.{in_order, signals, constants, subtype_declaration, enumeration}
 use Rattle.vhdl_names_rules.specs.Interfaces.{EntityView, declared_names, entity, component}
 use Rattle.vhdl_names_rules.specs.Concurrent.{concurrent_labels, concurrents}
 
@@ -55,8 +56,8 @@ abbrev pub architecture_of : Name → List DesignUnit → Option (List ContextIt
 architecture_of n ds = find (λ a. bytes_eq n a.1.entity.text) (architectures_of ds)
 
 -- an entity, seen with its architecture's name
-abbrev pub viewed : List DesignUnit → List ContextItem × t.Entity → Option EntityView
-viewed ds e = entity e.0 e.1 (option_map (λ a. a.1.name.text) (architecture_of e.1.name.text ds))
+abbrev pub viewed : Language → List DesignUnit → List ContextItem × t.Entity → Option EntityView
+viewed language ds e = entity language e.0 e.1 (option_map (λ a. a.1.name.text) (architecture_of e.1.name.text ds))
 
 -- ---- architectures (3.3)
 
@@ -66,12 +67,15 @@ declaration entities sight (t.signals d) = signals sight d
 declaration entities sight (t.constants d) = constants sight d
 declaration entities sight (t.enumeration d) = enumeration sight d
 declaration entities sight (t.component c) = component entities sight c
+declaration entities sight (t.subtype_of d) = subtype_declaration sight d
+-- an attribute of one's own (6.7, 7.2) is dropped
+declaration entities sight (t.attribute_of text) = Some (record { declared = []; analysed = [] })
 
 abbrev pub labelled : List Name → List Declared
 labelled ns = all_declared visibility.label ns
 
 -- An architecture has its entity's context, and its own. Its declarations and the labels of its statements are one
--- region with the entity's generics and ports, in which each name is declared once.
+-- region with the entity's generics, ports and labels, in which each name is declared once.
 unfoldable pub architecture : List EntityView → EntityView → List ContextItem → t.Architecture → Option u.Architecture
 architecture entities e items a = do
   c ← context e.context items
@@ -98,10 +102,10 @@ unit entities ds e = do
 
 -- No two entities have one name, no entity has two architectures, and each architecture stands after its entity;
 -- instances may be of any entity of the file.
-unfoldable pub units_of : File → Option Units
-units_of f = do
+unfoldable pub units_of : Language → File → Option Units
+units_of language f = do
   rule Twice (are_distinct (entity_names f.units))
   rule SecondArchitecture (are_distinct (described_names f.units))
   rule Undeclared (stand_after f.units)
-  entities ← each (viewed f.units) (entities_of f.units)
+  entities ← each (viewed language f.units) (entities_of f.units)
   each (unit entities f.units) entities

@@ -1,5 +1,5 @@
 -- Instances (IEEE 1076-2008, 11.7) and their associations of formals with actuals (6.5.7).
-use Rattle.std.specs.Prelude.{ℕ, Bool, true, false, not, List, [], ◌∷◌, map, filter_map, Option, Some, None, bytes_eq, codes, if◌then◌else◌, slice_get, drop}
+use Rattle.std.specs.Prelude.{ℕ, Bool, true, false, not, List, [], ◌∷◌, map, filter_map, Option, Some, None, option_map, bytes_eq, codes, if◌then◌else◌, slice_get, drop}
 use Rattle.std.specs.List.{list_all}
 use Rattle.vhdl_tree.specs.declared.declaration.Mode.{Mode}
 use Rattle.vhdl_tree.specs.declared.declaration.Mode.TheVariants.{In, Out}
@@ -11,11 +11,17 @@ use Rattle.vhdl_names_rules.specs.declared.kind.ObjectType.{ObjectType}
 use Rattle.vhdl_names_rules.specs.declared.kind.ObjectType.TheVariants.{Elements}
 use Rattle.vhdl_names_rules.specs.units.Expressions.{SignalPart}
 use Rattle.vhdl_names_rules.specs.units.Units as u
-use Rattle.vhdl_names_rules.specs.declared.fault.NameProblem.TheVariants.{Undeclared, Twice, WrongKind, TypeMismatch, WriteOfIn}
-use Rattle.vhdl_names_rules.specs.Rules.{◌>>=◌, ◌>>◌, rule, each, if_any, all_of}
+use Rattle.vhdl_names_rules.specs.units.Units.{Fixed}
+use Rattle.vhdl_names_rules.specs.declared.fault.NameProblem.TheVariants.{Undeclared, Twice, WrongKind, TypeMismatch, WriteOfIn, LeftOut}
+use Rattle.vhdl_names_rules.specs.Rules.{◌>>=◌, ◌>>◌, rule, if_any, given_that, all_of}
 use Rattle.vhdl_names_rules.specs.Visibility as visibility
 use Rattle.vhdl_names_rules.specs.Visibility.{Name, Meaning, Declared, Sight, meaning, is_among, are_distinct}
-use Rattle.vhdl_names_rules.specs.Expressions.{static}
+use Rattle.vhdl_names_rules.specs.Types.{Typed, composite, TypedElements}
+use Rattle.vhdl_names_rules.specs.Operators.{is_vector}
+use Rattle.vhdl_names_rules.specs.Aggregates.{arranged}
+use Rattle.vhdl_names_rules.specs.Expressions.{typed, static, as_value}
+use Rattle.vhdl_names_rules.specs.Subtypes.{is_known_value, are_known}
+use Rattle.vhdl_names_rules.specs.Declarations.{static_test}
 use Rattle.vhdl_names_rules.specs.Statements.{signal, is_input}
 use Rattle.vhdl_names_rules.specs.Interfaces.{EntityView, entity_named}
 
@@ -73,12 +79,24 @@ pub record Formal : Type 0 where
   pub mode : Mode
   pub kind : ElementKind
 
-abbrev pub generic_name : Declared → Option Name
-generic_name d = by d.name d.meaning
-  where
-    by : Name → Meaning → Option Name
-    by n (visibility.generic k) = Some n
-    by n _ = None
+-- a generic as it is associated: an integer, a boolean, or of a kind of the nine values
+pub data GenericKind : Type 0 where
+  integer : GenericKind
+  boolean : GenericKind
+  elements : ElementKind → GenericKind
+
+pub record GenericFormal : Type 0 where
+  pub name : Name
+  pub kind : GenericKind
+
+abbrev pub generic_kind : Meaning → Option GenericKind
+generic_kind (visibility.generic k) = Some integer
+generic_kind (visibility.boolean_generic k) = Some boolean
+generic_kind (visibility.constant k kind values) = Some (elements kind)
+generic_kind _ = None
+
+abbrev pub generic_formal : Declared → Option GenericFormal
+generic_formal d = option_map (λ kind. record { name = d.name; kind = kind }) (generic_kind d.meaning)
 
 abbrev pub port_formal : Declared → Option Formal
 port_formal d = by d.name d.meaning
@@ -86,6 +104,38 @@ port_formal d = by d.name d.meaning
     by : Name → Meaning → Option Formal
     by n (visibility.port k mode kind) = Some (record { name = n; mode = mode; kind = kind })
     by n _ = None
+
+-- The actual of a generic is a static integer, a truth over such, or a value that names no signal. An aggregate has the
+-- indexes of the formal, which expansion computes.
+abbrev pub aggregate_actual : ElementKind → (at : ℕ) → TypedElements → Option Fixed
+aggregate_actual k at es = do
+  rule TypeMismatch (is_vector k)
+  all ← arranged k true es
+  given_that LeftOut (are_known all) (u.Fixed.aggregate at all)
+
+abbrev pub value_as_actual : ElementKind → Typed → Option Fixed
+value_as_actual k (composite at es) = aggregate_actual k at es
+value_as_actual k x = do
+  g ← as_value (Elements k) None x
+  given_that LeftOut (is_known_value g) (u.Fixed.given g)
+
+abbrev pub value_actual : Sight → ElementKind → Expr → Option Fixed
+value_actual sight k e = typed sight e >>= value_as_actual k
+
+unfoldable pub generic_actual : Sight → GenericFormal → Expr → Option Fixed
+generic_actual sight f e = by f.kind
+  where
+    by : GenericKind → Option Fixed
+    by integer = option_map u.Fixed.integer (static sight e)
+    by boolean = option_map u.Fixed.truth (static_test sight e)
+    by (elements k) = value_actual sight k e
+
+abbrev pub generic_actuals : Sight → List GenericFormal → List (Option Expr) → Option (List (Option Fixed))
+generic_actuals sight (f ∷ fs) (e ∷ es) = do
+  x ← if_any (generic_actual sight f) e
+  xs ← generic_actuals sight fs es
+  Some (x ∷ xs)
+generic_actuals sight _ _ = Some []
 
 -- a name as it stands, in no parentheses
 abbrev pub as_name : Expr → Option t.Name
@@ -143,13 +193,12 @@ instantiated entities sight (t.component_unit word n) = meaning sight n.text >>=
 
 -- ---- instances
 
--- the actual of a generic is a static integer
 unfoldable pub instance : List EntityView → Sight → Ident → t.Instance → Option u.Instance
 instance entities sight label i = do
   k ← instantiated entities sight i.unit
   e ← slice_get entities k
-  gs ← associated (filter_map generic_name e.interface.declared) (all_of i.generics)
-  generics ← each (if_any (static sight)) gs
+  gs ← associated (map (λ f. f.name) (filter_map generic_formal e.interface.declared)) (all_of i.generics)
+  generics ← generic_actuals sight (filter_map generic_formal e.interface.declared) gs
   ps ← associated (map (λ f. f.name) (filter_map port_formal e.interface.declared)) (all_of i.ports)
   ports ← port_actuals sight (filter_map port_formal e.interface.declared) ps
   Some (record { at = label.at; label = label.text; unit = k; generics = generics; ports = ports })

@@ -1,13 +1,14 @@
 -- Interfaces of entities and components (IEEE 1076-2008, 3.2, 6.5.6 and 6.8).
-use Rattle.std.specs.Prelude.{ℕ, ◌&&◌, List, [], ◌∷◌, ◌++◌, map, find, Option, Some, bytes_eq}
+use Rattle.std.specs.Prelude.{ℕ, ◌&&◌, List, [], ◌∷◌, ◌++◌, map, find, filter_map, Option, Some, option_map, bytes_eq}
 use Rattle.std.specs.List.{enumerate_from}
+use Rattle.vhdl_lexer.specs.declared.language.Language.{Language}
 use Rattle.vhdl_tree.specs.Tree as t
 use Rattle.vhdl_tree.specs.Tree.{Ident}
 use Rattle.vhdl_names_rules.specs.units.Units as u
 use Rattle.vhdl_names_rules.specs.declared.fault.NameProblem.TheVariants.{Twice, WrongKind}
 use Rattle.vhdl_names_rules.specs.Rules.{◌>>=◌, ◌>>◌, rule, all_of}
 use Rattle.vhdl_names_rules.specs.Visibility as visibility
-use Rattle.vhdl_names_rules.specs.Visibility.{declare, Name, Meaning, Declared, Sight, are_distinct, ends, with_declared, Declares}
+use Rattle.vhdl_names_rules.specs.Visibility.{declare, Name, Declared, Sight, all_declared, are_distinct, ends, with_declared, Declares}
 use Rattle.vhdl_names_rules.specs.Packages.{Context, no_context, context, sight_of}
 use Rattle.vhdl_names_rules.specs.Declarations.{in_order, generic, port}
 use Rattle.vhdl_names_rules.specs.SameText.{same_generics, same_ports}
@@ -47,17 +48,27 @@ pub record EntityView : Type 0 where
   -- the name of its architecture, if the file has one
   pub architecture : Option Name
 
+-- of an entity's assertions, which are dropped otherwise (3.2.4)
+abbrev pub assertion_labels : Option (List t.Assertion) → List Name
+assertion_labels s = filter_map (λ (a : t.Assertion). option_map (λ (l : Ident). l.text) a.label) (all_of s)
+
+-- they stand in the region of its generics and ports
+abbrev pub with_labels : Interface → List Name → Interface
+with_labels i [] = i
+with_labels i (l ∷ ls) = record i { declared = i.declared ++ all_declared visibility.label (l ∷ ls) }
+
 -- an entity with the context items before it (3.2)
-unfoldable pub entity : List t.ContextItem → t.Entity → Option Name → Option EntityView
-entity items e architecture = do
-  c ← context no_context items
+unfoldable pub entity : Language → List t.ContextItem → t.Entity → Option Name → Option EntityView
+entity language items e architecture = do
+  c ← context (no_context language) items
   i ← interface (sight_of c []) e.generics e.ports
+  rule Twice (are_distinct (declared_names i.declared ++ assertion_labels e.statements))
   rule WrongKind (ends e.name.text e.end_name)
   Some (record {
     at = e.name.at;
     name = e.name.text;
     context = c;
-    interface = i;
+    interface = with_labels i (assertion_labels e.statements);
     generic_text = e.generics;
     port_text = e.ports;
     architecture = architecture;

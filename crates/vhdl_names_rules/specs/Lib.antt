@@ -5,8 +5,12 @@ pub mod views
 pub mod Visibility
 pub mod Packages
 pub mod Literals
+pub mod Types
+pub mod Aggregates
 pub mod Operators
 pub mod Names
+pub mod Ranges
+pub mod Local
 pub mod Expressions
 pub mod Subtypes
 pub mod Declarations

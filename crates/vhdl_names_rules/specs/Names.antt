@@ -2,7 +2,8 @@
 -- calls of the packages' functions (9.3.4, 9.3.6), and the attribute 'event (16.2.4).
 use Rattle.std.specs.Prelude.{ℕ, Bool, true, false, ◌&&◌, if◌then◌else◌, List, [], ◌∷◌, Option, Some, None, option_map, bytes_eq, codes}
 use Rattle.vhdl_values.specs.declared.kinds.Edge.{Edge}
-use Rattle.vhdl_tree.specs.Tree.{Ident}
+use Rattle.vhdl_tree.specs.Tree as t
+use Rattle.vhdl_tree.specs.Tree.{Attribute}
 use Rattle.vhdl_names_rules.specs.declared.kind.ElementKind.{ElementKind}
 use Rattle.vhdl_names_rules.specs.declared.kind.ElementKind.TheVariants.{Element, LogicVector, Unsigned, OpenVector}
 use Rattle.vhdl_names_rules.specs.declared.kind.ObjectType.{ObjectType}
@@ -69,6 +70,8 @@ converted _ _ = None
 abbrev pub is_static : Static → Bool
 is_static (u.loop_parameter k) = false
 is_static (u.Static.negated at s) = is_static s
+is_static (u.absolute at s) = is_static s
+is_static (u.slice_bound at b k l d r) = is_static l && is_static r
 is_static (u.Static.binary at op s t) = is_static s && is_static t
 is_static _ = true
 
@@ -105,12 +108,19 @@ called at ToUnsigned = encoding at
 
 -- ---- all names
 
+-- a boolean, by its position
+abbrev pub known : (at : ℕ) → Static → Typed
+known at s = truth (u.fixed (u.known at s))
+
 -- what a name of this meaning is at this byte, with what follows it; types, components and labels are no values
 abbrev pub denoted : (at : ℕ) → Meaning → Suffix → Option Typed
 denoted at (visibility.generic k) s = if_plain s (integer (u.generic k))
 denoted at (visibility.integer_constant k) s = if_plain s (integer (u.Static.constant k))
 denoted at (visibility.generate_parameter k) s = if_plain s (integer (u.generate_parameter k))
 denoted at (visibility.loop_parameter k) s = if_plain s (integer (u.loop_parameter k))
+denoted at (visibility.boolean_generic k) s = if_plain s (known at (u.generic k))
+denoted at (visibility.boolean_constant k) s = if_plain s (known at (u.Static.constant k))
+denoted at (visibility.boolean_literal b) s = if_plain s (known at (u.number (if b then 1 else 0)))
 denoted at (visibility.port k mode kind) s = read_signal at (u.port k) kind s
 denoted at (visibility.signal k (Elements kind)) s = read_signal at (u.Signal.signal k) kind s
 denoted at (visibility.signal k (Enumeration e count)) s =
@@ -123,10 +133,11 @@ denoted at (visibility.vector_type k is_resolved) s = converted k s
 denoted at (visibility.function f) s = called at f s
 denoted at _ s = None
 
--- the attribute 'event; no other is offered
-abbrev pub attributed : Option Ident → Typed → Option Typed
+-- the attribute 'event; no other is of a value
+abbrev pub attributed : Option Attribute → Typed → Option Typed
 attributed None x = Some x
-attributed (Some a) x = do
+attributed (Some (t.of_range at)) x = None
+attributed (Some (t.called a)) x = do
   rule LeftOut (bytes_eq a.text (codes "event"))
   p ← edge_signal x
   Some (truth (u.event p))

@@ -18,13 +18,9 @@ use Rattle.vhdl_names_rules.specs.units.Expressions as u
 use Rattle.vhdl_names_rules.specs.units.Expressions.{Static, StaticTest, Vector, Value, Test}
 use Rattle.vhdl_names_rules.specs.declared.fault.NameProblem.TheVariants.{TypeMismatch, NotVisible, LeftOut}
 use Rattle.vhdl_names_rules.specs.Rules.{◌>>◌, rule, given_that}
-
--- what an expression is: a static integer, one element or a vector of a kind, a value of an enumeration, or a truth
-pub data Typed : Type 0 where
-  integer : Static → Typed
-  elements : ElementKind → Vector → Typed
-  enumerated : (number count : ℕ) → Value → Typed
-  truth : Test → Typed
+pub use Rattle.vhdl_names_rules.specs.Types.{Typed, integer, elements, enumerated, truth, interval, composite}
+use Rattle.vhdl_names_rules.specs.Types.{TypedElements}
+use Rattle.vhdl_names_rules.specs.Aggregates.{aggregate}
 
 -- ---- kinds
 
@@ -119,6 +115,18 @@ abbrev pub equal_by : (at : ℕ) → Cmp → (Value → Value → Test) → Vect
 equal_by at op same x y Unsigned = truth (u.Test.compared at op x y)
 equal_by at op same x y _ = truth (same (u.elements x) (u.elements y))
 
+-- a vector of a known type
+abbrev pub is_vector : ElementKind → Bool
+is_vector LogicVector = true
+is_vector Unsigned = true
+is_vector _ = false
+
+-- an aggregate beside a vector of a known type is free (9.3.3.3)
+abbrev pub beside_vector : ElementKind → (at : ℕ) → TypedElements → Option Vector
+beside_vector k at es = do
+  rule TypeMismatch (is_vector k)
+  aggregate k at None es
+
 -- = and /=: integers; one kind; a number and an integer; one enumeration
 abbrev pub equality : (at : ℕ) → Cmp → (Value → Value → Test) → Typed → Typed → Option Typed
 equality at op same (integer s) (integer t) = Some (integers_compared at op s t)
@@ -126,6 +134,10 @@ equality at op same (elements j x) (elements k y) = option_map (equal_by at op s
 equality at op same (elements Unsigned x) (integer t) = Some (truth (u.compared_to at op x t))
 equality at op same (integer s) (elements Unsigned y) = Some (truth (u.compared_with at op s y))
 equality at op same (enumerated d m x) (enumerated e n y) = given_that TypeMismatch (d == e) (truth (same x y))
+equality at op same (elements k x) (composite p es) =
+    option_map (λ y. equal_by at op same x y k) (beside_vector k p es)
+equality at op same (composite p es) (elements k y) =
+    option_map (λ x. equal_by at op same x y k) (beside_vector k p es)
 equality at op same _ _ = None
 
 -- < <= > >=: integers; numbers; a number and an integer

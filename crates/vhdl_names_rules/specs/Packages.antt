@@ -1,6 +1,8 @@
 -- What the packages declare (IEEE 1076-2008, 16.3, 16.7, 16.8), and what context clauses bring in sight (12.4, 13.4).
 use Rattle.std.specs.Prelude.{Bool, true, false, ◌&&◌, ◌||◌, if◌then◌else◌, List, [], ◌∷◌, ◌++◌, Option, Some, bytes_eq, codes}
 use Rattle.std.specs.List.{list_any, list_all}
+use Rattle.vhdl_lexer.specs.declared.language.Language.{Language}
+use Rattle.vhdl_lexer.specs.declared.language.Language.TheVariants.{Profile, Wide}
 use Rattle.vhdl_values.specs.declared.kinds.Counted.TheVariants.{Resize, ShiftLeft, ShiftRight}
 use Rattle.vhdl_values.specs.declared.kinds.Edge.TheVariants.{Rising, Falling}
 use Rattle.vhdl_tree.specs.Tree.{Ident, Selected, ContextItem, library, uses}
@@ -9,13 +11,22 @@ use Rattle.vhdl_names_rules.specs.declared.kind.Function.TheVariants.{EdgeCall, 
 use Rattle.vhdl_names_rules.specs.declared.operator.IntegerType.TheVariants.{Integer, Natural, Positive}
 use Rattle.vhdl_names_rules.specs.declared.fault.NameProblem.TheVariants.{Undeclared, LeftOut}
 use Rattle.vhdl_names_rules.specs.Rules.{◌>>◌, rule}
-use Rattle.vhdl_names_rules.specs.Visibility.{declare, Declared, integer_type, element_type, vector_type, function, Sight}
+use Rattle.vhdl_names_rules.specs.Visibility.{declare, Declared, integer_type, boolean_type, boolean_literal, element_type, vector_type, function, Sight}
 
--- package standard of library std is always in sight (16.3)
-abbrev pub standard : List Declared
-standard =
+-- package standard of library std is always in sight (16.3), its booleans in the wider language alone
+abbrev pub integers : List Declared
+integers =
     declare (codes "integer") (integer_type Integer) ∷ declare (codes "natural") (integer_type Natural)
     ∷ declare (codes "positive") (integer_type Positive) ∷ []
+
+abbrev pub booleans : List Declared
+booleans =
+    declare (codes "boolean") boolean_type ∷ declare (codes "false") (boolean_literal false)
+    ∷ declare (codes "true") (boolean_literal true) ∷ []
+
+abbrev pub standard : Language → List Declared
+standard Profile = integers
+standard Wide = integers ++ booleans
 
 -- package std_logic_1164 of library ieee (16.7)
 abbrev pub std_logic_1164 : List Declared
@@ -36,14 +47,15 @@ numeric_std =
 
 -- ---- context clauses
 
--- whether library ieee is named, and which of its packages are used
+-- the language that is read, whether library ieee is named, and which of its packages are used
 pub record Context : Type 0 where
+  pub language : Language
   pub has_ieee : Bool
   pub has_logic : Bool
   pub has_numbers : Bool
 
-abbrev pub no_context : Context
-no_context = record { has_ieee = false; has_logic = false; has_numbers = false }
+abbrev pub no_context : Language → Context
+no_context language = record { language = language; has_ieee = false; has_logic = false; has_numbers = false }
 
 abbrev pub is_ieee : Ident → Bool
 is_ieee i = bytes_eq i.text (codes "ieee")
@@ -75,7 +87,9 @@ context before (uses ss ∷ rest) = do
 
 -- the packages' declarations that are in sight
 abbrev pub visible : Context → List Declared
-visible c = (if c.has_numbers then numeric_std else []) ++ ((if c.has_logic then std_logic_1164 else []) ++ standard)
+visible c =
+    (if c.has_numbers then numeric_std else [])
+    ++ ((if c.has_logic then std_logic_1164 else []) ++ standard c.language)
 
 -- where nothing is declared yet
 abbrev pub sight_of : Context → List Declared → Sight
@@ -87,4 +101,5 @@ sight_of c region = record {
   enclosing = [];
   packages = visible c;
   numbers = c.has_numbers;
+  language = c.language;
 }

@@ -12,7 +12,7 @@ use Rattle.vhdl_names_rules.specs.units.Units as u
 use Rattle.vhdl_names_rules.specs.units.Units.{Units}
 use Rattle.vhdl_names_rules.specs.Rules.{◌>>=◌, then_some}
 use Rattle.vhdl_names_rules.specs.Edges.{Edge, conditions, joined, gated, edge_alone, same_edge, at_edge}
-use Rattle.vhdl_names_rules.specs.Concurrent.{alone}
+use Rattle.vhdl_names_rules.specs.Statements.{alone}
 use Rattle.vhdl_names_rules.specs.Files.{units_of}
 
 -- ---- the edge first
@@ -105,5 +105,5 @@ units_written units = map entity_written units
 
 -- the units of a file that is read in this language
 abbrev pub units_in : Language → File → Option Units
-units_in Profile f = units_of f
-units_in Wide f = option_map units_written (units_of f)
+units_in Profile f = units_of Profile f
+units_in Wide f = option_map units_written (units_of Wide f)

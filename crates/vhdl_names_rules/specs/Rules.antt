@@ -2,6 +2,8 @@
 -- there where each of them is kept.
 pub use Rattle.std.specs.Bool.{then_some}
 use Rattle.std.specs.Prelude.{Bool, true, false, List, [], ◌∷◌, Option, Some, None}
+use Rattle.vhdl_lexer.specs.declared.language.Language.{Language}
+use Rattle.vhdl_lexer.specs.declared.language.Language.TheVariants.{Profile, Wide}
 use Rattle.vhdl_names_rules.specs.declared.fault.NameProblem.{NameProblem}
 
 infixl 10 ◌>>=◌
@@ -45,3 +47,13 @@ if_any f (Some x) = do
 abbrev pub all_of : {A : Type 0} → Option (List A) → List A
 all_of None = []
 all_of (Some xs) = xs
+
+-- ---- what the wider language alone has
+
+abbrev pub wider : {A : Type 0} → Language → Option A → Option A
+wider Profile o = None
+wider Wide o = o
+
+abbrev pub is_wide : Language → Bool
+is_wide Profile = false
+is_wide Wide = true

@@ -12,35 +12,46 @@ use Rattle.vhdl_names_rules.specs.units.Statements as s
 use Rattle.vhdl_names_rules.specs.declared.fault.NameProblem.TheVariants.{WrongKind, WriteOfIn, LeftOut}
 use Rattle.vhdl_names_rules.specs.Rules.{◌>>=◌, ◌>>◌, rule}
 use Rattle.vhdl_names_rules.specs.Visibility as visibility
-use Rattle.vhdl_names_rules.specs.Visibility.{Name, Meaning, Sight, meaning, label_ends, within_loop}
+use Rattle.vhdl_names_rules.specs.Visibility.{Name, Meaning, DeclaredRange, Declared, Sight, declaration, label_ends, within_loop}
 use Rattle.vhdl_names_rules.specs.Names.{Suffix, part_of, place_of}
+use Rattle.vhdl_names_rules.specs.Ranges.{declared_range}
 use Rattle.vhdl_names_rules.specs.Expressions.{typed, typed_suffix, static_range, condition, value_given}
 use Rattle.vhdl_names_rules.specs.Choices.{covered, selector, arranged}
 
 -- ---- names of signals and variables
 
--- a signal, port, or part of one, with its mode if it is a port, and its type
+-- the range of a part: that of its declaration, or of the slice
+abbrev pub part_range : Option DeclaredRange → Part → Option u.Range
+part_range r u.whole = option_map declared_range r
+part_range r (u.Part.element s) = None
+part_range r (u.slice x) = Some x
+
+-- a signal, port, or part of one, with its mode if it is a port, its type, and its range if it is a vector
 pub record SignalName : Type 0 where
   pub place : SignalPart
   pub mode : Option Mode
   pub type : ObjectType
+  pub range : Option u.Range
 
-abbrev pub named_part : (at : ℕ) → Signal → Option Mode → Part × ObjectType → SignalName
-named_part at x mode p = record { place = place_of at x p.0; mode = mode; type = p.1 }
+abbrev pub named_part : (at : ℕ) → Signal → Option Mode → Option DeclaredRange → Part × ObjectType → SignalName
+named_part at x mode r p = record { place = place_of at x p.0; mode = mode; type = p.1; range = part_range r p.0 }
 
-abbrev pub as_signal : (at : ℕ) → Meaning → Suffix → Option SignalName
-as_signal at (visibility.port k mode kind) suffix =
-    option_map (named_part at (u.port k) (Some mode)) (part_of (Elements kind) suffix)
-as_signal at (visibility.signal k type) suffix =
-    option_map (named_part at (u.Signal.signal k) None) (part_of type suffix)
-as_signal at _ suffix = None
+abbrev pub as_signal : (at : ℕ) → Declared → Suffix → Option SignalName
+as_signal at d suffix = by d.meaning
+  where
+    by : Meaning → Option SignalName
+    by (visibility.port k mode kind) =
+        option_map (named_part at (u.port k) (Some mode) d.range) (part_of (Elements kind) suffix)
+    by (visibility.signal k type) =
+        option_map (named_part at (u.Signal.signal k) None d.range) (part_of type suffix)
+    by _ = None
 
 -- the signal that a name is
 unfoldable pub signal : Sight → t.Name → Option SignalName
 signal sight n = do
   rule LeftOut (is_none n.attribute)
   suffix ← typed_suffix sight n.suffix
-  d ← meaning sight n.identifier.text
+  d ← declaration sight n.identifier.text
   as_signal n.identifier.at d suffix
 
 -- an in port is never assigned (6.5.2)
@@ -62,21 +73,80 @@ pub record VariableName : Type 0 where
   pub number : ℕ
   pub part : Part
   pub type : ObjectType
+  pub range : Option u.Range
 
-abbrev pub as_variable : (at : ℕ) → Meaning → Suffix → Option VariableName
-as_variable at (visibility.variable k type) suffix =
-    option_map (λ p. record { at = at; number = k; part = p.0; type = p.1 }) (part_of type suffix)
-as_variable at _ suffix = None
+abbrev pub variable_part : (at number : ℕ) → Option DeclaredRange → Part × ObjectType → VariableName
+variable_part at k r p = record { at = at; number = k; part = p.0; type = p.1; range = part_range r p.0 }
+
+abbrev pub as_variable : (at : ℕ) → Declared → Suffix → Option VariableName
+as_variable at d suffix = by d.meaning
+  where
+    by : Meaning → Option VariableName
+    by (visibility.variable k type) = option_map (variable_part at k d.range) (part_of type suffix)
+    by _ = None
 
 -- the target of a variable assignment (10.6)
 unfoldable pub variable : Sight → t.Name → Option VariableName
 variable sight n = do
   rule LeftOut (is_none n.attribute)
   suffix ← typed_suffix sight n.suffix
-  d ← meaning sight n.identifier.text
+  d ← declaration sight n.identifier.text
   as_variable n.identifier.at d suffix
 
+-- ---- assignments (10.5, 10.6): where a target's name starts, and what the statement is that gives it a value
+
+pub record Target : Type 0 where
+  pub at : ℕ
+  pub type : ObjectType
+  pub range : Option u.Range
+  pub assigned : s.Given → s.Statement
+
+abbrev pub signal_target : Sight → t.Name → Option Target
+signal_target sight n = do
+  x ← target sight n
+  Some (record { at = x.place.at; type = x.type; range = x.range; assigned = s.assign x.place })
+
+abbrev pub variable_target : Sight → t.Name → Option Target
+variable_target sight n = do
+  x ← variable sight n
+  Some (record { at = x.at; type = x.type; range = x.range; assigned = s.set x.at x.number x.part })
+
+abbrev pub assignment : Sight → Target → t.Value → Option s.Statement
+assignment sight x v = option_map x.assigned (value_given sight x.type x.range v)
+
+-- value when condition else .. is an if (10.5.3, 10.6.3); without a last else it has none
+abbrev pub alone : s.Statement → s.Statements
+alone statement = s.step statement s.done
+
+abbrev pub last_branch : Sight → Target → Option t.Value → Option s.Branches
+last_branch sight x None = Some s.no_else
+last_branch sight x (Some v) = option_map (λ y. s.otherwise (alone y)) (assignment sight x v)
+
+abbrev pub branches : Sight → Target → List t.Branch → Option t.Value → Option s.Branches
+branches sight x [] o = last_branch sight x o
+branches sight x (b ∷ bs) o = do
+  y ← assignment sight x b.value
+  c ← condition sight b.condition
+  rest ← branches sight x bs o
+  Some (s.branch c (alone y) rest)
+
+-- a value alone is assigned as it is
+abbrev pub conditional : Sight → Target → List t.Branch → Option t.Value → Option s.Statement
+conditional sight x [] (Some v) = assignment sight x v
+conditional sight x bs o = option_map (s.if_of x.at) (branches sight x bs o)
+
+-- of a signal, or of a variable
+abbrev pub target_by : Sight → (is_variable : Bool) → t.Name → Option Target
+target_by sight false n = signal_target sight n
+target_by sight true n = variable_target sight n
+
 -- ---- statements
+
+-- a statement, as it is analysed, before others; assert and report stand before none
+abbrev pub before : t.Statement → s.Statement → s.Statements → s.Statements
+before (t.asserted text) x xs = xs
+before (t.reported text) x xs = xs
+before y x xs = s.step x xs
 
 -- the choices of each alternative
 abbrev pub choice_lists : t.Alternatives → List (List t.Choice)
@@ -89,14 +159,13 @@ unfoldable mutual
   -- null (10.14)
   statement sight label (t.null_of at) = Some s.null_of
   -- a signal assignment (10.5), and a variable assignment (10.6)
-  statement sight label (t.assigned n v) = do
-    x ← target sight n
-    g ← value_given sight x.type v
-    Some (s.assign x.place g)
-  statement sight label (t.variable_assigned n v) = do
-    x ← variable sight n
-    g ← value_given sight x.type v
-    Some (s.set x.at x.number x.part g)
+  statement sight label (t.assigned n v) = signal_target sight n >>= λ x. assignment sight x v
+  statement sight label (t.variable_assigned n v) = variable_target sight n >>= λ x. assignment sight x v
+  statement sight label (t.assigned_when is_variable n bs o) =
+      target_by sight is_variable n >>= λ x. conditional sight x bs o
+  -- assert and report (10.3, 10.4), which are dropped
+  statement sight label (t.asserted text) = Some s.null_of
+  statement sight label (t.reported text) = Some s.null_of
   -- if (10.8)
   statement sight label (t.if_of at bs o end) = do
     rule WrongKind (label_ends label end)
@@ -124,7 +193,7 @@ unfoldable mutual
   statements sight (t.step label x xs) = do
     y ← statement sight label x
     ys ← statements sight xs
-    Some (s.step y ys)
+    Some (before x y ys)
 
   pub conditionals : Sight → s.Branches → t.Conditionals → Option s.Branches
   conditionals sight last t.no_conditionals = Some last
@@ -157,6 +226,9 @@ abbrev mutual
   inner_labels (t.null_of at) = []
   inner_labels (t.assigned n v) = []
   inner_labels (t.variable_assigned n v) = []
+  inner_labels (t.assigned_when is_variable n bs o) = []
+  inner_labels (t.asserted text) = []
+  inner_labels (t.reported text) = []
   inner_labels (t.if_of at bs o end) = conditional_labels bs ++ otherwise_labels o
   inner_labels (t.case_of at e alts end) = alternative_labels alts
   inner_labels (t.for_of at n r body end) = statement_labels body

@@ -1,24 +1,29 @@
 -- Subtype indications (IEEE 1076-2008, 6.3), and the values of constants and defaults.
-use Rattle.std.specs.Prelude.{◌==◌, Bool, false, List, [], ◌∷◌, Option, Some, None, option_map}
+use Rattle.std.specs.Prelude.{ℕ, ◌==◌, Bool, true, false, ◌&&◌, List, [], ◌∷◌, Option, Some, None, option_map, is_some}
+use Rattle.std.specs.Option.{option_or}
 use Rattle.vhdl_values.specs.declared.scalar.Nine.{Nine}
 use Rattle.vhdl_tree.specs.Tree as t
+use Rattle.vhdl_tree.specs.declared.operator.Direction.{Direction}
 use Rattle.vhdl_tree.specs.Tree.{Ident, Expr}
 use Rattle.vhdl_names_rules.specs.declared.kind.ElementKind.{ElementKind}
 use Rattle.vhdl_names_rules.specs.declared.kind.ElementKind.TheVariants.{Element, LogicVector, Unsigned}
 use Rattle.vhdl_names_rules.specs.declared.kind.ObjectType.{ObjectType}
 use Rattle.vhdl_names_rules.specs.declared.kind.ObjectType.TheVariants.{Elements, Enumeration}
 use Rattle.vhdl_names_rules.specs.declared.kind.Function.TheVariants.{ToUnsigned}
-use Rattle.vhdl_names_rules.specs.declared.operator.IntegerType.{IntegerType}
-use Rattle.vhdl_names_rules.specs.units.Expressions.{Range}
+use Rattle.vhdl_names_rules.specs.units.Expressions as e
+use Rattle.vhdl_names_rules.specs.units.Expressions.{Range, Vector}
+use Rattle.vhdl_names_rules.specs.units.Statements.{Given, single, filled}
 use Rattle.vhdl_names_rules.specs.units.Units as u
-use Rattle.vhdl_names_rules.specs.units.Units.{Form, Fixed, Object}
-use Rattle.vhdl_names_rules.specs.declared.fault.NameProblem.TheVariants.{TypeMismatch}
-use Rattle.vhdl_names_rules.specs.Rules.{◌>>=◌, ◌>>◌, rule, if_any, given_that}
+use Rattle.vhdl_names_rules.specs.units.Units.{Form, Fixed, IntegerSubtype, Object}
+use Rattle.vhdl_names_rules.specs.declared.fault.NameProblem.TheVariants.{TypeMismatch, LeftOut}
+use Rattle.vhdl_names_rules.specs.Rules.{◌>>=◌, ◌>>◌, rule, if_any, given_that, wider}
 use Rattle.vhdl_names_rules.specs.Visibility as visibility
-use Rattle.vhdl_names_rules.specs.Visibility.{Meaning, Sight, meaning}
+use Rattle.vhdl_names_rules.specs.Visibility.{Meaning, DeclaredRange, Declared, Sight, meaning, declaration}
 use Rattle.vhdl_names_rules.specs.Literals.{nine_of, values_of_string, values_of_bits}
-use Rattle.vhdl_names_rules.specs.Operators.{Typed, integer}
-use Rattle.vhdl_names_rules.specs.Expressions.{typed_each, static_range, is_vector}
+use Rattle.vhdl_names_rules.specs.Operators.{Typed, integer, is_vector}
+use Rattle.vhdl_names_rules.specs.Ranges.{declared_range}
+use Rattle.vhdl_names_rules.specs.Expressions.{typed_each, static_range, value_given}
+use Rattle.vhdl_names_rules.specs.problems.Places.{range_start}
 
 -- ---- types of objects
 
@@ -37,17 +42,85 @@ marked (visibility.enumeration_type e count) None =
     Some (record { type = Enumeration e count; form = u.enumeration count; is_resolved = false })
 marked _ _ = None
 
--- the type of a signal, port or variable, or of a constant that is no integer
+-- a range in parentheses behind a type's name (5.3.2), or behind `range`; a vector takes the first
+abbrev pub index_range : Sight → t.Constraint → Option Range
+index_range sight (t.index_range r) = static_range sight r
+index_range sight (t.value_range r) = None
+
+-- one range at most: that of the type, or that which stands there (6.3)
+abbrev pub one_range : Option DeclaredRange → Option Range → Option (Option Range)
+one_range None r = Some r
+one_range (Some d) None = Some (Some (declared_range d))
+one_range (Some d) (Some r) = None
+
+-- the type of a signal, port or variable, or of a constant that is no integer and no boolean
 unfoldable pub subtype : Sight → t.Subtype → Option Subtype
 subtype sight s = do
-  range ← if_any (static_range sight) s.range
-  mark ← meaning sight s.mark.text
-  marked mark range
+  range ← if_any (index_range sight) s.constraint
+  mark ← declaration sight s.mark.text
+  only ← one_range mark.range range
+  marked mark.meaning only
 
--- a type of integers
-abbrev pub as_integer_type : Meaning → Option IntegerType
-as_integer_type (visibility.integer_type w) = Some w
-as_integer_type _ = None
+-- the range of a vector
+abbrev pub form_range : Form → Option Range
+form_range (u.vector r) = Some r
+form_range _ = None
+
+abbrev pub form_direction : Form → Option Direction
+form_direction f = option_map (λ (r : Range). r.direction) (form_range f)
+
+-- ---- integers
+
+-- those of a type, or of a subtype with a range
+abbrev pub integers_of : Declared → Option u.Integers
+integers_of d = by d.meaning d.range
+  where
+    by : Meaning → Option DeclaredRange → Option u.Integers
+    by (visibility.integer_type w) None = Some (u.of_type w)
+    by (visibility.integer_type w) (Some r) = Some (u.of_range r.number)
+    by _ r = None
+
+-- behind `range` stand bounds or a range attribute, and no subtype (5.2.1)
+abbrev pub is_range : t.DiscreteRange → Bool
+is_range (t.bounds r) = true
+is_range (t.range_named n) = is_some n.attribute
+
+-- that range, and where it starts
+abbrev pub value_range : Sight → t.Constraint → Option (ℕ × Range)
+value_range sight (t.index_range r) = None
+value_range sight (t.value_range r) = do
+  rule LeftOut (is_range r)
+  x ← static_range sight r
+  Some (range_start r, x)
+
+unfoldable pub integer_subtype : Sight → t.Subtype → Option IntegerSubtype
+integer_subtype sight s = do
+  range ← if_any (value_range sight) s.constraint
+  mark ← declaration sight s.mark.text
+  base ← integers_of mark
+  Some (record { base = base; range = range })
+
+-- the range of a subtype of integers, which a type hasn't
+abbrev pub numbers_direction : Declared → IntegerSubtype → Option Direction
+numbers_direction mark s = by s.range mark.range
+  where
+    by : Option (ℕ × Range) → Option DeclaredRange → Option Direction
+    by (Some r) d = Some r.1.direction
+    by None (Some d) = Some d.direction
+    by None None = None
+
+-- ---- of which class a type is
+
+pub data TypeClass : Type 0 where
+  integers : TypeClass
+  booleans : TypeClass
+  -- of the nine values, or of enumerations
+  others : TypeClass
+
+abbrev pub class_of : Meaning → TypeClass
+class_of (visibility.integer_type w) = integers
+class_of visibility.boolean_type = booleans
+class_of _ = others
 
 -- ---- literals as they stand, which constants, defaults and choices ask for
 
@@ -97,9 +170,46 @@ filled_value (Elements k) (t.character at c) = do
   Some (u.Fixed.filled v)
 filled_value _ _ = None
 
-unfoldable pub fixed_value : Sight → ObjectType → t.Value → Option Fixed
-fixed_value sight type (t.single e) = fixed sight type e
-fixed_value sight type (t.others at e) = filled_value type e
+abbrev pub plain_value : Sight → ObjectType → t.Value → Option Fixed
+plain_value sight type (t.single e) = fixed sight type e
+plain_value sight type (t.others at e) = filled_value type e
+
+-- ---- any value that names no signal and no variable (9.4), in the wider language
+
+abbrev mutual
+  pub is_known : Vector → Bool
+  is_known (e.of_signal p) = false
+  is_known (e.of_variable at k p) = false
+  is_known (e.Vector.inverse x) = is_known x
+  is_known (e.Vector.binary at op x y) = is_known x && is_known y
+  is_known (e.with_integer at op x n) = is_known x
+  is_known (e.integer_with at op n x) = is_known x
+  is_known (e.counted at op x n) = is_known x
+  is_known (e.aggregate at r es) = are_known es
+  is_known (e.sized at r x) = is_known x
+  is_known x = true
+
+  pub are_known : e.Elements → Bool
+  are_known e.no_elements = true
+  are_known (e.next x es) = is_known x && are_known es
+  are_known (e.chosen is x es) = is_known x && are_known es
+  are_known (e.Elements.others x) = is_known x
+
+abbrev pub is_known_value : Given → Bool
+is_known_value (single (e.Value.elements x)) = is_known x
+is_known_value (single (e.Value.position p)) = true
+is_known_value (single x) = false
+is_known_value (filled x) = is_known x
+
+abbrev pub known_value : Sight → ObjectType → Option Range → t.Value → Option Fixed
+known_value sight type r v = do
+  g ← value_given sight type r v
+  given_that LeftOut (is_known_value g) (u.Fixed.given g)
+
+-- of what has this type, and this range of indexes if it is a vector
+unfoldable pub fixed_value : Sight → ObjectType → Option Range → t.Value → Option Fixed
+fixed_value sight type r v =
+    option_or (plain_value sight type v) (wider sight.language (known_value sight type r v))
 
 -- the literal that declares a constant, if one does
 abbrev pub declaring_literal : Fixed → Option (List Nine)

@@ -1,8 +1,10 @@
 -- Declarations, where they are in sight, and what a name means there (IEEE 1076-2008, 12.1 to 12.3).
-use Rattle.std.specs.Prelude.{ℕ, suc, Bool, true, false, not, ◌&&◌, List, [], ◌∷◌, ◌++◌, map, length, count_by, find, Option, Some, None, option_map, bytes_eq}
+use Rattle.std.specs.Prelude.{ℕ, suc, Bool, true, false, not, ◌&&◌, List, [], ◌∷◌, ◌++◌, map, length, count_by, find, Option, Some, None, option_map, is_some, bytes_eq}
 use Rattle.std.specs.List.{list_any}
 use Rattle.vhdl_values.specs.declared.scalar.Nine.{Nine}
+use Rattle.vhdl_lexer.specs.declared.language.Language.{Language}
 use Rattle.vhdl_tree.specs.declared.declaration.Mode.{Mode}
+use Rattle.vhdl_tree.specs.declared.operator.Direction.{Direction}
 use Rattle.vhdl_tree.specs.Tree.{Ident}
 use Rattle.vhdl_names_rules.specs.declared.kind.ElementKind.{ElementKind}
 use Rattle.vhdl_names_rules.specs.declared.kind.ObjectType.{ObjectType}
@@ -48,6 +50,10 @@ pub data Meaning : Type 0 where
   integer_constant : ℕ → Meaning
   generate_parameter : ℕ → Meaning
   loop_parameter : ℕ → Meaning
+  -- booleans, numbered among the integers, and their literals
+  boolean_generic : ℕ → Meaning
+  boolean_constant : ℕ → Meaning
+  boolean_literal : Bool → Meaning
   -- objects of other types
   port : ℕ → Mode → ElementKind → Meaning
   signal : ℕ → ObjectType → Meaning
@@ -56,8 +62,10 @@ pub data Meaning : Type 0 where
   constant : ℕ → ElementKind → Option (List Nine) → Meaning
   -- the literal of an enumeration, at this position
   literal : (number count position : ℕ) → Meaning
-  -- types: of integers; of one element, and of vectors, with whether they are resolved; enumerations
+  -- types and their subtypes: of integers; of booleans; of one element, and of vectors, with whether they are resolved;
+  -- enumerations
   integer_type : IntegerType → Meaning
+  boolean_type : Meaning
   element_type : (is_resolved : Bool) → Meaning
   vector_type : ElementKind → (is_resolved : Bool) → Meaning
   enumeration_type : (number count : ℕ) → Meaning
@@ -68,12 +76,21 @@ pub data Meaning : Type 0 where
   -- a name within its own declaration
   unfinished : Meaning
 
+-- the range of a vector, or of a subtype of vectors or integers (5.2.1, 6.3): its number among those that are declared
+-- before it, and its direction
+pub record DeclaredRange : Type 0 where
+  pub number : ℕ
+  pub direction : Direction
+
 pub record Declared : Type 0 where
   pub name : Name
   pub meaning : Meaning
+  pub range : Option DeclaredRange
+  -- whether its value or its range is globally static alone: it names a generic or a parameter (9.4.3)
+  pub is_global : Bool
 
 abbrev pub declare : Name → Meaning → Declared
-declare n m = record { name = n; meaning = m }
+declare n m = record { name = n; meaning = m; range = None; is_global = false }
 
 -- names of one meaning
 abbrev pub all_declared : Meaning → List Name → List Declared
@@ -83,6 +100,17 @@ all_declared m ns = map (λ n. declare n m) ns
 abbrev pub numbered : (ℕ → Meaning) → ℕ → List Name → List Declared
 numbered meaning k [] = []
 numbered meaning k (n ∷ ns) = declare n (meaning k) ∷ numbered meaning (suc k) ns
+
+-- declarations with a range, which are numbered from here on
+abbrev pub ranged : Option Direction → ℕ → List Declared → List Declared
+ranged None k ds = ds
+ranged (Some direction) k [] = []
+ranged (Some direction) k (d ∷ ds) =
+    record d { range = Some (record { number = k; direction = direction }) } ∷ ranged (Some direction) (suc k) ds
+
+-- declarations that are globally static alone, if this holds
+abbrev pub global_if : Bool → List Declared → List Declared
+global_if is_global ds = map (λ (d : Declared). record d { is_global = is_global }) ds
 
 -- ---- the declarations in sight of a place
 
@@ -101,14 +129,19 @@ pub record Sight : Type 0 where
   pub packages : List Declared
   -- whether the operators of numeric_std are in sight
   pub numbers : Bool
+  -- which is read
+  pub language : Language
 
 -- an inner declaration hides the outer ones of its name
 abbrev pub in_sight : Sight → List Declared
 in_sight s = s.loops ++ (s.variables ++ (s.generates ++ (s.region ++ (s.enclosing ++ s.packages))))
 
--- what a name means
+-- the declaration that a name is of, and what it means
+abbrev pub declaration : Sight → Name → Option Declared
+declaration s n = find (λ d. bytes_eq n d.name) (in_sight s)
+
 abbrev pub meaning : Sight → Name → Option Meaning
-meaning s n = option_map (λ d. d.meaning) (find (λ d. bytes_eq n d.name) (in_sight s))
+meaning s n = option_map (λ d. d.meaning) (declaration s n)
 
 -- a loop's parameter, numbered by the loops round it; it hides outer names
 abbrev pub within_loop : Sight → Ident → Sight
@@ -126,6 +159,10 @@ with_declared s ds = record s { region = s.region ++ ds }
 abbrev pub with_variables : Sight → List Declared → Sight
 with_variables s ds = record s { variables = s.variables ++ ds }
 
+-- the declarations of the region, and of the process if the place is inside one
+abbrev pub declared_here : Sight → List Declared
+declared_here s = s.region ++ s.variables
+
 -- Declarations one after another: the scope of each goes on to the end of the region (12.2), and within itself it hides
 -- outer names without being visible (12.3). What each declares, and what is analysed of it.
 pub record Declares (A : Type 0) : Type 0 where
@@ -142,6 +179,7 @@ count_of class ds = count_by (λ d. class d.meaning) ds
 
 abbrev pub is_generic : Meaning → Bool
 is_generic (generic k) = true
+is_generic (boolean_generic k) = true
 is_generic _ = false
 
 abbrev pub is_port : Meaning → Bool
@@ -150,8 +188,10 @@ is_port _ = false
 
 abbrev pub is_integer_constant : Meaning → Bool
 is_integer_constant (integer_constant k) = true
+is_integer_constant (boolean_constant k) = true
 is_integer_constant _ = false
 
+-- a generic of the nine values is one
 abbrev pub is_constant : Meaning → Bool
 is_constant (constant k kind values) = true
 is_constant _ = false
@@ -167,3 +207,6 @@ is_variable _ = false
 abbrev pub is_enumeration_type : Meaning → Bool
 is_enumeration_type (enumeration_type k count) = true
 is_enumeration_type _ = false
+
+abbrev pub ranges_count : List Declared → ℕ
+ranges_count ds = count_by (λ d. is_some d.range) ds

@@ -4,6 +4,7 @@ pub mod Places
 pub mod Labels
 pub mod Missing
 pub mod Operators
+pub mod Aggregates
 pub mod Expressions
 pub mod Subtypes
 pub mod Choices

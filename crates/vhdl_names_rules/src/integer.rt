@@ -1,10 +1,11 @@
 //! Static integers as they are analysed.
 
 ghost use Rattle.std.specs.Prelude.{◌≡◌, IfOk};
+ghost use Rattle.vhdl_names_rules.specs.Ranges as ranges;
 ghost use Rattle.vhdl_names_rules.specs.units.Expressions as units;
-ghost use Rattle.vhdl_names_rules.specs.views.Integers.{static_view, start_view, static_chained};
+ghost use Rattle.vhdl_names_rules.specs.views.Integers.{static_view, start_view, static_chained, range_view, declared_range_view, target_range_view};
 
-use crate::operator::Arithmetic;
+use crate::operator::{Arithmetic, Bound, IntegerType};
 use drops::take_apart;
 use std::alloc::{AllocError, Global};
 use vhdl_tree::Direction;
@@ -21,6 +22,19 @@ pub enum Static {
     LoopParameter(usize),
     /// A minus sign, and the byte at which it starts.
     Negated(usize, Box<Static>),
+    /// `abs`, and the byte at which it starts.
+    Absolute(usize, Box<Static>),
+    /// A bound or the length of the declared range of this number.
+    Bound(Bound, usize),
+    /// The same of a slice of what has that range, whose name starts at byte `at`.
+    SliceBound {
+        at: usize,
+        bound: Bound,
+        range: usize,
+        left: Box<Static>,
+        direction: Direction,
+        right: Box<Static>,
+    },
     /// Operators, grouped from the left: the first one, and those after it.
     Chain(Box<StaticStart>, Vec<StaticLink>),
 }
@@ -29,7 +43,8 @@ impl Drop for Static {
     #[cycle(integer)]
     fn drop(self) {
         take_apart!(self: Number(_) | Generic(_) | Constant(_) | GenerateParameter(_)
-            | LoopParameter(_) | Negated(_, _) | Chain(_, _));
+            | LoopParameter(_) | Negated(_, _) | Absolute(_, _) | Bound(_, _)
+            | SliceBound { at, bound, range, left, direction, right } | Chain(_, _));
     }
 }
 
@@ -62,6 +77,26 @@ impl Drop for StaticStart {
     }
 }
 
+/// Of which integers a subtype is: of a type's, or of those in the declared range of this number.
+#[derive(Clone, Copy)]
+pub enum IntegerBase {
+    Type(IntegerType),
+    Range(usize),
+}
+
+/// An integer subtype (6.3): those integers, or of them those in a range, with the byte at which
+/// that starts.
+pub struct IntegerSubtype {
+    pub base: IntegerBase,
+    pub range: Option<(usize, StaticRange)>,
+}
+
+impl Drop for IntegerSubtype {
+    fn drop(self) {
+        take_apart!(self: { base, range });
+    }
+}
+
 /// A range and its direction.
 pub struct StaticRange {
     pub left: Static,
@@ -73,6 +108,28 @@ impl Drop for StaticRange {
     fn drop(self) {
         take_apart!(self: { left, direction, right });
     }
+}
+
+/// The range of a vector, or of a subtype of vectors or integers: its number among those that are
+/// declared before it, and its direction.
+#[derive(Clone, Copy)]
+pub struct DeclaredRange {
+    pub number: usize,
+    pub direction: Direction,
+}
+
+/// The range of what a value is given to: one that is declared, or one that stands in the text.
+#[derive(Clone, Copy)]
+pub enum TargetRange<'a> {
+    Declared(DeclaredRange),
+    Written(&'a StaticRange),
+}
+
+/// An index of an aggregate, or the indexes of a range, and the byte at which the choice starts.
+#[derive(Drop)]
+pub enum Index {
+    Single(usize, Static),
+    Range(usize, StaticRange),
 }
 
 /// A first operand with its operator, and further operators with their right operands.
@@ -89,6 +146,13 @@ impl Static {
         ensures { IfOk result (λ s. static_view s ≡ units.Static.negated at (static_view operand)) }
     {
         Ok(Static::Negated(at, Box::new(alloc, operand)?))
+    }
+
+    /// `abs operand`, whose `abs` starts at byte `at`. It takes the memory of a box.
+    pub fn absolute(alloc: Global, at: usize, operand: Static) -> Result<Static, AllocError>
+        ensures { IfOk result (λ s. static_view s ≡ units.absolute at (static_view operand)) }
+    {
+        Ok(Static::Absolute(at, Box::new(alloc, operand)?))
     }
 
     /// An operator, which starts at byte `at`, with its right operand after this one. A chain goes
@@ -118,5 +182,130 @@ impl Static {
                 Ok(chain(start, Vec::new(alloc)))
             }
         }
+    }
+}
+
+impl Static {
+    /// The same once more. It takes the memory of boxes and lists.
+    #[cycle(copied)]
+    pub fn copied(&self, alloc: Global) -> Result<Static, AllocError>
+        ensures { IfOk result (λ s. static_view s ≡ static_view self.now) }
+    {
+        match self {
+            Static::Number(number) => Ok(Static::Number(*number)),
+            Static::Generic(k) => Ok(Static::Generic(*k)),
+            Static::Constant(k) => Ok(Static::Constant(*k)),
+            Static::GenerateParameter(k) => Ok(Static::GenerateParameter(*k)),
+            Static::LoopParameter(k) => Ok(Static::LoopParameter(*k)),
+            Static::Negated(at, operand) => Static::negated(alloc, *at, operand.copied(alloc)?),
+            Static::Absolute(at, operand) => Static::absolute(alloc, *at, operand.copied(alloc)?),
+            Static::Bound(bound, range) => Ok(Static::Bound(*bound, *range)),
+            Static::SliceBound {
+                at,
+                bound,
+                range,
+                left,
+                direction,
+                right,
+            } => {
+                let left = left.copied(alloc)?;
+                let slice = StaticRange {
+                    left,
+                    direction: *direction,
+                    right: right.copied(alloc)?,
+                };
+                slice.bound(alloc, *at, *bound, *range)
+            }
+            Static::Chain(start, links) => {
+                let first = start_copied(start, alloc)?;
+                links_copied(links, alloc, first)
+            }
+        }
+    }
+}
+
+/// The first operator of a chain once more.
+#[cycle(copied)]
+fn start_copied(start: &StaticStart, alloc: Global) -> Result<Static, AllocError>
+    ensures { IfOk result (λ s. static_view s ≡ start_view start.now) }
+{
+    let first = start.first.copied(alloc)?;
+    let operand = start.link.operand.copied(alloc)?;
+    first.binary(alloc, start.link.operator, start.link.at, operand)
+}
+
+/// Further operators once more, behind what is done.
+#[cycle(copied)]
+fn links_copied(links: &[StaticLink], alloc: Global, first: Static) -> Result<Static, AllocError>
+    ensures { IfOk result (λ s. static_view s ≡ static_chained (static_view first) links.now) }
+{
+    let mut done = first;
+    for link in links {
+        let operand = link.operand.copied(alloc)?;
+        done = done.binary(alloc, link.operator, link.at, operand)?;
+    }
+    Ok(done)
+}
+
+impl DeclaredRange {
+    /// The range, by its bounds.
+    pub fn range(self) -> StaticRange
+        ensures { range_view result ≡ ranges.declared_range (declared_range_view self) }
+    {
+        StaticRange {
+            left: Static::Bound(Bound::Left, self.number),
+            direction: self.direction,
+            right: Static::Bound(Bound::Right, self.number),
+        }
+    }
+}
+
+impl TargetRange<'_> {
+    /// The range. It may take the memory of boxes and lists.
+    pub fn copied(self, alloc: Global) -> Result<StaticRange, AllocError>
+        ensures { IfOk result (λ r. range_view r ≡ target_range_view self.entry) }
+    {
+        match self {
+            TargetRange::Declared(range) => Ok(range.range()),
+            TargetRange::Written(range) => {
+                let left = range.left.copied(alloc)?;
+                Ok(StaticRange {
+                    left,
+                    direction: range.direction,
+                    right: range.right.copied(alloc)?,
+                })
+            }
+        }
+    }
+}
+
+impl StaticRange {
+    /// A bound or the length of this slice of what has the declared range of this number, whose
+    /// name starts at byte `at`. It takes the memory of two boxes.
+    pub fn bound(
+        self,
+        alloc: Global,
+        at: usize,
+        bound: Bound,
+        range: usize,
+    ) -> Result<Static, AllocError>
+        ensures { IfOk result (λ s. static_view s ≡ units.slice_bound at bound range
+            (static_view self.left) self.direction (static_view self.right)) }
+    {
+        let StaticRange {
+            left,
+            direction,
+            right,
+        } = self;
+        let left = Box::new(alloc, left)?;
+        let right = Box::new(alloc, right)?;
+        Ok(Static::SliceBound {
+            at,
+            bound,
+            range,
+            left,
+            direction,
+            right,
+        })
     }
 }

@@ -84,7 +84,7 @@ impl ElementKind {
 
     /// Whether it is that of a vector of a known type.
     pub fn is_vector(self) -> bool
-        ensures { result ≡ expressions.is_vector self }
+        ensures { result ≡ table.is_vector self }
     {
         matches!(self, ElementKind::LogicVector | ElementKind::Unsigned)
     }

@@ -18,10 +18,13 @@ mod typed;
 mod vector;
 
 pub use fault::{NameFault, NameProblem, without};
-pub use integer::{Static, StaticLink, StaticRange, StaticStart};
+pub use integer::{
+    DeclaredRange, Index, IntegerBase, IntegerSubtype, Static, StaticLink, StaticRange,
+    StaticStart, TargetRange,
+};
 pub use kind::{ElementKind, Function, ObjectType};
 pub use literal::nine_of;
-pub use operator::{Arithmetic, IntegerType, Numeric, VectorOperator};
+pub use operator::{Arithmetic, Bound, IntegerType, Numeric, VectorOperator};
 pub use test::{StaticTest, StaticTestLink, StaticTestStart, Test, TestLink, TestStart};
-pub use typed::{Typed, TypedSuffix};
-pub use vector::{Part, Signal, SignalPart, Value, Vector, VectorLink, VectorStart};
+pub use typed::{Typed, TypedChoice, TypedElement, TypedSuffix};
+pub use vector::{Part, Signal, SignalPart, Value, Vector, VectorElement, VectorLink, VectorStart};

@@ -2,10 +2,7 @@
 
 ghost use Rattle.std.specs.Prelude.{◌≡◌};
 ghost use Rattle.vhdl_names_rules.specs.Literals as rules;
-ghost use Rattle.vhdl_names_rules.specs.Gives.{Gives};
 
-use crate::fault::{NameFault, NameProblem};
-use std::alloc::Global;
 use vhdl_values::Nine;
 
 /// The value of a character: one of the nine, letters in capitals.

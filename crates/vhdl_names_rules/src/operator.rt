@@ -2,7 +2,7 @@
 
 use vhdl_values::Logic;
 
-/// An operator on static integers (IEEE 1076-2008, 9.2.5, 9.2.7).
+/// An operator on static integers (IEEE 1076-2008, 9.2.5, 9.2.7, 9.2.8).
 #[derive(Clone, Copy)]
 pub enum Arithmetic {
     Add,
@@ -11,6 +11,17 @@ pub enum Arithmetic {
     Divide,
     Modulo,
     Remainder,
+    Power,
+}
+
+/// A bound or the length of a range (IEEE 1076-2008, 16.2.2, 16.2.3).
+#[derive(Clone, Copy)]
+pub enum Bound {
+    Left,
+    Right,
+    High,
+    Low,
+    Length,
 }
 
 /// An arithmetic operator of numeric_std on unsigned.

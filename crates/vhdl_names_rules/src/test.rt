@@ -18,6 +18,8 @@ use vhdl_values::{Cmp, Edge, Logic};
 /// Truth over static integers alone. Offsets are the bytes at which an operator starts.
 #[cycle(static_test)]
 pub enum StaticTest {
+    /// A boolean by its position, 0 for false and 1 for true.
+    Known(usize, Static),
     Compared(Cmp, usize, Static, Static),
     Not(Box<StaticTest>),
     /// Logical operators, grouped from the left: the first one, and those after it.
@@ -27,7 +29,7 @@ pub enum StaticTest {
 impl Drop for StaticTest {
     #[cycle(static_test)]
     fn drop(self) {
-        take_apart!(self: Compared(_, _, _, _) | Not(_) | Chain(_, _));
+        take_apart!(self: Known(_, _) | Compared(_, _, _, _) | Not(_) | Chain(_, _));
     }
 }
 

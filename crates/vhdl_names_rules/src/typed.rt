@@ -1,12 +1,17 @@
 //! What expressions are.
 
-use crate::integer::{Static, StaticRange};
+ghost use Rattle.std.specs.Prelude.{◌≡◌};
+ghost use Rattle.vhdl_names_rules.specs.Operators as table;
+ghost use Rattle.vhdl_names_rules.specs.views.Expressions.{typed_view, typed_elements_view};
+
+use crate::integer::{Index, Static, StaticRange};
 use crate::kind::ElementKind;
 use crate::test::Test;
 use crate::vector::{Value, Vector};
 
 /// What an expression is: a static integer, one element or a vector of a kind, a value of the
 /// enumeration of this number, which has so many literals, or a truth.
+#[cycle(typed)]
 #[derive(Drop)]
 pub enum Typed {
     Integer(Static),
@@ -17,6 +22,27 @@ pub enum Typed {
         value: Value,
     },
     Truth(Test),
+    /// The range that a name is, which is no value.
+    Interval(Box<StaticRange>),
+    /// An aggregate, and the byte at which it starts: a value where its type is known.
+    Composite(usize, Vec<TypedElement>),
+}
+
+/// An element of an aggregate: its choices, its value, and the byte at which that starts.
+#[cycle(typed)]
+#[derive(Drop)]
+pub struct TypedElement {
+    pub choices: Vec<TypedChoice>,
+    pub at: usize,
+    pub value: Typed,
+}
+
+/// A choice of an element: `others`, with the byte at which it starts, or indexes, with whether
+/// they are locally static.
+#[derive(Drop)]
+pub enum TypedChoice {
+    Others(usize),
+    Place(bool, Index),
 }
 
 /// What stands in parentheses after an identifier, with its types.
@@ -26,4 +52,14 @@ pub enum TypedSuffix {
     /// Whether it is one name alone, and what is there.
     Arguments(bool, Vec<Typed>),
     Range(Box<StaticRange>),
+}
+
+impl Typed {
+    /// An aggregate that starts at byte `at`.
+    #[tactic(auto, using(crate::proofs::rows::Composites::view_composite))]
+    pub fn composite(at: usize, elements: Vec<TypedElement>) -> Typed
+        ensures { typed_view result ≡ table.composite at (typed_elements_view elements.items) }
+    {
+        Typed::Composite(at, elements)
+    }
 }

@@ -4,10 +4,10 @@ ghost use Rattle.std.specs.Prelude.{◌≡◌, IfErr, IfOk};
 ghost use Rattle.vhdl_names_rules.specs.declared.vector.SignalPart.{SignalPart};
 ghost use Rattle.vhdl_names_rules.specs.declared.vector.Vector.TheVariants as vectors;
 ghost use Rattle.vhdl_names_rules.specs.units.Expressions as units;
-ghost use Rattle.vhdl_names_rules.specs.views.Integers.{static_view};
-ghost use Rattle.vhdl_names_rules.specs.views.Vectors.{vector_view, start_view, linked, vector_chained};
+ghost use Rattle.vhdl_names_rules.specs.views.Integers.{static_view, range_view, option_range_view};
+ghost use Rattle.vhdl_names_rules.specs.views.Vectors.{vector_view, start_view, linked, vector_chained, elements_view};
 
-use crate::integer::{Static, StaticRange};
+use crate::integer::{Index, Static, StaticRange};
 use crate::operator::{Numeric, VectorOperator};
 use drops::take_apart;
 use std::alloc::{AllocError, Global};
@@ -70,6 +70,10 @@ pub enum Vector {
     Encoded(usize, Static, Static),
     /// An operator, a number and a count.
     Counted(usize, Counted, Box<Vector>, Static),
+    /// An aggregate: the range of its indexes where it is given to what has one, and its elements.
+    Aggregate(usize, Option<Box<StaticRange>>, Vec<VectorElement>),
+    /// As long as this range.
+    Sized(usize, Box<StaticRange>, Box<Vector>),
 }
 
 impl Drop for Vector {
@@ -77,7 +81,24 @@ impl Drop for Vector {
     fn drop(self) {
         take_apart!(self: Signal(_) | Variable(_, _, _) | Constant(_, _, _) | Character(_, _)
             | EnclosedCharacter(_, _) | Literal(_, _) | Not(_, _) | Chain(_, _)
-            | IntegerWith(_, _, _, _) | Encoded(_, _, _) | Counted(_, _, _, _));
+            | IntegerWith(_, _, _, _) | Encoded(_, _, _) | Counted(_, _, _, _)
+            | Aggregate(_, _, _) | Sized(_, _, _));
+    }
+}
+
+/// An element of an aggregate: the next from the left, one for each of these indexes, or one for
+/// each that is left, which is the last.
+#[cycle(vector)]
+pub enum VectorElement {
+    Next(Vector),
+    Chosen(Vec<Index>, Vector),
+    Others(Vector),
+}
+
+impl Drop for VectorElement {
+    #[cycle(vector)]
+    fn drop(self) {
+        take_apart!(self: Next(_) | Chosen(_, _) | Others(_));
     }
 }
 
@@ -178,5 +199,26 @@ impl Vector {
             units.integer_with at operator (static_view integer) (vector_view number)) }
     {
         Ok(Vector::IntegerWith(operator, at, integer, Box::new(alloc, number)?))
+    }
+
+    /// An aggregate that starts at byte `at`.
+    #[tactic(auto, using(crate::proofs::rows::Vectors::view_aggregate))]
+    pub fn aggregate(
+        at: usize,
+        range: Option<Box<StaticRange>>,
+        elements: Vec<VectorElement>,
+    ) -> Vector
+        ensures { vector_view result ≡ units.aggregate at (option_range_view range) (elements_view elements.items) }
+    {
+        Vector::Aggregate(at, range, elements)
+    }
+
+    /// This, as long as a range, as the type whose name starts at byte `at` wants it. It takes the
+    /// memory of two boxes.
+    pub fn sized(self, alloc: Global, at: usize, range: StaticRange) -> Result<Vector, AllocError>
+        ensures { IfOk result (λ v. vector_view v ≡ units.sized at (range_view range) (vector_view self)) }
+    {
+        let range = Box::new(alloc, range)?;
+        Ok(Vector::Sized(at, range, Box::new(alloc, self)?))
     }
 }

@@ -1,5 +1,6 @@
 -- Architectures that break no rule are given (IEEE 1076-2008, 3.3).
-use Rattle.std.proofs.Common.{◌≡◌, true, List, ◌++◌, refl, ap, sym, ◌∙◌}
+use Rattle.std.proofs.Common.{◌≡◌, true, List, [], ◌++◌, refl, ap, sym, ◌∙◌}
+use Rattle.std.proofs.lemmas.List.{append-nil}
 use Rattle.vhdl_tree.specs.Tree as t
 use Rattle.vhdl_tree.specs.Tree.{ContextItem}
 use Rattle.vhdl_names_rules.specs.Visibility.{Name, Declared, Sight, are_distinct, ends, with_declared}
@@ -23,7 +24,7 @@ use Rattle.vhdl_names_rules.proofs.kept.Twice.{once_distinct}
 use Rattle.vhdl_names_rules.proofs.kept.Labels.{labels_named}
 use Rattle.vhdl_names_rules.proofs.kept.Architectures.{region_names, region_is}
 use Rattle.vhdl_names_laws.proofs.given.Giving.{IsGiven, this, bound, ruled, parts, of_given}
-use Rattle.vhdl_names_laws.proofs.given.Declarations.{IsApart, context_given, in_region_given, signals_given, constants_given, enumeration_given, end_name_given}
+use Rattle.vhdl_names_laws.proofs.given.Declarations.{IsApart, context_given, in_region_given, signals_given, constants_given, subtype_declaration_given, enumeration_given, end_name_given}
 use Rattle.vhdl_names_laws.proofs.given.Interfaces.{component_given}
 use Rattle.vhdl_names_laws.proofs.given.Concurrent.{concurrents_given}
 
@@ -33,6 +34,12 @@ declaration_given entities sight (t.signals d) distinct h = signals_given sight 
 declaration_given entities sight (t.constants d) distinct h = constants_given sight d distinct h
 declaration_given entities sight (t.enumeration d) distinct h = enumeration_given sight d distinct h
 declaration_given entities sight (t.component c) distinct h = component_given entities sight c distinct h
+declaration_given entities sight (t.subtype_of d) distinct h = subtype_declaration_given sight d distinct h
+declaration_given entities sight (t.attribute_of text) distinct h = record {
+  value = record { declared = []; analysed = [] };
+  is = refl;
+  distinct = ap (λ ds. are_distinct (declared_names ds)) (append-nil sight.region) ∙ distinct;
+}
 
 -- the entity's own names are distinct
 pub architecture_given : (entities : List EntityView) (e : EntityView) (items : List ContextItem) (a : t.Architecture)

@@ -56,6 +56,7 @@ chosen_given sight type e h = literal_given type e h
 
 pub choice_given : (sight : Sight) (type : ObjectType) (x : t.Choice) → IsKept (broken.choice sight type x) → IsGiven (are.choice sight type x)
 choice_given sight type (t.chosen e) h = chosen_given sight type e h
+choice_given sight type (t.chosen_range d direction e) h = absurd cc
 choice_given sight type (t.otherwise at) h = absurd cc
 
 pub choices_given : (sight : Sight) (type : ObjectType) (xs : List t.Choice) → IsKept (broken.choices sight type xs) → IsGiven (are.choices sight type xs)

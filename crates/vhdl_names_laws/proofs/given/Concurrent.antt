@@ -11,79 +11,47 @@ use Rattle.vhdl_names_rules.specs.Rules.{◌>>=◌, each}
 use Rattle.vhdl_names_rules.specs.Visibility.{Name, Sight, are_distinct, ends, label_ends, with_variables}
 use Rattle.vhdl_names_rules.specs.declared.fault.NameProblem.TheVariants.{NoSensitivity}
 use Rattle.vhdl_names_rules.specs.Edges.{waited_edge}
-use Rattle.vhdl_names_rules.specs.Expressions.{typed, static_range, condition, value_given, as_static_test}
+use Rattle.vhdl_names_rules.specs.Expressions.{typed, static_range, condition, as_static_test}
 use Rattle.vhdl_names_rules.specs.Choices.{choices, covered, selector, arranged}
-use Rattle.vhdl_names_rules.specs.Declarations.{in_order, variables}
+use Rattle.vhdl_names_rules.specs.Declarations.{in_order, process_declaration}
 use Rattle.vhdl_names_rules.specs.Interfaces.{EntityView, declared_names}
 use Rattle.vhdl_names_rules.specs.Instances.{instance}
-use Rattle.vhdl_names_rules.specs.Statements.{SignalName, signal, target, statements, statement_labels}
+use Rattle.vhdl_names_rules.specs.Statements.{SignalName, signal, Target, signal_target, assignment, alone, conditional, statements, statement_labels}
 use Rattle.vhdl_names_rules.specs.Concurrent as are
-use Rattle.vhdl_names_rules.specs.Concurrent.{alone, assigning, sight_within, concurrent_labels}
-use Rattle.vhdl_names_rules.specs.problems.Broken.{◌▸◌, lacking, any_of, of_any}
+use Rattle.vhdl_names_rules.specs.Concurrent.{assigning, sight_within, concurrent_labels}
+use Rattle.vhdl_names_rules.specs.problems.Broken.{◌▸◌, lacking, any_of}
 use Rattle.vhdl_names_rules.specs.problems.Twice.{twice}
 use Rattle.vhdl_names_rules.specs.problems.Labels as labels
-use Rattle.vhdl_names_rules.specs.problems.Expressions as expressions
 use Rattle.vhdl_names_rules.specs.problems.Statements as sequential
 use Rattle.vhdl_names_rules.specs.problems.Concurrent as broken
 use Rattle.vhdl_names_rules.proofs.Telling.{IsKept}
 use Rattle.vhdl_names_rules.proofs.kept.Keeping.{among_left, among_right}
 use Rattle.vhdl_names_rules.proofs.kept.Twice.{once_distinct}
 use Rattle.vhdl_names_rules.proofs.kept.Labels.{labels_named, statements_named}
-use Rattle.vhdl_names_laws.proofs.given.Giving.{IsGiven, this, bound, ruled, mapped_given, parts, given, of_given, each_given}
-use Rattle.vhdl_names_laws.proofs.given.Expressions.{static_range_given, condition_given, static_condition_given, value_given_given}
+use Rattle.vhdl_names_laws.proofs.given.Giving.{IsGiven, this, bound, bound_behind, ruled, mapped_given, parts, given, of_given, each_given}
+use Rattle.vhdl_names_laws.proofs.given.Expressions.{static_range_given, condition_given, static_condition_given}
 use Rattle.vhdl_names_laws.proofs.given.Choices.{choices_given, covered_is, of_alternatives, each_length, arranged_given, selected_given}
-use Rattle.vhdl_names_laws.proofs.given.Statements.{signal_given, target_given, statements_given, end_label_given}
-use Rattle.vhdl_names_laws.proofs.given.Declarations.{all_variables_given, end_name_given}
+use Rattle.vhdl_names_laws.proofs.given.Statements.{signal_given, signal_target_given, assigned_given, conditional_given, statements_given, end_label_given}
+use Rattle.vhdl_names_laws.proofs.given.Declarations.{process_declarations_given, end_name_given}
 use Rattle.vhdl_names_laws.proofs.given.Instances.{instance_given}
 
 -- ---- conditional and selected assignments
 
--- a value of a target that is given
-value_is : (sight : Sight) (n : t.Name) (x : SignalName) (v : t.Value) → target sight n ≡ Some x → IsKept (sequential.assigned sight n v) → IsGiven (are.assigned sight x v)
-value_is sight n x v is h =
-    let g = value_given_given sight x.type v (of_given (λ x. expressions.value_given sight x.type v) (target sight n) x is (parts _ _ h).1) in
-    bound (value_given sight x.type v) (λ g. Some (s.assign x.place g)) g.value g.is (this (s.assign x.place g.value))
-
-module _ (sight : Sight) (n : t.Name) (x : SignalName) (is : target sight n ≡ Some x) where
-  branches_given : (bs : List t.Branch) (o : Option t.Value) → IsKept (any_of (broken.branch sight n) bs) → IsKept (of_any (sequential.assigned sight n) o)
-      → IsGiven (are.branches sight x bs o)
-  branches_given [] None h l = this s.no_else
-  branches_given [] (Some v) h l = mapped_given (λ y. s.otherwise (alone y)) (are.assigned sight x v) (value_is sight n x v is l)
-  branches_given (b ∷ bs) o h l =
-      let k = parts _ _ h in
-      let m = parts _ _ k.0 in
-      let y = value_is sight n x b.value is m.0 in
-      let e = condition_given sight b.condition m.1 in
-      let rest = branches_given bs o k.1 l in
-      bound (are.assigned sight x b.value) _ y.value y.is
-      (bound (condition sight b.condition) _ e.value e.is
-      (bound (are.branches sight x bs o) (λ rest. Some (s.branch e.value (alone y.value) rest)) rest.value rest.is (this (s.branch e.value (alone y.value) rest.value))))
-
-  body_given : (bs : List t.Branch) (o : Option t.Value) → IsKept (any_of (broken.branch sight n) bs) → IsKept (of_any (sequential.assigned sight n) o)
-      → IsGiven (are.assignment_body sight n.identifier.at x bs o)
-  body_given [] (Some v) h l = value_is sight n x v is l
-  body_given bs o h l = mapped_given (s.if_of n.identifier.at) (are.branches sight x bs o) (branches_given bs o h l)
-
-  waveforms_given : (type : ObjectType) (ws : List t.Waveform) → IsKept (any_of (broken.waveform sight type n) ws)
-      → IsGiven (each (λ (w : t.Waveform). option_map alone (are.assigned sight x w.value)) ws)
-  waveforms_given type [] h = this []
-  waveforms_given type (w ∷ ws) h =
-      let k = parts _ _ h in
-      let y = mapped_given alone (are.assigned sight x w.value) (value_is sight n x w.value is (parts _ _ k.0).0) in
-      let ys = waveforms_given type ws k.1 in
-      bound (option_map alone (are.assigned sight x w.value)) _ y.value y.is
-      (bound (each (λ (w : t.Waveform). option_map alone (are.assigned sight x w.value)) ws) (λ ys. Some (y.value ∷ ys)) ys.value ys.is (this (y.value ∷ ys.value)))
-
 assignment_given : (sight : Sight) (a : t.Assignment) → IsKept (broken.assignment sight a) → IsGiven (are.assignment sight a)
 unfolding are.assignment
 assignment_given sight a h =
+    bound_behind (signal_target sight a.target) (λ x. conditional sight x a.branches a.otherwise) (λ body. Some (assigning a.target.identifier.at a.label body))
+    (conditional_given sight false a.target a.branches a.otherwise h) (λ body. this (assigning a.target.identifier.at a.label body))
+
+waveforms_given : (sight : Sight) (n : t.Name) (x : Target) (is : signal_target sight n ≡ Some x) (type : ObjectType) (ws : List t.Waveform) → IsKept (any_of (broken.waveform sight type n) ws)
+    → IsGiven (each (λ (w : t.Waveform). option_map alone (assignment sight x w.value)) ws)
+waveforms_given sight n x is type [] h = this []
+waveforms_given sight n x is type (w ∷ ws) h =
     let k = parts _ _ h in
-    let l = parts _ _ k.1 in
-    let x = target_given sight a.target k.0 in
-    let body = body_given sight a.target x.value x.is a.branches a.otherwise l.0 l.1 in
-    bound (target sight a.target) _ x.value x.is
-    (bound (are.assignment_body sight a.target.identifier.at x.value a.branches a.otherwise) (λ body. Some (assigning a.target.identifier.at a.label body)) body.value body.is
-    (this (assigning a.target.identifier.at a.label body.value)))
+    let y = mapped_given alone (assignment sight x w.value) (assigned_given sight n w.value x is (parts _ _ k.0).0) in
+    let ys = waveforms_given sight n x is type ws k.1 in
+    bound (option_map alone (assignment sight x w.value)) _ y.value y.is
+    (bound (each (λ (w : t.Waveform). option_map alone (assignment sight x w.value)) ws) (λ ys. Some (y.value ∷ ys)) ys.value ys.is (this (y.value ∷ ys.value)))
 
 -- the choices of waveforms
 choices_of_waveforms : (sight : Sight) (type : ObjectType) (n : t.Name) (ws : List t.Waveform) → IsKept (any_of (broken.waveform sight type n) ws)
@@ -104,18 +72,18 @@ selected_is sight label a h =
     let type : ObjectType = c.by.0 in
     let k = parts _ _ c.rest in
     let l = parts _ _ k.1 in
-    let x = target_given sight a.target k.0 in
+    let x = signal_target_given sight a.target k.0 in
     let whole = of_alternatives sight type a.at lists (any_of (broken.waveform sight type a.target) a.waveforms) l.0 in
     let cs = choices_of_waveforms sight type a.target a.waveforms whole in
     let bodies = waveforms_given sight a.target x.value x.is type a.waveforms whole in
     let all = arranged_given a.at a.waveforms cs.value bodies.value l.1
     (each_length (choices sight type) lists cs.value cs.is ∙ length-map a.waveforms (λ (w : t.Waveform). w.choices))
-    (each_length (λ (w : t.Waveform). option_map alone (are.assigned sight x.value w.value)) a.waveforms bodies.value bodies.is) in
+    (each_length (λ (w : t.Waveform). option_map alone (assignment sight x.value w.value)) a.waveforms bodies.value bodies.is) in
     bound (typed sight a.selector) _ c.operand c.typed_is
     (bound (selector c.operand) _ c.by c.selected
-    (bound (target sight a.target) _ x.value x.is
+    (bound (signal_target sight a.target) _ x.value x.is
     (bound (covered sight type lists) _ cs.value (covered_is sight type a.at lists (any_of (broken.waveform sight type a.target) a.waveforms) cs.value cs.is l.0)
-    (bound (each (λ (w : t.Waveform). option_map alone (are.assigned sight x.value w.value)) a.waveforms) _ bodies.value bodies.is
+    (bound (each (λ (w : t.Waveform). option_map alone (assignment sight x.value w.value)) a.waveforms) _ bodies.value bodies.is
     (bound (arranged cs.value bodies.value) (λ all. Some (assigning a.at label (s.case_of a.at c.by.1 all))) all.value all.is (this (assigning a.at label (s.case_of a.at c.by.1 all.value))))))))
 
 -- ---- processes
@@ -151,17 +119,17 @@ process_given sight label p none h =
     let l = parts _ _ k.1 in
     let m = parts _ _ l.1 in
     let on = sensitivity_given sight p p.sensitivity (is_some p.wait) k.0 in
-    let vs = all_variables_given p.variables sight (ap (λ r. are_distinct (declared_names r)) none) l.0 in
+    let vs = process_declarations_given p.declarations sight (ap (λ r. are_distinct (declared_names r)) none) l.0 in
     let distinct : are_distinct (declared_names vs.value.declared) ≡ true = ap (λ r. are_distinct (declared_names (r ++ vs.value.declared))) (sym none) ∙ vs.distinct in
     let inner : Sight = with_variables sight vs.value.declared in
     let both =
     parts _ _ (of_given (λ vs. broken.awaited (with_variables sight vs.declared) p.sensitivity p.wait ▸ broken.body (with_variables sight vs.declared) xs)
-    (in_order with_variables variables sight p.variables) vs.value vs.is m.0) in
+    (in_order with_variables process_declaration sight p.declarations) vs.value vs.is m.0) in
     let edge = awaited_given inner p.sensitivity p.wait both.0 in
     let whole = both.1 in
     let body = statements_given xs inner (among_right (twice [] (labels.statement_labels xs)) (sequential.statements inner xs) whole) in
     bound (are.sensitivity sight p.sensitivity (is_some p.wait)) _ on.value on.is
-    (bound (in_order with_variables variables sight p.variables) _ vs.value vs.is
+    (bound (in_order with_variables process_declaration sight p.declarations) _ vs.value vs.is
     (ruled (are_distinct (declared_names vs.value.declared)) _ distinct
     (ruled (are_distinct (statement_labels xs)) _
     (inner_labels_distinct xs (among_left (twice [] (labels.statement_labels xs)) (sequential.statements inner xs) whole))
@@ -181,16 +149,21 @@ variables_within : (sight : Sight) (s : t.Scheme) → sight.variables ≡ [] →
 variables_within sight (t.for_each n r) none = none
 variables_within sight (t.if_holds e) none = none
 
+-- an assertion is dropped
+abbrev is_assertion : t.Concurrent → Bool
+is_assertion (t.assertion a) = true
+is_assertion _ = false
+
 mutual
   unfolding are.concurrent broken.concurrent
 
-  concurrent_given : (c : t.Concurrent) (entities : List EntityView) (sight : Sight) → sight.variables ≡ [] → IsKept (broken.concurrent entities sight c)
+  concurrent_given : (c : t.Concurrent) (entities : List EntityView) (sight : Sight) → is_assertion c ≡ false → sight.variables ≡ [] → IsKept (broken.concurrent entities sight c)
       → IsGiven (are.concurrent entities sight c)
-  concurrent_given (t.assignment a) entities sight none h = assignment_given sight a h
-  concurrent_given (t.selected label a) entities sight none h = selected_is sight label a h
-  concurrent_given (t.process label p) entities sight none h = mapped_given u.process (are.process sight label p) (process_given sight label p none h)
-  concurrent_given (t.instance label i) entities sight none h = mapped_given u.instance (instance entities sight label i) (instance_given entities sight label i h)
-  concurrent_given (t.generated label at scheme word cs end) entities sight none h =
+  concurrent_given (t.assignment a) entities sight e none h = assignment_given sight a h
+  concurrent_given (t.selected label a) entities sight e none h = selected_is sight label a h
+  concurrent_given (t.process label p) entities sight e none h = mapped_given u.process (are.process sight label p) (process_given sight label p none h)
+  concurrent_given (t.instance label i) entities sight e none h = mapped_given u.instance (instance entities sight label i) (instance_given entities sight label i h)
+  concurrent_given (t.generated label at scheme word cs end) entities sight e none h =
       let k = parts _ _ h in
       let l = parts _ _ k.1 in
       let inner : Sight = sight_within sight scheme in
@@ -199,13 +172,15 @@ mutual
       (ruled (are_distinct (concurrent_labels cs)) _ (labels_distinct cs (among_left (twice [] (labels.labels_of cs)) (broken.concurrents entities inner cs) l.0))
       (bound (are.concurrents entities inner cs) (are.generated sight label.text at scheme) body.value body.is
       (generated_given sight label.text at scheme body.value k.0)))
+  concurrent_given (t.assertion a) entities sight e none h = absurd cc
 
   pub concurrents_given : (cs : t.Concurrents) (entities : List EntityView) (sight : Sight) → sight.variables ≡ [] → IsKept (broken.concurrents entities sight cs)
       → IsGiven (are.concurrents entities sight cs)
   concurrents_given t.no_concurrents entities sight none h = this u.no_concurrents
+  concurrents_given (t.concurrent (t.assertion a) cs) entities sight none h = concurrents_given cs entities sight none (parts (broken.concurrent entities sight (t.assertion a)) _ h).1
   concurrents_given (t.concurrent c cs) entities sight none h =
       let k = parts _ _ h in
-      let x = concurrent_given c entities sight none k.0 in
+      let x = concurrent_given c entities sight refl none k.0 in
       let xs = concurrents_given cs entities sight none k.1 in
       bound (are.concurrent entities sight c) (λ x. are.concurrents entities sight cs >>= λ xs. Some (u.concurrent x xs)) x.value x.is
       (bound (are.concurrents entities sight cs) (λ xs. Some (u.concurrent x.value xs)) xs.value xs.is (this (u.concurrent x.value xs.value)))

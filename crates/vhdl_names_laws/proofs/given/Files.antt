@@ -7,12 +7,14 @@ use Rattle.std.proofs.lemmas.List.{append_assoc, append-nil, map-append}
 use Rattle.std.proofs.lemmas.List.Elements.{filter_map-append}
 use Rattle.std.proofs.lemmas.Option.{slice_get-map}
 use Rattle.std.proofs.lemmas.Slice.Eq.{bytes_eq-Decides}
+use Rattle.vhdl_lexer.specs.declared.language.Language.{Language}
 use Rattle.vhdl_tree.specs.Tree as t
 use Rattle.vhdl_tree.specs.Tree.{File, DesignUnit, LibraryUnit, Ident}
 use Rattle.vhdl_names_rules.specs.declared.fault.NameProblem.{NameProblem}
 use Rattle.vhdl_names_rules.specs.declared.fault.NameProblem.TheVariants.{Undeclared, Twice, SecondArchitecture}
 use Rattle.vhdl_names_rules.specs.Rules.{◌>>=◌, each, if_any}
 use Rattle.vhdl_names_rules.specs.Visibility.{Name, is_among, are_distinct}
+use Rattle.vhdl_names_rules.specs.Packages.{no_context}
 use Rattle.vhdl_names_rules.specs.Interfaces.{EntityView, declared_names, entity_named}
 use Rattle.vhdl_names_rules.specs.Files as are
 use Rattle.vhdl_names_rules.specs.Files.{as_entity, as_architecture, entities_of, architectures_of, entity_names, described_names, stands_after, stand_after, architecture_of, viewed, unit, units_of}
@@ -185,12 +187,12 @@ not_hidden ns entities same n = ap (λ ms. is_among n ns && not (is_among n ms))
     go false = refl
 
 -- what is described of an entity that is named
-described_as : (ns : List Name) (entities : List EntityView) (a : NamedArchitecture) (k : ℕ) (e : EntityView) → view_names entities ≡ ns
-    → entity_named entities a.1.entity.text ≡ Some (k, e) → IsKept (described ns entities a) → IsKept (broken.architecture entities e a.0 a.1)
-described_as ns entities (items, a) k e same is h = up_to_none (is_hidden ns entities) a (broken.architecture entities e items a) (not_hidden ns entities same) (ap by (sym is) ∙ h)
+described_as : (language : Language) (ns : List Name) (entities : List EntityView) (a : NamedArchitecture) (k : ℕ) (e : EntityView) → view_names entities ≡ ns
+    → entity_named entities a.1.entity.text ≡ Some (k, e) → IsKept (described language ns entities a) → IsKept (broken.architecture entities e a.0 a.1)
+described_as language ns entities (items, a) k e same is h = up_to_none (is_hidden ns entities) a (broken.architecture entities e items a) (not_hidden ns entities same) (ap by (sym is) ∙ h)
   where
     by : Option (ℕ × EntityView) → Broken
-    by None = declarations.context (record { has_ieee = true; has_logic = false; has_numbers = false }) items
+    by None = declarations.context (record (no_context language) { has_ieee = true }) items
     by (Some (k, e)) = up_to_hidden (is_hidden ns entities) a (broken.architecture entities e items a)
 
 -- what each of several things gives has what each of them gives it
@@ -209,9 +211,9 @@ each_has P f one (x ∷ xs) ys (suc k) y h at =
     let d = comes (each f xs) _ ys c.rest in
     each_has P f one xs d.value k y d.is (ap (λ ys. slice_get ys (suc k)) (some_is (c.value ∷ d.value) ys d.rest) ∙ at)
 
-module _ (ds : List DesignUnit) (entities : List EntityView) (same : view_names entities ≡ entity_names ds) (distinct : are_distinct (view_names entities) ≡ true)
+module _ (language : Language) (ds : List DesignUnit) (entities : List EntityView) (same : view_names entities ≡ entity_names ds) (distinct : are_distinct (view_names entities) ≡ true)
     (own : (k : ℕ) (e : EntityView) → slice_get entities k ≡ Some e → are_distinct (declared_names e.interface.declared) ≡ true)
-    (whole : IsKept (any_of (described (entity_names ds) entities) (architectures_of ds))) where
+    (whole : IsKept (any_of (described language (entity_names ds) entities) (architectures_of ds))) where
   unit_given : (k : ℕ) (e : EntityView) → slice_get entities k ≡ Some e → IsGiven (unit entities ds e)
   unfolding unit
   unit_given k e at = let y = go (architecture_of e.name ds) refl in bound (if_any (λ (p : NamedArchitecture). are.architecture entities e p.0 p.1) (architecture_of e.name ds)) _ y.value y.is (this _)
@@ -221,38 +223,38 @@ module _ (ds : List DesignUnit) (entities : List EntityView) (same : view_names 
       go (Some a) is =
           let there = is_there (architectures_of ds) e.name a is in
           let found = entity_found entities 0 k e a.1.entity.text distinct at (sym there.named) in
-          let h = any_at (described (entity_names ds) entities) (architectures_of ds) there.place a whole there.at in
-          let x = architecture_given entities e a.0 a.1 (own k e at) (described_as (entity_names ds) entities a found.0 e same found.1 h) in
+          let h = any_at (described language (entity_names ds) entities) (architectures_of ds) there.place a whole there.at in
+          let x = architecture_given entities e a.0 a.1 (own k e at) (described_as language (entity_names ds) entities a found.0 e same found.1 h) in
           bound (are.architecture entities e a.0 a.1) (λ x. Some (Some x)) x.value x.is (this (Some x.value))
 
-file_given : (f : File) → IsKept (broken.file f) → IsGiven (units_of f)
+file_given : (language : Language) (f : File) → IsKept (broken.file language f) → IsGiven (units_of language f)
 unfolding units_of
-file_given f h =
+file_given language f h =
     let ds : List DesignUnit = f.units in
-    let inner : Broken = any_of (λ (e : NamedEntity). entity e.0 e.1) (entities_of ds) in
-    let last : Broken = any_of (described (entity_names ds) (entities_given ds)) (architectures_of ds) in
+    let inner : Broken = any_of (λ (e : NamedEntity). entity language e.0 e.1) (entities_of ds) in
+    let last : Broken = any_of (described language (entity_names ds) (entities_given language ds)) (architectures_of ds) in
     let rest = among_right (broken.names [] ds) _ h in
     let n = names_given ds [] ds 0 refl refl refl refl (among_left (broken.names [] ds) _ h) in
-    let views = each_given (λ (e : NamedEntity). entity e.0 e.1) (viewed ds) (λ e h. entity_given e.0 e.1 _ h) (entities_of ds) (among_left inner last rest) in
-    let same = kept.names ds views.value n.once n.after views.is in
-    let whole : IsKept (any_of (described (entity_names ds) views.value) (architectures_of ds)) =
-    ap (λ es. any_of (described (entity_names ds) es) (architectures_of ds)) (sym (kept.entities_are ds views.value n.once n.after views.is)) ∙ among_right inner last rest in
+    let views = each_given (λ (e : NamedEntity). entity language e.0 e.1) (viewed language ds) (λ e h. entity_given language e.0 e.1 _ h) (entities_of ds) (among_left inner last rest) in
+    let same = kept.names language ds views.value n.once n.after views.is in
+    let whole : IsKept (any_of (described language (entity_names ds) views.value) (architectures_of ds)) =
+    ap (λ es. any_of (described language (entity_names ds) es) (architectures_of ds)) (sym (kept.entities_are language ds views.value n.once n.after views.is)) ∙ among_right inner last rest in
     let own : (k : ℕ) (e : EntityView) → slice_get views.value k ≡ Some e → are_distinct (declared_names e.interface.declared) ≡ true =
-    λ k e at. each_has (λ (e : EntityView). are_distinct (declared_names e.interface.declared) ≡ true) (viewed ds) (λ x v h. interface_distinct x.0 x.1 _ v h) (entities_of ds) views.value k e views.is at in
+    λ k e at. each_has (λ (e : EntityView). are_distinct (declared_names e.interface.declared) ≡ true) (viewed language ds) (λ x v h. interface_distinct language x.0 x.1 _ v h) (entities_of ds) views.value k e views.is at in
     ruled (are_distinct (entity_names ds)) _ n.once
     (ruled (are_distinct (described_names ds)) _ n.single
     (ruled (stand_after ds) _ n.after
-    (bound (each (viewed ds) (entities_of ds)) (λ es. each (unit es ds) es) views.value views.is
-    (each_at_given (unit views.value ds) views.value (unit_given ds views.value same (ap are_distinct same ∙ n.once) own whole)))))
+    (bound (each (viewed language ds) (entities_of ds)) (λ es. each (unit es ds) es) views.value views.is
+    (each_at_given (unit views.value ds) views.value (unit_given language ds views.value same (ap are_distinct same ∙ n.once) own whole)))))
 
 -- ---- a rule that is broken
 
 pub ill_typed_files_break_a_rule : IllTypedFilesBreakARule
-ill_typed_files_break_a_rule f none = go (broken.file f) refl
+ill_typed_files_break_a_rule language f none = go (broken.file language f) refl
   where
-    go : (b : Broken) → broken.file f ≡ b → (p : NameProblem) × (at : ℕ) × (broken.file f ≡ Some (p, at))
+    go : (b : Broken) → broken.file language f ≡ b → (p : NameProblem) × (at : ℕ) × (broken.file language f ≡ Some (p, at))
     go None is =
-        let g = file_given f is in
+        let g = file_given language f is in
         let e : None ≡ Some g.value = sym none ∙ g.is in
         absurd cc
     go (Some (p, at)) is = (p, at, is)

@@ -1,9 +1,9 @@
 -- What breaks no rule is given.
-use Rattle.std.proofs.Common.{◌≡◌, ℕ, zero, suc, Bool, true, false, List, [], ◌∷◌, Option, Some, None, refl, ap, sym, ◌∙◌}
-use Rattle.std.specs.Prelude.{option_map}
+use Rattle.std.proofs.Common.{◌≡◌, ℕ, zero, suc, Bool, true, false, cond, List, [], ◌∷◌, Option, Some, None, refl, ap, sym, ◌∙◌}
+use Rattle.std.specs.Prelude.{option_map, is_some}
 use Rattle.std.specs.List.{slice_get}
 use Rattle.vhdl_names_rules.specs.declared.fault.NameProblem.{NameProblem}
-use Rattle.vhdl_names_rules.specs.Rules.{◌>>=◌, ◌>>◌, met, each, if_any}
+use Rattle.vhdl_names_rules.specs.Rules.{◌>>=◌, ◌>>◌, met, then_some, each, if_any}
 use Rattle.vhdl_names_rules.specs.problems.Broken.{Broken, ◌▸◌, unless, lacking, where_given, any_of, of_any}
 use Rattle.vhdl_names_rules.proofs.laws.Rules.{some_is}
 use Rattle.vhdl_names_rules.proofs.Telling.{IsKept, kept_left, kept_right}
@@ -13,7 +13,7 @@ pub record IsGiven {A : Type 0} (o : Option A) : Type 0 where
   pub value : A
   pub is : o ≡ Some value
 
-pub this : {A : Type 0} (x : A) → IsGiven (Some x)
+abbrev pub this : {A : Type 0} (x : A) → IsGiven (Some x)
 this x = record { value = x; is = refl }
 
 pub bound_is : {A B : Type 0} (o : Option A) (f : A → Option B) (x : A) (y : B) → o ≡ Some x → f x ≡ Some y → (o >>= f) ≡ Some y
@@ -22,14 +22,36 @@ bound_is o f x y e g = ap (λ o. o >>= f) e ∙ g
 pub ruled_is : {A : Type 0} (b : Bool) (o : Option A) (y : A) → b ≡ true → o ≡ Some y → (met b >> o) ≡ Some y
 ruled_is b o y e g = ap (λ b. met b >> o) e ∙ g
 
-pub bound : {A B : Type 0} (o : Option A) (f : A → Option B) (x : A) → o ≡ Some x → IsGiven (f x) → IsGiven (o >>= f)
+abbrev pub bound : {A B : Type 0} (o : Option A) (f : A → Option B) (x : A) → o ≡ Some x → IsGiven (f x) → IsGiven (o >>= f)
 bound o f x e g = record { value = g.value; is = bound_is o f x g.value e g.is }
 
-pub ruled : {A : Type 0} (b : Bool) (o : Option A) → b ≡ true → IsGiven o → IsGiven (met b >> o)
+abbrev pub ruled : {A : Type 0} (b : Bool) (o : Option A) → b ≡ true → IsGiven o → IsGiven (met b >> o)
 ruled b o e g = record { value = g.value; is = ruled_is b o g.value e g.is }
+
+-- another way of writing it
+pub same_given : {A : Type 0} (o p : Option A) → o ≡ p → IsGiven p → IsGiven o
+same_given o p e g = record { value = g.value; is = e ∙ g.is }
+
+-- what is mapped is given
+pub unmapped : {A B : Type 0} (f : A → B) (o : Option A) → IsGiven (option_map f o) → IsGiven o
+unmapped f None g = let none = g.is in absurd cc
+unmapped f (Some x) g = this x
+
+pub some_of : {A : Type 0} (o : Option A) → is_some o ≡ true → IsGiven o
+some_of None h = absurd cc
+some_of (Some x) h = this x
+
+pub that_given : {A : Type 0} (b : Bool) (x : A) → b ≡ true → IsGiven (then_some b x)
+that_given true x h = this x
+that_given false x h = absurd cc
 
 pub mapped_given : {A B : Type 0} (f : A → B) (o : Option A) → IsGiven o → IsGiven (option_map f o)
 mapped_given f o g = record { value = f g.value; is = ap (option_map f) g.is }
+
+-- what is given behind it rests on nothing else
+pub bound_behind : {A B C : Type 0} (o : Option A) (f : A → Option B) (g : B → Option C) → IsGiven (o >>= f) → ((y : B) → IsGiven (g y)) → IsGiven (o >>= λ x. f x >>= g)
+bound_behind None f g h one = let none = h.is in absurd cc
+bound_behind (Some x) f g h one = bound (f x) g h.value h.is (one h.value)
 
 -- ---- parts
 
@@ -43,6 +65,11 @@ holds q at false h = absurd cc
 -- what must hold, and doesn't
 pub fails : (q : NameProblem) (at : ℕ) (b : Broken) → IsKept (unless q at false ▸ b) → ⊥
 fails q at b h = let e : false ≡ true = holds q at false (kept_left (unless q at false) b h) in cc
+
+-- one of two is there
+pub either_fails : (b : Bool) (x y : NameProblem × ℕ) → IsKept (cond b (Some x) (Some y)) → ⊥
+either_fails true x y h = cc
+either_fails false x y h = cc
 
 pub given : {A : Type 0} (q : NameProblem) (at : ℕ) (o : Option A) → IsKept (lacking q at o) → IsGiven o
 given q at None h = absurd cc

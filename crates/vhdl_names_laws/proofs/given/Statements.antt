@@ -1,20 +1,20 @@
 -- Sequential statements that break no rule are given (IEEE 1076-2008, clause 10).
-use Rattle.std.proofs.Common.{◌≡◌, true, not, List, [], ◌∷◌, length, Option, Some, None, refl, ap, sym, ◌∙◌, arith}
+use Rattle.std.proofs.Common.{◌≡◌, Bool, true, false, not, List, [], ◌∷◌, length, Option, Some, None, refl, ap, sym, ◌∙◌, arith}
 use Rattle.std.specs.Prelude.{is_none}
 use Rattle.vhdl_tree.specs.Tree as t
-use Rattle.vhdl_tree.specs.Tree.{Ident}
+use Rattle.vhdl_tree.specs.Tree.{Ident, Attribute}
 use Rattle.vhdl_names_rules.specs.declared.kind.ObjectType.{ObjectType}
 use Rattle.vhdl_names_rules.specs.declared.fault.NameProblem.{NameProblem}
 use Rattle.vhdl_names_rules.specs.declared.fault.NameProblem.TheVariants.{WrongKind, WriteOfIn}
 use Rattle.vhdl_names_rules.specs.units.Statements as s
 use Rattle.vhdl_names_rules.specs.Rules.{◌>>=◌, ◌>>◌, met, each}
-use Rattle.vhdl_names_rules.specs.Visibility.{Meaning, Sight, meaning, label_ends, within_loop}
+use Rattle.vhdl_names_rules.specs.Visibility.{Meaning, Declared, Sight, declaration, label_ends, within_loop}
 use Rattle.vhdl_names_rules.specs.Names.{Suffix}
 use Rattle.vhdl_names_rules.specs.Expressions.{typed, typed_suffix, static_range, condition, value_given}
 use Rattle.vhdl_names_rules.specs.Choices.{choices, covered, selector, arranged}
 use Rattle.vhdl_names_rules.specs.Statements as are
-use Rattle.vhdl_names_rules.specs.Statements.{SignalName, as_signal, as_variable, is_input, choice_lists}
-use Rattle.vhdl_names_rules.specs.problems.Broken.{◌▸◌, unless, lacking, where_given}
+use Rattle.vhdl_names_rules.specs.Statements.{as_signal, as_variable, is_input, Target, choice_lists}
+use Rattle.vhdl_names_rules.specs.problems.Broken.{◌▸◌, unless, lacking, where_given, any_of, of_any}
 use Rattle.vhdl_names_rules.specs.problems.Expressions as expressions
 use Rattle.vhdl_names_rules.specs.problems.Expressions.{no_attribute}
 use Rattle.vhdl_names_rules.specs.problems.Statements as broken
@@ -23,30 +23,30 @@ use Rattle.vhdl_names_rules.proofs.laws.Rules.{comes, some_is}
 use Rattle.vhdl_names_rules.proofs.Telling.{IsKept}
 use Rattle.vhdl_names_rules.proofs.kept.Statements.{object_named}
 use Rattle.vhdl_names_laws.proofs.given.Giving.{IsGiven, this, bound, ruled, mapped_given, parts, holds, given, of_given}
-use Rattle.vhdl_names_laws.proofs.given.Expressions.{meaning_given, suffix_given, static_range_given, condition_given, value_given_given}
+use Rattle.vhdl_names_laws.proofs.given.Expressions.{declaration_given, suffix_given, static_range_given, condition_given, value_given_given}
 use Rattle.vhdl_names_laws.proofs.given.Choices.{choices_given, covered_is, of_alternatives, each_length, arranged_given, selected_given}
 
 -- ---- names of signals and variables
 
-none_given : (a : Option Ident) → IsKept (no_attribute a) → is_none a ≡ true
+none_given : (a : Option Attribute) → IsKept (no_attribute a) → is_none a ≡ true
 none_given None h = refl
 none_given (Some i) h = absurd cc
 
-object_given : {A : Type 0} (problem : Meaning → NameProblem) (f : Meaning → Suffix → Option A) (sight : Sight) (n : t.Name)
-    → IsKept (broken.named sight n ▸ where_given (meaning sight n.identifier.text) (λ d. where_given (typed_suffix sight n.suffix) (λ s. lacking (problem d) n.identifier.at (f d s))))
+object_given : {A : Type 0} (problem : Meaning → NameProblem) (f : Declared → Suffix → Option A) (sight : Sight) (n : t.Name)
+    → IsKept (broken.named sight n ▸ where_given (declaration sight n.identifier.text) (λ d. where_given (typed_suffix sight n.suffix) (λ s. lacking (problem d.meaning) n.identifier.at (f d s))))
     → IsGiven (object_named f sight n)
 object_given problem f sight n h =
     let k = parts _ _ h in
     let l = parts _ _ k.0 in
     let m = parts _ _ l.1 in
-    let d = meaning_given sight n.identifier l.0 in
+    let d = declaration_given sight n.identifier l.0 in
     let x = suffix_given n.suffix sight m.0 in
-    let y = given (problem d.value) n.identifier.at (f d.value x.value)
-    (of_given (λ s. lacking (problem d.value) n.identifier.at (f d.value s)) (typed_suffix sight n.suffix) x.value x.is
-    (of_given (λ d. where_given (typed_suffix sight n.suffix) (λ s. lacking (problem d) n.identifier.at (f d s))) (meaning sight n.identifier.text) d.value d.is k.1)) in
+    let y = given (problem d.value.meaning) n.identifier.at (f d.value x.value)
+    (of_given (λ s. lacking (problem d.value.meaning) n.identifier.at (f d.value s)) (typed_suffix sight n.suffix) x.value x.is
+    (of_given (λ d. where_given (typed_suffix sight n.suffix) (λ s. lacking (problem d.meaning) n.identifier.at (f d s))) (declaration sight n.identifier.text) d.value d.is k.1)) in
     ruled (is_none n.attribute) _ (none_given n.attribute m.1)
-    (bound (typed_suffix sight n.suffix) (λ s. meaning sight n.identifier.text >>= λ d. f d s) x.value x.is
-    (bound (meaning sight n.identifier.text) (λ d. f d x.value) d.value d.is y))
+    (bound (typed_suffix sight n.suffix) (λ s. declaration sight n.identifier.text >>= λ d. f d s) x.value x.is
+    (bound (declaration sight n.identifier.text) (λ d. f d x.value) d.value d.is y))
 
 pub signal_given : (sight : Sight) (n : t.Name) → IsKept (broken.signal sight n) → IsGiven (are.signal sight n)
 unfolding are.signal
@@ -66,20 +66,53 @@ variable_given sight n h = object_given variable_problem (as_variable n.identifi
 
 -- ---- assignments
 
-pub record IsAssigned (sight : Sight) (n : t.Name) (v : t.Value) : Type 0 where
-  pub target : SignalName
-  pub is : are.target sight n ≡ Some target
-  pub value : IsGiven (value_given sight target.type v)
+pub signal_target_given : (sight : Sight) (n : t.Name) → IsKept (broken.target sight n) → IsGiven (are.signal_target sight n)
+signal_target_given sight n h = let x = target_given sight n h in bound (are.target sight n) _ x.value x.is (this _)
 
-pub assigned_given : (sight : Sight) (n : t.Name) (v : t.Value) → IsKept (broken.assigned sight n v) → IsAssigned sight n v
-assigned_given sight n v h =
-    let k = parts _ _ h in
-    let x = target_given sight n k.0 in
-    record {
-      target = x.value;
-      is = x.is;
-      value = value_given_given sight x.value.type v (of_given (λ x. expressions.value_given sight x.type v) (are.target sight n) x.value x.is k.1);
-    }
+variable_target_given : (sight : Sight) (n : t.Name) → IsKept (broken.variable sight n) → IsGiven (are.variable_target sight n)
+variable_target_given sight n h = let x = variable_given sight n h in bound (are.variable sight n) _ x.value x.is (this _)
+
+target_by_given : (sight : Sight) (is_variable : Bool) (n : t.Name) → IsKept (broken.target_by sight is_variable n) → IsGiven (are.target_by sight is_variable n)
+target_by_given sight false n h = signal_target_given sight n h
+target_by_given sight true n h = variable_target_given sight n h
+
+assignment_given : (sight : Sight) (target : Option Target) (x : Target) (v : t.Value) → target ≡ Some x → IsKept (broken.given sight target v) → IsGiven (are.assignment sight x v)
+assignment_given sight target x v e h =
+    mapped_given x.assigned (value_given sight x.type x.range v) (value_given_given sight x.type x.range v (of_given (λ x. expressions.value_given sight x.type x.range v) target x e h))
+
+-- what is given to a signal, whose target this is
+pub assigned_given : (sight : Sight) (n : t.Name) (v : t.Value) (x : Target) → are.signal_target sight n ≡ Some x → IsKept (broken.assigned sight n v) → IsGiven (are.assignment sight x v)
+assigned_given sight n v x e h = assignment_given sight (are.signal_target sight n) x v e (parts (broken.target sight n) (broken.given sight (are.signal_target sight n) v) h).1
+
+-- ---- values with conditions
+
+module _ (sight : Sight) (target : Option Target) (x : Target) (is : target ≡ Some x) where
+  branches_given : (bs : List t.Branch) (o : Option t.Value) → IsKept (any_of (broken.branch sight target) bs) → IsKept (of_any (broken.given sight target) o) → IsGiven (are.branches sight x bs o)
+  branches_given [] None h g = this s.no_else
+  branches_given [] (Some v) h g = mapped_given (λ y. s.otherwise (are.alone y)) (are.assignment sight x v) (assignment_given sight target x v is g)
+  branches_given (b ∷ bs) o h g =
+      let k = parts (broken.branch sight target b) (any_of (broken.branch sight target) bs) h in
+      let l = parts (broken.given sight target b.value) (expressions.condition sight b.condition) k.0 in
+      let y = assignment_given sight target x b.value is l.0 in
+      let c = condition_given sight b.condition l.1 in
+      let rest = branches_given bs o k.1 g in
+      bound (are.assignment sight x b.value) _ y.value y.is
+      (bound (condition sight b.condition) _ c.value c.is
+      (bound (are.branches sight x bs o) (λ rest. Some (s.branch c.value (are.alone y.value) rest)) rest.value rest.is (this (s.branch c.value (are.alone y.value) rest.value))))
+
+  by_conditions_given : (bs : List t.Branch) (o : Option t.Value) → IsKept (any_of (broken.branch sight target) bs) → IsKept (of_any (broken.given sight target) o) → IsGiven (are.conditional sight x bs o)
+  by_conditions_given [] (Some v) h g = assignment_given sight target x v is g
+  by_conditions_given [] None h g = mapped_given (s.if_of x.at) (are.branches sight x [] None) (branches_given [] None h g)
+  by_conditions_given (b ∷ bs) o h g = mapped_given (s.if_of x.at) (are.branches sight x (b ∷ bs) o) (branches_given (b ∷ bs) o h g)
+
+pub conditional_given : (sight : Sight) (is_variable : Bool) (n : t.Name) (bs : List t.Branch) (o : Option t.Value) → IsKept (broken.conditional sight is_variable n bs o)
+    → IsGiven (are.target_by sight is_variable n >>= λ x. are.conditional sight x bs o)
+conditional_given sight is_variable n bs o h =
+    let target = are.target_by sight is_variable n in
+    let k = parts (broken.target_by sight is_variable n) _ h in
+    let l = parts (any_of (broken.branch sight target) bs) (of_any (broken.given sight target) o) k.1 in
+    let x = target_by_given sight is_variable n k.0 in
+    bound target (λ x. are.conditional sight x bs o) x.value x.is (by_conditions_given sight target x.value x.is bs o l.0 l.1)
 
 -- ---- statements
 
@@ -107,15 +140,16 @@ mutual
   statement_given : (y : t.Statement) (sight : Sight) (label : Option Ident) → IsKept (broken.statement sight label y) → IsGiven (are.statement sight label y)
   statement_given (t.null_of at) sight label h = this s.null_of
   statement_given (t.assigned n v) sight label h =
-      let x = assigned_given sight n v h in
-      bound (are.target sight n) (λ x. value_given sight x.type v >>= λ g. Some (s.assign x.place g)) x.target x.is
-      (bound (value_given sight x.target.type v) (λ g. Some (s.assign x.target.place g)) x.value.value x.value.is (this (s.assign x.target.place x.value.value)))
+      let k = parts (broken.target sight n) (broken.given sight (are.signal_target sight n) v) h in
+      let x = signal_target_given sight n k.0 in
+      bound (are.signal_target sight n) (λ x. are.assignment sight x v) x.value x.is (assignment_given sight (are.signal_target sight n) x.value v x.is k.1)
   statement_given (t.variable_assigned n v) sight label h =
-      let k = parts _ _ h in
-      let x = variable_given sight n k.0 in
-      let g = value_given_given sight x.value.type v (of_given (λ x. expressions.value_given sight x.type v) (are.variable sight n) x.value x.is k.1) in
-      bound (are.variable sight n) (λ x. value_given sight x.type v >>= λ g. Some (s.set x.at x.number x.part g)) x.value x.is
-      (bound (value_given sight x.value.type v) (λ g. Some (s.set x.value.at x.value.number x.value.part g)) g.value g.is (this (s.set x.value.at x.value.number x.value.part g.value)))
+      let k = parts (broken.variable sight n) (broken.given sight (are.variable_target sight n) v) h in
+      let x = variable_target_given sight n k.0 in
+      bound (are.variable_target sight n) (λ x. are.assignment sight x v) x.value x.is (assignment_given sight (are.variable_target sight n) x.value v x.is k.1)
+  statement_given (t.assigned_when is_variable n bs o) sight label h = conditional_given sight is_variable n bs o h
+  statement_given (t.asserted text) sight label h = this s.null_of
+  statement_given (t.reported text) sight label h = this s.null_of
   statement_given (t.if_of at bs o end) sight label h =
       let k = parts _ _ h in
       let l = parts _ _ k.1 in
@@ -154,8 +188,8 @@ mutual
       let k = parts _ _ h in
       let x = statement_given y sight label k.0 in
       let xs = statements_given ys sight k.1 in
-      bound (are.statement sight label y) (λ x. are.statements sight ys >>= λ xs. Some (s.step x xs)) x.value x.is
-      (bound (are.statements sight ys) (λ xs. Some (s.step x.value xs)) xs.value xs.is (this (s.step x.value xs.value)))
+      bound (are.statement sight label y) (λ x. are.statements sight ys >>= λ xs. Some (are.before y x xs)) x.value x.is
+      (bound (are.statements sight ys) (λ xs. Some (are.before y x.value xs)) xs.value xs.is (this (are.before y x.value xs.value)))
 
   conditionals_given : (bs : t.Conditionals) (sight : Sight) (last : s.Branches) → IsKept (broken.conditionals sight bs) → IsGiven (are.conditionals sight last bs)
   conditionals_given t.no_conditionals sight last h = this last

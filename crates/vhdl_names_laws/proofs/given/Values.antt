@@ -1,6 +1,9 @@
 -- Subtypes, and values of constants and defaults, that break no rule are given (IEEE 1076-2008, 6.3 and 6.4.2).
-use Rattle.std.proofs.Common.{◌≡◌, ℕ, true, false, [], ◌∷◌, Option, Some, None, refl, ap, ◌∙◌}
+use Rattle.std.proofs.Common.{◌≡◌, ℕ, Bool, true, false, not, cond, List, [], ◌∷◌, Option, Some, None, refl, ap, ◌∙◌}
 use Rattle.std.specs.Prelude.{is_some, option_map}
+use Rattle.std.specs.Option.{option_or}
+use Rattle.vhdl_lexer.specs.declared.language.Language.{Language}
+use Rattle.vhdl_lexer.specs.declared.language.Language.TheVariants.{Profile, Wide}
 use Rattle.vhdl_tree.specs.declared.operator.Direction.{Direction}
 use Rattle.vhdl_tree.specs.Tree as t
 use Rattle.vhdl_tree.specs.Tree.{Expr, Ident}
@@ -11,48 +14,83 @@ use Rattle.vhdl_names_rules.specs.declared.kind.ObjectType.TheVariants.{Elements
 use Rattle.vhdl_names_rules.specs.declared.fault.NameProblem.TheVariants.{TypeMismatch, LeftOut}
 use Rattle.vhdl_names_rules.specs.units.Expressions.{Range}
 use Rattle.vhdl_names_rules.specs.units.Units as u
-use Rattle.vhdl_names_rules.specs.Rules.{◌>>=◌, if_any}
+use Rattle.vhdl_names_rules.specs.Rules.{◌>>=◌, then_some, if_any, wider}
 use Rattle.vhdl_names_rules.specs.Visibility as visibility
-use Rattle.vhdl_names_rules.specs.Visibility.{Meaning, Sight, meaning}
+use Rattle.vhdl_names_rules.specs.Visibility.{Name, Meaning, DeclaredRange, Declared, Sight, meaning, declaration}
 use Rattle.vhdl_names_rules.specs.Literals.{nine_of, values_of_string, values_of_bits}
+use Rattle.vhdl_names_rules.specs.Operators as o
+use Rattle.vhdl_names_rules.specs.Operators.{Typed}
 use Rattle.vhdl_names_rules.specs.Names as names
 use Rattle.vhdl_names_rules.specs.Names.{Suffix}
+use Rattle.vhdl_names_rules.specs.Ranges.{declared_range}
 use Rattle.vhdl_names_rules.specs.Expressions as are
-use Rattle.vhdl_names_rules.specs.Expressions.{as_integer, is_one_name, typed_suffix, typed_each, static_range}
+use Rattle.vhdl_names_rules.specs.Expressions.{as_integer, is_one_name, suffix_of, typed_suffix, typed_each, static_range}
 use Rattle.vhdl_names_rules.specs.Subtypes as subtypes
-use Rattle.vhdl_names_rules.specs.Subtypes.{marked, named_value, encoded_value, literal_value, literal_values, filled_value}
-use Rattle.vhdl_names_rules.specs.problems.Broken.{unless, lacking, where_given}
-use Rattle.vhdl_names_rules.specs.problems.Places.{start}
+use Rattle.vhdl_names_rules.specs.Subtypes.{marked, one_range, index_range, is_range, value_range, integers_of, class_of, named_value, encoded_value, literal_value, literal_values, filled_value, plain_value, is_known_value, known_value}
+use Rattle.vhdl_names_rules.specs.problems.Broken.{Broken, nothing, ◌▸◌, unless, lacking, where_given, of_any}
+use Rattle.vhdl_names_rules.specs.problems.Places.{start, range_start}
 use Rattle.vhdl_names_rules.specs.problems.Operators.{string_problem}
 use Rattle.vhdl_names_rules.specs.problems.Expressions as expressions
 use Rattle.vhdl_names_rules.specs.problems.Subtypes as broken
-use Rattle.vhdl_names_rules.specs.problems.Subtypes.{is_marked, mark_problem, suffixed_problem, value_of}
+use Rattle.vhdl_names_rules.specs.problems.Subtypes.{marked_by, is_marked, mark_problem, is_index_range, suffixed_problem, value_of, value_start}
 use Rattle.vhdl_names_rules.proofs.laws.Rules.{comes, some_is}
 use Rattle.vhdl_names_rules.proofs.Telling.{IsKept}
-use Rattle.vhdl_names_rules.proofs.kept.Values.{range_given}
-use Rattle.vhdl_names_laws.proofs.given.Giving.{IsGiven, this, bound, mapped_given, parts, fails, holds, given, of_given, if_any_given}
-use Rattle.vhdl_names_laws.proofs.given.Expressions.{meaning_given, suffix_given, each_typed_given, static_range_given}
+use Rattle.vhdl_names_laws.proofs.given.Giving.{IsGiven, this, bound, ruled, that_given, mapped_given, parts, fails, holds, given, of_given, if_any_given}
+use Rattle.vhdl_names_laws.proofs.given.Expressions.{meaning_given, declaration_given, suffix_given, each_typed_given, static_range_given, value_given_given}
 
 -- ---- types of objects
 
-marked_given : (d : Meaning) (o : Option t.Range) (range : Option Range) → is_some range ≡ is_some o → is_marked d o ≡ true → IsGiven (marked d range)
-marked_given (visibility.element_type r) None None s h = this (record { type = Elements Element; form = u.element; is_resolved = r })
-marked_given (visibility.vector_type k r) (Some y) (Some z) s h = this (record { type = Elements k; form = u.vector z; is_resolved = r })
-marked_given (visibility.enumeration_type n count) None None s h = this (record { type = Enumeration n count; form = u.enumeration count; is_resolved = false })
-marked_given _ _ _ s h = absurd cc
+-- the range that stands there, and the type with the only range
+record MarkedGiven (sight : Sight) (m : Meaning) (own : Option DeclaredRange) (c : Option t.Constraint) : Type 0 where
+  range : IsGiven (if_any (index_range sight) c)
+  subtype : IsGiven (one_range own range.value >>= λ only. marked m only)
+
+marked_given : (sight : Sight) (m : Meaning) (own : Option DeclaredRange) (c : Option t.Constraint) → marked_by m own c ≡ true → IsKept (of_any (broken.constraint sight) c) → MarkedGiven sight m own c
+marked_given sight (visibility.element_type r) None None e h = record { range = this None; subtype = this (record { type = Elements Element; form = u.element; is_resolved = r }) }
+marked_given sight (visibility.vector_type k b) None (Some (t.index_range r)) e h =
+    let x = static_range_given sight r h in
+    record { range = bound (static_range sight r) (λ y. Some (Some y)) x.value x.is (this (Some x.value)); subtype = this (record { type = Elements k; form = u.vector x.value; is_resolved = b }) }
+marked_given sight (visibility.vector_type k b) (Some own) None e h = record { range = this None; subtype = this (record { type = Elements k; form = u.vector (declared_range own); is_resolved = b }) }
+marked_given sight (visibility.enumeration_type n count) None None e h = record { range = this None; subtype = this (record { type = Enumeration n count; form = u.enumeration count; is_resolved = false }) }
+marked_given sight m own c e h = absurd cc
 
 pub subtype_given : (sight : Sight) (s : t.Subtype) → IsKept (broken.subtype sight s) → IsGiven (subtypes.subtype sight s)
 unfolding subtypes.subtype
 subtype_given sight s h =
     let k = parts _ _ h in
     let l = parts _ _ k.1 in
-    let d = meaning_given sight s.mark k.0 in
-    let range = if_any_given (expressions.static_range sight) (static_range sight) (static_range_given sight) s.range l.1 in
-    let e = holds (mark_problem d.value) s.mark.at (is_marked d.value s.range)
-    (of_given (λ d. unless (mark_problem d) s.mark.at (is_marked d s.range)) (meaning sight s.mark.text) d.value d.is l.0) in
-    bound (if_any (static_range sight) s.range) (λ range. meaning sight s.mark.text >>= λ mark. marked mark range) range.value range.is
-    (bound (meaning sight s.mark.text) (λ mark. marked mark range.value) d.value d.is
-    (marked_given d.value s.range range.value (range_given (static_range sight) s.range range.value range.is) e))
+    let d = declaration_given sight s.mark k.0 in
+    let e = holds (mark_problem d.value.meaning) s.mark.at (is_marked d.value s.constraint)
+    (of_given (λ d. unless (mark_problem d.meaning) s.mark.at (is_marked d s.constraint)) (declaration sight s.mark.text) d.value d.is l.0) in
+    let m = marked_given sight d.value.meaning d.value.range s.constraint e l.1 in
+    bound (if_any (index_range sight) s.constraint) (λ range. declaration sight s.mark.text >>= λ mark. one_range mark.range range >>= λ only. marked mark.meaning only) m.range.value m.range.is
+    (bound (declaration sight s.mark.text) (λ mark. one_range mark.range m.range.value >>= λ only. marked mark.meaning only) d.value d.is m.subtype)
+
+-- ---- integers
+
+value_range_given : (sight : Sight) (at : ℕ) (c : t.Constraint) → IsKept (unless LeftOut at (not (is_index_range c)) ▸ broken.constraint sight c) → IsGiven (value_range sight c)
+value_range_given sight at (t.index_range r) h = absurd (fails LeftOut at (broken.constraint sight (t.index_range r)) h)
+value_range_given sight at (t.value_range r) h =
+    let k = parts (unless LeftOut at true) (broken.constraint sight (t.value_range r)) h in
+    let l = parts _ _ k.1 in
+    let x = static_range_given sight r l.1 in
+    ruled (is_range r) _ (holds LeftOut (range_start r) (is_range r) l.0)
+    (bound (static_range sight r) (λ x. Some (range_start r, x)) x.value x.is (this (range_start r, x.value)))
+
+integers_given : (n : Name) (m : Meaning) (r : Option DeclaredRange) (g : Bool) → class_of m ≡ subtypes.integers → IsGiven (integers_of (record { name = n; meaning = m; range = r; is_global = g }))
+integers_given n (visibility.integer_type w) None g h = this (u.of_type w)
+integers_given n (visibility.integer_type w) (Some r) g h = this (u.of_range r.number)
+integers_given n _ r g h = absurd cc
+
+pub integer_subtype_given : (sight : Sight) (s : t.Subtype) (mark : Declared) → declaration sight s.mark.text ≡ Some mark → class_of mark.meaning ≡ subtypes.integers → IsKept (broken.integer_subtype sight s)
+    → IsGiven (subtypes.integer_subtype sight s)
+unfolding subtypes.integer_subtype
+integer_subtype_given sight s mark d class h =
+    let range = if_any_given (λ c. unless LeftOut s.mark.at (not (is_index_range c)) ▸ broken.constraint sight c) (value_range sight) (value_range_given sight s.mark.at) s.constraint h in
+    let base = integers_given mark.name mark.meaning mark.range mark.is_global class in
+    bound (if_any (value_range sight) s.constraint) _ range.value range.is
+    (bound (declaration sight s.mark.text) _ mark d
+    (bound (integers_of mark) (λ base. Some (record { base = base; range = range.value })) base.value base.is (this (record { base = base.value; range = range.value }))))
 
 -- ---- literals as they stand
 
@@ -88,6 +126,11 @@ value_of_name sight type n suffix s d e f h =
     (of_given (λ s. lacking (suffixed_problem type d s) n.at (value_of type d s)) (typed_suffix sight suffix) s e
     (of_given (λ d. where_given (typed_suffix sight suffix) (λ s. lacking (suffixed_problem type d s) n.at (value_of type d s))) (meaning sight n.text) d f h))
 
+-- the name of a range is no argument of to_unsigned
+arguments_given : (type : ObjectType) (d : Meaning) (b : Bool) (xs : List Typed) → IsGiven (value_of type d (suffix_of b xs)) → IsGiven (encoded_value type d xs)
+arguments_given type d b (o.interval r ∷ []) g = let none = g.is in absurd cc
+arguments_given type d b xs g = g
+
 -- a slice is no value
 no_slice : (sight : Sight) (type : ObjectType) (d : Meaning) (l y : Expr) (direction : Direction) (s : Suffix) → typed_suffix sight (t.sliced l direction y) ≡ Some s
     → IsGiven (value_of type d s) → ⊥
@@ -117,7 +160,8 @@ fixed_given sight type (t.named n (t.arguments es) None) h =
     let xs = each_typed_given es sight l.0 in
     bound (meaning sight n.text) (λ mark. typed_each sight es >>= λ xs. encoded_value type mark xs) d.value d.is
     (bound (typed_each sight es) (λ xs. encoded_value type d.value xs) xs.value xs.is
-    (value_of_name sight type n (t.arguments es) (names.arguments (is_one_name es) xs.value) d.value (ap (option_map (names.arguments (is_one_name es))) xs.is) d.is m.1))
+    (arguments_given type d.value (is_one_name es) xs.value
+    (value_of_name sight type n (t.arguments es) (suffix_of (is_one_name es) xs.value) d.value (ap (option_map (suffix_of (is_one_name es))) xs.is) d.is m.1)))
 fixed_given sight type (t.named n (t.sliced l r y) None) h =
     let k = parts _ _ h in
     let p = parts _ _ k.1 in
@@ -133,9 +177,34 @@ fixed_given sight type (t.named n s (Some a)) h =
     absurd cc
 fixed_given sight type e h = literal_given type e h
 
-pub fixed_value_given : (sight : Sight) (type : ObjectType) (v : t.Value) → IsKept (broken.fixed_value sight type v) → IsGiven (subtypes.fixed_value sight type v)
-unfolding subtypes.fixed_value
-fixed_value_given sight type (t.single e) h = fixed_given sight type e h
-fixed_value_given sight type (t.others at e) h =
+plain_value_given : (sight : Sight) (type : ObjectType) (v : t.Value) → IsKept (broken.plain_value sight type v) → IsGiven (plain_value sight type v)
+plain_value_given sight type (t.single e) h = fixed_given sight type e h
+plain_value_given sight type (t.others at e) h =
     let k = parts _ _ h in
     given TypeMismatch (start e) (filled_value type e) (parts _ _ k.1).1
+
+known_value_given : (sight : Sight) (type : ObjectType) (r : Option Range) (v : t.Value) → IsKept (broken.known_value sight type r v) → IsGiven (known_value sight type r v)
+known_value_given sight type r v h =
+    let k = parts (expressions.value_given sight type r v) _ h in
+    let g = value_given_given sight type r v k.0 in
+    let l = of_given (λ g. unless LeftOut (value_start v) (is_known_value g)) (are.value_given sight type r v) g.value g.is k.1 in
+    bound (are.value_given sight type r v) (λ g. then_some (is_known_value g) (u.Fixed.given g)) g.value g.is
+    (that_given (is_known_value g.value) (u.Fixed.given g.value) (holds LeftOut (value_start v) (is_known_value g.value) l))
+
+-- one of two
+first_given : {A : Type 0} (o p : Option A) → IsGiven o → IsGiven (option_or o p)
+first_given None p g = let none = g.is in absurd cc
+first_given (Some x) p g = this x
+
+second_given : {A : Type 0} (o p : Option A) (b : Broken) → (IsKept b → IsGiven p) → IsKept (cond (is_some o) nothing b) → IsGiven (option_or o p)
+second_given None p b one h = one h
+second_given (Some x) p b one h = this x
+
+value_in_given : (language : Language) (sight : Sight) (type : ObjectType) (r : Option Range) (v : t.Value) → IsKept (broken.fixed_value_in language sight type r v)
+    → IsGiven (option_or (plain_value sight type v) (wider language (known_value sight type r v)))
+value_in_given Profile sight type r v h = first_given (plain_value sight type v) None (plain_value_given sight type v h)
+value_in_given Wide sight type r v h = second_given (plain_value sight type v) (known_value sight type r v) (broken.known_value sight type r v) (known_value_given sight type r v) h
+
+pub fixed_value_given : (sight : Sight) (type : ObjectType) (r : Option Range) (v : t.Value) → IsKept (broken.fixed_value sight type r v) → IsGiven (subtypes.fixed_value sight type r v)
+unfolding subtypes.fixed_value
+fixed_value_given sight type r v h = value_in_given sight.language sight type r v h

@@ -13,12 +13,13 @@ use Rattle.vhdl_names_rules.specs.Visibility.{Sight}
 use Rattle.vhdl_names_rules.specs.Choices as are
 use Rattle.vhdl_names_rules.specs.Choices.{named_choice, selector, is_last_others, names_all}
 use Rattle.vhdl_names_rules.specs.problems.Broken.{Broken, any_of, lacking, unless}
-use Rattle.vhdl_names_rules.specs.problems.Places.{choice_place}
+use Rattle.vhdl_names_rules.specs.problems.Places.{start, choice_place}
 use Rattle.vhdl_names_rules.specs.problems.Choices as broken
 use Rattle.vhdl_names_rules.specs.problems.Choices.{choice_problem}
 use Rattle.vhdl_names_rules.specs.problems.Covered.{stands, once, each_once, alternative_in_place, is_empty, in_place, covered, any_alternative}
-use Rattle.vhdl_names_laws.proofs.placed.Told.{Stand, EachStands, Told, told_nothing, told_refused, told_unless, told_lacking, told_given, told_behind, told_earlier, told_any}
-use Rattle.vhdl_names_laws.proofs.placed.Expressions.{choice_stands, meaning_told, asked_told}
+use Rattle.vhdl_names_laws.proofs.placed.Told.{Stand, EachStands, first, Told, told_nothing, told_refused, told_unless, told_lacking, told_given, told_behind, told_earlier, told_any}
+use Rattle.vhdl_names_laws.proofs.placed.Starts.{start_stands, choice_stands}
+use Rattle.vhdl_names_laws.proofs.placed.Expressions.{meaning_told, asked_told}
 use Rattle.vhdl_names_laws.proofs.placed.Subtypes.{literal_told}
 
 -- ---- one choice
@@ -34,6 +35,7 @@ chosen_told P sight type e h = literal_told P type e h
 
 choice_told : (P : ℕ → Type 0) (sight : Sight) (type : ObjectType) (c : t.Choice) → Stand P (spell_choice c) → Told P (broken.choice sight type c)
 choice_told P sight type (t.chosen e) h = chosen_told P sight type e h
+choice_told P sight type (t.chosen_range d direction e) h = told_refused LeftOut (start d) (start_stands P d (first P (spell d) _ h))
 choice_told P sight type (t.otherwise at) h = told_refused WrongKind at h.0
 
 abbrev pub ChoicesStand : (ℕ → Type 0) → List t.Choice → Type 0
@@ -45,6 +47,7 @@ any_choice_told P sight type cs h = told_any (λ c. Stand P (spell_choice c)) (b
 pub choices_told : (P : ℕ → Type 0) (sight : Sight) (type : ObjectType) (cs : List t.Choice) → ChoicesStand P cs → Told P (broken.choices sight type cs)
 choices_told P sight type (t.otherwise at ∷ (c ∷ cs)) h = any_choice_told P sight type (t.otherwise at ∷ (c ∷ cs)) h
 choices_told P sight type (t.chosen e ∷ cs) h = any_choice_told P sight type (t.chosen e ∷ cs) h
+choices_told P sight type (t.chosen_range d direction e ∷ cs) h = any_choice_told P sight type (t.chosen_range d direction e ∷ cs) h
 choices_told _ sight type _ h = told_nothing
 
 pub selected_by_told : (P : ℕ → Type 0) (sight : Sight) (e : Expr) → Stand P (spell e) → Told P (broken.selected_by sight e)

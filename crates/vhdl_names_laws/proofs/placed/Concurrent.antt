@@ -1,5 +1,5 @@
 -- What is told of concurrent statements stands at a piece of them.
-use Rattle.std.proofs.Common.{ℕ, Bool, List, [], ◌∷◌, map, Option, Some, None}
+use Rattle.std.proofs.Common.{ℕ, Bool, false, List, [], ◌∷◌, map, Option, Some, None}
 use Rattle.std.specs.List.{AllByRecursion}
 use Rattle.std.specs.Option.{is_some}
 use Rattle.vhdl_lexer.specs.declared.token.TokenKind.TheVariants as k
@@ -7,9 +7,10 @@ use Rattle.vhdl_tree.specs.Tree as t
 use Rattle.vhdl_tree.specs.Tree.{Ident}
 use Rattle.vhdl_tree.specs.Pieces.{spell_ident, spell_option, spell_word, spell_each, spell_list}
 use Rattle.vhdl_tree.specs.grammar.Expressions.{spell, spell_name, spell_value, spell_choice}
+use Rattle.vhdl_tree.specs.grammar.Waveforms.{spell_waveforms}
 use Rattle.vhdl_tree.specs.grammar.Sequential.{spell_label, spell_statements}
-use Rattle.vhdl_tree.specs.grammar.Process.{spell_sensitivity, spell_variables, spell_wait, spell_process, spell_waveform, spell_selected}
-use Rattle.vhdl_tree.specs.grammar.Concurrent.{spell_branch, spell_otherwise, spell_waveforms, spell_assignment, spell_scheme, spell_concurrent, spell_concurrents}
+use Rattle.vhdl_tree.specs.grammar.Process.{spell_sensitivity, spell_process_declaration, spell_wait, spell_process, spell_waveform, spell_selected}
+use Rattle.vhdl_tree.specs.grammar.Concurrent.{spell_assignment, spell_scheme, spell_concurrent, spell_concurrents}
 use Rattle.vhdl_names_rules.specs.declared.kind.ObjectType.{ObjectType}
 use Rattle.vhdl_names_rules.specs.declared.fault.NameProblem.TheVariants.{NoSensitivity, LeftOut}
 use Rattle.vhdl_names_rules.specs.Visibility.{Sight, with_variables}
@@ -20,52 +21,23 @@ use Rattle.vhdl_names_rules.specs.Interfaces.{EntityView}
 use Rattle.vhdl_names_rules.specs.Concurrent.{sight_within}
 use Rattle.vhdl_names_rules.specs.problems.Labels.{labels_of, statement_labels}
 use Rattle.vhdl_names_rules.specs.problems.Broken.{◌▸◌, lacking, any_of}
-use Rattle.vhdl_names_rules.specs.problems.Statements.{signal, assigned}
-use Rattle.vhdl_names_rules.specs.problems.Declarations.{variables}
+use Rattle.vhdl_names_rules.specs.problems.Statements.{signal}
+use Rattle.vhdl_names_rules.specs.problems.Declarations.{process_declaration}
 use Rattle.vhdl_names_rules.specs.problems.Concurrent as broken
-use Rattle.vhdl_names_laws.proofs.placed.Told.{Stand, EachStands, first, behind, Told, told_nothing, told_refused, told_unless, told_lacking, told_given, told_behind, told_earlier, told_any, option_told, each_stands, list_stands}
+use Rattle.vhdl_names_laws.proofs.placed.Told.{Stand, EachStands, first, behind, Told, told_nothing, told_refused, told_unless, told_lacking, told_given, told_behind, told_earlier, told_any, each_stands, list_stands}
 use Rattle.vhdl_names_laws.proofs.placed.Expressions.{static_range_told, condition_told, static_condition_told}
 use Rattle.vhdl_names_laws.proofs.placed.Choices.{ChoicesStand, choices_told, covered_told, any_alternative_told}
-use Rattle.vhdl_names_laws.proofs.placed.Statements.{signal_told, target_told, assigned_told, end_told, by_selector_told, statements_told}
-use Rattle.vhdl_names_laws.proofs.placed.Declarations.{twice_told, end_name_told, in_order_told, variables_told}
+use Rattle.vhdl_names_laws.proofs.placed.Statements.{signal_told, target_told, assigned_told, conditional_told, end_told, by_selector_told, statements_told}
+use Rattle.vhdl_names_laws.proofs.placed.Declarations.{twice_told, end_name_told, in_order_told, process_declaration_told}
 use Rattle.vhdl_names_laws.proofs.placed.Instances.{instance_told}
 use Rattle.vhdl_names_laws.proofs.placed.Labels.{labels_stand, statements_stand}
 
--- ---- conditional assignments
-
--- the branches and the last value
-pub record BranchesStand (P : ℕ → Type 0) (bs : List t.Branch) (o : Option t.Value) : Type 0 where
-  pub branches : EachStands P spell_branch bs
-  pub last : Stand P (spell_option spell_value o)
-
-otherwise_stand : (P : ℕ → Type 0) (bs : List t.Branch) (o : Option t.Value) → Stand P (spell_otherwise bs o) → BranchesStand P bs o
-otherwise_stand P [] None h = record { branches = tt; last = tt }
-otherwise_stand P [] (Some v) h = record { branches = tt; last = h.1 }
-otherwise_stand P (b ∷ more) o h =
-    let rest = otherwise_stand P more o (behind P (spell_branch b) (spell_otherwise more o) h.1) in
-    record { branches = (first P (spell_branch b) (spell_otherwise more o) h.1, rest.branches); last = rest.last }
-
-pub waveforms_stand : (P : ℕ → Type 0) (bs : List t.Branch) (o : Option t.Value) → Stand P (spell_waveforms bs o) → BranchesStand P bs o
-waveforms_stand P [] None h = record { branches = tt; last = tt }
-waveforms_stand P [] (Some v) h = record { branches = tt; last = h }
-waveforms_stand P (b ∷ more) o h =
-    let rest = otherwise_stand P more o (behind P (spell_branch b) (spell_otherwise more o) h) in
-    record { branches = (first P (spell_branch b) (spell_otherwise more o) h, rest.branches); last = rest.last }
-
-branch_told : (P : ℕ → Type 0) (sight : Sight) (n : t.Name) → Stand P (spell_name n) → (b : t.Branch) → Stand P (spell_branch b) → Told P (broken.branch sight n b)
-branch_told P sight n h b g =
-    told_behind (assigned_told P sight n b.value h (first P (spell_value b.value) _ g)) (condition_told P sight b.condition (behind P (spell_value b.value) _ g).1)
+-- ---- conditional and selected assignments
 
 assignment_told : (P : ℕ → Type 0) (sight : Sight) (a : t.Assignment) → Stand P (spell_assignment a) → Told P (broken.assignment sight a)
 assignment_told P sight a h =
     let all = behind P (spell_option spell_label a.label) _ h in
-    let n = first P (spell_name a.target) _ all in
-    let values = waveforms_stand P a.branches a.otherwise (first P (spell_waveforms a.branches a.otherwise) _ (behind P (spell_name a.target) _ all).1) in
-    told_behind (target_told P sight a.target n)
-    (told_behind (told_any (λ b. Stand P (spell_branch b)) (broken.branch sight a.target) (branch_told P sight a.target n) a.branches values.branches)
-    (option_told P spell_value (assigned sight a.target) (λ v g. assigned_told P sight a.target v n g) a.otherwise values.last))
-
--- ---- selected assignments
+    conditional_told P sight false a.target a.branches a.otherwise (first P (spell_name a.target) _ all) (first P (spell_waveforms a.branches a.otherwise) _ (behind P (spell_name a.target) _ all).1)
 
 waveform_choices : (P : ℕ → Type 0) (ws : List t.Waveform) → EachStands P spell_waveform ws → AllByRecursion (ChoicesStand P) (map (λ w. w.choices) ws)
 waveform_choices P [] h = tt
@@ -106,15 +78,16 @@ process_told : (P : ℕ → Type 0) (sight : Sight) (label : Option Ident) (p : 
 process_told P sight label p h =
     let word = behind P (spell_sensitivity p.sensitivity) _ h.1 in
     let declared = behind P (spell_word k.Is p.is_word) _ word in
-    let vs = each_stands P spell_variables p.variables (first P (spell_each spell_variables p.variables) _ declared) in
-    let inner = (behind P (spell_each spell_variables p.variables) _ declared).1 in
+    let ds = each_stands P spell_process_declaration p.declarations (first P (spell_each spell_process_declaration p.declarations) _ declared) in
+    let inner = (behind P (spell_each spell_process_declaration p.declarations) _ declared).1 in
     let waits = first P (spell_option spell_wait p.wait) _ inner in
     let body = behind P (spell_option spell_wait p.wait) _ inner in
     let xs = t.statements_of p.statements in
     let stands = first P (spell_statements xs) _ body in
     told_behind (sensitivity_told P sight p.at p.sensitivity (is_some p.wait) h.0 (first P (spell_sensitivity p.sensitivity) _ h.1))
-    (told_behind (in_order_told P (λ d. Stand P (spell_variables d)) with_variables declarations.variables variables (variables_told P) p.variables sight vs)
-    (told_behind (told_given (declarations.in_order with_variables declarations.variables sight p.variables) (λ vs. broken.awaited (with_variables sight vs.declared) p.sensitivity p.wait ▸ broken.body (with_variables sight vs.declared) xs)
+    (told_behind (in_order_told P (λ d. Stand P (spell_process_declaration d)) with_variables declarations.process_declaration process_declaration (process_declaration_told P) p.declarations sight ds)
+    (told_behind (told_given (declarations.in_order with_variables declarations.process_declaration sight p.declarations)
+    (λ ds. broken.awaited (with_variables sight ds.declared) p.sensitivity p.wait ▸ broken.body (with_variables sight ds.declared) xs)
     (λ x. told_behind (awaited_told P (with_variables sight x.declared) p.sensitivity p.wait waits)
     (told_earlier (twice_told P (statement_labels xs) [] (statements_stand xs P stands)) (statements_told xs P (with_variables sight x.declared) stands))))
     (end_told P k.Process label p.end_label (behind P (spell_statements xs) _ body))))
@@ -140,6 +113,7 @@ mutual
       told_behind (scheme_told P sight at s (first P (spell_scheme at s) _ h.1.1))
       (told_behind (told_earlier (twice_told P (labels_of cs) [] (labels_stand P cs inner)) (concurrents_told cs P entities (sight_within sight s) inner))
       (end_name_told P label end (first P (spell_option spell_ident end) _ (behind P (spell_concurrents cs) _ body).1.1)))
+  concurrent_told (t.assertion a) P entities sight h = told_nothing
 
   pub concurrents_told : (cs : t.Concurrents) (P : ℕ → Type 0) (entities : List EntityView) (sight : Sight) → Stand P (spell_concurrents cs) → Told P (broken.concurrents entities sight cs)
   concurrents_told t.no_concurrents P entities sight h = told_nothing

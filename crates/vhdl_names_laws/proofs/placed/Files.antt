@@ -1,8 +1,9 @@
 -- What is told of a file stands at a piece of it.
-use Rattle.std.proofs.Common.{ℕ, Bool, true, false, not, ◌&&◌, List, [], ◌∷◌, ◌++◌, Option, Some, None, subst}
+use Rattle.std.proofs.Common.{ℕ, Bool, true, not, ◌&&◌, List, [], ◌∷◌, ◌++◌, Option, Some, None, subst}
 use Rattle.std.specs.Prelude.{nat_eq}
 use Rattle.std.specs.List.{AllByRecursion, cons_option, list_any}
 use Rattle.vhdl_lexer.specs.declared.token.TokenKind.TheVariants as k
+use Rattle.vhdl_lexer.specs.declared.language.Language.{Language}
 use Rattle.vhdl_lexer.specs.declared.language.Language.TheVariants.{Wide}
 use Rattle.vhdl_tree.specs.Tree as t
 use Rattle.vhdl_tree.specs.Tree.{File, DesignUnit, LibraryUnit, ContextItem}
@@ -13,7 +14,7 @@ use Rattle.vhdl_tree.specs.grammar.Units.{spell_context, spell_entity, spell_arc
 use Rattle.vhdl_names_rules.specs.declared.fault.NameProblem.TheVariants.{Undeclared, Twice, SecondArchitecture}
 use Rattle.vhdl_names_rules.specs.Visibility.{Name, Sight, is_among, with_declared}
 use Rattle.vhdl_names_rules.specs.Packages as packages
-use Rattle.vhdl_names_rules.specs.Packages.{Context, sight_of}
+use Rattle.vhdl_names_rules.specs.Packages.{Context, no_context, sight_of}
 use Rattle.vhdl_names_rules.specs.Declarations as declarations
 use Rattle.vhdl_names_rules.specs.Interfaces.{EntityView, entity_named}
 use Rattle.vhdl_names_rules.specs.Concurrent.{concurrent_labels}
@@ -27,7 +28,7 @@ use Rattle.vhdl_names_rules.specs.problems.Files as broken
 use Rattle.vhdl_names_rules.specs.problems.Files.{with_labels, mentions, up_to_hidden, is_hidden, entities_given, described}
 use Rattle.vhdl_names_laws.proofs.Labels.{spelled_alike}
 use Rattle.vhdl_names_laws.proofs.placed.Told.{Stand, EachStands, first, behind, Told, told_nothing, told_unless, told_given, told_behind, told_if, told_earlier, told_any, each_stands}
-use Rattle.vhdl_names_laws.proofs.placed.Declarations.{ItemsStand, standing_told, context_told, in_order_told, signals_told, constants_told, enumeration_told}
+use Rattle.vhdl_names_laws.proofs.placed.Declarations.{ItemsStand, standing_told, context_told, in_order_told, signals_told, constants_told, subtype_declaration_told, enumeration_told}
 use Rattle.vhdl_names_laws.proofs.placed.Interfaces.{unit_end_told, entity_told, component_told}
 use Rattle.vhdl_names_laws.proofs.placed.Labels.{labels_stand}
 use Rattle.vhdl_names_laws.proofs.placed.Concurrent.{concurrents_told}
@@ -37,8 +38,10 @@ use Rattle.vhdl_names_laws.proofs.placed.Concurrent.{concurrents_told}
 declaration_told : (P : ℕ → Type 0) (entities : List EntityView) (sight : Sight) (d : t.Declaration) → Stand P (spell_declaration d) → Told P (broken.declaration entities sight d)
 declaration_told P entities sight (t.signals d) h = signals_told P sight d h
 declaration_told P entities sight (t.constants d) h = constants_told P sight d h
-declaration_told P entities sight (t.enumeration d) h = enumeration_told P sight d h
+declaration_told P entities sight (t.enumeration d) h = enumeration_told P sight.region d h
 declaration_told P entities sight (t.component c) h = component_told P entities sight c h
+declaration_told P entities sight (t.subtype_of d) h = subtype_declaration_told P sight d h
+declaration_told P entities sight (t.attribute_of text) h = told_nothing
 
 body_told : (P : ℕ → Type 0) (entities : List EntityView) (sight : Sight) (cs : t.Concurrents) → Stand P (spell_concurrents cs) → Told P (broken.body entities sight cs)
 body_told P entities sight cs h =
@@ -129,21 +132,23 @@ names_told P (d ∷ ds) before h = told_behind (name_told P before d.unit h.0.un
 
 -- ---- files
 
-described_told : (P : ℕ → Type 0) (ns : List Name) (entities : List EntityView) (a : List ContextItem × t.Architecture) → ArchitectureStands P a → Told P (described ns entities a)
-described_told P ns entities (items, a) h = by_told (entity_named entities a.entity.text)
+described_told : (P : ℕ → Type 0) (language : Language) (ns : List Name) (entities : List EntityView) (a : List ContextItem × t.Architecture) → ArchitectureStands P a
+    → Told P (described language ns entities a)
+described_told P language ns entities (items, a) h = by_told (entity_named entities a.entity.text)
   where
     by : Option (ℕ × EntityView) → Broken
-    by None = context (record { has_ieee = true; has_logic = false; has_numbers = false }) items
+    by None = context (record (no_context language) { has_ieee = true }) items
     by (Some (k, e)) = up_to_hidden (is_hidden ns entities) a (broken.architecture entities e items a)
 
     by_told : (o : Option (ℕ × EntityView)) → Told P (by o)
-    by_told None = context_told P items (record { has_ieee = true; has_logic = false; has_numbers = false }) h.0
+    by_told None = context_told P items (record (no_context language) { has_ieee = true }) h.0
     by_told (Some (n, e)) = up_to_told P (is_hidden ns entities) a (broken.architecture entities e items a) (architecture_told P entities e items a h.0 h.1)
 
-pub file_told : (P : ℕ → Type 0) (f : File) → IsFileIn Wide f → Stand P (spell_file f) → Told P (broken.file f)
-file_told P f well h =
+pub file_told : (P : ℕ → Type 0) (language : Language) (f : File) → IsFileIn Wide f → Stand P (spell_file f) → Told P (broken.file language f)
+file_told P language f well h =
     let units = units_stand P f.units well h in
+    let ns = entity_names f.units in
+    let entities = entities_given language f.units in
     told_earlier (names_told P f.units [] units)
-    (told_earlier (told_any (EntityStands P) (λ e. entity e.0 e.1) (λ e g. entity_told P e.0 e.1 g.0 g.1) (entities_of f.units) (entities_stand P f.units units))
-    (told_any (ArchitectureStands P) (described (entity_names f.units) (entities_given f.units)) (described_told P (entity_names f.units) (entities_given f.units)) (architectures_of f.units)
-    (architectures_stand P f.units units)))
+    (told_earlier (told_any (EntityStands P) (λ e. entity language e.0 e.1) (λ e g. entity_told P language e.0 e.1 g.0 g.1) (entities_of f.units) (entities_stand P f.units units))
+    (told_any (ArchitectureStands P) (described language ns entities) (described_told P language ns entities) (architectures_of f.units) (architectures_stand P f.units units)))

@@ -1,5 +1,5 @@
 -- What is told of an instance stands at a piece of it.
-use Rattle.std.proofs.Common.{ℕ, Bool, false, not, ◌||◌, List, [], ◌∷◌, ◌++◌, map, Option, Some, None}
+use Rattle.std.proofs.Common.{ℕ, Bool, true, false, not, ◌||◌, List, [], ◌∷◌, ◌++◌, map, Option, Some, None}
 use Rattle.std.specs.Prelude.{drop, bytes_eq, codes}
 use Rattle.std.specs.List.{slice_get, filter_map}
 use Rattle.vhdl_lexer.specs.declared.token.TokenKind.{TokenKind}
@@ -9,22 +9,31 @@ use Rattle.vhdl_tree.specs.Tree.{Ident, Expr, Association}
 use Rattle.vhdl_tree.specs.Pieces.{spell_ident, spell_option, spell_word}
 use Rattle.vhdl_tree.specs.grammar.Expressions.{spell, spell_name, spell_actual, spell_formal, spell_association, spell_associations}
 use Rattle.vhdl_tree.specs.grammar.Instance.{spell_chosen, spell_instantiated, spell_map, spell_instance}
+use Rattle.vhdl_names_rules.specs.declared.kind.ElementKind.{ElementKind}
+use Rattle.vhdl_names_rules.specs.declared.kind.ObjectType.TheVariants.{Elements}
 use Rattle.vhdl_names_rules.specs.declared.fault.NameProblem.TheVariants.{Undeclared, Twice, WrongKind, TypeMismatch, WriteOfIn, LeftOut}
 use Rattle.vhdl_names_rules.specs.Rules.{all_of}
 use Rattle.vhdl_names_rules.specs.Visibility as visibility
 use Rattle.vhdl_names_rules.specs.Visibility.{Name, Sight, is_among}
+use Rattle.vhdl_names_rules.specs.Operators as o
+use Rattle.vhdl_names_rules.specs.Operators.{Typed, is_vector}
+use Rattle.vhdl_names_rules.specs.Expressions as expressions
+use Rattle.vhdl_names_rules.specs.Expressions.{as_value}
 use Rattle.vhdl_names_rules.specs.Interfaces.{EntityView, entity_named}
 use Rattle.vhdl_names_rules.specs.Statements as statements
 use Rattle.vhdl_names_rules.specs.Instances as are
-use Rattle.vhdl_names_rules.specs.Instances.{Formal, is_named, formal_of, expression_of, as_name, is_kind, may_join, is_architecture, as_component, generic_name, port_formal}
+use Rattle.vhdl_names_rules.specs.Instances.{Formal, is_named, formal_of, expression_of, as_name, is_kind, may_join, is_architecture, as_component, GenericKind, GenericFormal, generic_formal, port_formal, value_as_actual}
 use Rattle.vhdl_names_rules.specs.problems.Broken.{Broken, ◌▸◌, unless, lacking, where_given, of_any, any_of}
 use Rattle.vhdl_names_rules.specs.problems.Places.{start, association_place}
-use Rattle.vhdl_names_rules.specs.problems.Expressions.{static}
 use Rattle.vhdl_names_rules.specs.problems.Instances as broken
-use Rattle.vhdl_names_rules.specs.problems.Instances.{names_value, ports_named}
-use Rattle.vhdl_names_laws.proofs.placed.Told.{Stand, EachStands, first, behind, Told, told_nothing, told_refused, told_unless, told_lacking, told_given, told_behind, told_if, told_absent, option_told, list_stands}
-use Rattle.vhdl_names_laws.proofs.placed.Expressions.{start_stands, association_stands, meaning_told, static_told}
+use Rattle.vhdl_names_rules.specs.problems.Instances.{names_value, ports_named, generics_named}
+use Rattle.vhdl_names_laws.proofs.placed.Told.{Stand, EachStands, first, behind, Told, told_nothing, told_refused, told_unless, told_lacking, told_given, told_from, told_behind, told_if, told_absent, option_told, list_stands}
+use Rattle.vhdl_names_laws.proofs.placed.Starts.{start_stands, association_stands}
+use Rattle.vhdl_names_laws.proofs.placed.Aggregates.{aggregate_told}
+use Rattle.vhdl_names_laws.proofs.placed.Expressions.{meaning_told, typed_told, static_told, static_condition_told}
 use Rattle.vhdl_names_laws.proofs.placed.Statements.{named_told, signal_told}
+use Rattle.vhdl_names_laws.proofs.standing.Holding.{TypedHolds}
+use Rattle.vhdl_names_laws.proofs.standing.Expressions.{typed_holds}
 
 -- ---- which unit is instantiated
 
@@ -88,6 +97,32 @@ any_port_told : (P : ℕ → Type 0) (sight : Sight) (e : Expr) → Stand P (spe
 any_port_told P sight e h [] = told_nothing
 any_port_told P sight e h (f ∷ fs) = told_behind (port_actual_told P sight f e h) (any_port_told P sight e h fs)
 
+-- ---- actuals of generics
+
+given_told : (P : ℕ → Type 0) (k : ElementKind) (at : ℕ) (x : Typed) → P at → TypedHolds P x → Told P (broken.given_value k at x)
+given_told P k at (o.composite p es) h g =
+    told_behind (told_unless TypeMismatch p (is_vector k) g.0) (told_behind (aggregate_told P k true es g.1) (told_lacking LeftOut at (value_as_actual k (o.composite p es)) h))
+given_told P k at x h g = told_behind (told_lacking TypeMismatch at (as_value (Elements k) None x) h) (told_lacking LeftOut at (value_as_actual k x) h)
+
+value_actual_told : (P : ℕ → Type 0) (sight : Sight) (k : ElementKind) (e : Expr) → Stand P (spell e) → Told P (broken.value_actual sight k e)
+value_actual_told P sight k e h =
+    told_behind (typed_told e P sight h)
+    (told_from (expressions.typed sight e) (broken.given_value k (start e)) (λ x q. given_told P k (start e) x (start_stands P e h) (typed_holds e P sight x h q)))
+
+generic_actual_told : (P : ℕ → Type 0) (sight : Sight) (e : Expr) → Stand P (spell e) → (f : GenericFormal) → Told P (broken.generic_actual sight e f)
+generic_actual_told P sight e h f = by f.name f.kind
+  where
+    by : (n : Name) (kind : GenericKind) → Told P (broken.generic_actual sight e (record { name = n; kind = kind }))
+    by n are.integer = static_told P sight e h
+    by n are.boolean = static_condition_told P sight e h
+    by n (are.GenericKind.elements k) = value_actual_told P sight k e h
+
+any_generic_told : (P : ℕ → Type 0) (sight : Sight) (e : Expr) → Stand P (spell e) → (fs : List GenericFormal) → Told P (any_of (broken.generic_actual sight e) fs)
+any_generic_told P sight e h [] = told_nothing
+any_generic_told P sight e h (f ∷ fs) = told_behind (generic_actual_told P sight e h f) (any_generic_told P sight e h fs)
+
+-- ---- all associations
+
 pub map_stands : (P : ℕ → Type 0) (word : TokenKind) (o : Option (List Association)) → Stand P (spell_option (spell_map word) o) → EachStands P spell_association (all_of o)
 map_stands P word None h = tt
 map_stands P word (Some as') h = list_stands P k.Comma spell_association as' (first P (spell_associations as') _ h.1.1.1)
@@ -95,11 +130,13 @@ map_stands P word (Some as') h = list_stands P k.Comma spell_association as' (fi
 maps_told : (P : ℕ → Type 0) (sight : Sight) (e : EntityView) (i : t.Instance) → EachStands P spell_association (all_of i.generics) → EachStands P spell_association (all_of i.ports)
     → Told P (broken.maps sight e i)
 maps_told P sight e i h g =
-    let formals = filter_map port_formal e.interface.declared in
+    let generics = filter_map generic_formal e.interface.declared in
+    let ports = filter_map port_formal e.interface.declared in
     told_behind
-    (associations_told P (filter_map generic_name e.interface.declared) (λ n e. static sight e) (λ n e w. static_told P sight e w) (all_of i.generics) (filter_map generic_name e.interface.declared) false [] h)
-    (associations_told P (map (λ f. f.name) formals) (λ n e. any_of (λ f. broken.port_actual sight f e) (ports_named formals n)) (λ n e w. any_port_told P sight e w (ports_named formals n))
-    (all_of i.ports) (map (λ f. f.name) formals) false [] g)
+    (associations_told P (map (λ (f : GenericFormal). f.name) generics) (λ n e. any_of (broken.generic_actual sight e) (generics_named generics n)) (λ n e w. any_generic_told P sight e w (generics_named generics n))
+    (all_of i.generics) (map (λ (f : GenericFormal). f.name) generics) false [] h)
+    (associations_told P (map (λ (f : Formal). f.name) ports) (λ n e. any_of (λ f. broken.port_actual sight f e) (ports_named ports n)) (λ n e w. any_port_told P sight e w (ports_named ports n))
+    (all_of i.ports) (map (λ (f : Formal). f.name) ports) false [] g)
 
 -- ---- instances
 

@@ -3,7 +3,7 @@ use Rattle.std.proofs.Common.{ℕ, List, ◌∷◌, ◌++◌, Option, Some, None
 use Rattle.vhdl_tree.specs.Tree as t
 use Rattle.vhdl_tree.specs.Tree.{Ident}
 use Rattle.vhdl_tree.specs.Pieces.{spell_ident, spell_option}
-use Rattle.vhdl_tree.specs.grammar.Expressions.{spell, spell_range, spell_choices}
+use Rattle.vhdl_tree.specs.grammar.Expressions.{spell, spell_discrete_range, spell_choices}
 use Rattle.vhdl_tree.specs.grammar.Sequential.{spell_label, spell_statement, spell_statements, spell_conditionals, spell_elsifs, spell_else, spell_alternatives}
 use Rattle.vhdl_tree.specs.grammar.Concurrent.{spell_concurrent, spell_concurrents}
 use Rattle.vhdl_names_rules.specs.problems.Labels.{label_if_any, label_of, labels_of, inner_labels, statement_labels, conditional_labels, otherwise_labels, alternative_labels}
@@ -19,6 +19,7 @@ label_of_stands : (P : ℕ → Type 0) (c : t.Concurrent) → Stand P (spell_con
 label_of_stands P (t.assignment a) h = label_stands P a.label (first P (spell_option spell_label a.label) _ h)
 label_of_stands P (t.selected label a) h = label_stands P label (first P (spell_option spell_label label) _ h)
 label_of_stands P (t.process label p) h = label_stands P label (first P (spell_option spell_label label) _ h)
+label_of_stands P (t.assertion a) h = label_stands P a.label (first P (spell_option spell_label a.label) _ h)
 label_of_stands _ _ h = ((h.0, tt), tt)
 
 pub labels_stand : (P : ℕ → Type 0) (cs : t.Concurrents) → Stand P (spell_concurrents cs) → NamesStand P (labels_of cs)
@@ -38,7 +39,7 @@ mutual
       both P (conditional_labels bs) (otherwise_labels o) (conditional_stand bs P (first P (spell_conditionals bs) _ h.1))
       (otherwise_stand o P (first P (spell_else o) _ (behind P (spell_conditionals bs) _ h.1)))
   inner_stand (t.case_of at e alts end) P h = alternatives_stand alts P (first P (spell_alternatives alts) _ (behind P (spell e) _ h.1).1)
-  inner_stand (t.for_of at n r body end) P h = statements_stand body P (first P (spell_statements body) _ (behind P (spell_range r) _ h.1.1.1).1)
+  inner_stand (t.for_of at n r body end) P h = statements_stand body P (first P (spell_statements body) _ (behind P (spell_discrete_range r) _ h.1.1.1).1)
   inner_stand _ _ h = tt
 
   pub statements_stand : (xs : t.Statements) (P : ℕ → Type 0) → Stand P (spell_statements xs) → NamesStand P (statement_labels xs)

@@ -49,7 +49,7 @@ all_at (x ∷ ps) = (
 )
 
 pub faults_stand_at_tokens : FaultsStandAtTokens
-faults_stand_at_tokens f well = (file_told (Contains (bytes_of f)) f well (all_at (spell_file f))).is
+faults_stand_at_tokens language f well = (file_told (Contains (bytes_of f)) language f well (all_at (spell_file f))).is
 
 -- ---- in the text
 
@@ -90,6 +90,6 @@ tokens_lie (t ∷ ts) source n before at text e (rest, next, cuts) =
     (omega (arith, l, a, s, begins, e), tokens_lie ts source n (Some t.kind) t.end rest (omega (arith, l, a, begins, ends, e)) cuts)
 
 pub faults_lie_in_the_text : FaultsLieInTheText
-faults_lie_in_the_text source tokens f cuts spells well =
-    (file_told (λ at. at < length source) f well
+faults_lie_in_the_text language source tokens f cuts spells well =
+    (file_told (λ at. at < length source) language f well
     (pieces_lie (length source) (spell_file f) (lexemes source tokens) (tokens_lie tokens source (length source) None 0 source (omega arith) cuts) spells)).is

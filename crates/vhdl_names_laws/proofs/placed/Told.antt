@@ -1,5 +1,5 @@
 -- Where the pieces of a construct stand at bytes of which something holds, it holds of the byte at which is told that a rule is broken.
-use Rattle.std.proofs.Common.{ℕ, Bool, true, false, cond, List, [], ◌∷◌, ◌++◌, Option, Some, None, IfSome}
+use Rattle.std.proofs.Common.{◌≡◌, ℕ, Bool, true, false, cond, List, [], ◌∷◌, ◌++◌, Option, Some, None, IfSome, refl}
 use Rattle.std.specs.Prelude.{nat_le}
 use Rattle.std.specs.List.{AllByRecursion}
 use Rattle.vhdl_lexer.specs.declared.token.TokenKind.{TokenKind}
@@ -52,6 +52,11 @@ told_lacking p at None h = told_refused p at h
 pub told_given : {P : ℕ → Type 0} {A : Type 0} (o : Option A) (f : A → Broken) → ((x : A) → Told P (f x)) → Told P (where_given o f)
 told_given None f one = told_nothing
 told_given (Some x) f one = one x
+
+-- of what is given so
+pub told_from : {P : ℕ → Type 0} {A : Type 0} (o : Option A) (f : A → Broken) → ((x : A) → o ≡ Some x → Told P (f x)) → Told P (where_given o f)
+told_from None f one = told_nothing
+told_from (Some x) f one = one x refl
 
 pub told_absent : {P : ℕ → Type 0} {A : Type 0} (f : A → Broken) (o : Option A) → ((x : A) → Told P (f x)) → Told P (of_any f o)
 told_absent f None one = told_nothing

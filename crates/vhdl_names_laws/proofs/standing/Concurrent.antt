@@ -7,108 +7,65 @@ use Rattle.vhdl_tree.specs.Tree as t
 use Rattle.vhdl_tree.specs.Tree.{Ident}
 use Rattle.vhdl_tree.specs.Pieces.{spell_option, spell_word, spell_each, spell_list}
 use Rattle.vhdl_tree.specs.grammar.Expressions.{spell, spell_name, spell_value}
+use Rattle.vhdl_tree.specs.grammar.Waveforms.{spell_waveforms}
 use Rattle.vhdl_tree.specs.grammar.Sequential.{spell_label, spell_statements}
-use Rattle.vhdl_tree.specs.grammar.Process.{spell_sensitivity, spell_variables, spell_wait, spell_process, spell_waveform, spell_selected}
-use Rattle.vhdl_tree.specs.grammar.Concurrent.{spell_branch, spell_waveforms, spell_assignment, spell_scheme, spell_concurrent, spell_concurrents}
+use Rattle.vhdl_tree.specs.grammar.Process.{spell_sensitivity, spell_process_declaration, spell_wait, spell_process, spell_waveform, spell_selected}
+use Rattle.vhdl_tree.specs.grammar.Concurrent.{spell_assignment, spell_scheme, spell_concurrent, spell_concurrents}
 use Rattle.vhdl_names_rules.specs.units.Expressions.{SignalPart}
 use Rattle.vhdl_names_rules.specs.units.Statements as s
 use Rattle.vhdl_names_rules.specs.units.Units as u
-use Rattle.vhdl_names_rules.specs.units.Bytes.{range_bytes, static_test_bytes, place_bytes, value_bytes, test_bytes, given_bytes, statement_bytes, statements_bytes, branches_bytes, alternatives_bytes, object_bytes, sensitivity_bytes, process_bytes, concurrent_bytes, concurrents_bytes}
+use Rattle.vhdl_names_rules.specs.units.Bytes.{range_bytes, static_test_bytes, place_bytes, value_bytes, statement_bytes, statements_bytes, alternatives_bytes, declaration_bytes, sensitivity_bytes, process_bytes, concurrent_bytes, concurrents_bytes}
 use Rattle.vhdl_names_rules.specs.Rules.{◌>>=◌, each}
 use Rattle.vhdl_names_rules.specs.Visibility.{Name, Sight, with_variables, are_distinct, ends}
-use Rattle.vhdl_names_rules.specs.Expressions.{typed, static_range, condition, as_static_test, value_given}
-use Rattle.vhdl_names_rules.specs.Declarations.{variables}
+use Rattle.vhdl_names_rules.specs.Expressions.{typed, static_range, condition, as_static_test}
+use Rattle.vhdl_names_rules.specs.Declarations.{process_declaration}
 use Rattle.vhdl_names_rules.specs.Interfaces.{EntityView}
 use Rattle.vhdl_names_rules.specs.Instances.{instance}
-use Rattle.vhdl_names_rules.specs.Statements.{SignalName, signal, target}
-use Rattle.vhdl_names_rules.specs.Concurrent.{assigning, assigned, alone, last_branch, branches, assignment_body, assignment, selected, sensitivity, awaited, resumed_by, behind_wait, process, concurrent_labels, sight_within, generated, concurrent, concurrents}
-use Rattle.vhdl_names_rules.proofs.laws.Rules.{comes, kept}
+use Rattle.vhdl_names_rules.specs.Statements as sequential
+use Rattle.vhdl_names_rules.specs.Statements.{SignalName, signal, Target, signal_target, alone, conditional}
+use Rattle.vhdl_names_rules.specs.Concurrent.{assigning, assignment, selected, sensitivity, awaited, resumed_by, behind_wait, process, concurrent_labels, sight_within, generated, concurrent, concurrents}
 use Rattle.vhdl_names_rules.specs.Edges.{Edge, waited_edge}
+use Rattle.vhdl_names_rules.proofs.laws.Rules.{comes, kept}
 use Rattle.vhdl_names_rules.proofs.laws.Edges.{waited_holds}
 use Rattle.vhdl_names_rules.proofs.laws.Parts.{process_parts, selected_parts}
-use Rattle.vhdl_names_laws.proofs.Statics.{some_same}
 use Rattle.vhdl_names_rules.proofs.kept.Keeping.{mapped}
+use Rattle.vhdl_names_laws.proofs.Statics.{some_same}
 use Rattle.vhdl_names_laws.proofs.Words.{all_in_order}
 use Rattle.vhdl_names_laws.proofs.placed.Told.{Stand, EachStands, first, behind, each_stands, list_stands}
-use Rattle.vhdl_names_laws.proofs.placed.Concurrent.{BranchesStand, waveforms_stand}
 use Rattle.vhdl_names_laws.proofs.standing.Holding.{Hold, hold_both, hold_each}
-use Rattle.vhdl_names_laws.proofs.standing.Expressions.{typed_holds, static_range_holds, condition_holds, static_condition_holds, value_given_holds}
-use Rattle.vhdl_names_laws.proofs.standing.Statements.{signal_holds, target_holds, selector_holds, BodiesHold, arranged_holds, statements_hold}
-use Rattle.vhdl_names_laws.proofs.standing.Declarations.{EachHolds, variables_hold}
+use Rattle.vhdl_names_laws.proofs.standing.Expressions.{typed_holds, static_range_holds, condition_holds, static_condition_holds}
+use Rattle.vhdl_names_laws.proofs.standing.Statements.{signal_holds, TargetHolds, target_holds, assignment_holds, alone_holds, conditional_holds, selector_holds, BodiesHold, arranged_holds, statements_hold}
+use Rattle.vhdl_names_laws.proofs.standing.Declarations.{EachHolds, process_declaration_holds}
 use Rattle.vhdl_names_laws.proofs.standing.Instances.{instance_holds}
 
--- ---- conditional assignments
-
--- a statement alone
-alone_holds : (P : ℕ → Type 0) (y : s.Statement) → Hold P (statement_bytes y) → Hold P (statements_bytes (alone y))
-alone_holds P y h = hold_both P (statement_bytes y) [] h tt
+-- ---- assignments
 
 -- a process of one statement
 assigning_holds : (P : ℕ → Type 0) (at : ℕ) (label : Option Ident) (y : s.Statement) → P at → Hold P (statement_bytes y) → Hold P (concurrent_bytes (assigning at label y))
-assigning_holds P at label y h g = (h, alone_holds P y g)
+assigning_holds P at label y h g = (h, hold_both P (statement_bytes y) [] g tt)
 
-assigned_holds : (P : ℕ → Type 0) (sight : Sight) (x : SignalName) (v : t.Value) (y : s.Statement) → Hold P (place_bytes x.place) → Stand P (spell_value v) → assigned sight x v ≡ Some y
-    → Hold P (statement_bytes y)
-assigned_holds P sight x v y h w q =
-    let g = comes (value_given sight x.type v) _ y q in
-    subst (λ y. Hold P (statement_bytes y)) (some_same _ y g.rest)
-    (hold_both P (place_bytes x.place) (given_bytes g.value) h (value_given_holds P sight x.type v g.value w g.is))
-
-last_holds : (P : ℕ → Type 0) (sight : Sight) (x : SignalName) (o : Option t.Value) (y : s.Branches) → Hold P (place_bytes x.place) → Stand P (spell_option spell_value o)
-    → last_branch sight x o ≡ Some y → Hold P (branches_bytes y)
-last_holds P sight x None y h w q = subst (λ y. Hold P (branches_bytes y)) (some_same s.no_else y q) tt
-last_holds P sight x (Some v) y h w q =
-    let a = mapped (λ y. s.otherwise (alone y)) (assigned sight x v) y q in
-    subst (λ y. Hold P (branches_bytes y)) a.is (alone_holds P a.value (assigned_holds P sight x v a.value h w a.from))
-
-branches_hold : (P : ℕ → Type 0) (sight : Sight) (x : SignalName) (bs : List t.Branch) (o : Option t.Value) (y : s.Branches) → Hold P (place_bytes x.place)
-    → EachStands P spell_branch bs → Stand P (spell_option spell_value o) → branches sight x bs o ≡ Some y → Hold P (branches_bytes y)
-branches_hold P sight x [] o y h f w q = last_holds P sight x o y h w q
-branches_hold P sight x (b ∷ bs) o y h f w q =
-    let a = comes (assigned sight x b.value) _ y q in
-    let c = comes (condition sight b.condition) _ y a.rest in
-    let d = comes (branches sight x bs o) _ y c.rest in
-    subst (λ y. Hold P (branches_bytes y)) (some_same _ y d.rest)
-    (hold_both P (test_bytes c.value) (statements_bytes (alone a.value) ++ branches_bytes d.value)
-    (condition_holds P sight b.condition c.value (behind P (spell_value b.value) _ f.0).1 c.is)
-    (hold_both P (statements_bytes (alone a.value)) (branches_bytes d.value)
-    (alone_holds P a.value (assigned_holds P sight x b.value a.value h (first P (spell_value b.value) _ f.0) a.is))
-    (branches_hold P sight x bs o d.value h f.1 w d.is)))
-
-chosen_holds : (P : ℕ → Type 0) (sight : Sight) (at : ℕ) (x : SignalName) (bs : List t.Branch) (o : Option t.Value) (y : s.Statement) → P at → Hold P (place_bytes x.place)
-    → BranchesStand P bs o → option_map (s.if_of at) (branches sight x bs o) ≡ Some y → Hold P (statement_bytes y)
-chosen_holds P sight at x bs o y w h f q =
-    let a = mapped (s.if_of at) (branches sight x bs o) y q in
-    subst (λ y. Hold P (statement_bytes y)) a.is (w, branches_hold P sight x bs o a.value h f.branches f.last a.from)
-
-body_holds : (P : ℕ → Type 0) (sight : Sight) (at : ℕ) (x : SignalName) (bs : List t.Branch) (o : Option t.Value) (y : s.Statement) → P at → Hold P (place_bytes x.place)
-    → BranchesStand P bs o → assignment_body sight at x bs o ≡ Some y → Hold P (statement_bytes y)
-body_holds P sight at x [] (Some v) y w h f q = assigned_holds P sight x v y h f.last q
-body_holds P sight at x bs o y w h f q = chosen_holds P sight at x bs o y w h f q
-
-assignment_holds : (P : ℕ → Type 0) (sight : Sight) (a : t.Assignment) (x : u.Concurrent) → Stand P (spell_assignment a) → assignment sight a ≡ Some x → Hold P (concurrent_bytes x)
+concurrent_assignment_holds : (P : ℕ → Type 0) (sight : Sight) (a : t.Assignment) (x : u.Concurrent) → Stand P (spell_assignment a) → assignment sight a ≡ Some x → Hold P (concurrent_bytes x)
 unfolding assignment
-assignment_holds P sight a x h q =
+concurrent_assignment_holds P sight a x h q =
     let all = behind P (spell_option spell_label a.label) _ h in
     let n = first P (spell_name a.target) _ all in
-    let values = waveforms_stand P a.branches a.otherwise (first P (spell_waveforms a.branches a.otherwise) _ (behind P (spell_name a.target) _ all).1) in
-    let b = comes (target sight a.target) _ x q in
-    let c = comes (assignment_body sight a.target.identifier.at b.value a.branches a.otherwise) _ x b.rest in
+    let b = comes (signal_target sight a.target) _ x q in
+    let c = comes (conditional sight b.value a.branches a.otherwise) _ x b.rest in
     subst (λ x. Hold P (concurrent_bytes x)) (some_same _ x c.rest)
     (assigning_holds P a.target.identifier.at a.label c.value n.0
-    (body_holds P sight a.target.identifier.at b.value a.branches a.otherwise c.value n.0 (target_holds P sight a.target b.value n b.is) values c.is))
+    (conditional_holds P sight b.value (target_holds P sight false a.target b.value n b.is) a.branches a.otherwise c.value (first P (spell_waveforms a.branches a.otherwise) _ (behind P (spell_name a.target) _ all).1) c.is))
 
 -- ---- selected assignments
 
-waveforms_hold : (P : ℕ → Type 0) (sight : Sight) (x : SignalName) (ws : List t.Waveform) (ys : List s.Statements) → Hold P (place_bytes x.place) → EachStands P spell_waveform ws
-    → each (λ (w : t.Waveform). option_map alone (assigned sight x w.value)) ws ≡ Some ys → BodiesHold P ys
+waveforms_hold : (P : ℕ → Type 0) (sight : Sight) (x : Target) (ws : List t.Waveform) (ys : List s.Statements) → TargetHolds P x → EachStands P spell_waveform ws
+    → each (λ (w : t.Waveform). option_map alone (sequential.assignment sight x w.value)) ws ≡ Some ys → BodiesHold P ys
 waveforms_hold P sight x [] ys h f q = subst (BodiesHold P) (some_same [] ys q) tt
 waveforms_hold P sight x (w ∷ ws) ys h f q =
-    let a = comes (option_map alone (assigned sight x w.value)) _ ys q in
-    let b = comes (each (λ (w : t.Waveform). option_map alone (assigned sight x w.value)) ws) _ ys a.rest in
-    let c = mapped alone (assigned sight x w.value) a.value a.is in
+    let a = comes (option_map alone (sequential.assignment sight x w.value)) _ ys q in
+    let b = comes (each (λ (w : t.Waveform). option_map alone (sequential.assignment sight x w.value)) ws) _ ys a.rest in
+    let c = mapped alone (sequential.assignment sight x w.value) a.value a.is in
     subst (BodiesHold P) (some_same (a.value ∷ b.value) ys b.rest) (
-      subst (λ y. Hold P (statements_bytes y)) c.is (alone_holds P c.value (assigned_holds P sight x w.value c.value h (first P (spell_value w.value) _ f.0) c.from)),
+      subst (λ y. Hold P (statements_bytes y)) c.is (alone_holds P sight x h c.value (assignment_holds P sight x h w.value c.value (first P (spell_value w.value) _ f.0) c.from)),
       waveforms_hold P sight x ws b.value h f.1 b.is,
     )
 
@@ -125,7 +82,7 @@ selected_holds P sight label a x h q =
       hold_both P (value_bytes p.chosen.by.value.1) (alternatives_bytes p.chosen.all.value)
           (selector_holds P p.chosen.operand.value p.chosen.by.value (typed_holds a.selector P sight p.chosen.operand.value (first P (spell a.selector) _ h.1) p.chosen.operand.is) p.chosen.by.is)
           (arranged_holds P p.chosen.choices.value p.chosen.bodies.value p.chosen.all.value
-          (waveforms_hold P sight p.to.value a.waveforms p.chosen.bodies.value (target_holds P sight a.target p.to.value n p.to.is) ws p.chosen.bodies.is) p.chosen.all.is),
+          (waveforms_hold P sight p.to.value a.waveforms p.chosen.bodies.value (target_holds P sight false a.target p.to.value n p.to.is) ws p.chosen.bodies.is) p.chosen.all.is),
     ))
 
 -- ---- processes
@@ -140,7 +97,7 @@ signals_hold P sight (n ∷ ns) xs h q =
     let a = comes (signal sight n) _ xs q in
     let b = comes (each (signal sight) ns) _ xs a.rest in
     subst (λ xs. EachHolds P place_bytes (map place xs)) (some_same (a.value ∷ b.value) xs b.rest)
-    (signal_holds P sight n a.value h.0 a.is, signals_hold P sight ns b.value h.1 b.is)
+    ((signal_holds P sight n a.value h.0 a.is).place, signals_hold P sight ns b.value h.1 b.is)
 
 sensitivity_holds : (P : ℕ → Type 0) (sight : Sight) (w : t.Sensitivity) (waits : Bool) (x : u.Sensitivity) → Stand P (spell_sensitivity w) → sensitivity sight w waits ≡ Some x
     → Hold P (sensitivity_bytes x)
@@ -182,20 +139,20 @@ process_holds : (P : ℕ → Type 0) (sight : Sight) (label : Option Ident) (p :
 process_holds P sight label p x h q =
     let word = behind P (spell_sensitivity p.sensitivity) _ h.1 in
     let declared = behind P (spell_word k.Is p.is_word) _ word in
-    let ds = each_stands P spell_variables p.variables (first P (spell_each spell_variables p.variables) _ declared) in
+    let ds = each_stands P spell_process_declaration p.declarations (first P (spell_each spell_process_declaration p.declarations) _ declared) in
     let xs = t.statements_of p.statements in
-    let body = (behind P (spell_each spell_variables p.variables) _ declared).1 in
+    let body = (behind P (spell_each spell_process_declaration p.declarations) _ declared).1 in
     let waits = first P (spell_option spell_wait p.wait) _ body in
     let inner = first P (spell_statements xs) _ (behind P (spell_option spell_wait p.wait) _ body) in
     let d = process_parts sight label p x q in
     let edge = awaited_holds P (with_variables sight d.own.value.declared) p.sensitivity p.wait d.edge.value waits d.edge.is in
     subst (λ (x : u.Process). Hold P (process_bytes x)) d.is (
       h.0,
-      hold_both P (flat_map object_bytes d.own.value.analysed)
+      hold_both P (flat_map declaration_bytes d.own.value.analysed)
           (sensitivity_bytes (resumed_by d.edge.value d.on.value) ++ statements_bytes (behind_wait p.wait d.edge.value d.body.value))
-          (hold_each P object_bytes d.own.value.analysed
-          (all_in_order with_variables variables (λ (d : t.Variables). Stand P (spell_variables d)) (λ (o : u.Object). Hold P (object_bytes o)) (λ sight d y g e. variables_hold P sight d y g e)
-          p.variables sight d.own.value ds d.own.is))
+          (hold_each P declaration_bytes d.own.value.analysed
+          (all_in_order with_variables process_declaration (λ (d : t.ProcessDeclaration). Stand P (spell_process_declaration d)) (λ (o : u.Declaration). Hold P (declaration_bytes o))
+          (λ sight d y g e. process_declaration_holds P sight d y g e) p.declarations sight d.own.value ds d.own.is))
           (hold_both P (sensitivity_bytes (resumed_by d.edge.value d.on.value)) (statements_bytes (behind_wait p.wait d.edge.value d.body.value))
           (resumed_holds P d.edge.value d.on.value edge
           (sensitivity_holds P sight p.sensitivity (is_some p.wait) d.on.value (first P (spell_sensitivity p.sensitivity) _ h.1) d.on.is))
@@ -217,12 +174,22 @@ generated_holds P sight label at (t.if_holds d) body x h g q =
     subst (λ x. Hold P (concurrent_bytes x)) a.is
     (h.0, hold_both P (static_test_bytes a.value) (concurrents_bytes body) (static_condition_holds P b.value a.value (typed_holds d P sight b.value h.1 b.is) b.rest) g)
 
+-- one, and those behind it
+one_and_others : (P : ℕ → Type 0) (entities : List EntityView) (sight : Sight) (c : t.Concurrent) (cs : t.Concurrents) (xs : u.Concurrents)
+    → ((x : u.Concurrent) → concurrent entities sight c ≡ Some x → Hold P (concurrent_bytes x)) → ((xs : u.Concurrents) → concurrents entities sight cs ≡ Some xs → Hold P (concurrents_bytes xs))
+    → (concurrent entities sight c >>= λ x. concurrents entities sight cs >>= λ xs. Some (u.concurrent x xs)) ≡ Some xs → Hold P (concurrents_bytes xs)
+one_and_others P entities sight c cs xs one more q =
+    let a = comes (concurrent entities sight c) _ xs q in
+    let b = comes (concurrents entities sight cs) _ xs a.rest in
+    subst (λ xs. Hold P (concurrents_bytes xs)) (some_same (u.concurrent a.value b.value) xs b.rest)
+    (hold_both P (concurrent_bytes a.value) (concurrents_bytes b.value) (one a.value a.is) (more b.value b.is))
+
 mutual
   unfolding concurrent
 
   concurrent_holds : (c : t.Concurrent) (P : ℕ → Type 0) (entities : List EntityView) (sight : Sight) (x : u.Concurrent) → Stand P (spell_concurrent c)
       → concurrent entities sight c ≡ Some x → Hold P (concurrent_bytes x)
-  concurrent_holds (t.assignment a) P entities sight x h q = assignment_holds P sight a x h q
+  concurrent_holds (t.assignment a) P entities sight x h q = concurrent_assignment_holds P sight a x h q
   concurrent_holds (t.selected label a) P entities sight x h q = selected_holds P sight label a x (behind P (spell_option spell_label label) (spell_selected a) h) q
   concurrent_holds (t.process label p) P entities sight x h q =
       let a = mapped u.process (process sight label p) x q in
@@ -238,14 +205,12 @@ mutual
       let body = comes (concurrents entities (sight_within sight scheme) cs) _ x b.1 in
       generated_holds P sight label.text at scheme body.value x (first P (spell_scheme at scheme) _ h.1.1)
       (concurrents_hold cs P entities (sight_within sight scheme) body.value inner body.is) body.rest
+  concurrent_holds (t.assertion a) P entities sight x h q = absurd cc
 
   pub concurrents_hold : (cs : t.Concurrents) (P : ℕ → Type 0) (entities : List EntityView) (sight : Sight) (xs : u.Concurrents) → Stand P (spell_concurrents cs)
       → concurrents entities sight cs ≡ Some xs → Hold P (concurrents_bytes xs)
   concurrents_hold t.no_concurrents P entities sight xs h q = subst (λ xs. Hold P (concurrents_bytes xs)) (some_same u.no_concurrents xs q) tt
+  concurrents_hold (t.concurrent (t.assertion a) cs) P entities sight xs h q = concurrents_hold cs P entities sight xs (behind P (spell_concurrent (t.assertion a)) (spell_concurrents cs) h) q
   concurrents_hold (t.concurrent c cs) P entities sight xs h q =
-      let a = comes (concurrent entities sight c) _ xs q in
-      let b = comes (concurrents entities sight cs) _ xs a.rest in
-      subst (λ xs. Hold P (concurrents_bytes xs)) (some_same _ xs b.rest)
-      (hold_both P (concurrent_bytes a.value) (concurrents_bytes b.value)
-      (concurrent_holds c P entities sight a.value (first P (spell_concurrent c) (spell_concurrents cs) h) a.is)
-      (concurrents_hold cs P entities sight b.value (behind P (spell_concurrent c) (spell_concurrents cs) h) b.is))
+      one_and_others P entities sight c cs xs (λ x q. concurrent_holds c P entities sight x (first P (spell_concurrent c) (spell_concurrents cs) h) q)
+      (λ xs q. concurrents_hold cs P entities sight xs (behind P (spell_concurrent c) (spell_concurrents cs) h) q) q

@@ -2,6 +2,7 @@
 use Rattle.std.proofs.Common.{◌≡◌, ℕ, List, [], ◌∷◌, ◌++◌, Option, Some, None, refl, subst}
 use Rattle.std.specs.List.{AllByRecursion, flat_map, cons_option}
 use Rattle.std.specs.Str.{bytes_eq}
+use Rattle.vhdl_lexer.specs.declared.language.Language.{Language}
 use Rattle.vhdl_tree.specs.Tree as t
 use Rattle.vhdl_tree.specs.Tree.{File, DesignUnit, LibraryUnit, ContextItem}
 use Rattle.vhdl_tree.specs.Pieces.{spell_option, spell_each}
@@ -15,7 +16,7 @@ use Rattle.vhdl_names_rules.specs.Rules.{each, if_any, all_of}
 use Rattle.vhdl_names_rules.specs.Visibility.{Name, Sight, are_distinct, with_declared}
 use Rattle.vhdl_names_rules.specs.Packages.{sight_of}
 use Rattle.vhdl_names_rules.specs.Declarations.{in_order, generic, port}
-use Rattle.vhdl_names_rules.specs.Interfaces.{Interface, EntityView, declared_names, interface, entity}
+use Rattle.vhdl_names_rules.specs.Interfaces.{Interface, EntityView, declared_names, interface, assertion_labels, with_labels, entity}
 use Rattle.vhdl_names_rules.specs.Files.{as_entity, as_architecture, entities_of, architectures_of, architecture_of, viewed, declaration, architecture, unit, units_of}
 use Rattle.vhdl_names_rules.proofs.laws.Rules.{comes, kept}
 use Rattle.vhdl_names_rules.proofs.laws.Parts.{region_of, entity_parts, architecture_parts, file_parts}
@@ -74,12 +75,16 @@ interface_holds P sight gs ps x h w q =
           (λ sight p y v e. port_holds P sight p y v e) (all_of ps) (with_declared sight g.value.declared) d.value (ports_stand P ps w) d.is;
     })
 
-entity_holds : (P : ℕ → Type 0) (items : List ContextItem) (e : t.Entity) (a : Option Name) (v : EntityView) → Stand P (spell_entity e) → entity items e a ≡ Some v → ViewHolds P v
-entity_holds P items e a v h q =
+labels_hold : (P : ℕ → Type 0) (x : Interface) (ns : List Name) → InterfaceHolds P x → InterfaceHolds P (with_labels x ns)
+labels_hold P x [] h = h
+labels_hold P x (n ∷ ns) h = record { generics = h.generics; ports = h.ports }
+
+entity_holds : (P : ℕ → Type 0) (language : Language) (items : List ContextItem) (e : t.Entity) (a : Option Name) (v : EntityView) → Stand P (spell_entity e) → entity language items e a ≡ Some v → ViewHolds P v
+entity_holds P language items e a v h q =
     let ports = behind P (spell_option spell_generics e.generics) _ h.1.1.1 in
-    let p = entity_parts items e a v q in
+    let p = entity_parts language items e a v q in
     let f =
-    interface_holds P (sight_of p.seen.value []) e.generics e.ports p.own.value (first P (spell_option spell_generics e.generics) _ h.1.1.1) (first P (spell_option spell_ports e.ports) _ ports) p.own.is in
+    labels_hold P p.own.value (assertion_labels e.statements) (interface_holds P (sight_of p.seen.value []) e.generics e.ports p.own.value (first P (spell_option spell_generics e.generics) _ h.1.1.1) (first P (spell_option spell_ports e.ports) _ ports) p.own.is) in
     subst (ViewHolds P) p.is (record { name = h.1.0; generics = f.generics; ports = f.ports })
 
 -- ---- the units of a file, by what they are
@@ -145,10 +150,10 @@ unit_holds P entities ds e x all h q =
         (architecture_holds P entities e p.0 p.1 b.value
         (found (ArchitectureStands P) (λ (a : List ContextItem × t.Architecture). bytes_eq e.name a.1.entity.text) (architectures_of ds) p all w) b.is)
 
-pub units_hold : (P : ℕ → Type 0) (f : File) (units : Units) → Stand P (spell_file f) → units_of f ≡ Some units → Hold P (units_bytes units)
-units_hold P f units h q =
-    let p = file_parts f units q in
+pub units_hold : (P : ℕ → Type 0) (language : Language) (f : File) (units : Units) → Stand P (spell_file f) → units_of language f ≡ Some units → Hold P (units_bytes units)
+units_hold P language f units h q =
+    let p = file_parts language f units q in
     hold_each P entity_bytes units
     (each_from (unit p.views.value f.units) (ViewHolds P) (λ (x : u.Entity). Hold P (entity_bytes x))
     (λ e x w g. unit_holds P p.views.value f.units e x (architectures_stand P f.units h) w g) p.views.value units
-    (each_from (viewed f.units) (EntityStands P) (ViewHolds P) (λ e y w g. entity_holds P e.0 e.1 _ y w g) (entities_of f.units) p.views.value (entities_stand P f.units h) p.views.is) p.gives)
+    (each_from (viewed language f.units) (EntityStands P) (ViewHolds P) (λ e y w g. entity_holds P language e.0 e.1 _ y w g) (entities_of f.units) p.views.value (entities_stand P f.units h) p.views.is) p.gives)

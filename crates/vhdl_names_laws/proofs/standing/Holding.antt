@@ -1,7 +1,9 @@
 -- Bytes of which something holds, and types whose bytes are such.
 use Rattle.std.proofs.Common.{ℕ, List, [], ◌∷◌, ◌++◌}
 use Rattle.std.specs.List.{AllByRecursion, flat_map}
-use Rattle.vhdl_names_rules.specs.units.Bytes.{static_bytes, range_bytes, vector_bytes, value_bytes, test_bytes}
+use Rattle.vhdl_names_rules.specs.units.Bytes.{static_bytes, range_bytes, index_bytes, vector_bytes, value_bytes, test_bytes}
+use Rattle.vhdl_names_rules.specs.Types as types
+use Rattle.vhdl_names_rules.specs.Types.{TypedChoice, TypedElements}
 use Rattle.vhdl_names_rules.specs.Operators as o
 use Rattle.vhdl_names_rules.specs.Operators.{Typed}
 use Rattle.vhdl_names_rules.specs.Names as n
@@ -20,11 +22,23 @@ hold_each P f (x ∷ xs) h = hold_both P (f x) (flat_map f xs) h.0 (hold_each P 
 
 -- ---- expressions and what follows names
 
-abbrev pub TypedHolds : (ℕ → Type 0) → Typed → Type 0
-TypedHolds P (o.integer s) = Hold P (static_bytes s)
-TypedHolds P (o.elements k x) = Hold P (vector_bytes x)
-TypedHolds P (o.enumerated e count x) = Hold P (value_bytes x)
-TypedHolds P (o.truth t) = Hold P (test_bytes t)
+abbrev pub ChoiceHolds : (ℕ → Type 0) → TypedChoice → Type 0
+ChoiceHolds P (types.others at) = P at
+ChoiceHolds P (types.place is_local x) = Hold P (index_bytes x)
+
+abbrev mutual
+  pub TypedHolds : (ℕ → Type 0) → Typed → Type 0
+  TypedHolds P (o.integer s) = Hold P (static_bytes s)
+  TypedHolds P (o.elements k x) = Hold P (vector_bytes x)
+  TypedHolds P (o.enumerated e count x) = Hold P (value_bytes x)
+  TypedHolds P (o.truth t) = Hold P (test_bytes t)
+  TypedHolds P (o.interval r) = Hold P (range_bytes r)
+  TypedHolds P (o.composite at es) = P at × ElementsHold P es
+
+  -- the elements of an aggregate, the indexes that they are for, and where they start
+  pub ElementsHold : (ℕ → Type 0) → TypedElements → Type 0
+  ElementsHold P types.no_elements = Unit {0}
+  ElementsHold P (types.element cs at x es) = AllByRecursion (ChoiceHolds P) cs × TypedHolds P x × ElementsHold P es × P at
 
 abbrev pub SuffixHolds : (ℕ → Type 0) → Suffix → Type 0
 SuffixHolds P n.plain = Unit {0}

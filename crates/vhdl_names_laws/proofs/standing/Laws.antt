@@ -15,10 +15,10 @@ all_hold P [] h = All-nil P
 all_hold P (x ∷ xs) h = All-cons P x xs h.0 (all_hold P xs h.1)
 
 pub units_stand_at_tokens : UnitsStandAtTokens
-units_stand_at_tokens f units q = all_hold (Contains (bytes_of f)) (units_bytes units) (units_hold (Contains (bytes_of f)) f units (all_at (spell_file f)) q)
+units_stand_at_tokens language f units q = all_hold (Contains (bytes_of f)) (units_bytes units) (units_hold (Contains (bytes_of f)) language f units (all_at (spell_file f)) q)
 
 pub units_lie_in_the_text : UnitsLieInTheText
-units_lie_in_the_text source tokens f units cuts spells q =
+units_lie_in_the_text language source tokens f units cuts spells q =
     all_hold (λ at. at < length source) (units_bytes units)
-    (units_hold (λ at. at < length source) f units
+    (units_hold (λ at. at < length source) language f units
     (pieces_lie (length source) (spell_file f) (lexemes source tokens) (tokens_lie tokens source (length source) None 0 source (omega arith) cuts) spells) q)

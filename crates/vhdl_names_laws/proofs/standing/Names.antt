@@ -1,26 +1,38 @@
 -- What a name denotes has the bytes of the name and of what follows it.
-use Rattle.std.proofs.Common.{◌≡◌, ℕ, Bool, true, false, [], ◌∷◌, ◌++◌, Option, Some, None, refl, sym, subst, cond}
-use Rattle.std.specs.Prelude.{codes}
+use Rattle.std.proofs.Common.{◌≡◌, ℕ, Bool, true, false, List, [], ◌∷◌, ◌++◌, Option, Some, None, refl, sym, subst, cond}
+use Rattle.std.specs.Prelude.{codes, if◌then◌else◌}
+use Rattle.std.specs.Option.{option_map}
 use Rattle.std.specs.Str.{bytes_eq}
 use Rattle.vhdl_values.specs.declared.kinds.Edge.{Edge}
-use Rattle.vhdl_tree.specs.Tree.{Ident}
+use Rattle.vhdl_lexer.specs.declared.language.Language.{Language}
+use Rattle.vhdl_tree.specs.Tree as tree
+use Rattle.vhdl_tree.specs.Tree.{Attribute}
 use Rattle.vhdl_names_rules.specs.declared.kind.ElementKind.{ElementKind}
 use Rattle.vhdl_names_rules.specs.declared.kind.ElementKind.TheVariants.{Element, LogicVector, Unsigned, OpenVector}
 use Rattle.vhdl_names_rules.specs.declared.kind.ObjectType.{ObjectType}
 use Rattle.vhdl_names_rules.specs.declared.kind.ObjectType.TheVariants.{Elements, Enumeration}
 use Rattle.vhdl_names_rules.specs.declared.kind.Function.{Function}
 use Rattle.vhdl_names_rules.specs.declared.kind.Function.TheVariants.{EdgeCall, ByCount, ToUnsigned}
+use Rattle.vhdl_names_rules.specs.declared.operator.Bound.{Bound}
+use Rattle.vhdl_names_rules.specs.declared.operator.Bound.TheVariants.{Left, Right, High, Low, Length}
+use Rattle.vhdl_names_rules.specs.declared.operator.IntegerType.{IntegerType}
+use Rattle.vhdl_names_rules.specs.declared.operator.IntegerType.TheVariants.{Integer, Natural, Positive}
+use Rattle.vhdl_names_rules.specs.Rules.{◌>>=◌, wider}
 use Rattle.vhdl_names_rules.specs.units.Expressions as e
-use Rattle.vhdl_names_rules.specs.units.Expressions.{Static, Part, SignalPart, Vector}
-use Rattle.vhdl_names_rules.specs.units.Bytes.{static_bytes, part_bytes, place_bytes, vector_bytes}
+use Rattle.vhdl_names_rules.specs.units.Expressions.{Static, Range, Part, SignalPart, Vector}
+use Rattle.vhdl_names_rules.specs.units.Bytes.{static_bytes, range_bytes, part_bytes, place_bytes, vector_bytes}
 use Rattle.vhdl_names_rules.specs.Visibility as visibility
-use Rattle.vhdl_names_rules.specs.Visibility.{Meaning}
+use Rattle.vhdl_names_rules.specs.Visibility.{Name, Meaning, DeclaredRange, Declared}
 use Rattle.vhdl_names_rules.specs.Operators as o
 use Rattle.vhdl_names_rules.specs.Operators.{Typed}
 use Rattle.vhdl_names_rules.specs.Names as n
 use Rattle.vhdl_names_rules.specs.Names.{Suffix, part, part_of, place_of, if_plain, read_by, converted, is_static_part, edge_signal, edge_of, counted, encoding, called, denoted, attributed}
+use Rattle.vhdl_names_rules.specs.Ranges as r
+use Rattle.vhdl_names_rules.specs.Ranges.{Ranged, whole, sliced, ranged, bound_of, least, type_bound, integers_bound, bound, bound_named, declared_range, reversed, range_of, is_reverse_range, named_range, range_attribute, sized_by}
+use Rattle.vhdl_names_rules.specs.Expressions.{named}
 use Rattle.vhdl_names_rules.proofs.laws.Rules.{comes, kept}
 use Rattle.vhdl_names_laws.proofs.Statics.{some_same}
+use Rattle.vhdl_names_laws.proofs.Shapes.{of_either, wider_is}
 use Rattle.vhdl_names_rules.proofs.kept.Keeping.{mapped}
 use Rattle.vhdl_names_laws.proofs.standing.Holding.{Hold, hold_both, TypedHolds, SuffixHolds}
 
@@ -102,11 +114,14 @@ module _ (P : ℕ → Type 0) where
 
   -- ---- all names
 
-  pub denoted_holds : (at : ℕ) → P at → (d : Meaning) (s : Suffix) (y : Typed) → SuffixHolds P s → denoted at d s ≡ Some y → TypedHolds P y
+  denoted_holds : (at : ℕ) → P at → (d : Meaning) (s : Suffix) (y : Typed) → SuffixHolds P s → denoted at d s ≡ Some y → TypedHolds P y
   denoted_holds at h (visibility.generic k) s y t g = plain_holds s (o.integer (e.generic k)) y tt g
   denoted_holds at h (visibility.integer_constant k) s y t g = plain_holds s (o.integer (e.Static.constant k)) y tt g
   denoted_holds at h (visibility.generate_parameter k) s y t g = plain_holds s (o.integer (e.generate_parameter k)) y tt g
   denoted_holds at h (visibility.loop_parameter k) s y t g = plain_holds s (o.integer (e.loop_parameter k)) y tt g
+  denoted_holds at h (visibility.boolean_generic k) s y t g = plain_holds s (n.known at (e.generic k)) y (h, tt) g
+  denoted_holds at h (visibility.boolean_constant k) s y t g = plain_holds s (n.known at (e.Static.constant k)) y (h, tt) g
+  denoted_holds at h (visibility.boolean_literal b) s y t g = plain_holds s (n.known at (e.number (if b then 1 else 0))) y (h, tt) g
   denoted_holds at h (visibility.port k mode kind) s y t g = read_holds at (λ p. e.of_signal (place_of at (e.port k) p)) (λ p. refl) h kind s y t g
   denoted_holds at h (visibility.signal k (Elements kind)) s y t g = read_holds at (λ p. e.of_signal (place_of at (e.Signal.signal k) p)) (λ p. refl) h kind s y t g
   denoted_holds at h (visibility.signal k (Enumeration d count)) s y t g = plain_holds s (o.enumerated d count (e.state_of (e.Signal.signal k))) y tt g
@@ -118,9 +133,141 @@ module _ (P : ℕ → Type 0) where
   denoted_holds at h (visibility.function f) s y t g = called_holds at h f s y t g
   denoted_holds at h _ s y t g = absurd cc
 
-  pub attributed_holds : (a : Option Ident) (x y : Typed) → TypedHolds P x → attributed a x ≡ Some y → TypedHolds P y
+  attributed_holds : (a : Option Attribute) (x y : Typed) → TypedHolds P x → attributed a x ≡ Some y → TypedHolds P y
   attributed_holds None x y t g = subst (TypedHolds P) (some_same x y g) t
-  attributed_holds (Some a) x y t g =
+  attributed_holds (Some (tree.of_range at)) x y t g = absurd cc
+  attributed_holds (Some (tree.called a)) x y t g =
       let k = kept (bytes_eq a.text (codes "event")) _ y g in
       let c = comes (edge_signal x) (λ p. Some (o.truth (e.event p))) y k.1 in
       subst (TypedHolds P) (some_same (o.truth (e.event c.value)) y c.rest) (edge_place x c.value t c.is)
+
+  -- ---- bounds and ranges
+
+  -- a declared range has no bytes
+  abbrev RangedHolds : Ranged → Type 0
+  RangedHolds (r.of_slice d x) = Hold P (range_bytes x)
+  RangedHolds _ = Unit {0}
+
+  whole_holds : (m : Meaning) (d : Option DeclaredRange) (y : Ranged) → whole m d ≡ Some y → RangedHolds y
+  whole_holds (visibility.integer_type w) None y g = subst RangedHolds (some_same (r.of_type w) y g) tt
+  whole_holds (visibility.integer_type w) (Some d) y g = subst RangedHolds (some_same (r.of_integers d) y g) tt
+  whole_holds _ None y g = absurd cc
+  whole_holds _ (Some d) y g = subst RangedHolds (some_same (r.of_vector d) y g) tt
+
+  sliced_holds : (m : Meaning) (d : Option DeclaredRange) (x : Range) (y : Ranged) → Hold P (range_bytes x) → sliced m d x ≡ Some y → RangedHolds y
+  sliced_holds (visibility.integer_type w) d x y h g = absurd cc
+  sliced_holds (visibility.vector_type k is_resolved) d x y h g = absurd cc
+  sliced_holds _ None x y h g = absurd cc
+  sliced_holds _ (Some d) x y h g = subst RangedHolds (some_same (r.of_slice d x) y g) h
+
+  ranged_holds : (d : Declared) (s : Suffix) (y : Ranged) → SuffixHolds P s → ranged d s ≡ Some y → RangedHolds y
+  ranged_holds d n.plain y h g = whole_holds d.meaning d.range y g
+  ranged_holds d (n.range x) y h g = sliced_holds d.meaning d.range x y h g
+  ranged_holds d (n.arguments b xs) y h g = absurd cc
+
+  same_static : (x y : Static) → Some x ≡ Some y → Hold P (static_bytes x) → Hold P (static_bytes y)
+  same_static x y h f = subst (λ s. Hold P (static_bytes s)) (some_same x y h) f
+
+  least_holds : (at : ℕ) (w : IntegerType) → P at → Hold P (static_bytes (least at w))
+  least_holds at Integer h = (h, tt)
+  least_holds at Natural h = tt
+  least_holds at Positive h = tt
+
+  type_bound_holds : (at : ℕ) (b : Bound) (w : IntegerType) (s : Static) → P at → type_bound at b w ≡ Some s → Hold P (static_bytes s)
+  type_bound_holds at Left w s h g = same_static (least at w) s g (least_holds at w h)
+  type_bound_holds at Low w s h g = same_static (least at w) s g (least_holds at w h)
+  type_bound_holds at Right w s h g = same_static _ s g tt
+  type_bound_holds at High w s h g = same_static _ s g tt
+  type_bound_holds at Length w s h g = absurd cc
+
+  integers_bound_holds : (b : Bound) (d : DeclaredRange) (s : Static) → integers_bound b d ≡ Some s → Hold P (static_bytes s)
+  integers_bound_holds Length d s g = absurd cc
+  integers_bound_holds Left d s g = same_static (e.bound Left d.number) s g tt
+  integers_bound_holds Right d s g = same_static (e.bound Right d.number) s g tt
+  integers_bound_holds High d s g = same_static (e.bound High d.number) s g tt
+  integers_bound_holds Low d s g = same_static (e.bound Low d.number) s g tt
+
+  bound_holds : (at : ℕ) (b : Bound) (y : Ranged) (s : Static) → P at → RangedHolds y → bound at b y ≡ Some s → Hold P (static_bytes s)
+  bound_holds at b (r.of_type w) s h f g = type_bound_holds at b w s h g
+  bound_holds at b (r.of_integers d) s h f g = integers_bound_holds b d s g
+  bound_holds at b (r.of_vector d) s h f g = same_static (e.bound b d.number) s g tt
+  bound_holds at b (r.of_slice d x) s h f g = same_static (e.slice_bound at b d.number x.left x.direction x.right) s g (h, f)
+
+  range_of_holds : (y : Ranged) (x : Range) → range_of y ≡ Some x → Hold P (range_bytes x)
+  range_of_holds (r.of_integers d) x g = subst (λ x. Hold P (range_bytes x)) (some_same (declared_range d) x g) tt
+  range_of_holds (r.of_vector d) x g = subst (λ x. Hold P (range_bytes x)) (some_same (declared_range d) x g) tt
+  range_of_holds _ x g = absurd cc
+
+  first_part : (xs ys : List ℕ) → Hold P (xs ++ ys) → Hold P xs
+  first_part [] ys h = tt
+  first_part (x ∷ xs) ys h = (h.0, first_part xs ys h.1)
+
+  last_part : (xs ys : List ℕ) → Hold P (xs ++ ys) → Hold P ys
+  last_part [] ys h = h
+  last_part (x ∷ xs) ys h = last_part xs ys h.1
+
+  reversed_holds : (x : Range) → Hold P (range_bytes x) → Hold P (range_bytes (reversed x))
+  reversed_holds x h =
+      hold_both P (static_bytes x.right) (static_bytes x.left) (last_part (static_bytes x.left) (static_bytes x.right) h) (first_part (static_bytes x.left) (static_bytes x.right) h)
+
+  -- the range of a subtype of integers
+  module _ (nm : Name) (b : Bool) (x : Range) where
+    abbrev names_range : Meaning → Option DeclaredRange → Suffix → Option Range
+    names_range m d s = named_range None (record { name = nm; meaning = m; range = d; is_global = b }) s
+
+    plain_range_holds : (m : Meaning) (d : Option DeclaredRange) → names_range m d n.plain ≡ Some x → Hold P (range_bytes x)
+    plain_range_holds (visibility.integer_type w) None g = absurd cc
+    plain_range_holds (visibility.integer_type w) (Some d) g = subst (λ x. Hold P (range_bytes x)) (some_same (declared_range d) x g) tt
+    plain_range_holds _ None g = absurd cc
+    plain_range_holds _ (Some d) g = absurd cc
+
+    no_slice : (m : Meaning) (d : Option DeclaredRange) (y : Range) → names_range m d (n.range y) ≡ Some x → Hold P (range_bytes x)
+    no_slice (visibility.integer_type w) d y g = absurd cc
+    no_slice (visibility.vector_type k is_resolved) d y g = absurd cc
+    no_slice _ None y g = absurd cc
+    no_slice _ (Some d) y g = absurd cc
+
+    subtype_range_holds : (m : Meaning) (d : Option DeclaredRange) (s : Suffix) → names_range m d s ≡ Some x → Hold P (range_bytes x)
+    subtype_range_holds m d n.plain g = plain_range_holds m d g
+    subtype_range_holds m d (n.range y) g = no_slice m d y g
+    subtype_range_holds m d (n.arguments c xs) g = absurd cc
+
+  named_range_holds : (a : Option Attribute) (d : Declared) (s : Suffix) (x : Range) → named_range a d s ≡ Some x → Hold P (range_bytes x)
+  named_range_holds (Some (tree.of_range at)) d s x g = let y = comes (ranged d s) range_of x g in range_of_holds y.value x y.rest
+  named_range_holds (Some (tree.called a)) d s x g =
+      let k = kept (is_reverse_range a) _ x g in
+      let y = comes (ranged d s) _ x k.1 in
+      let m = mapped reversed (range_of y.value) x y.rest in
+      subst (λ x. Hold P (range_bytes x)) m.is (reversed_holds m.value (range_of_holds y.value m.value m.from))
+  named_range_holds None d s x g = subtype_range_holds d.name d.is_global x d.meaning d.range s g
+
+  bound_named_holds : (at : ℕ) (a : Option Attribute) (d : Declared) (s : Suffix) (x : Typed) → P at → SuffixHolds P s → bound_named at a d s ≡ Some x → TypedHolds P x
+  bound_named_holds at (Some (tree.called a)) d s x h f g =
+      let b = comes (bound_of a.text) _ x g in
+      let y = comes (ranged d s) _ x b.rest in
+      let m = mapped o.integer (bound at b.value y.value) x y.rest in
+      subst (TypedHolds P) m.is (bound_holds at b.value y.value m.value h (ranged_holds d s y.value f y.is) m.from)
+  bound_named_holds at _ d s x h f g = absurd cc
+
+  -- ---- all names
+
+  pub sized_holds : (at : ℕ) (m : Meaning) (d : Option DeclaredRange) (x : Typed) → P at → TypedHolds P x → TypedHolds P (sized_by at m d x)
+  sized_holds at (visibility.vector_type k b) (Some d) (o.elements j x) h f = (h, f)
+  sized_holds at (visibility.vector_type k b) (Some d) (o.integer s) h f = f
+  sized_holds at (visibility.vector_type k b) (Some d) (o.enumerated c count x) h f = f
+  sized_holds at (visibility.vector_type k b) (Some d) (o.truth x) h f = f
+  sized_holds at (visibility.vector_type k b) (Some d) (o.interval x) h f = f
+  sized_holds at (visibility.vector_type k b) (Some d) (o.composite p es) h f = f
+  sized_holds at (visibility.vector_type k b) None x h f = f
+  sized_holds at _ d x h f = f
+
+  pub named_holds : (language : Language) (at : ℕ) (a : Option Attribute) (d : Declared) (s : Suffix) (x : Typed) → P at → SuffixHolds P s → named language at a d s ≡ Some x → TypedHolds P x
+  named_holds language at a d s x h f g =
+      of_either (TypedHolds P) (wider language (range_attribute at a d s)) (denoted at d.meaning s >>= λ x. attributed a (sized_by at d.meaning d.range x)) x
+      (λ z q.
+      of_either (TypedHolds P) (option_map o.interval (named_range a d s)) (bound_named at a d s) z
+      (λ y q. let m = mapped o.interval (named_range a d s) y q in subst (TypedHolds P) m.is (named_range_holds a d s m.value m.from))
+      (λ y q. bound_named_holds at a d s y h f q) (wider_is language (range_attribute at a d s) z q))
+      (λ z q.
+      let c = comes (denoted at d.meaning s) _ z q in
+      attributed_holds a (sized_by at d.meaning d.range c.value) z (sized_holds at d.meaning d.range c.value h (denoted_holds at h d.meaning s c.value f c.is)) c.rest) g

@@ -1,5 +1,5 @@
 -- An operator makes of operands whose bytes stand a thing whose bytes stand, where it stands itself.
-use Rattle.std.proofs.Common.{◌≡◌, ℕ, Bool, true, false, ◌==◌, ◌∷◌, ◌++◌, Some, refl, sym, subst}
+use Rattle.std.proofs.Common.{◌≡◌, ℕ, Bool, true, false, ◌==◌, ◌∷◌, ◌++◌, Some, None, refl, sym, subst}
 use Rattle.vhdl_values.specs.declared.kinds.Logic.{Logic}
 use Rattle.vhdl_values.specs.declared.kinds.Cmp.{Cmp}
 use Rattle.vhdl_tree.specs.declared.operator.Operator.{Operator}
@@ -14,11 +14,14 @@ use Rattle.vhdl_names_rules.specs.units.Expressions.{Vector, Value, Test}
 use Rattle.vhdl_names_rules.specs.units.Bytes.{static_bytes, static_test_bytes, vector_bytes, value_bytes, test_bytes}
 use Rattle.vhdl_names_rules.specs.Rules.{◌>>=◌, met, then_some}
 use Rattle.vhdl_names_rules.specs.Operators as o
-use Rattle.vhdl_names_rules.specs.Operators.{Typed, common_kind, joined_kind, is_number, are_numbers, binary, both, negated, logical, inverse, concatenated, integral, arithmetic, integers_compared, equal_by, equality, ordering, operated}
+use Rattle.vhdl_names_rules.specs.Operators.{Typed, common_kind, joined_kind, is_number, are_numbers, binary, both, negated, logical, inverse, concatenated, integral, arithmetic, integers_compared, equal_by, equality, ordering, operated, beside_vector}
 use Rattle.vhdl_names_laws.proofs.Statics.{some_same}
-use Rattle.vhdl_names_laws.proofs.Operators.{Given, given}
+use Rattle.vhdl_names_laws.proofs.Shapes.{Given, given}
 use Rattle.vhdl_names_rules.proofs.kept.Keeping.{mapped}
-use Rattle.vhdl_names_laws.proofs.standing.Holding.{Hold, hold_both, TypedHolds}
+use Rattle.vhdl_names_laws.proofs.standing.Holding.{Hold, hold_both, TypedHolds, ElementsHold}
+use Rattle.vhdl_names_laws.proofs.standing.Aggregates.{aggregate_holds}
+use Rattle.vhdl_names_rules.specs.Types.{TypedElements}
+use Rattle.vhdl_names_rules.proofs.laws.Rules.{kept}
 
 module _ (P : ℕ → Type 0) where
   known : (x y : Typed) → Some x ≡ Some y → TypedHolds P x → TypedHolds P y
@@ -60,7 +63,7 @@ module _ (P : ℕ → Type 0) where
         subst (TypedHolds P) c.is (two x y h t)
     concatenated_holds _ _ z h t g = absurd cc
 
-    integral_holds : (op : Arithmetic) (x y z : Typed) → TypedHolds P x → TypedHolds P y → integral at op x y ≡ Some z → TypedHolds P z
+    pub integral_holds : (op : Arithmetic) (x y z : Typed) → TypedHolds P x → TypedHolds P y → integral at op x y ≡ Some z → TypedHolds P z
     integral_holds op (o.integer s) (o.integer r) z h t g =
         known (o.integer (e.Static.binary at op s r)) z g (stands, hold_both P (static_bytes s) (static_bytes r) h t)
     integral_holds op _ _ z h t g = absurd cc
@@ -94,6 +97,10 @@ module _ (P : ℕ → Type 0) where
     equal_holds op same c x y Unsigned h t = two x y h t
     equal_holds op same c x y _ h t = compared_holds same c (e.Value.elements x) (e.Value.elements y) h t
 
+    -- an aggregate beside a vector
+    beside_holds : (k : ElementKind) (p : ℕ) (es : TypedElements) (y : Vector) → P p × ElementsHold P es → beside_vector k p es ≡ Some y → Hold P (vector_bytes y)
+    beside_holds k p es y h g = let v = kept (o.is_vector k) _ y g in aggregate_holds P k p None es y h.0 tt h.1 v.1
+
     equality_holds : (op : Cmp) (same : Value → Value → Test) → Compares same → (x y z : Typed) → TypedHolds P x → TypedHolds P y → equality at op same x y ≡ Some z
         → TypedHolds P z
     equality_holds op same c (o.integer s) (o.integer r) z h t g =
@@ -108,6 +115,12 @@ module _ (P : ℕ → Type 0) where
     equality_holds op same c (o.enumerated d m x) (o.enumerated f n y) z h t g =
         let w = given (d == f) (o.truth (same x y)) z g in
         subst (TypedHolds P) w.is (compared_holds same c x y h t)
+    equality_holds op same c (o.elements k x) (o.composite p es) z h t g =
+        let f = mapped (λ y. equal_by at op same x y k) (beside_vector k p es) z g in
+        subst (TypedHolds P) f.is (equal_holds op same c x f.value k h (beside_holds k p es f.value t f.from))
+    equality_holds op same c (o.composite p es) (o.elements k y) z h t g =
+        let f = mapped (λ x. equal_by at op same x y k) (beside_vector k p es) z g in
+        subst (TypedHolds P) f.is (equal_holds op same c f.value y k (beside_holds k p es f.value h f.from) t)
     equality_holds op same c _ _ z h t g = absurd cc
 
     ordering_holds : (numbers : Bool) (op : Cmp) (x y z : Typed) → TypedHolds P x → TypedHolds P y → ordering numbers at op x y ≡ Some z → TypedHolds P z

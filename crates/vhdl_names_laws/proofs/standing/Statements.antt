@@ -1,10 +1,12 @@
 -- The bytes of an analysed statement are those of pieces of the statement.
-use Rattle.std.proofs.Common.{◌≡◌, ℕ, not, List, [], ◌∷◌, ◌++◌, Option, Some, None, subst}
+use Rattle.std.proofs.Common.{◌≡◌, ℕ, Bool, true, false, not, List, [], ◌∷◌, ◌++◌, Option, Some, None, subst}
+use Rattle.std.specs.Option.{option_map}
 use Rattle.std.specs.List.{AllByRecursion}
 use Rattle.vhdl_tree.specs.Tree as t
 use Rattle.vhdl_tree.specs.Tree.{Ident}
 use Rattle.vhdl_tree.specs.Pieces.{spell_option}
-use Rattle.vhdl_tree.specs.grammar.Expressions.{spell, spell_suffix, spell_attribute, spell_name, spell_value, spell_range, spell_choices}
+use Rattle.vhdl_tree.specs.grammar.Expressions.{spell, spell_suffix, spell_attribute, spell_name, spell_value, spell_discrete_range, spell_choices}
+use Rattle.vhdl_tree.specs.grammar.Waveforms.{spell_branch, spell_otherwise, spell_waveforms}
 use Rattle.vhdl_tree.specs.grammar.Sequential.{spell_label, spell_statement, spell_statements, spell_conditionals, spell_elsifs, spell_else, spell_alternatives}
 use Rattle.vhdl_names_rules.specs.declared.kind.ElementKind.TheVariants.{Element, LogicVector, Unsigned, OpenVector}
 use Rattle.vhdl_names_rules.specs.declared.kind.ObjectType.{ObjectType}
@@ -12,15 +14,15 @@ use Rattle.vhdl_names_rules.specs.declared.kind.ObjectType.TheVariants.{Elements
 use Rattle.vhdl_names_rules.specs.units.Expressions as e
 use Rattle.vhdl_names_rules.specs.units.Expressions.{Part, Value}
 use Rattle.vhdl_names_rules.specs.units.Statements as s
-use Rattle.vhdl_names_rules.specs.units.Bytes.{range_bytes, part_bytes, place_bytes, value_bytes, test_bytes, given_bytes, statement_bytes, statements_bytes, branches_bytes, alternatives_bytes}
+use Rattle.vhdl_names_rules.specs.units.Bytes.{if_any_bytes, range_bytes, part_bytes, place_bytes, value_bytes, test_bytes, given_bytes, statement_bytes, statements_bytes, branches_bytes, alternatives_bytes}
 use Rattle.vhdl_names_rules.specs.Visibility as visibility
-use Rattle.vhdl_names_rules.specs.Visibility.{Meaning, Sight, label_ends}
+use Rattle.vhdl_names_rules.specs.Visibility.{Name, Meaning, DeclaredRange, Sight, label_ends}
 use Rattle.vhdl_names_rules.specs.Operators as o
 use Rattle.vhdl_names_rules.specs.Operators.{Typed}
 use Rattle.vhdl_names_rules.specs.Names.{Suffix, part_of}
 use Rattle.vhdl_names_rules.specs.Expressions.{static_range, condition, value_given}
 use Rattle.vhdl_names_rules.specs.Choices.{selector, arranged}
-use Rattle.vhdl_names_rules.specs.Statements.{SignalName, named_part, as_signal, signal, is_input, target, VariableName, as_variable, variable, statement, statements, conditionals, otherwise, alternatives}
+use Rattle.vhdl_names_rules.specs.Statements.{part_range, SignalName, named_part, as_signal, signal, is_input, target, VariableName, variable_part, as_variable, variable, Target, target_by, assignment, alone, last_branch, branches, conditional, before, statement, statements, conditionals, otherwise, alternatives}
 use Rattle.vhdl_names_rules.proofs.laws.Rules.{comes, kept}
 use Rattle.vhdl_names_rules.proofs.laws.Parts.{case_parts}
 use Rattle.vhdl_names_laws.proofs.Parts.{signal_parts, variable_parts}
@@ -33,43 +35,137 @@ use Rattle.vhdl_names_laws.proofs.standing.Expressions.{typed_holds, suffix_hold
 
 -- ---- names of signals and variables
 
-as_signal_holds : (P : ℕ → Type 0) (at : ℕ) (d : Meaning) (suffix : Suffix) (x : SignalName) → P at → SuffixHolds P suffix → as_signal at d suffix ≡ Some x
-    → Hold P (place_bytes x.place)
-as_signal_holds P at (visibility.port k mode kind) suffix x h f q =
-    let a = mapped (named_part at (e.port k) (Some mode)) (part_of (Elements kind) suffix) x q in
-    subst (λ (x : SignalName). Hold P (place_bytes x.place)) a.is (h, part_of_holds P (Elements kind) suffix a.value f a.from)
-as_signal_holds P at (visibility.signal k type) suffix x h f q =
-    let a = mapped (named_part at (e.Signal.signal k) None) (part_of type suffix) x q in
-    subst (λ (x : SignalName). Hold P (place_bytes x.place)) a.is (h, part_of_holds P type suffix a.value f a.from)
-as_signal_holds _ at _ suffix x h f q = absurd cc
+part_range_holds : (P : ℕ → Type 0) (r : Option DeclaredRange) (p : Part) → Hold P (part_bytes p) → Hold P (if_any_bytes range_bytes (part_range r p))
+part_range_holds P None e.whole h = tt
+part_range_holds P (Some d) e.whole h = tt
+part_range_holds P r (e.Part.element x) h = tt
+part_range_holds P r (e.slice x) h = h
 
-pub signal_holds : (P : ℕ → Type 0) (sight : Sight) (n : t.Name) (x : SignalName) → Stand P (spell_name n) → signal sight n ≡ Some x → Hold P (place_bytes x.place)
+pub record SignalHolds (P : ℕ → Type 0) (x : SignalName) : Type 0 where
+  pub place : Hold P (place_bytes x.place)
+  pub range : Hold P (if_any_bytes range_bytes x.range)
+
+as_signal_holds : (P : ℕ → Type 0) (at : ℕ) (name : Name) (d : Meaning) (r : Option DeclaredRange) (b : Bool) (suffix : Suffix) (x : SignalName) → P at → SuffixHolds P suffix
+    → as_signal at (record { name = name; meaning = d; range = r; is_global = b }) suffix ≡ Some x → SignalHolds P x
+as_signal_holds P at name (visibility.port k mode kind) r b suffix x h f q =
+    let a = mapped (named_part at (e.port k) (Some mode) r) (part_of (Elements kind) suffix) x q in
+    let p = part_of_holds P (Elements kind) suffix a.value f a.from in
+    subst (SignalHolds P) a.is (record { place = (h, p); range = part_range_holds P r a.value.0 p })
+as_signal_holds P at name (visibility.signal k type) r b suffix x h f q =
+    let a = mapped (named_part at (e.Signal.signal k) None r) (part_of type suffix) x q in
+    let p = part_of_holds P type suffix a.value f a.from in
+    subst (SignalHolds P) a.is (record { place = (h, p); range = part_range_holds P r a.value.0 p })
+as_signal_holds _ at name _ r b suffix x h f q = absurd cc
+
+pub signal_holds : (P : ℕ → Type 0) (sight : Sight) (n : t.Name) (x : SignalName) → Stand P (spell_name n) → signal sight n ≡ Some x → SignalHolds P x
 signal_holds P sight n x h q =
     let p = signal_parts sight n x q in
-    as_signal_holds P n.identifier.at p.meant.value p.suffix.value x h.0 (suffix_holds n.suffix P sight p.suffix.value (first P (spell_suffix n.suffix) (spell_attribute n.attribute) h.1) p.suffix.is) p.is
+    let d = p.meant.value in
+    as_signal_holds P n.identifier.at d.name d.meaning d.range d.is_global p.suffix.value x h.0
+    (suffix_holds n.suffix P sight p.suffix.value (first P (spell_suffix n.suffix) (spell_option spell_attribute n.attribute) h.1) p.suffix.is) p.is
 
-pub target_holds : (P : ℕ → Type 0) (sight : Sight) (n : t.Name) (x : SignalName) → Stand P (spell_name n) → target sight n ≡ Some x → Hold P (place_bytes x.place)
-unfolding target
-target_holds P sight n x h q =
-    let a = comes (signal sight n) _ x q in
-    let b = kept (not (is_input a.value.mode)) _ x a.rest in
-    subst (λ (x : SignalName). Hold P (place_bytes x.place)) (some_same a.value x b.1) (signal_holds P sight n a.value h a.is)
+record VariableHolds (P : ℕ → Type 0) (x : VariableName) : Type 0 where
+  at : P x.at
+  part : Hold P (part_bytes x.part)
+  range : Hold P (if_any_bytes range_bytes x.range)
 
-abbrev VariableHolds : (ℕ → Type 0) → VariableName → Type 0
-VariableHolds P x = P x.at × Hold P (part_bytes x.part)
-
-as_variable_holds : (P : ℕ → Type 0) (at : ℕ) (d : Meaning) (suffix : Suffix) (x : VariableName) → P at → SuffixHolds P suffix → as_variable at d suffix ≡ Some x
-    → VariableHolds P x
-as_variable_holds P at (visibility.variable k type) suffix x h f q =
-    let make : Part × ObjectType → VariableName = λ p. record { at = at; number = k; part = p.0; type = p.1 } in
-    let a = mapped make (part_of type suffix) x q in
-    subst (VariableHolds P) a.is (h, part_of_holds P type suffix a.value f a.from)
-as_variable_holds _ at _ suffix x h f q = absurd cc
+as_variable_holds : (P : ℕ → Type 0) (at : ℕ) (name : Name) (d : Meaning) (r : Option DeclaredRange) (b : Bool) (suffix : Suffix) (x : VariableName) → P at → SuffixHolds P suffix
+    → as_variable at (record { name = name; meaning = d; range = r; is_global = b }) suffix ≡ Some x → VariableHolds P x
+as_variable_holds P at name (visibility.variable k type) r b suffix x h f q =
+    let a = mapped (variable_part at k r) (part_of type suffix) x q in
+    let p = part_of_holds P type suffix a.value f a.from in
+    subst (VariableHolds P) a.is (record { at = h; part = p; range = part_range_holds P r a.value.0 p })
+as_variable_holds _ at name _ r b suffix x h f q = absurd cc
 
 variable_holds : (P : ℕ → Type 0) (sight : Sight) (n : t.Name) (x : VariableName) → Stand P (spell_name n) → variable sight n ≡ Some x → VariableHolds P x
 variable_holds P sight n x h q =
     let p = variable_parts sight n x q in
-    as_variable_holds P n.identifier.at p.meant.value p.suffix.value x h.0 (suffix_holds n.suffix P sight p.suffix.value (first P (spell_suffix n.suffix) (spell_attribute n.attribute) h.1) p.suffix.is) p.is
+    let d = p.meant.value in
+    as_variable_holds P n.identifier.at d.name d.meaning d.range d.is_global p.suffix.value x h.0
+    (suffix_holds n.suffix P sight p.suffix.value (first P (spell_suffix n.suffix) (spell_option spell_attribute n.attribute) h.1) p.suffix.is) p.is
+
+-- ---- assignments
+
+-- what is given to a target stands, and so does the assignment
+pub record TargetHolds (P : ℕ → Type 0) (x : Target) : Type 0 where
+  pub at : P x.at
+  pub range : Hold P (if_any_bytes range_bytes x.range)
+  pub assigned : (g : s.Given) → Hold P (given_bytes g) → Hold P (statement_bytes (x.assigned g))
+
+pub target_holds : (P : ℕ → Type 0) (sight : Sight) (b : Bool) (n : t.Name) (x : Target) → Stand P (spell_name n) → target_by sight b n ≡ Some x → TargetHolds P x
+unfolding target
+target_holds P sight false n x h q =
+    let c = comes (target sight n) _ x q in
+    let a = comes (signal sight n) _ c.value c.is in
+    let b = kept (not (is_input a.value.mode)) _ c.value a.rest in
+    let f = subst (SignalHolds P) (some_same a.value c.value b.1) (signal_holds P sight n a.value h a.is) in
+    subst (TargetHolds P) (some_same _ x c.rest) (record {
+      at = f.place.0;
+      range = f.range;
+      assigned = λ g k. hold_both P (place_bytes c.value.place) (given_bytes g) f.place k;
+    })
+target_holds P sight true n x h q =
+    let c = comes (variable sight n) _ x q in
+    let f = variable_holds P sight n c.value h c.is in
+    subst (TargetHolds P) (some_same _ x c.rest) (record {
+      at = f.at;
+      range = f.range;
+      assigned = λ g k. (f.at, hold_both P (part_bytes c.value.part) (given_bytes g) f.part k);
+    })
+
+module _ (P : ℕ → Type 0) (sight : Sight) (x : Target) (f : TargetHolds P x) where
+  pub assignment_holds : (v : t.Value) (y : s.Statement) → Stand P (spell_value v) → assignment sight x v ≡ Some y → Hold P (statement_bytes y)
+  assignment_holds v y h q =
+      let a = mapped x.assigned (value_given sight x.type x.range v) y q in
+      subst (λ y. Hold P (statement_bytes y)) a.is (f.assigned a.value (value_given_holds P sight x.type x.range v a.value f.range h a.from))
+
+  pub alone_holds : (y : s.Statement) → Hold P (statement_bytes y) → Hold P (statements_bytes (alone y))
+  alone_holds y h = hold_both P (statement_bytes y) [] h tt
+
+  one_holds : (w : t.Branch) (ws : List t.Branch) (v : Option t.Value) (bs : s.Branches) → Stand P (spell_branch w)
+      → ((bs : s.Branches) → branches sight x ws v ≡ Some bs → Hold P (branches_bytes bs)) → branches sight x (w ∷ ws) v ≡ Some bs → Hold P (branches_bytes bs)
+  one_holds w ws v bs h more q =
+      let a = comes (assignment sight x w.value) _ bs q in
+      let b = comes (condition sight w.condition) _ bs a.rest in
+      let c = comes (branches sight x ws v) _ bs b.rest in
+      subst (λ bs. Hold P (branches_bytes bs)) (some_same (s.branch b.value (alone a.value) c.value) bs c.rest)
+      (hold_both P (test_bytes b.value) (statements_bytes (alone a.value) ++ branches_bytes c.value)
+      (condition_holds P sight w.condition b.value (behind P (spell_value w.value) _ h).1 b.is)
+      (hold_both P (statements_bytes (alone a.value)) (branches_bytes c.value) (alone_holds a.value (assignment_holds w.value a.value (first P (spell_value w.value) _ h) a.is)) (more c.value c.is)))
+
+  last_holds : (v : t.Value) (bs : s.Branches) → Stand P (spell_value v) → last_branch sight x (Some v) ≡ Some bs → Hold P (branches_bytes bs)
+  last_holds v bs h q =
+      let a = mapped (λ y. s.otherwise (alone y)) (assignment sight x v) bs q in
+      subst (λ bs. Hold P (branches_bytes bs)) a.is (alone_holds a.value (assignment_holds v a.value h a.from))
+
+  -- behind the first
+  otherwise_hold : (ws : List t.Branch) (v : Option t.Value) (bs : s.Branches) → Stand P (spell_otherwise ws v) → branches sight x ws v ≡ Some bs → Hold P (branches_bytes bs)
+  otherwise_hold [] None bs h q = subst (λ bs. Hold P (branches_bytes bs)) (some_same s.no_else bs q) tt
+  otherwise_hold [] (Some v) bs h q = last_holds v bs h.1 q
+  otherwise_hold (w ∷ ws) v bs h q =
+      one_holds w ws v bs (first P (spell_branch w) (spell_otherwise ws v) h.1) (λ bs q. otherwise_hold ws v bs (behind P (spell_branch w) (spell_otherwise ws v) h.1) q) q
+
+  branches_hold : (ws : List t.Branch) (v : Option t.Value) (bs : s.Branches) → Stand P (spell_waveforms ws v) → branches sight x ws v ≡ Some bs → Hold P (branches_bytes bs)
+  branches_hold [] None bs h q = subst (λ bs. Hold P (branches_bytes bs)) (some_same s.no_else bs q) tt
+  branches_hold [] (Some v) bs h q = last_holds v bs h q
+  branches_hold (w ∷ ws) v bs h q =
+      one_holds w ws v bs (first P (spell_branch w) (spell_otherwise ws v) h) (λ bs q. otherwise_hold ws v bs (behind P (spell_branch w) (spell_otherwise ws v) h) q) q
+
+  by_branches : (ws : List t.Branch) (v : Option t.Value) (y : s.Statement) → Stand P (spell_waveforms ws v) → option_map (s.if_of x.at) (branches sight x ws v) ≡ Some y → Hold P (statement_bytes y)
+  by_branches ws v y h q =
+      let a = mapped (s.if_of x.at) (branches sight x ws v) y q in
+      subst (λ y. Hold P (statement_bytes y)) a.is (f.at, branches_hold ws v a.value h a.from)
+
+  pub conditional_holds : (ws : List t.Branch) (v : Option t.Value) (y : s.Statement) → Stand P (spell_waveforms ws v) → conditional sight x ws v ≡ Some y → Hold P (statement_bytes y)
+  conditional_holds [] (Some v) y h q = assignment_holds v y h q
+  conditional_holds [] None y h q = by_branches [] None y h q
+  conditional_holds (w ∷ ws) v y h q = by_branches (w ∷ ws) v y h q
+
+-- statements that are dropped are not there
+before_holds : (P : ℕ → Type 0) (y : t.Statement) (x : s.Statement) (xs : s.Statements) → Hold P (statement_bytes x) → Hold P (statements_bytes xs) → Hold P (statements_bytes (before y x xs))
+before_holds P (t.asserted text) x xs h k = k
+before_holds P (t.reported text) x xs h k = k
+before_holds P _ x xs h k = hold_both P (statement_bytes x) (statements_bytes xs) h k
 
 -- ---- selectors and alternatives
 
@@ -102,20 +198,16 @@ mutual
       → statement sight label y ≡ Some x → Hold P (statement_bytes x)
   statement_holds (t.null_of at) P sight label x h q = subst (λ x. Hold P (statement_bytes x)) (some_same s.null_of x q) tt
   statement_holds (t.assigned n v) P sight label x h q =
-      let a = comes (target sight n) _ x q in
-      let g = comes (value_given sight a.value.type v) _ x a.rest in
-      subst (λ x. Hold P (statement_bytes x)) (some_same _ x g.rest)
-      (hold_both P (place_bytes a.value.place) (given_bytes g.value) (target_holds P sight n a.value (first P (spell_name n) _ h) a.is)
-      (value_given_holds P sight a.value.type v g.value (first P (spell_value v) _ (behind P (spell_name n) _ h).1) g.is))
+      let a = comes (target_by sight false n) _ x q in
+      assignment_holds P sight a.value (target_holds P sight false n a.value (first P (spell_name n) _ h) a.is) v x (first P (spell_value v) _ (behind P (spell_name n) _ h).1) a.rest
   statement_holds (t.variable_assigned n v) P sight label x h q =
-      let a = comes (variable sight n) _ x q in
-      let g = comes (value_given sight a.value.type v) _ x a.rest in
-      let w = variable_holds P sight n a.value (first P (spell_name n) _ h) a.is in
-      subst (λ x. Hold P (statement_bytes x)) (some_same _ x g.rest) (
-        w.0,
-        hold_both P (part_bytes a.value.part) (given_bytes g.value) w.1
-            (value_given_holds P sight a.value.type v g.value (first P (spell_value v) _ (behind P (spell_name n) _ h).1) g.is),
-      )
+      let a = comes (target_by sight true n) _ x q in
+      assignment_holds P sight a.value (target_holds P sight true n a.value (first P (spell_name n) _ h) a.is) v x (first P (spell_value v) _ (behind P (spell_name n) _ h).1) a.rest
+  statement_holds (t.assigned_when b n ws v) P sight label x h q =
+      let a = comes (target_by sight b n) _ x q in
+      conditional_holds P sight a.value (target_holds P sight b n a.value (first P (spell_name n) _ h) a.is) ws v x (first P (spell_waveforms ws v) _ (behind P (spell_name n) _ h).1) a.rest
+  statement_holds (t.asserted text) P sight label x h q = subst (λ x. Hold P (statement_bytes x)) (some_same s.null_of x q) tt
+  statement_holds (t.reported text) P sight label x h q = subst (λ x. Hold P (statement_bytes x)) (some_same s.null_of x q) tt
   statement_holds (t.if_of at bs o end) P sight label x h q =
       let a = kept (label_ends label end) _ x q in
       let b = comes (otherwise sight o) _ x a.1 in
@@ -136,10 +228,10 @@ mutual
       let a = kept (label_ends label end) _ x q in
       let b = comes (static_range sight r) _ x a.1 in
       let c = comes (statements (visibility.within_loop sight n) body) _ x b.rest in
-      let inner = first P (spell_statements body) _ (behind P (spell_range r) _ h.1.1.1).1 in
+      let inner = first P (spell_statements body) _ (behind P (spell_discrete_range r) _ h.1.1.1).1 in
       subst (λ x. Hold P (statement_bytes x)) (some_same _ x c.rest) (
         h.0,
-        hold_both P (range_bytes b.value) (statements_bytes c.value) (static_range_holds P sight r b.value (first P (spell_range r) _ h.1.1.1) b.is)
+        hold_both P (range_bytes b.value) (statements_bytes c.value) (static_range_holds P sight r b.value (first P (spell_discrete_range r) _ h.1.1.1) b.is)
             (statements_hold body P (visibility.within_loop sight n) c.value inner c.is),
       )
 
@@ -151,7 +243,7 @@ mutual
       let b = comes (statements sight ys) _ xs a.rest in
       let g = first P (spell_option spell_label label ++ spell_statement y) (spell_statements ys) h in
       subst (λ xs. Hold P (statements_bytes xs)) (some_same _ xs b.rest)
-      (hold_both P (statement_bytes a.value) (statements_bytes b.value) (statement_holds y P sight label a.value (behind P (spell_option spell_label label) (spell_statement y) g) a.is)
+      (before_holds P y a.value b.value (statement_holds y P sight label a.value (behind P (spell_option spell_label label) (spell_statement y) g) a.is)
       (statements_hold ys P sight b.value (behind P (spell_option spell_label label ++ spell_statement y) (spell_statements ys) h) b.is))
 
   conditionals_hold : (bs : t.Conditionals) (P : ℕ → Type 0) (sight : Sight) (last xs : s.Branches) → Stand P (spell_conditionals bs) → Hold P (branches_bytes last)

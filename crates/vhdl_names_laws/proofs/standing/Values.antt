@@ -4,42 +4,55 @@ use Rattle.std.specs.List.{AllByRecursion}
 use Rattle.vhdl_tree.specs.Tree as t
 use Rattle.vhdl_tree.specs.Tree.{Expr}
 use Rattle.vhdl_tree.specs.Pieces.{spell_option}
-use Rattle.vhdl_tree.specs.grammar.Expressions.{spell, spell_suffix, spell_exprs, spell_attribute, spell_range, spell_value}
+use Rattle.vhdl_tree.specs.grammar.Expressions.{spell, spell_suffix, spell_exprs, spell_attribute, spell_discrete_range, spell_value}
 use Rattle.vhdl_tree.specs.grammar.Subtypes.{spell_constraint, spell_subtype, spell_default}
-use Rattle.vhdl_tree.specs.grammar.Declarations.{spell_generic_default}
 use Rattle.vhdl_names_rules.specs.declared.kind.ElementKind.TheVariants.{Element, LogicVector, Unsigned}
 use Rattle.vhdl_names_rules.specs.declared.kind.ObjectType.{ObjectType}
 use Rattle.vhdl_names_rules.specs.declared.kind.ObjectType.TheVariants.{Elements, Enumeration}
 use Rattle.vhdl_names_rules.specs.declared.kind.Function.TheVariants.{ToUnsigned}
-use Rattle.vhdl_names_rules.specs.units.Expressions.{Static, Range}
+use Rattle.vhdl_names_rules.specs.units.Expressions.{Range, StaticTest}
+use Rattle.vhdl_names_rules.specs.units.Statements.{Given}
+use Rattle.vhdl_names_rules.specs.declared.fault.NameProblem.TheVariants.{LeftOut}
 use Rattle.vhdl_names_rules.specs.units.Units as u
-use Rattle.vhdl_names_rules.specs.units.Units.{Fixed}
-use Rattle.vhdl_names_rules.specs.units.Bytes.{if_any_bytes, static_bytes, range_bytes, form_bytes, fixed_bytes}
-use Rattle.vhdl_names_rules.specs.Rules.{if_any}
+use Rattle.vhdl_names_rules.specs.units.Units.{Form, Fixed}
+use Rattle.vhdl_names_rules.specs.units.Bytes.{if_any_bytes, static_bytes, range_bytes, static_test_bytes, given_bytes, form_bytes, fixed_bytes, subtype_bytes}
+use Rattle.vhdl_names_rules.specs.Rules.{if_any, given_that, wider}
 use Rattle.vhdl_names_rules.specs.Visibility as visibility
-use Rattle.vhdl_names_rules.specs.Visibility.{Meaning, Sight, meaning}
+use Rattle.vhdl_names_rules.specs.Visibility.{Meaning, DeclaredRange, Sight, declaration, meaning}
 use Rattle.vhdl_names_rules.specs.Literals.{nine_of}
 use Rattle.vhdl_names_rules.specs.Operators as o
 use Rattle.vhdl_names_rules.specs.Operators.{Typed}
-use Rattle.vhdl_names_rules.specs.Expressions as x
-use Rattle.vhdl_names_rules.specs.Expressions.{typed_each, static, static_range}
-use Rattle.vhdl_names_rules.specs.Subtypes.{Subtype, marked, subtype, literal_values, named_value, encoded_value, literal_value, fixed, filled_value, fixed_value}
+use Rattle.vhdl_names_rules.specs.Ranges.{declared_range}
+use Rattle.vhdl_names_rules.specs.problems.Places.{range_start}
+use Rattle.vhdl_names_rules.specs.Declarations.{static_test}
+use Rattle.vhdl_names_rules.specs.Expressions.{typed, typed_each, static_range, as_static_test, value_given}
+use Rattle.vhdl_names_rules.specs.Subtypes.{Subtype, marked, index_range, one_range, subtype, form_range, integers_of, is_range, value_range, integer_subtype, literal_values, named_value, encoded_value, literal_value, fixed, filled_value, plain_value, is_known_value, known_value, fixed_value}
 use Rattle.vhdl_names_rules.proofs.laws.Rules.{comes, kept}
 use Rattle.vhdl_names_laws.proofs.Statics.{some_same}
-use Rattle.vhdl_names_laws.proofs.Operators.{given}
+use Rattle.vhdl_names_laws.proofs.Shapes.{given, of_either, wider_is}
 use Rattle.vhdl_names_rules.proofs.kept.Keeping.{mapped}
 use Rattle.vhdl_names_laws.proofs.placed.Told.{Stand, first}
+use Rattle.vhdl_names_laws.proofs.placed.Starts.{range_stands}
 use Rattle.vhdl_names_laws.proofs.standing.Holding.{Hold, hold_both, TypedHolds}
-use Rattle.vhdl_names_laws.proofs.standing.Expressions.{exprs_hold, static_holds, static_range_holds}
+use Rattle.vhdl_names_laws.proofs.standing.Expressions.{typed_holds, exprs_hold, static_range_holds, static_condition_holds, value_given_holds}
 
 -- ---- types of objects
 
-range_holds : (P : ℕ → Type 0) (sight : Sight) (r : Option t.Range) (y : Option Range) → Stand P (spell_option spell_constraint r) → if_any (static_range sight) r ≡ Some y
+index_range_holds : (P : ℕ → Type 0) (sight : Sight) (r : t.Constraint) (y : Range) → Stand P (spell_constraint r) → index_range sight r ≡ Some y → Hold P (range_bytes y)
+index_range_holds P sight (t.index_range r) y h q = static_range_holds P sight r y (first P (spell_discrete_range r) _ h.1) q
+index_range_holds P sight (t.value_range r) y h q = absurd cc
+
+range_holds : (P : ℕ → Type 0) (sight : Sight) (r : Option t.Constraint) (y : Option Range) → Stand P (spell_option spell_constraint r) → if_any (index_range sight) r ≡ Some y
     → Hold P (if_any_bytes range_bytes y)
 range_holds P sight None y h q = subst (λ y. Hold P (if_any_bytes range_bytes y)) (some_same None y q) tt
 range_holds P sight (Some r) y h q =
-    let a = comes (static_range sight r) _ y q in
-    subst (λ y. Hold P (if_any_bytes range_bytes y)) (some_same (Some a.value) y a.rest) (static_range_holds P sight r a.value (first P (spell_range r) _ h.1) a.is)
+    let a = comes (index_range sight r) _ y q in
+    subst (λ y. Hold P (if_any_bytes range_bytes y)) (some_same (Some a.value) y a.rest) (index_range_holds P sight r a.value h a.is)
+
+one_range_holds : (P : ℕ → Type 0) (d : Option DeclaredRange) (r y : Option Range) → Hold P (if_any_bytes range_bytes r) → one_range d r ≡ Some y → Hold P (if_any_bytes range_bytes y)
+one_range_holds P None r y h q = subst (λ y. Hold P (if_any_bytes range_bytes y)) (some_same r y q) h
+one_range_holds P (Some d) None y h q = subst (λ y. Hold P (if_any_bytes range_bytes y)) (some_same (Some (declared_range d)) y q) tt
+one_range_holds P (Some d) (Some r) y h q = absurd cc
 
 marked_holds : (P : ℕ → Type 0) (d : Meaning) (r : Option Range) (s : Subtype) → Hold P (if_any_bytes range_bytes r) → marked d r ≡ Some s → Hold P (form_bytes s.form)
 marked_holds P (visibility.element_type b) None s h q = subst (λ (s : Subtype). Hold P (form_bytes s.form)) (some_same _ s q) tt
@@ -50,9 +63,40 @@ marked_holds _ _ _ s h q = absurd cc
 pub subtype_holds : (P : ℕ → Type 0) (sight : Sight) (d : t.Subtype) (s : Subtype) → Stand P (spell_subtype d) → subtype sight d ≡ Some s → Hold P (form_bytes s.form)
 unfolding subtype
 subtype_holds P sight d s h q =
-    let a = comes (if_any (static_range sight) d.range) _ s q in
-    let b = comes (meaning sight d.mark.text) (λ mark. marked mark a.value) s a.rest in
-    marked_holds P b.value a.value s (range_holds P sight d.range a.value h.1 a.is) b.rest
+    let a = comes (if_any (index_range sight) d.constraint) _ s q in
+    let b = comes (declaration sight d.mark.text) _ s a.rest in
+    let c = comes (one_range b.value.range a.value) _ s b.rest in
+    marked_holds P b.value.meaning c.value s (one_range_holds P b.value.range a.value c.value (range_holds P sight d.constraint a.value h.1 a.is) c.is) c.rest
+
+pub form_range_holds : (P : ℕ → Type 0) (f : Form) → Hold P (form_bytes f) → Hold P (if_any_bytes range_bytes (form_range f))
+form_range_holds P u.element h = tt
+form_range_holds P (u.vector r) h = h
+form_range_holds P (u.enumeration count) h = tt
+
+-- ---- subtypes of integers
+
+value_range_holds : (P : ℕ → Type 0) (sight : Sight) (r : t.Constraint) (y : ℕ × Range) → Stand P (spell_constraint r) → value_range sight r ≡ Some y → P y.0 × Hold P (range_bytes y.1)
+value_range_holds P sight (t.index_range r) y h q = absurd cc
+value_range_holds P sight (t.value_range r) y h q =
+    let k = kept (is_range r) _ y q in
+    let a = comes (static_range sight r) _ y k.1 in
+    subst (λ (y : ℕ × Range). P y.0 × Hold P (range_bytes y.1)) (some_same (range_start r, a.value) y a.rest) (range_stands P r h.1, static_range_holds P sight r a.value h.1 a.is)
+
+any_value_range_holds : (P : ℕ → Type 0) (sight : Sight) (r : Option t.Constraint) (y : Option (ℕ × Range)) → Stand P (spell_option spell_constraint r) → if_any (value_range sight) r ≡ Some y
+    → Hold P (if_any_bytes (λ (r : ℕ × Range). r.0 ∷ range_bytes r.1) y)
+any_value_range_holds P sight None y h q = subst (λ y. Hold P (if_any_bytes (λ (r : ℕ × Range). r.0 ∷ range_bytes r.1) y)) (some_same None y q) tt
+any_value_range_holds P sight (Some r) y h q =
+    let a = comes (value_range sight r) _ y q in
+    let g = value_range_holds P sight r a.value h a.is in
+    subst (λ y. Hold P (if_any_bytes (λ (r : ℕ × Range). r.0 ∷ range_bytes r.1) y)) (some_same (Some a.value) y a.rest) (g.0, g.1)
+
+pub integer_subtype_holds : (P : ℕ → Type 0) (sight : Sight) (d : t.Subtype) (s : u.IntegerSubtype) → Stand P (spell_subtype d) → integer_subtype sight d ≡ Some s → Hold P (subtype_bytes s)
+unfolding integer_subtype
+integer_subtype_holds P sight d s h q =
+    let a = comes (if_any (value_range sight) d.constraint) _ s q in
+    let b = comes (declaration sight d.mark.text) _ s a.rest in
+    let c = comes (integers_of b.value) _ s b.rest in
+    subst (λ s. Hold P (subtype_bytes s)) (some_same (record { base = c.value; range = a.value }) s c.rest) (any_value_range_holds P sight d.constraint a.value h.1 a.is)
 
 -- ---- values that are fixed
 
@@ -90,33 +134,40 @@ fixed_holds P sight type (t.named a t.plain None) v h q =
 fixed_holds P sight type (t.named a (t.arguments es) None) v h q =
     let b = comes (meaning sight a.text) _ v q in
     let c = comes (typed_each sight es) (encoded_value type b.value) v b.rest in
-    let inner = first P (spell_suffix (t.arguments es)) (spell_attribute None) h.1 in
+    let inner = first P (spell_suffix (t.arguments es)) (spell_option spell_attribute None) h.1 in
     encoded_holds P type b.value c.value v (exprs_hold es P sight c.value (first P (spell_exprs es) _ inner.1) c.is) c.rest
 fixed_holds P sight type d v h q = literal_value_holds P type d v q
 
 filled_holds : (P : ℕ → Type 0) (type : ObjectType) (d : Expr) (v : Fixed) → filled_value type d ≡ Some v → Hold P (fixed_bytes v)
 filled_holds P (Elements k) (t.character at c) v q =
-    let a = kept (x.is_vector k) _ v q in
+    let a = kept (o.is_vector k) _ v q in
     let b = comes (nine_of c) (λ v. Some (u.Fixed.filled v)) v a.1 in
     subst (λ v. Hold P (fixed_bytes v)) (some_same (u.Fixed.filled b.value) v b.rest) tt
 filled_holds _ _ _ v q = absurd cc
 
-pub fixed_value_holds : (P : ℕ → Type 0) (sight : Sight) (type : ObjectType) (d : t.Value) (v : Fixed) → Stand P (spell_value d) → fixed_value sight type d ≡ Some v
-    → Hold P (fixed_bytes v)
+plain_value_holds : (P : ℕ → Type 0) (sight : Sight) (type : ObjectType) (d : t.Value) (v : Fixed) → Stand P (spell_value d) → plain_value sight type d ≡ Some v → Hold P (fixed_bytes v)
+plain_value_holds P sight type (t.single d) v h q = fixed_holds P sight type d v h q
+plain_value_holds P sight type (t.others at d) v h q = filled_holds P type d v q
+
+pub known_holds : (P : ℕ → Type 0) (g : Given) (v : Fixed) → Hold P (given_bytes g) → given_that LeftOut (is_known_value g) (u.Fixed.given g) ≡ Some v → Hold P (fixed_bytes v)
+known_holds P g v h q = let a = given (is_known_value g) (u.Fixed.given g) v q in subst (λ v. Hold P (fixed_bytes v)) a.is h
+
+pub fixed_value_holds : (P : ℕ → Type 0) (sight : Sight) (type : ObjectType) (r : Option Range) (d : t.Value) (v : Fixed) → Hold P (if_any_bytes range_bytes r) → Stand P (spell_value d)
+    → fixed_value sight type r d ≡ Some v → Hold P (fixed_bytes v)
 unfolding fixed_value
-fixed_value_holds P sight type (t.single d) v h q = fixed_holds P sight type d v h q
-fixed_value_holds P sight type (t.others at d) v h q = filled_holds P type d v q
+fixed_value_holds P sight type r d v f h q =
+    of_either (λ v. Hold P (fixed_bytes v)) (plain_value sight type d) (wider sight.language (known_value sight type r d)) v
+    (λ z e. plain_value_holds P sight type d z h e)
+    (λ z e.
+    let a = comes (value_given sight type r d) _ z (wider_is sight.language (known_value sight type r d) z e) in
+    known_holds P a.value z (value_given_holds P sight type r d a.value f h a.is) a.rest) q
 
-pub default_holds : (P : ℕ → Type 0) (sight : Sight) (type : ObjectType) (d : Option t.Value) (v : Option Fixed) → Stand P (spell_option spell_default d)
-    → if_any (fixed_value sight type) d ≡ Some v → Hold P (if_any_bytes fixed_bytes v)
-default_holds P sight type None v h q = subst (λ v. Hold P (if_any_bytes fixed_bytes v)) (some_same None v q) tt
-default_holds P sight type (Some d) v h q =
-    let a = comes (fixed_value sight type d) _ v q in
-    subst (λ v. Hold P (if_any_bytes fixed_bytes v)) (some_same (Some a.value) v a.rest) (fixed_value_holds P sight type d a.value h.1 a.is)
+pub default_holds : (P : ℕ → Type 0) (sight : Sight) (type : ObjectType) (r : Option Range) (d : Option t.Value) (v : Option Fixed) → Hold P (if_any_bytes range_bytes r)
+    → Stand P (spell_option spell_default d) → if_any (fixed_value sight type r) d ≡ Some v → Hold P (if_any_bytes fixed_bytes v)
+default_holds P sight type r None v f h q = subst (λ v. Hold P (if_any_bytes fixed_bytes v)) (some_same None v q) tt
+default_holds P sight type r (Some d) v f h q =
+    let a = comes (fixed_value sight type r d) _ v q in
+    subst (λ v. Hold P (if_any_bytes fixed_bytes v)) (some_same (Some a.value) v a.rest) (fixed_value_holds P sight type r d a.value f h.1 a.is)
 
-pub static_default_holds : (P : ℕ → Type 0) (sight : Sight) (d : Option Expr) (v : Option Static) → Stand P (spell_option spell_generic_default d) → if_any (static sight) d ≡ Some v
-    → Hold P (if_any_bytes static_bytes v)
-static_default_holds P sight None v h q = subst (λ v. Hold P (if_any_bytes static_bytes v)) (some_same None v q) tt
-static_default_holds P sight (Some d) v h q =
-    let a = comes (static sight d) _ v q in
-    subst (λ v. Hold P (if_any_bytes static_bytes v)) (some_same (Some a.value) v a.rest) (static_holds P sight d a.value h.1 a.is)
+pub test_holds : (P : ℕ → Type 0) (sight : Sight) (d : Expr) (v : StaticTest) → Stand P (spell d) → static_test sight d ≡ Some v → Hold P (static_test_bytes v)
+test_holds P sight d v h q = let a = comes (typed sight d) as_static_test v q in static_condition_holds P a.value v (typed_holds d P sight a.value h a.is) a.rest

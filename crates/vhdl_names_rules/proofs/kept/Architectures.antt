@@ -20,10 +20,10 @@ use Rattle.vhdl_names_rules.specs.problems.Files as broken
 use Rattle.vhdl_names_rules.specs.problems.Files.{with_labels}
 use Rattle.vhdl_names_rules.proofs.laws.Parts.{region_of, architecture_parts}
 use Rattle.vhdl_names_rules.proofs.Telling.{IsKept, both_kept, given_kept}
-use Rattle.vhdl_names_rules.proofs.kept.Keeping.{among_kept}
+use Rattle.vhdl_names_rules.proofs.kept.Keeping.{nothing_kept, among_kept}
 use Rattle.vhdl_names_rules.proofs.kept.Twice.{twice_kept, apart, distinct_front, names_append}
 use Rattle.vhdl_names_rules.proofs.kept.Labels.{labels_named}
-use Rattle.vhdl_names_rules.proofs.kept.Declarations.{context_kept, in_region_kept, signals_kept, constants_kept, enumeration_kept, end_name_kept}
+use Rattle.vhdl_names_rules.proofs.kept.Declarations.{context_kept, in_region_kept, signals_kept, constants_kept, subtype_declaration_kept, enumeration_kept, end_name_kept}
 use Rattle.vhdl_names_rules.proofs.kept.Interfaces.{component_kept}
 use Rattle.vhdl_names_rules.proofs.kept.Concurrent.{concurrents_kept}
 
@@ -68,6 +68,8 @@ declaration_kept entities sight (t.signals d) x h distinct = signals_kept sight 
 declaration_kept entities sight (t.constants d) x h distinct = constants_kept sight d x h distinct
 declaration_kept entities sight (t.enumeration d) x h distinct = enumeration_kept sight d x h distinct
 declaration_kept entities sight (t.component c) x h distinct = component_kept entities sight c x h distinct
+declaration_kept entities sight (t.subtype_of d) x h distinct = subtype_declaration_kept sight d x h distinct
+declaration_kept entities sight (t.attribute_of text) x h distinct = nothing_kept
 
 pub declarations_kept : (entities : List EntityView) (sight : Sight) (ds : List t.Declaration) (x : Declares u.Declaration)
     → in_order with_declared (are.declaration entities) sight ds ≡ Some x → are_distinct (declared_names (sight.region ++ x.declared)) ≡ true

@@ -1,7 +1,7 @@
 -- Choices that are given break no rule (IEEE 1076-2008, 10.9 and 11.6).
 use Rattle.std.proofs.Common.{◌≡◌, List, [], ◌∷◌, Option, Some, None}
 use Rattle.vhdl_tree.specs.Tree as t
-use Rattle.vhdl_tree.specs.Tree.{Expr, Ident}
+use Rattle.vhdl_tree.specs.Tree.{Expr, Ident, Attribute}
 use Rattle.vhdl_names_rules.specs.declared.kind.ObjectType.{ObjectType}
 use Rattle.vhdl_names_rules.specs.declared.kind.ObjectType.TheVariants.{Elements, Enumeration}
 use Rattle.vhdl_names_rules.specs.declared.fault.NameProblem.TheVariants.{TypeMismatch}
@@ -33,7 +33,7 @@ literal_choice_kept (Elements k) e c h =
     literal_kept k e m.value m.from
 literal_choice_kept (Enumeration e count) d c h = absurd cc
 
-no_literal_choice : (type : ObjectType) (n : Ident) (s : t.Suffix) (a : Option Ident) (c : Choice) → literal_choice type (t.named n s a) ≡ Some c → ⊥
+no_literal_choice : (type : ObjectType) (n : Ident) (s : t.Suffix) (a : Option Attribute) (c : Choice) → literal_choice type (t.named n s a) ≡ Some c → ⊥
 no_literal_choice (Elements k) n s a c h =
     let m = mapped units.values (literal_values k (t.named n s a)) c h in
     no_literal k n s a m.value m.from
@@ -52,6 +52,7 @@ chosen_kept sight type e c h = literal_choice_kept type e c h
 
 pub choice_kept : (sight : Sight) (type : ObjectType) (x : t.Choice) (c : Choice) → are.choice sight type x ≡ Some c → IsKept (broken.choice sight type x)
 choice_kept sight type (t.chosen e) c h = chosen_kept sight type e c h
+choice_kept sight type (t.chosen_range d direction e) c h = absurd cc
 choice_kept sight type (t.otherwise at) c h = absurd cc
 
 pub choices_kept : (sight : Sight) (type : ObjectType) (xs : List t.Choice) (cs : List Choice) → are.choices sight type xs ≡ Some cs → IsKept (broken.choices sight type xs)

@@ -10,15 +10,16 @@ use Rattle.vhdl_names_rules.specs.Rules.{◌>>=◌, each}
 use Rattle.vhdl_names_rules.specs.Visibility.{Name, Sight, are_distinct, ends, with_variables}
 use Rattle.vhdl_names_rules.specs.declared.fault.NameProblem.TheVariants.{NoSensitivity}
 use Rattle.vhdl_names_rules.specs.Edges.{Edge, waited_edge}
-use Rattle.vhdl_names_rules.specs.Expressions.{typed, static_range, condition, value_given, as_static_test}
+use Rattle.vhdl_names_rules.specs.Expressions.{typed, static_range, condition, as_static_test}
 use Rattle.vhdl_names_rules.specs.Choices.{choices}
-use Rattle.vhdl_names_rules.specs.Declarations.{in_order, variables}
+use Rattle.vhdl_names_rules.specs.Declarations.{in_order, process_declaration}
 use Rattle.vhdl_names_rules.specs.Interfaces.{EntityView, declared_names}
 use Rattle.vhdl_names_rules.specs.Instances.{instance}
-use Rattle.vhdl_names_rules.specs.Statements.{SignalName, signal, target, statement_labels}
+use Rattle.vhdl_names_rules.specs.Statements as given
+use Rattle.vhdl_names_rules.specs.Statements.{SignalName, Target, signal, signal_target, target_by, conditional, alone, statement_labels}
 use Rattle.vhdl_names_rules.specs.Concurrent as are
-use Rattle.vhdl_names_rules.specs.Concurrent.{alone, sight_within, concurrent_labels}
-use Rattle.vhdl_names_rules.specs.problems.Broken.{◌▸◌, lacking, any_of, of_any}
+use Rattle.vhdl_names_rules.specs.Concurrent.{sight_within, concurrent_labels}
+use Rattle.vhdl_names_rules.specs.problems.Broken.{◌▸◌, lacking, any_of}
 use Rattle.vhdl_names_rules.specs.problems.Twice.{twice}
 use Rattle.vhdl_names_rules.specs.problems.Labels as labels
 use Rattle.vhdl_names_rules.specs.problems.Covered.{any_alternative}
@@ -33,63 +34,31 @@ use Rattle.vhdl_names_rules.proofs.kept.Labels.{labels_named, statements_named}
 use Rattle.vhdl_names_rules.proofs.kept.Expressions.{static_range_kept, condition_kept, static_condition_kept}
 use Rattle.vhdl_names_rules.proofs.kept.Choices.{choices_kept}
 use Rattle.vhdl_names_rules.proofs.kept.Covered.{covered_kept, any_alternative_kept, choices_of_covered}
-use Rattle.vhdl_names_rules.proofs.kept.Statements.{signal_kept, target_kept, assigned_kept, end_label_kept, by_selector_kept, statements_kept}
-use Rattle.vhdl_names_rules.proofs.kept.Declarations.{all_variables_kept, end_name_kept}
+use Rattle.vhdl_names_rules.proofs.kept.Statements.{signal_kept, signal_target_kept, target_by_kept, assigned_kept, conditional_kept, end_label_kept, by_selector_kept, statements_kept}
+use Rattle.vhdl_names_rules.proofs.kept.Declarations.{process_declarations_kept, end_name_kept}
 use Rattle.vhdl_names_rules.proofs.kept.Instances.{instance_kept}
 
 -- ---- conditional and selected assignments
 
--- a value that is given to a target
-pub value_kept : (sight : Sight) (n : t.Name) (x : SignalName) (v : t.Value) (y : s.Statement) → target sight n ≡ Some x → are.assigned sight x v ≡ Some y
-    → IsKept (sequential.assigned sight n v)
-value_kept sight n x v y is h = let g = comes (value_given sight x.type v) _ y h in assigned_kept sight n v x g.value is g.is
-
--- the branches of an assignment, and its last value
-pub record BranchesKept (sight : Sight) (n : t.Name) (bs : List t.Branch) (o : Option t.Value) : Type 0 where
-  pub branches : IsKept (any_of (broken.branch sight n) bs)
-  pub last : IsKept (of_any (sequential.assigned sight n) o)
-
-pub branches_kept : (sight : Sight) (n : t.Name) (x : SignalName) (bs : List t.Branch) (o : Option t.Value) (y : s.Branches) → target sight n ≡ Some x
-    → are.branches sight x bs o ≡ Some y → BranchesKept sight n bs o
-branches_kept sight n x [] None y is h = record { branches = nothing_kept; last = nothing_kept }
-branches_kept sight n x [] (Some v) y is h =
-    let m = mapped (λ z. s.otherwise (alone z)) (are.assigned sight x v) y h in
-    record { branches = nothing_kept; last = value_kept sight n x v m.value is m.from }
-branches_kept sight n x (b ∷ bs) o y is h =
-    let a = comes (are.assigned sight x b.value) _ y h in
-    let c = comes (condition sight b.condition) _ y a.rest in
-    let d = comes (are.branches sight x bs o) _ y c.rest in
-    let more = branches_kept sight n x bs o d.value is d.is in
-    record {
-      branches =
-          both_kept _ _ (both_kept _ _ (value_kept sight n x b.value a.value is a.is) (condition_kept sight b.condition c.value c.is)) more.branches;
-      last = more.last;
-    }
-
-pub body_kept : (sight : Sight) (at : ℕ) (n : t.Name) (x : SignalName) (bs : List t.Branch) (o : Option t.Value) (y : s.Statement) → target sight n ≡ Some x
-    → are.assignment_body sight at x bs o ≡ Some y → BranchesKept sight n bs o
-body_kept sight at n x [] (Some v) y is h = record { branches = nothing_kept; last = value_kept sight n x v y is h }
-body_kept sight at n x bs o y is h = let m = mapped (s.if_of at) (are.branches sight x bs o) y h in branches_kept sight n x bs o m.value is m.from
-
 pub assignment_kept : (sight : Sight) (a : t.Assignment) (y : u.Concurrent) → are.assignment sight a ≡ Some y → IsKept (broken.assignment sight a)
 unfolding are.assignment
 assignment_kept sight a y h =
-    let x = comes (target sight a.target) _ y h in
-    let body = comes (are.assignment_body sight a.target.identifier.at x.value a.branches a.otherwise) _ y x.rest in
-    let all = body_kept sight a.target.identifier.at a.target x.value a.branches a.otherwise body.value x.is body.is in
-    both_kept _ _ (target_kept sight a.target x.value x.is) (both_kept _ _ all.branches all.last)
+    let x = comes (signal_target sight a.target) _ y h in
+    let body = comes (conditional sight x.value a.branches a.otherwise) _ y x.rest in
+    both_kept _ _ (target_by_kept sight false a.target x.value x.is)
+    (conditional_kept sight (target_by sight false a.target) x.value x.is a.branches a.otherwise body.value body.is)
 
-pub waveforms_kept : (sight : Sight) (type : ObjectType) (n : t.Name) (x : SignalName) (ws : List t.Waveform) (css : List (List s.Choice)) (ys : List s.Statements)
-    → target sight n ≡ Some x → each (choices sight type) (map (λ (w : t.Waveform). w.choices) ws) ≡ Some css
-    → each (λ (w : t.Waveform). option_map alone (are.assigned sight x w.value)) ws ≡ Some ys → IsKept (any_of (broken.waveform sight type n) ws)
+pub waveforms_kept : (sight : Sight) (type : ObjectType) (n : t.Name) (x : Target) (ws : List t.Waveform) (css : List (List s.Choice)) (ys : List s.Statements)
+    → signal_target sight n ≡ Some x → each (choices sight type) (map (λ (w : t.Waveform). w.choices) ws) ≡ Some css
+    → each (λ (w : t.Waveform). option_map alone (given.assignment sight x w.value)) ws ≡ Some ys → IsKept (any_of (broken.waveform sight type n) ws)
 waveforms_kept sight type n x [] css ys is g h = nothing_kept
 waveforms_kept sight type n x (w ∷ ws) css ys is g h =
     let a = comes (choices sight type w.choices) _ css g in
     let b = comes (each (choices sight type) (map (λ (w : t.Waveform). w.choices) ws)) _ css a.rest in
-    let c = comes (option_map alone (are.assigned sight x w.value)) _ ys h in
-    let m = mapped alone (are.assigned sight x w.value) c.value c.is in
-    let d = comes (each (λ (w : t.Waveform). option_map alone (are.assigned sight x w.value)) ws) _ ys c.rest in
-    both_kept _ _ (both_kept _ _ (value_kept sight n x w.value m.value is m.from) (choices_kept sight type w.choices a.value a.is))
+    let c = comes (option_map alone (given.assignment sight x w.value)) _ ys h in
+    let m = mapped alone (given.assignment sight x w.value) c.value c.is in
+    let d = comes (each (λ (w : t.Waveform). option_map alone (given.assignment sight x w.value)) ws) _ ys c.rest in
+    both_kept _ _ (both_kept _ _ (assigned_kept sight n w.value x m.value is m.from) (choices_kept sight type w.choices a.value a.is))
     (waveforms_kept sight type n x ws b.value d.value is b.is d.is)
 
 -- there are waveforms where there are lists of their choices
@@ -103,7 +72,7 @@ selected_kept sight label a y h =
     let p = selected_parts sight label a y h in
     let type : ObjectType = p.chosen.by.value.0 in
     by_selector_kept sight a.selector (λ type. broken.waveforms sight type a) p.chosen.operand.value p.chosen.by.value p.chosen.operand.is p.chosen.by.is
-    (both_kept _ _ (target_kept sight a.target p.to.value p.to.is)
+    (both_kept _ _ (signal_target_kept sight a.target p.to.value p.to.is)
     (both_kept _ _
     (covered_kept sight type a.at lists (any_of (broken.waveform sight type a.target) a.waveforms) p.chosen.choices.value p.chosen.choices.is
     (waveforms_kept sight type a.target p.to.value a.waveforms p.chosen.choices.value p.chosen.bodies.value p.to.is (choices_of_covered sight type lists p.chosen.choices.value p.chosen.choices.is) p.chosen.bodies.is))
@@ -144,11 +113,11 @@ pub process_kept : (sight : Sight) (label : Option Ident) (p : t.Process) (y : u
 process_kept sight label p y none h =
     let d = process_parts sight label p y h in
     both_kept _ _ (sensitivity_kept sight p.at p.sensitivity (is_some p.wait) d.on.value d.on.is)
-    (both_kept _ _ (all_variables_kept p.variables sight d.own.value d.own.is (ap (λ r. are_distinct (declared_names (r ++ d.own.value.declared))) none ∙ d.own_distinct))
+    (both_kept _ _ (process_declarations_kept p.declarations sight d.own.value d.own.is (ap (λ r. are_distinct (declared_names (r ++ d.own.value.declared))) none ∙ d.own_distinct))
     (both_kept _ _
     (given_kept
     (λ vs. broken.awaited (with_variables sight vs.declared) p.sensitivity p.wait ▸ broken.body (with_variables sight vs.declared) (t.statements_of p.statements))
-    (in_order with_variables variables sight p.variables) d.own.value d.own.is
+    (in_order with_variables process_declaration sight p.declarations) d.own.value d.own.is
     (both_kept _ _ (awaited_kept (with_variables sight d.own.value.declared) p.sensitivity p.wait d.edge.value d.edge.is)
     (among_kept _ _ (inner_labels_kept (t.statements_of p.statements) d.labels_distinct)
     (statements_kept (t.statements_of p.statements) (with_variables sight d.own.value.declared) d.body.value d.body.is))))
@@ -190,10 +159,12 @@ mutual
       (both_kept _ _
       (among_kept _ _ (labels_kept cs b.0) (concurrents_kept cs entities (sight_within sight s) body.value (variables_within sight s none) body.is))
       (end_name_kept label end a.0))
+  concurrent_kept (t.assertion a) entities sight x none h = absurd cc
 
   pub concurrents_kept : (cs : t.Concurrents) (entities : List EntityView) (sight : Sight) (xs : u.Concurrents) → sight.variables ≡ []
       → are.concurrents entities sight cs ≡ Some xs → IsKept (broken.concurrents entities sight cs)
   concurrents_kept t.no_concurrents entities sight xs none h = nothing_kept
+  concurrents_kept (t.concurrent (t.assertion a) cs) entities sight xs none h = both_kept _ _ nothing_kept (concurrents_kept cs entities sight xs none h)
   concurrents_kept (t.concurrent c cs) entities sight xs none h =
       let a = comes (are.concurrent entities sight c) _ xs h in
       let b = comes (are.concurrents entities sight cs) _ xs a.rest in

@@ -1,36 +1,37 @@
 -- Declarations that are given break no rule (IEEE 1076-2008, clauses 5, 6, 12.1 and 12.4), where the names of their region are distinct.
-use Rattle.std.proofs.Common.{◌≡◌, Bool, true, false, ◌&&◌, ◌||◌, List, [], ◌∷◌, ◌++◌, length, Option, Some, None, refl, ap, sym, ◌∙◌}
-use Rattle.std.specs.Prelude.{nat_le, is_none, bytes_eq, codes}
+use Rattle.std.proofs.Common.{◌≡◌, Bool, true, false, not, cond, ◌&&◌, ◌||◌, List, [], ◌∷◌, ◌++◌, length, Option, Some, None, refl, ap, sym, ◌∙◌}
+use Rattle.std.specs.Prelude.{nat_le, is_none, is_some, bytes_eq, codes}
 use Rattle.std.specs.List.{list_all, list_any}
 use Rattle.std.proofs.lemmas.Bool.{and_parts}
 use Rattle.std.proofs.lemmas.List.{append_assoc}
 use Rattle.vhdl_tree.specs.Tree as t
 use Rattle.vhdl_tree.specs.Tree.{Ident, Selected, ContextItem, library, uses}
-use Rattle.vhdl_names_rules.specs.declared.operator.IntegerType.{IntegerType}
+use Rattle.vhdl_names_rules.specs.declared.kind.ElementKind.{ElementKind}
 use Rattle.vhdl_names_rules.specs.declared.fault.NameProblem.TheVariants.{Undeclared, WrongKind, LeftOut}
 use Rattle.vhdl_names_rules.specs.units.Units as u
-use Rattle.vhdl_names_rules.specs.units.Units.{Fixed, Object}
-use Rattle.vhdl_names_rules.specs.Rules.{◌>>◌, met, if_any}
-use Rattle.vhdl_names_rules.specs.Visibility.{Declared, Sight, meaning, names_of, are_distinct, ends, with_declared, with_variables, Declares, followed_by}
+use Rattle.vhdl_names_rules.specs.units.Units.{Fixed}
+use Rattle.vhdl_names_rules.specs.Rules.{◌>>◌, met, if_any, is_wide}
+use Rattle.vhdl_names_rules.specs.Visibility.{Declared, Meaning, Sight, meaning, declaration, declared_here, names_of, are_distinct, ends, with_declared, with_variables, Declares, followed_by}
 use Rattle.vhdl_names_rules.specs.Packages as packages
 use Rattle.vhdl_names_rules.specs.Packages.{Context, is_ieee, is_library, is_logic, is_numbers}
 use Rattle.vhdl_names_rules.specs.Expressions.{static}
-use Rattle.vhdl_names_rules.specs.Subtypes.{Subtype, subtype, as_integer_type, fixed_value}
+use Rattle.vhdl_names_rules.specs.Subtypes as given
+use Rattle.vhdl_names_rules.specs.Subtypes.{Subtype, TypeClass, class_of, subtype, integer_subtype, value_range, form_range, fixed_value}
 use Rattle.vhdl_names_rules.specs.Declarations as are
-use Rattle.vhdl_names_rules.specs.Declarations.{within, within_variables, as_kind, single_expression}
+use Rattle.vhdl_names_rules.specs.Declarations.{GenericForm, generic_form, static_test, within, within_variables, without_ports, as_kind, single_expression, is_open, as_it_was, others_declared}
 use Rattle.vhdl_names_rules.specs.Interfaces.{declared_names}
-use Rattle.vhdl_names_rules.specs.problems.Broken.{Broken, ◌▸◌, any_of, of_any}
+use Rattle.vhdl_names_rules.specs.problems.Broken.{Broken, nothing, ◌▸◌, any_of, of_any}
 use Rattle.vhdl_names_rules.specs.problems.Expressions as expressions
 use Rattle.vhdl_names_rules.specs.problems.Subtypes as subtypes
 use Rattle.vhdl_names_rules.specs.problems.Declarations as broken
-use Rattle.vhdl_names_rules.specs.problems.Declarations.{standing_twice, end_name, library_named, package_used, generic_problem, generic_type}
-use Rattle.vhdl_names_rules.proofs.laws.Rules.{comes, kept, some_is}
+use Rattle.vhdl_names_rules.specs.problems.Declarations.{standing_twice, end_name, library_named, package_used, generic_problem, nine_valued, value_of, of_single}
+use Rattle.vhdl_names_rules.proofs.laws.Rules.{comes, kept, both, some_is}
 use Rattle.vhdl_names_rules.proofs.Telling.{IsKept, both_kept, unless_kept, lacking_kept, given_kept}
-use Rattle.vhdl_names_rules.proofs.kept.Keeping.{nothing_kept, if_any_kept}
+use Rattle.vhdl_names_rules.proofs.kept.Keeping.{nothing_kept, mapped, if_any_kept}
 use Rattle.vhdl_names_rules.proofs.kept.Twice.{twice_kept, distinct_front, names_append}
-use Rattle.vhdl_names_rules.proofs.kept.Named.{HasNames, of_generic, of_port, of_signals, of_variables, of_constants, of_enumeration}
-use Rattle.vhdl_names_rules.proofs.kept.Expressions.{meaning_kept, static_kept}
-use Rattle.vhdl_names_rules.proofs.kept.Values.{subtype_kept, fixed_value_kept}
+use Rattle.vhdl_names_rules.proofs.kept.Named.{HasNames, of_generic, of_port, of_signals, of_variables, of_constants, of_constants_in, of_subtype, of_subtype_in, of_enumeration}
+use Rattle.vhdl_names_rules.proofs.kept.Expressions.{meaning_kept, declared_kept, static_kept, static_condition_kept}
+use Rattle.vhdl_names_rules.proofs.kept.Values.{subtype_kept, integer_subtype_kept, fixed_value_kept}
 
 -- ---- names
 
@@ -118,106 +119,202 @@ pub in_region_kept : {A B : Type 0} (declares : Sight → A → Option (Declares
     → are_distinct (declared_names (sight.region ++ x.declared)) ≡ true → IsKept (broken.in_order with_declared declares b sight ds)
 in_region_kept declares b one ds sight x h distinct = in_order_kept with_declared (λ s. s.region) (λ s ds. refl) declares b one ds sight x h distinct
 
+-- ---- types
+
+integers_kept : (sight : Sight) (s : t.Subtype) (x : u.IntegerSubtype) → integer_subtype sight s ≡ Some x → IsKept (subtypes.integer_subtype sight s)
+unfolding integer_subtype
+integers_kept sight s x h = let r = comes (if_any (value_range sight) s.constraint) _ x h in integer_subtype_kept sight s r.value r.is
+
+none_is : {A : Type 0} (o : Option A) → not (is_some o) ≡ true → is_none o ≡ true
+none_is None h = refl
+none_is (Some x) h = absurd cc
+
+booleans_kept : (s : t.Subtype) → not (is_some s.constraint) ≡ true → IsKept (subtypes.boolean_subtype s)
+booleans_kept s h = unless_kept LeftOut s.mark.at (is_none s.constraint) (none_is s.constraint h)
+
+nine_valued_kept : (mark : Ident) (s : Subtype) (k : ElementKind) → as_kind s.type ≡ Some k → IsKept (nine_valued mark s)
+nine_valued_kept mark s k h = lacking_kept LeftOut mark.at (as_kind s.type) k h
+
+value_kept : (sight : Sight) (s : Subtype) (v : t.Value) (x : Fixed) → fixed_value sight s.type (form_range s.form) v ≡ Some x → IsKept (value_of sight s v)
+value_kept sight s v x h = fixed_value_kept sight s.type (form_range s.form) v x h
+
+values_kept : (sight : Sight) (s : Subtype) (o : Option t.Value) (x : Option Fixed) → if_any (fixed_value sight s.type (form_range s.form)) o ≡ Some x
+    → IsKept (of_any (value_of sight s) o)
+values_kept sight s o x h = if_any_kept (value_of sight s) (fixed_value sight s.type (form_range s.form)) (value_kept sight s) o x h
+
 -- ---- generics and ports
+
+-- a default, by the form that the generic has
+default_kept : (f : t.Expr → Broken) (x y : GenericForm) (o : Option t.Expr) (default : Option Fixed) → Some x ≡ Some y
+    → ((e : t.Expr) (v : Fixed) → x.value e ≡ Some v → IsKept (f e)) → if_any y.value o ≡ Some default → IsKept (of_any f o)
+default_kept f x y o default e one h = if_any_kept f x.value one o default (ap (λ (z : GenericForm). if_any z.value o) (some_is x y e) ∙ h)
+
+generic_by_kept : (sight : Sight) (g : t.Generic) (m : Meaning) (c : TypeClass) (x : GenericForm) (default : Option Fixed) → generic_form sight g.subtype c ≡ Some x
+    → if_any x.value g.default ≡ Some default → IsKept (broken.generic_by sight g m c)
+generic_by_kept sight g m given.integers x default h k =
+    let s = comes (integer_subtype sight g.subtype) _ x h in
+    both_kept _ _ (integers_kept sight g.subtype s.value s.is)
+    (default_kept (expressions.static sight) _ x g.default default s.rest
+    (λ e v i. let a = mapped u.Fixed.integer (static sight e) v i in static_kept sight e a.value a.from) k)
+generic_by_kept sight g m given.booleans x default h k =
+    let a = kept (is_wide sight.language && not (is_some g.subtype.constraint)) _ x h in
+    let b = both (is_wide sight.language) (not (is_some g.subtype.constraint)) a.0 in
+    both_kept _ _ (unless_kept (generic_problem m) g.subtype.mark.at (is_wide sight.language) b.0)
+    (both_kept _ _ (booleans_kept g.subtype b.1)
+    (default_kept (expressions.static_condition sight) _ x g.default default a.1
+    (λ e v i. let c = mapped u.Fixed.truth (static_test sight e) v i in static_condition_kept sight e c.value c.from) k))
+generic_by_kept sight g m given.others x default h k =
+    let a = kept (is_wide sight.language) _ x h in
+    let s = comes (subtype sight g.subtype) _ x a.1 in
+    let kind = comes (as_kind s.value.type) _ x s.rest in
+    both_kept _ _ (unless_kept (generic_problem m) g.subtype.mark.at (is_wide sight.language) a.0)
+    (both_kept _ _ (subtype_kept sight g.subtype s.value s.is)
+    (given_kept (λ s. nine_valued g.subtype.mark s ▸ of_any (λ e. value_of sight s (t.single e)) g.default) (subtype sight g.subtype) s.value s.is
+    (both_kept _ _ (nine_valued_kept g.subtype.mark s.value kind.value kind.is)
+    (default_kept (λ e. value_of sight s.value (t.single e)) _ x g.default default kind.rest (λ e v i. value_kept sight s.value (t.single e) v i) k))))
 
 pub generic_kept : (sight : Sight) (g : t.Generic) (x : Declares u.Generic) → are.generic sight g ≡ Some x
     → are_distinct (declared_names (sight.region ++ x.declared)) ≡ true → IsKept (broken.generic sight g)
 unfolding are.generic
 generic_kept sight g x h distinct =
-    let d = comes (meaning sight g.mark.text) _ x h in
-    let type = comes (as_integer_type d.value) _ x d.rest in
-    let default = comes (if_any (static sight) g.default) _ x type.rest in
+    let m = comes (meaning sight g.subtype.mark.text) _ x h in
+    let form = comes (generic_form sight g.subtype (class_of m.value)) _ x m.rest in
+    let default = comes (if_any form.value.value g.default) _ x form.rest in
     both_kept _ _ (standing_kept sight.region g.names x (of_generic sight g x h) distinct)
-    (both_kept _ _ (meaning_kept sight g.mark d.value d.is)
-    (both_kept _ _
-    (given_kept (generic_type g.mark) (meaning sight g.mark.text) d.value d.is
-    (lacking_kept (generic_problem d.value) g.mark.at (as_integer_type d.value) type.value type.is))
-    (if_any_kept (expressions.static sight) (static sight) (static_kept sight) g.default default.value default.is)))
+    (both_kept _ _ (meaning_kept sight g.subtype.mark m.value m.is)
+    (given_kept (λ m. broken.generic_by sight g m (class_of m)) (meaning sight g.subtype.mark.text) m.value m.is
+    (generic_by_kept sight g m.value (class_of m.value) form.value default.value form.is default.is)))
 
 pub port_kept : (sight : Sight) (p : t.Port) (x : Declares u.Port) → are.port sight p ≡ Some x
     → are_distinct (declared_names (sight.region ++ x.declared)) ≡ true → IsKept (broken.port sight p)
 unfolding are.port
 port_kept sight p x h distinct =
-    let s = comes (subtype sight p.subtype) _ x h in
+    let inner : Sight = without_ports sight in
+    let s = comes (subtype inner p.subtype) _ x h in
     let kind = comes (as_kind s.value.type) _ x s.rest in
-    let default = comes (if_any (fixed_value sight s.value.type) p.default) _ x kind.rest in
+    let default = comes (if_any (fixed_value inner s.value.type (form_range s.value.form)) p.default) _ x kind.rest in
     both_kept _ _ (standing_kept sight.region p.names x (of_port sight p x h) distinct)
-    (both_kept _ _ (subtype_kept sight p.subtype s.value s.is)
-    (given_kept (λ s. broken.nine_valued p.subtype.mark s ▸ of_any (subtypes.fixed_value sight s.type) p.default) (subtype sight p.subtype) s.value s.is
-    (both_kept _ _ (lacking_kept LeftOut p.subtype.mark.at (as_kind s.value.type) kind.value kind.is)
-    (if_any_kept (subtypes.fixed_value sight s.value.type) (fixed_value sight s.value.type) (fixed_value_kept sight s.value.type) p.default default.value default.is))))
+    (both_kept _ _ (subtype_kept inner p.subtype s.value s.is)
+    (given_kept (λ s. nine_valued p.subtype.mark s ▸ of_any (value_of inner s) p.default) (subtype inner p.subtype) s.value s.is
+    (both_kept _ _ (nine_valued_kept p.subtype.mark s.value kind.value kind.is) (values_kept inner s.value p.default default.value default.is))))
 
--- ---- signals, constants and variables
+-- ---- signals and variables
 
 pub object_kept : (inner : Sight) (s : t.Subtype) (v : Option t.Value) (x : Subtype) (default : Option Fixed) → subtype inner s ≡ Some x
-    → if_any (fixed_value inner x.type) v ≡ Some default → IsKept (broken.object inner s v)
+    → if_any (fixed_value inner x.type (form_range x.form)) v ≡ Some default → IsKept (broken.object inner s v)
 object_kept inner s v x default h g =
     both_kept _ _ (subtype_kept inner s x h)
-    (given_kept (λ x. of_any (subtypes.fixed_value inner x.type) v) (subtype inner s) x h
-    (if_any_kept (subtypes.fixed_value inner x.type) (fixed_value inner x.type) (fixed_value_kept inner x.type) v default g))
+    (given_kept (λ x. of_any (value_of inner x) v) (subtype inner s) x h (values_kept inner x v default g))
 
 pub signals_kept : (sight : Sight) (d : t.Signals) (x : Declares u.Declaration) → are.signals sight d ≡ Some x
     → are_distinct (declared_names (sight.region ++ x.declared)) ≡ true → IsKept (broken.signals sight d)
 unfolding are.signals
 signals_kept sight d x h distinct =
     let s = comes (subtype (within sight d.names) d.subtype) _ x h in
-    let default = comes (if_any (fixed_value (within sight d.names) s.value.type) d.default) _ x s.rest in
+    let default = comes (if_any (fixed_value (within sight d.names) s.value.type (form_range s.value.form)) d.default) _ x s.rest in
     both_kept _ _ (standing_kept sight.region d.names x (of_signals sight d x h) distinct)
     (object_kept (within sight d.names) d.subtype d.default s.value default.value s.is default.is)
 
-pub variables_kept : (sight : Sight) (d : t.Variables) (x : Declares Object) → are.variables sight d ≡ Some x
+variables_kept : (sight : Sight) (d : t.Variables) (x : Declares u.Declaration) → are.variables sight d ≡ Some x
     → are_distinct (declared_names (sight.variables ++ x.declared)) ≡ true → IsKept (broken.variables sight d)
 unfolding are.variables
 variables_kept sight d x h distinct =
     let s = comes (subtype (within_variables sight d.names) d.subtype) _ x h in
-    let default = comes (if_any (fixed_value (within_variables sight d.names) s.value.type) d.default) _ x s.rest in
+    let default = comes (if_any (fixed_value (within_variables sight d.names) s.value.type (form_range s.value.form)) d.default) _ x s.rest in
     both_kept _ _ (standing_kept sight.variables d.names x (of_variables sight d x h) distinct)
     (object_kept (within_variables sight d.names) d.subtype d.default s.value default.value s.is default.is)
 
--- the variables of a process
-pub all_variables_kept : (ds : List t.Variables) (sight : Sight) (x : Declares Object) → are.in_order with_variables are.variables sight ds ≡ Some x
-    → are_distinct (declared_names (sight.variables ++ x.declared)) ≡ true → IsKept (broken.in_order with_variables are.variables broken.variables sight ds)
-all_variables_kept ds sight x h distinct = in_order_kept with_variables (λ s. s.variables) (λ s ds. refl) are.variables broken.variables variables_kept ds sight x h distinct
+-- ---- constants and subtypes
 
-single_kept : (inner : Sight) (v : t.Value) (e : t.Expr) → single_expression v ≡ Some e → IsKept (expressions.static inner e) → IsKept (broken.integer_value inner v)
-single_kept inner (t.single d) e h k = ap (expressions.static inner) (some_is d e h) ∙ k
-single_kept inner (t.others at d) e h k = absurd cc
+single_kept : (f : t.Expr → Broken) (v : t.Value) (e : t.Expr) → single_expression v ≡ Some e → IsKept (f e) → IsKept (of_single f v)
+single_kept f (t.single d) e h k = ap f (some_is d e h) ∙ k
+single_kept f (t.others at d) e h k = absurd cc
 
-constants_by_kept : (sight : Sight) (d : t.Constants) (o : Option IntegerType) (x : Declares u.Declaration) → are.constants_by sight d o ≡ Some x
-    → IsKept (broken.constants_by (within sight d.names) d o)
-constants_by_kept sight d (Some type) x h =
-    let inner : Sight = within sight d.names in
-    let a = kept (is_none d.subtype.range) _ x h in
-    let e = comes (single_expression d.value) _ x a.1 in
-    let value = comes (static inner e.value) _ x e.rest in
-    both_kept _ _ (unless_kept LeftOut d.subtype.mark.at (is_none d.subtype.range) a.0)
-    (single_kept inner d.value e.value e.is (static_kept inner e.value value.value value.is))
-constants_by_kept sight d None x h =
-    let inner : Sight = within sight d.names in
-    let s = comes (subtype inner d.subtype) _ x h in
-    let kind = comes (as_kind s.value.type) _ x s.rest in
-    let value = comes (fixed_value inner s.value.type d.value) _ x kind.rest in
-    both_kept _ _ (subtype_kept inner d.subtype s.value s.is)
-    (given_kept (λ s. broken.nine_valued d.subtype.mark s ▸ subtypes.fixed_value inner s.type d.value) (subtype inner d.subtype) s.value s.is
-    (both_kept _ _ (lacking_kept LeftOut d.subtype.mark.at (as_kind s.value.type) kind.value kind.is)
-    (fixed_value_kept inner s.value.type d.value value.value value.is)))
+module _ (inner : Sight) (before : List Declared) where
+  constants_by_kept : (d : t.Constants) (c : TypeClass) (x : Declares u.Declaration) → are.constants_by inner before d c ≡ Some x → IsKept (broken.constants_by inner d c)
+  constants_by_kept d given.integers x h =
+      let s = comes (integer_subtype inner d.subtype) _ x h in
+      let e = comes (single_expression d.value) _ x s.rest in
+      let value = comes (static inner e.value) _ x e.rest in
+      both_kept _ _ (integers_kept inner d.subtype s.value s.is)
+      (single_kept (expressions.static inner) d.value e.value e.is (static_kept inner e.value value.value value.is))
+  constants_by_kept d given.booleans x h =
+      let a = kept (not (is_some d.subtype.constraint)) _ x h in
+      let e = comes (single_expression d.value) _ x a.1 in
+      let value = comes (static_test inner e.value) _ x e.rest in
+      both_kept _ _ (booleans_kept d.subtype a.0)
+      (single_kept (expressions.static_condition inner) d.value e.value e.is (static_condition_kept inner e.value value.value value.is))
+  constants_by_kept d given.others x h =
+      let s = comes (subtype inner d.subtype) _ x h in
+      let kind = comes (as_kind s.value.type) _ x s.rest in
+      let value = comes (fixed_value inner s.value.type (form_range s.value.form) d.value) _ x kind.rest in
+      both_kept _ _ (subtype_kept inner d.subtype s.value s.is)
+      (given_kept (λ s. nine_valued d.subtype.mark s ▸ value_of inner s d.value) (subtype inner d.subtype) s.value s.is
+      (both_kept _ _ (nine_valued_kept d.subtype.mark s.value kind.value kind.is) (value_kept inner s.value d.value value.value value.is)))
+
+  typed_constants_kept : (d : t.Constants) (x : Declares u.Declaration) → are.constants_in inner before d ≡ Some x → IsKept (broken.typed_constants inner d)
+  unfolding are.constants_in
+  typed_constants_kept d x h =
+      let m = comes (meaning inner d.subtype.mark.text) _ x h in
+      both_kept _ _ (meaning_kept inner d.subtype.mark m.value m.is)
+      (given_kept (λ m. broken.constants_by inner d (class_of m)) (meaning inner d.subtype.mark.text) m.value m.is
+      (constants_by_kept d (class_of m.value) x m.rest))
+
+  subtype_by_kept : (d : t.SubtypeDeclaration) (mark : Declared) (c : TypeClass) (x : Declares u.Declaration) → are.subtype_by inner before d mark c ≡ Some x
+      → IsKept (broken.subtype_by inner d mark c)
+  subtype_by_kept d mark given.integers x h = let s = comes (integer_subtype inner d.subtype) _ x h in integers_kept inner d.subtype s.value s.is
+  subtype_by_kept d mark given.booleans x h = booleans_kept d.subtype (kept (not (is_some d.subtype.constraint)) _ x h).0
+  subtype_by_kept d mark given.others x h = go (is_open mark d.subtype) h
+    where
+      go : (b : Bool) → cond b (as_it_was inner before d mark) (others_declared inner before d mark) ≡ Some x → IsKept (cond b nothing (subtypes.subtype inner d.subtype))
+      go true h = nothing_kept
+      go false h = let s = comes (subtype inner d.subtype) _ x h in subtype_kept inner d.subtype s.value s.is
+
+  typed_subtype_kept : (d : t.SubtypeDeclaration) (x : Declares u.Declaration) → are.subtype_in inner before d ≡ Some x → IsKept (broken.typed_subtype inner d)
+  unfolding are.subtype_in
+  typed_subtype_kept d x h =
+      let mark = comes (declaration inner d.subtype.mark.text) _ x h in
+      both_kept _ _ (declared_kept inner d.subtype.mark mark.value mark.is)
+      (given_kept (λ mark. broken.subtype_by inner d mark (class_of mark.meaning)) (declaration inner d.subtype.mark.text) mark.value mark.is
+      (subtype_by_kept d mark.value (class_of mark.value.meaning) x mark.rest))
 
 pub constants_kept : (sight : Sight) (d : t.Constants) (x : Declares u.Declaration) → are.constants sight d ≡ Some x
     → are_distinct (declared_names (sight.region ++ x.declared)) ≡ true → IsKept (broken.constants sight d)
-unfolding are.constants
 constants_kept sight d x h distinct =
-    let inner : Sight = within sight d.names in
-    let m = comes (meaning inner d.subtype.mark.text) _ x h in
-    both_kept _ _ (standing_kept sight.region d.names x (of_constants sight d x h) distinct)
-    (both_kept _ _ (meaning_kept inner d.subtype.mark m.value m.is)
-    (given_kept (λ m. broken.constants_by inner d (as_integer_type m)) (meaning inner d.subtype.mark.text) m.value m.is
-    (constants_by_kept sight d (as_integer_type m.value) x m.rest)))
+    both_kept _ _ (standing_kept sight.region d.names x (of_constants sight d x h) distinct) (typed_constants_kept (within sight d.names) sight.region d x h)
+
+pub subtype_declaration_kept : (sight : Sight) (d : t.SubtypeDeclaration) (x : Declares u.Declaration) → are.subtype_declaration sight d ≡ Some x
+    → are_distinct (declared_names (sight.region ++ x.declared)) ≡ true → IsKept (broken.subtype_declaration sight d)
+subtype_declaration_kept sight d x h distinct =
+    both_kept _ _ (standing_kept sight.region (d.name ∷ []) x (of_subtype sight d x h) distinct) (typed_subtype_kept (within sight (d.name ∷ [])) sight.region d x h)
 
 -- ---- enumerations
 
+enumeration_kept_in : (region before : List Declared) (d : t.Enumeration) (x : Declares u.Declaration) → are.enumeration_in before d ≡ Some x
+    → are_distinct (declared_names (region ++ x.declared)) ≡ true → IsKept (broken.enumeration_in region d)
+unfolding are.enumeration_in
+enumeration_kept_in region before d x h distinct =
+    both_kept _ _ (unless_kept LeftOut d.name.at (nat_le (length d.literals) 256) (kept (nat_le (length d.literals) 256) _ x h).0)
+    (standing_kept region (d.name ∷ d.literals) x (of_enumeration before d x h) distinct)
+
 pub enumeration_kept : (sight : Sight) (d : t.Enumeration) (x : Declares u.Declaration) → are.enumeration sight d ≡ Some x
     → are_distinct (declared_names (sight.region ++ x.declared)) ≡ true → IsKept (broken.enumeration sight d)
-unfolding are.enumeration
-enumeration_kept sight d x h distinct =
-    both_kept _ _ (unless_kept LeftOut d.name.at (nat_le (length d.literals) 256) (kept (nat_le (length d.literals) 256) _ x h).0)
-    (standing_kept sight.region (d.name ∷ d.literals) x (of_enumeration sight d x h) distinct)
+enumeration_kept sight d x h distinct = enumeration_kept_in sight.region sight.region d x h distinct
+
+-- ---- declarations of a process
+
+process_declaration_kept : (sight : Sight) (d : t.ProcessDeclaration) (x : Declares u.Declaration) → are.process_declaration sight d ≡ Some x
+    → are_distinct (declared_names (sight.variables ++ x.declared)) ≡ true → IsKept (broken.process_declaration sight d)
+process_declaration_kept sight (t.variables d) x h distinct = variables_kept sight d x h distinct
+process_declaration_kept sight (t.process_constants d) x h distinct =
+    both_kept _ _ (standing_kept sight.variables d.names x (of_constants_in (within_variables sight d.names) (declared_here sight) d x h) distinct)
+    (typed_constants_kept (within_variables sight d.names) (declared_here sight) d x h)
+process_declaration_kept sight (t.process_enumeration d) x h distinct = enumeration_kept_in sight.variables (declared_here sight) d x h distinct
+process_declaration_kept sight (t.process_subtype d) x h distinct =
+    both_kept _ _ (standing_kept sight.variables (d.name ∷ []) x (of_subtype_in (within_variables sight (d.name ∷ [])) (declared_here sight) d x h) distinct)
+    (typed_subtype_kept (within_variables sight (d.name ∷ [])) (declared_here sight) d x h)
+
+pub process_declarations_kept : (ds : List t.ProcessDeclaration) (sight : Sight) (x : Declares u.Declaration) → are.in_order with_variables are.process_declaration sight ds ≡ Some x
+    → are_distinct (declared_names (sight.variables ++ x.declared)) ≡ true → IsKept (broken.in_order with_variables are.process_declaration broken.process_declaration sight ds)
+process_declarations_kept ds sight x h distinct =
+    in_order_kept with_variables (λ s. s.variables) (λ s ds. refl) are.process_declaration broken.process_declaration process_declaration_kept ds sight x h distinct

@@ -1,50 +1,66 @@
 -- An expression that has a type breaks no rule (IEEE 1076-2008, clauses 8 and 9).
-use Rattle.std.proofs.Common.{◌≡◌, ℕ, Bool, true, false, cond, List, Option, Some, None, refl}
+use Rattle.std.proofs.Common.{◌≡◌, ℕ, Bool, true, false, cond, List, [], Option, Some, None, refl, ap, sym, ◌∙◌}
+use Rattle.std.specs.Prelude.{option_map}
+use Rattle.vhdl_lexer.specs.declared.language.Language.{Language}
 use Rattle.vhdl_tree.specs.Tree as t
-use Rattle.vhdl_tree.specs.Tree.{Expr, Exprs, Ident}
+use Rattle.vhdl_tree.specs.Tree.{Expr, Exprs, Ident, Attribute}
+use Rattle.vhdl_names_rules.specs.declared.kind.ElementKind.TheVariants.{Element, OpenVector}
 use Rattle.vhdl_names_rules.specs.declared.kind.ObjectType.{ObjectType}
-use Rattle.vhdl_names_rules.specs.declared.kind.ObjectType.TheVariants.{Elements}
+use Rattle.vhdl_names_rules.specs.declared.kind.ObjectType.TheVariants.{Elements, Enumeration}
+use Rattle.vhdl_names_rules.specs.declared.operator.Arithmetic.{Arithmetic}
+use Rattle.vhdl_names_rules.specs.declared.operator.Arithmetic.TheVariants.{Power}
 use Rattle.vhdl_names_rules.specs.declared.fault.NameProblem.TheVariants.{TypeMismatch, LeftOut}
 use Rattle.vhdl_names_rules.specs.units.Expressions as u
 use Rattle.vhdl_names_rules.specs.units.Expressions.{Static, Test, Range}
-use Rattle.vhdl_names_rules.specs.units.Statements.{Given, filled}
-use Rattle.vhdl_names_rules.specs.Rules.{◌>>=◌, then_some}
+use Rattle.vhdl_names_rules.specs.units.Statements.{Given}
+use Rattle.vhdl_names_rules.specs.Rules.{◌>>=◌, wider}
 use Rattle.vhdl_names_rules.specs.Visibility as visibility
-use Rattle.vhdl_names_rules.specs.Visibility.{Meaning, Sight}
+use Rattle.vhdl_names_rules.specs.Visibility.{Meaning, Declared, DeclaredRange, Sight, declaration}
 use Rattle.vhdl_names_rules.specs.Literals.{number_of, nine_of, values_of_string, values_of_bits}
+use Rattle.vhdl_names_rules.specs.Types as types
+use Rattle.vhdl_names_rules.specs.Types.{TypedElements, TypedChoice}
 use Rattle.vhdl_names_rules.specs.Operators as o
-use Rattle.vhdl_names_rules.specs.Operators.{Typed, inverse, operated}
-use Rattle.vhdl_names_rules.specs.Names.{Suffix, denoted, attributed, edge_signal, plain, arguments}
+use Rattle.vhdl_names_rules.specs.Operators.{Typed, inverse, integral, operated}
+use Rattle.vhdl_names_rules.specs.Aggregates.{aggregate}
+use Rattle.vhdl_names_rules.specs.Names.{Suffix, denoted, attributed, edge_signal, plain}
+use Rattle.vhdl_names_rules.specs.Ranges.{Ranged, ranged, declared_range, named_range, range_attribute, sized_by}
 use Rattle.vhdl_names_rules.specs.Expressions as are
-use Rattle.vhdl_names_rules.specs.Expressions.{as_integer, enclosed, beside, is_one_name, as_test, as_static_test, as_value, as_filled, is_vector}
-use Rattle.vhdl_names_rules.specs.declared.kind.ElementKind.TheVariants.{Element, OpenVector}
-use Rattle.vhdl_names_rules.specs.problems.Broken.{nothing, ◌▸◌, unless, lacking, where_given}
+use Rattle.vhdl_names_rules.specs.Expressions.{as_integer, in_parentheses, beside, is_one_name, suffix_of, fits, as_index, as_range, as_test, as_static_test, as_value, as_filled}
+use Rattle.vhdl_names_rules.specs.problems.Broken.{nothing, ◌▸◌, unless, lacking, where_given, of_any}
 use Rattle.vhdl_names_rules.specs.problems.Missing.{problem_of}
 use Rattle.vhdl_names_rules.specs.problems.Places.{start}
 use Rattle.vhdl_names_rules.specs.problems.Operators.{string_problem, operator_problem, edge_problem, name_problem}
 use Rattle.vhdl_names_rules.specs.problems.Expressions as broken
-use Rattle.vhdl_names_rules.specs.problems.Expressions.{is_event, of_no_value, is_no_value, is_vector_type}
+use Rattle.vhdl_names_rules.specs.problems.Expressions.{attribute_start, is_event, of_no_value, is_no_value, is_of_range, is_range, operand, fits_kind, no_range, is_vector_type}
 use Rattle.vhdl_names_rules.proofs.laws.Rules.{comes, kept}
+use Rattle.vhdl_names_rules.proofs.laws.Ranged.{named_by_range, named_valued, no_ranged, range_alone}
 use Rattle.vhdl_names_rules.proofs.Telling.{IsKept, both_kept, unless_kept, lacking_kept, given_kept}
 use Rattle.vhdl_names_rules.proofs.kept.Keeping.{nothing_kept, mapped}
+use Rattle.vhdl_names_rules.proofs.kept.Aggregates.{then_true, aggregate_kept, composite_kept, filled_vector}
+use Rattle.vhdl_names_rules.proofs.kept.Operands.{first_kept, second_kept}
 
 -- ---- names
 
 pub meaning_kept : (sight : Sight) (n : Ident) (d : Meaning) → visibility.meaning sight n.text ≡ Some d → IsKept (broken.meaning sight n)
 meaning_kept sight n d h = lacking_kept (problem_of n.text) n.at (visibility.meaning sight n.text) d h
 
-pub attribute_kept : (a : Option Ident) (x y : Typed) → attributed a x ≡ Some y → IsKept (broken.attribute a)
+pub declared_kept : (sight : Sight) (n : Ident) (d : Declared) → declaration sight n.text ≡ Some d → IsKept (broken.meaning sight n)
+declared_kept sight n d h = meaning_kept sight n d.meaning (ap (option_map (λ (x : Declared). x.meaning)) h)
+
+pub attribute_kept : (a : Option Attribute) (x y : Typed) → attributed a x ≡ Some y → IsKept (broken.attribute a)
 attribute_kept None x y h = nothing_kept
-attribute_kept (Some a) x y h = unless_kept LeftOut a.at (is_event a) (kept (is_event a) _ y h).0
+attribute_kept (Some (t.of_range p)) x y h = absurd cc
+attribute_kept (Some (t.called a)) x y h = unless_kept LeftOut a.at (is_event (t.called a)) (kept (is_event (t.called a)) _ y h).0
 
-pub attributed_kept : (at : ℕ) (a : Option Ident) (x y : Typed) → attributed a x ≡ Some y → IsKept (broken.attributed at a x)
+pub attributed_kept : (at : ℕ) (a : Option Attribute) (x y : Typed) → attributed a x ≡ Some y → IsKept (broken.attributed at a x)
 attributed_kept at None x y h = nothing_kept
-attributed_kept at (Some a) x y h =
-    let k = kept (is_event a) _ y h in
+attributed_kept at (Some (t.of_range p)) x y h = absurd cc
+attributed_kept at (Some (t.called a)) x y h =
+    let k = kept (is_event (t.called a)) _ y h in
     let c = comes (edge_signal x) _ y k.1 in
-    both_kept _ _ (unless_kept LeftOut a.at (is_event a) k.0) (lacking_kept (edge_problem x) at (edge_signal x) c.value c.is)
+    both_kept _ _ (unless_kept LeftOut a.at (is_event (t.called a)) k.0) (lacking_kept (edge_problem x) at (edge_signal x) c.value c.is)
 
-pub no_value_kept : (d : Meaning) (s : Suffix) (a : Option Ident) → IsKept (broken.attribute a) → IsKept (of_no_value d s a)
+pub no_value_kept : (d : Meaning) (s : Suffix) (a : Option Attribute) → IsKept (broken.attribute a) → IsKept (of_no_value d s a)
 no_value_kept d plain a h = go (is_no_value d) h
   where
     go : (b : Bool) → IsKept (broken.attribute a) → IsKept (cond b (broken.attribute a) nothing)
@@ -52,23 +68,73 @@ no_value_kept d plain a h = go (is_no_value d) h
     go false h = nothing_kept
 no_value_kept d _ a h = nothing_kept
 
-pub with_suffix_kept : (at : ℕ) (a : Option Ident) (d : Meaning) (s : Suffix) (x y : Typed) → denoted at d s ≡ Some x → attributed a x ≡ Some y
-    → IsKept (broken.with_suffix at a d s)
-with_suffix_kept at a d s x y denoted_is attributed_is =
-    both_kept _ _ (no_value_kept d s a (attribute_kept a x y attributed_is))
+pub with_suffix_kept : (at : ℕ) (a : Option Attribute) (d : Meaning) (r : Option DeclaredRange) (s : Suffix) (x y : Typed) → denoted at d s ≡ Some x
+    → attributed a (sized_by at d r x) ≡ Some y → IsKept (broken.with_suffix at a d r s)
+with_suffix_kept at a d r s x y denoted_is attributed_is =
+    both_kept _ _ (no_value_kept d s a (attribute_kept a (sized_by at d r x) y attributed_is))
     (both_kept _ _ (lacking_kept (name_problem d s) at (denoted at d s) x denoted_is)
-    (given_kept (broken.attributed at a) (denoted at d s) x denoted_is (attributed_kept at a x y attributed_is)))
+    (given_kept (λ x. broken.attributed at a (sized_by at d r x)) (denoted at d s) x denoted_is (attributed_kept at a (sized_by at d r x) y attributed_is)))
 
-named_kept : (sight : Sight) (n : Ident) (a : Option Ident) (o : Option Suffix) (s : Suffix) (d : Meaning) (x y : Typed) → o ≡ Some s
-    → visibility.meaning sight n.text ≡ Some d → denoted n.at d s ≡ Some x → attributed a x ≡ Some y → IsKept (broken.named sight n o a)
-named_kept sight n a o s d x y given meant denoted_is attributed_is =
-    given_kept (λ d. where_given o (broken.with_suffix n.at a d)) (visibility.meaning sight n.text) d meant
-    (given_kept (broken.with_suffix n.at a d) o s given (with_suffix_kept n.at a d s x y denoted_is attributed_is))
+-- ---- attributes of ranges
+
+of_range_kept : (at : ℕ) (a : Attribute) (d : Declared) (s : Suffix) (y : Typed) → range_attribute at (Some a) d s ≡ Some y → IsKept (broken.of_range at a d s)
+of_range_kept at a d s y h = go (ranged d s) refl
+  where
+    go : (r : Option Ranged) → ranged d s ≡ r → IsKept (broken.of_ranged at a d s r)
+    go None e = let none : None ≡ Some y = sym (no_ranged at a d s e) ∙ h in absurd cc
+    go (Some r) e = lacking_kept LeftOut (attribute_start a) (range_attribute at (Some a) d s) y h
+
+range_kept : (language : Language) (at : ℕ) (a : Option Attribute) (d : Declared) (s : Suffix) (y : Typed) → is_of_range language a ≡ true
+    → are.named language at a d s ≡ Some y → IsKept (of_any (λ x. broken.of_range at x d s) a)
+range_kept language at None d s y e h = nothing_kept
+range_kept language at (Some a) d s y e h = of_range_kept at a d s y (sym (named_by_range language at a d s e) ∙ h)
+
+pub by_declaration_kept : (language : Language) (at : ℕ) (a : Option Attribute) (d : Declared) (s : Suffix) (y : Typed) → are.named language at a d s ≡ Some y
+    → IsKept (broken.by_declaration language at a d s)
+by_declaration_kept language at a d s y h = go (is_of_range language a) refl (is_range language a d s) refl
+  where
+    go : (b : Bool) → is_of_range language a ≡ b → (c : Bool) → is_range language a d s ≡ c
+        → IsKept (cond b (of_any (λ x. broken.of_range at x d s) a) (cond c nothing (broken.with_suffix at a d.meaning d.range s)))
+    go true e c f = range_kept language at a d s y e h
+    go false e true f = nothing_kept
+    go false e false f =
+        let x = comes (denoted at d.meaning s) (λ x. attributed a (sized_by at d.meaning d.range x)) y (sym (named_valued language at a d s e f) ∙ h) in
+        with_suffix_kept at a d.meaning d.range s x.value y x.is x.rest
+
+named_kept : (sight : Sight) (n : Ident) (a : Option Attribute) (o : Option Suffix) (s : Suffix) (d : Declared) (y : Typed) → o ≡ Some s
+    → declaration sight n.text ≡ Some d → are.named sight.language n.at a d s ≡ Some y → IsKept (broken.named sight n o a)
+named_kept sight n a o s d y given found is =
+    given_kept (λ d. where_given o (broken.by_declaration sight.language n.at a d)) (declaration sight n.text) d found
+    (given_kept (broken.by_declaration sight.language n.at a d) o s given (by_declaration_kept sight.language n.at a d s y is))
+
+-- ---- qualified expressions
+
+qualified_kept : (at p : ℕ) (m : Meaning) (r : Option DeclaredRange) (es : TypedElements) (y : Typed) → are.qualified_by at p m r es ≡ Some y → IsKept (broken.qualified_by at p m r es)
+qualified_kept at p (visibility.element_type b) r (types.element [] q (o.elements Element x) types.no_elements) y h = nothing_kept
+qualified_kept at p (visibility.element_type b) r es y h = absurd cc
+qualified_kept at p (visibility.vector_type k b) r (types.element [] q (o.elements j x) types.no_elements) y h =
+    unless_kept TypeMismatch q (fits_kind k (o.elements j x)) (then_true (fits k j) (sized_by at (visibility.vector_type k b) r (o.elements k x)) y h)
+qualified_kept at p (visibility.vector_type k b) r (types.element [] q x types.no_elements) y h = absurd cc
+qualified_kept at p (visibility.vector_type k b) None es y h = let v = mapped (o.elements k) (aggregate k p None es) y h in aggregate_kept k p None es v.value v.from
+qualified_kept at p (visibility.vector_type k b) (Some r) es y h =
+    let v = mapped (o.elements k) (aggregate k p (Some (declared_range r)) es) y h in aggregate_kept k p (Some (declared_range r)) es v.value v.from
+qualified_kept at p m r es y h = absurd cc
 
 -- ---- expressions
 
 pub wanted_kept : (at : ℕ) (o : Option Typed) (x : Typed) (s : Static) → o ≡ Some x → as_integer x ≡ Some s → IsKept (broken.integer_wanted at o)
 wanted_kept at o x s h g = given_kept (λ x. lacking TypeMismatch at (as_integer x)) o x h (lacking_kept TypeMismatch at (as_integer x) s g)
+
+-- both operands are integers
+record Integral (x y : Typed) : Type 0 where
+  left : Static
+  right : Static
+  left_is : as_integer x ≡ Some left
+  right_is : as_integer y ≡ Some right
+
+integral_of : (at : ℕ) (a : Arithmetic) (x y z : Typed) → integral at a x y ≡ Some z → Integral x y
+integral_of at a (o.integer s) (o.integer r) z h = record { left = s; right = r; left_is = refl; right_is = refl }
+integral_of at a x y z h = absurd cc
 
 mutual
   unfolding are.typed broken.typed
@@ -88,36 +154,60 @@ mutual
       lacking_kept LeftOut at (values_of_bits text) a.value a.from
   typed_kept (t.named n suffix a) sight x h =
       let s = comes (are.typed_suffix sight suffix) _ x h in
-      let d = comes (visibility.meaning sight n.text) _ x s.rest in
-      let y = comes (denoted n.at d.value s.value) _ x d.rest in
-      both_kept _ _ (meaning_kept sight n d.value d.is)
+      let d = comes (declaration sight n.text) _ x s.rest in
+      both_kept _ _ (declared_kept sight n d.value d.is)
       (both_kept _ _ (typed_suffix_kept suffix sight s.value s.is)
-      (named_kept sight n a (are.typed_suffix sight suffix) s.value d.value y.value x s.is d.is y.is y.rest))
+      (named_kept sight n a (are.typed_suffix sight suffix) s.value d.value x s.is d.is d.rest))
   typed_kept (t.parens at e) sight x h =
-      let a = mapped enclosed (are.typed sight e) x h in
-      typed_kept e sight a.value a.from
+      let a = comes (are.typed sight e) in_parentheses x h in
+      both_kept _ _ (typed_kept e sight a.value a.is)
+      (given_kept (λ x. lacking TypeMismatch (start e) (in_parentheses x)) (are.typed sight e) a.value a.is (lacking_kept TypeMismatch (start e) (in_parentheses a.value) x a.rest))
   typed_kept (t.negation at e) sight x h =
       let a = comes (are.typed sight e) inverse x h in
       both_kept _ _ (typed_kept e sight a.value a.is)
       (given_kept (λ x. lacking TypeMismatch at (inverse x)) (are.typed sight e) a.value a.is (lacking_kept TypeMismatch at (inverse a.value) x a.rest))
+  typed_kept (t.absolute at e) sight x h =
+      let a = comes (are.typed sight e) _ x h in
+      let b = comes (as_integer a.value) _ x a.rest in
+      both_kept _ _ (typed_kept e sight a.value a.is) (wanted_kept at (are.typed sight e) a.value b.value a.is b.is)
+  typed_kept (t.power d at e) sight x h =
+      let a = comes (are.typed sight d) _ x h in
+      let b = comes (are.typed sight e) _ x a.rest in
+      let i = integral_of at Power a.value b.value x b.rest in
+      both_kept _ _ (typed_kept d sight a.value a.is)
+      (both_kept _ _ (typed_kept e sight b.value b.is)
+      (both_kept _ _ (wanted_kept at (are.typed sight d) a.value i.left a.is i.left_is) (wanted_kept at (are.typed sight e) b.value i.right b.is i.right_is)))
   typed_kept (t.signed sign at e) sight x h =
       let a = comes (are.typed sight e) _ x h in
       let b = comes (as_integer a.value) _ x a.rest in
       both_kept _ _ (typed_kept e sight a.value a.is) (wanted_kept at (are.typed sight e) a.value b.value a.is b.is)
-  typed_kept (t.binary begins op at d e) sight x h =
+  typed_kept (t.binary begins q at d e) sight x h =
       let a = comes (are.typed sight d) _ x h in
       let b = comes (are.typed sight e) _ x a.rest in
       both_kept _ _ (typed_kept d sight a.value a.is)
       (both_kept _ _ (typed_kept e sight b.value b.is)
-      (given_kept (λ x. where_given (are.typed sight e) (λ y. lacking (operator_problem op x (beside d y)) at (operated sight.numbers at op x (beside d y))))
+      (given_kept (λ x. where_given (are.typed sight e) (λ y. operand q y x ▸ operand q x y ▸ lacking (operator_problem q x (beside d y)) at (operated sight.numbers at q x (beside d y))))
       (are.typed sight d) a.value a.is
-      (given_kept (λ y. lacking (operator_problem op a.value (beside d y)) at (operated sight.numbers at op a.value (beside d y))) (are.typed sight e) b.value b.is
-      (lacking_kept (operator_problem op a.value (beside d b.value)) at (operated sight.numbers at op a.value (beside d b.value)) x b.rest))))
+      (given_kept (λ y. operand q y a.value ▸ operand q a.value y ▸ lacking (operator_problem q a.value (beside d y)) at (operated sight.numbers at q a.value (beside d y))) (are.typed sight e) b.value b.is
+      (both_kept _ _ (first_kept sight.numbers at q d a.value b.value x b.rest)
+      (both_kept _ _ (second_kept sight.numbers at q d a.value b.value x b.rest)
+      (lacking_kept (operator_problem q a.value (beside d b.value)) at (operated sight.numbers at q a.value (beside d b.value)) x b.rest))))))
+  typed_kept (t.aggregate at es) sight x h =
+      let a = mapped (types.composite at) (are.typed_elements sight es) x h in
+      typed_elements_kept es sight a.value a.from
+  typed_kept (t.qualified n at es) sight x h =
+      let xs = comes (are.typed_elements sight es) _ x h in
+      let d = comes (declaration sight n.text) _ x xs.rest in
+      both_kept _ _ (declared_kept sight n d.value d.is)
+      (both_kept _ _ (typed_elements_kept es sight xs.value xs.is)
+      (given_kept (λ d. where_given (are.typed_elements sight es) (broken.qualified n.at at d)) (declaration sight n.text) d.value d.is
+      (given_kept (broken.qualified n.at at d.value) (are.typed_elements sight es) xs.value xs.is
+      (qualified_kept n.at at d.value.meaning d.value.range xs.value x d.rest))))
 
   pub typed_suffix_kept : (s : t.Suffix) (sight : Sight) (x : Suffix) → are.typed_suffix sight s ≡ Some x → IsKept (broken.typed_suffix sight s)
   typed_suffix_kept t.plain sight x h = nothing_kept
   typed_suffix_kept (t.arguments es) sight x h =
-      let a = mapped (arguments (is_one_name es)) (are.typed_each sight es) x h in
+      let a = mapped (suffix_of (is_one_name es)) (are.typed_each sight es) x h in
       typed_each_kept es sight a.value a.from
   typed_suffix_kept (t.sliced d direction e) sight x h =
       let a = comes (are.typed sight d) _ x h in
@@ -134,6 +224,36 @@ mutual
       let b = comes (are.typed_each sight es) _ xs a.rest in
       both_kept _ _ (typed_kept e sight a.value a.is) (typed_each_kept es sight b.value b.is)
 
+  pub typed_elements_kept : (es : t.Elements) (sight : Sight) (xs : TypedElements) → are.typed_elements sight es ≡ Some xs → IsKept (broken.typed_elements sight es)
+  typed_elements_kept t.no_elements sight xs h = nothing_kept
+  typed_elements_kept (t.element cs e es) sight xs h =
+      let a = comes (are.typed_choices sight cs) _ xs h in
+      let b = comes (are.typed sight e) _ xs a.rest in
+      let c = comes (are.typed_elements sight es) _ xs b.rest in
+      both_kept _ _ (typed_choices_kept cs sight a.value a.is) (both_kept _ _ (typed_kept e sight b.value b.is) (typed_elements_kept es sight c.value c.is))
+
+  pub typed_choices_kept : (cs : t.Choices) (sight : Sight) (xs : List TypedChoice) → are.typed_choices sight cs ≡ Some xs → IsKept (broken.typed_choices sight cs)
+  typed_choices_kept t.no_choices sight xs h = nothing_kept
+  typed_choices_kept (t.choice c cs) sight xs h =
+      let a = comes (are.typed_choice sight c) _ xs h in
+      let b = comes (are.typed_choices sight cs) _ xs a.rest in
+      both_kept _ _ (typed_choice_kept c sight a.value a.is) (typed_choices_kept cs sight b.value b.is)
+
+  pub typed_choice_kept : (c : t.Choice) (sight : Sight) (x : TypedChoice) → are.typed_choice sight c ≡ Some x → IsKept (broken.typed_choice sight c)
+  typed_choice_kept (t.chosen e) sight x h =
+      let a = comes (are.typed sight e) _ x h in
+      let i = comes (as_index (start e) a.value) _ x a.rest in
+      both_kept _ _ (typed_kept e sight a.value a.is)
+      (given_kept (λ x. lacking TypeMismatch (start e) (as_index (start e) x)) (are.typed sight e) a.value a.is (lacking_kept TypeMismatch (start e) (as_index (start e) a.value) i.value i.is))
+  typed_choice_kept (t.chosen_range d direction e) sight x h =
+      let a = comes (are.typed sight d) _ x h in
+      let l = comes (as_integer a.value) _ x a.rest in
+      let b = comes (are.typed sight e) _ x l.rest in
+      let r = comes (as_integer b.value) _ x b.rest in
+      both_kept _ _ (both_kept _ _ (typed_kept d sight a.value a.is) (wanted_kept (start d) (are.typed sight d) a.value l.value a.is l.is))
+      (both_kept _ _ (typed_kept e sight b.value b.is) (wanted_kept (start e) (are.typed sight e) b.value r.value b.is r.is))
+  typed_choice_kept (t.otherwise at) sight x h = nothing_kept
+
 -- ---- what is asked of an expression
 
 asked_kept : {A : Type 0} (f : Typed → Option A) (sight : Sight) (e : Expr) (x : A) → (are.typed sight e >>= f) ≡ Some x
@@ -147,11 +267,34 @@ pub static_kept : (sight : Sight) (e : Expr) (s : Static) → are.static sight e
 unfolding are.static
 static_kept sight e s h = asked_kept as_integer sight e s h
 
-pub static_range_kept : (sight : Sight) (r : t.Range) (x : Range) → are.static_range sight r ≡ Some x → IsKept (broken.static_range sight r)
-static_range_kept sight r x h =
+-- a range by its name: that of a subtype of integers, or by an attribute
+range_named_kept : (sight : Sight) (n : t.Name) (a : Option Attribute) (x : Range) → (are.typed sight (t.named n.identifier n.suffix a) >>= as_range) ≡ Some x
+    → IsKept (broken.range_named sight n a)
+unfolding are.typed
+range_named_kept sight n None x h =
+    let v = comes (are.typed sight (t.named n.identifier n.suffix None)) as_range x h in
+    let s = comes (are.typed_suffix sight n.suffix) _ v.value v.is in
+    let d = comes (declaration sight n.identifier.text) _ v.value s.rest in
+    let r : wider sight.language (named_range None d.value s.value) ≡ Some x =
+    sym (range_alone sight.language n.identifier.at d.value s.value) ∙ ap (λ o. o >>= as_range) d.rest ∙ v.rest in
+    both_kept _ _ (declared_kept sight n.identifier d.value d.is)
+    (both_kept _ _ (typed_suffix_kept n.suffix sight s.value s.is)
+    (given_kept (λ d. where_given (are.typed_suffix sight n.suffix) (λ s. lacking (no_range d.meaning) n.identifier.at (wider sight.language (named_range None d s)))) (declaration sight n.identifier.text) d.value d.is
+    (given_kept (λ s. lacking (no_range d.value.meaning) n.identifier.at (wider sight.language (named_range None d.value s))) (are.typed_suffix sight n.suffix) s.value s.is
+    (lacking_kept (no_range d.value.meaning) n.identifier.at (wider sight.language (named_range None d.value s.value)) x r))))
+range_named_kept sight n (Some a) x h =
+    let v = comes (are.typed sight (t.named n.identifier n.suffix (Some a))) as_range x h in
+    both_kept _ _ (typed_kept (t.named n.identifier n.suffix (Some a)) sight v.value v.is)
+    (given_kept (λ x. lacking TypeMismatch n.identifier.at (as_range x)) (are.typed sight (t.named n.identifier n.suffix (Some a))) v.value v.is
+    (lacking_kept TypeMismatch n.identifier.at (as_range v.value) x v.rest))
+
+pub static_range_kept : (sight : Sight) (r : t.DiscreteRange) (x : Range) → are.static_range sight r ≡ Some x → IsKept (broken.static_range sight r)
+unfolding are.static_range
+static_range_kept sight (t.bounds r) x h =
     let a = comes (are.static sight r.left) _ x h in
     let b = comes (are.static sight r.right) _ x a.rest in
     both_kept (broken.static sight r.left) (broken.static sight r.right) (static_kept sight r.left a.value a.is) (static_kept sight r.right b.value b.is)
+static_range_kept sight (t.range_named n) x h = range_named_kept sight n n.attribute x h
 
 pub condition_kept : (sight : Sight) (e : Expr) (x : Test) → are.condition sight e ≡ Some x → IsKept (broken.condition sight e)
 unfolding are.condition
@@ -161,21 +304,21 @@ pub static_condition_kept : (sight : Sight) (e : Expr) (x : u.StaticTest) → (a
     → IsKept (broken.static_condition sight e)
 static_condition_kept sight e x h = asked_kept as_static_test sight e x h
 
--- what is there under a condition meets it
-pub then_true : {A : Type 0} (b : Bool) (x y : A) → then_some b x ≡ Some y → b ≡ true
-then_true true x y h = refl
-then_true false x y h = absurd cc
+-- ---- what is given to a type
 
--- what is filled is a vector
-pub filled_vector : (type : ObjectType) (x : Typed) (g : Given) → as_filled type x ≡ Some g → is_vector_type type ≡ true
-filled_vector (Elements k) (o.elements Element x) g h = then_true (is_vector k) (filled x) g h
-filled_vector _ _ g h = absurd cc
+pub as_value_kept : (type : ObjectType) (r : Option Range) (at : ℕ) (x : Typed) (g : Given) → as_value type r x ≡ Some g → IsKept (broken.given type r at x)
+as_value_kept (Elements k) r at (types.composite p es) g h = composite_kept k p r es g h
+as_value_kept (Enumeration e count) r at (types.composite p es) g h = absurd cc
+as_value_kept type r at x g h = lacking_kept TypeMismatch at (as_value type r x) g h
 
-pub value_given_kept : (sight : Sight) (type : ObjectType) (v : t.Value) (x : Given) → are.value_given sight type v ≡ Some x
-    → IsKept (broken.value_given sight type v)
+pub value_given_kept : (sight : Sight) (type : ObjectType) (r : Option Range) (v : t.Value) (x : Given) → are.value_given sight type r v ≡ Some x
+    → IsKept (broken.value_given sight type r v)
 unfolding are.value_given
-value_given_kept sight type (t.single e) x h = asked_kept (as_value type) sight e x h
-value_given_kept sight type (t.others at e) x h =
+value_given_kept sight type r (t.single e) x h =
+    let a = comes (are.typed sight e) (as_value type r) x h in
+    both_kept _ _ (typed_kept e sight a.value a.is)
+    (given_kept (broken.given type r (start e)) (are.typed sight e) a.value a.is (as_value_kept type r (start e) a.value x a.rest))
+value_given_kept sight type r (t.others at e) x h =
     let a = comes (are.typed sight e) (as_filled type) x h in
     both_kept _ _ (typed_kept e sight a.value a.is)
     (given_kept (λ x. unless TypeMismatch at (is_vector_type type) ▸ lacking TypeMismatch (start e) (as_filled type x)) (are.typed sight e) a.value a.is

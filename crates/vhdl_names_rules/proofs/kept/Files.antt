@@ -7,13 +7,14 @@ use Rattle.std.proofs.lemmas.List.{append_assoc, append-nil, map-append}
 use Rattle.std.proofs.lemmas.List.Elements.{filter_map-append}
 use Rattle.std.proofs.lemmas.Option.{slice_get-map}
 use Rattle.std.proofs.lemmas.Slice.Eq.{bytes_eq-Decides}
+use Rattle.vhdl_lexer.specs.declared.language.Language.{Language}
 use Rattle.vhdl_tree.specs.Tree as t
 use Rattle.vhdl_tree.specs.Tree.{File, DesignUnit, LibraryUnit, ContextItem}
 use Rattle.vhdl_names_rules.specs.declared.fault.NameProblem.TheVariants.{Undeclared, Twice, SecondArchitecture}
 use Rattle.vhdl_names_rules.specs.units.Units as u
 use Rattle.vhdl_names_rules.specs.Rules.{each, if_any}
 use Rattle.vhdl_names_rules.specs.Visibility.{Name, is_among, are_distinct}
-use Rattle.vhdl_names_rules.specs.Packages.{context}
+use Rattle.vhdl_names_rules.specs.Packages.{no_context}
 use Rattle.vhdl_names_rules.specs.Interfaces as interfaces
 use Rattle.vhdl_names_rules.specs.Interfaces.{EntityView}
 use Rattle.vhdl_names_rules.specs.Files as are
@@ -237,21 +238,21 @@ unit_kept entities ds e x a h g =
     let z = comes (are.architecture entities e a.0 a.1) _ y.value is in
     architecture_kept entities e a.0 a.1 z.value z.is
 
-module _ (ds : List DesignUnit) (entities : List EntityView) (distinct : are_distinct (entity_names ds) ≡ true) (after : stand_after ds ≡ true)
-    (views : each (viewed ds) (entities_of ds) ≡ Some entities) where
+module _ (language : Language) (ds : List DesignUnit) (entities : List EntityView) (distinct : are_distinct (entity_names ds) ≡ true) (after : stand_after ds ≡ true)
+    (views : each (viewed language ds) (entities_of ds) ≡ Some entities) where
   pub names : view_names entities ≡ entity_names ds
-  names = each_keeps (viewed ds) entity_text (λ (e : EntityView). e.name) (λ e x h. entity_name e.0 e.1 _ x h) (entities_of ds) entities views
+  names = each_keeps (viewed language ds) entity_text (λ (e : EntityView). e.name) (λ e x h. entity_name language e.0 e.1 _ x h) (entities_of ds) entities views
 
   -- all entities are given
-  pub entities_are : entities_given ds ≡ entities
+  pub entities_are : entities_given language ds ≡ entities
   entities_are =
-      ap (λ as'. with_entities [] (filter_map (λ (e : NamedEntity). interfaces.entity e.0 e.1 (option_map (λ (a : NamedArchitecture). a.1.name.text)
+      ap (λ as'. with_entities [] (filter_map (λ (e : NamedEntity). interfaces.entity language e.0 e.1 (option_map (λ (a : NamedArchitecture). a.1.name.text)
       (find (λ (a : NamedArchitecture). bytes_eq e.1.name.text a.1.entity.text) as'))) (entities_of ds))) (all_placed ds ds 0 after)
-      ∙ ap (with_entities []) (each_given (viewed ds) (entities_of ds) entities views)
+      ∙ ap (with_entities []) (each_given (viewed language ds) (entities_of ds) entities views)
       ∙ all_entities entities [] (ap are_distinct names ∙ distinct)
 
   described_kept : (units : List u.Entity) → are_distinct (described_names ds) ≡ true → each (unit entities ds) entities ≡ Some units → (k : ℕ) (a : NamedArchitecture)
-      → slice_get (architectures_of ds) k ≡ Some a → IsKept (described (entity_names ds) entities a)
+      → slice_get (architectures_of ds) k ≡ Some a → IsKept (described language (entity_names ds) entities a)
   described_kept units once whole k (items, a) at =
       let named : slice_get (described_names ds) k ≡ Some a.entity.text = slice_get-map text (architectures_of ds) k ∙ ap (option_map text) at in
       let among : is_among a.entity.text (view_names entities) ≡ true =
@@ -262,14 +263,14 @@ module _ (ds : List DesignUnit) (entities : List EntityView) (distinct : are_dis
       ap by r.found ∙ ap (up_to_hidden (is_hidden (entity_names ds) entities) a) (unit_kept entities ds r.view m.value (items, a) m.is one)
     where
       by : Option (ℕ × EntityView) → Broken
-      by None = declarations.context (record { has_ieee = true; has_logic = false; has_numbers = false }) items
+      by None = declarations.context (record (no_context language) { has_ieee = true }) items
       by (Some (k, e)) = up_to_hidden (is_hidden (entity_names ds) entities) a (broken.architecture entities e items a)
 
-pub file_kept : (f : File) (units : List u.Entity) → units_of f ≡ Some units → IsKept (broken.file f)
-file_kept f units e =
-    let p = file_parts f units e in
+pub file_kept : (language : Language) (f : File) (units : List u.Entity) → units_of language f ≡ Some units → IsKept (broken.file language f)
+file_kept language f units e =
+    let p = file_parts language f units e in
     among_kept _ _ (names_kept f.units [] f.units 0 refl refl p.after p.once p.described_once)
-    (among_kept _ _ (each_kept (λ (e : NamedEntity). entity e.0 e.1) (viewed f.units) (λ e v h. entity_kept e.0 e.1 _ v h) (entities_of f.units) p.views.value p.views.is)
-    (ap (λ es. any_of (described (entity_names f.units) es) (architectures_of f.units)) (entities_are f.units p.views.value p.once p.after p.views.is)
-    ∙ at_each_kept (described (entity_names f.units) p.views.value) (architectures_of f.units)
-    (described_kept f.units p.views.value p.once p.after p.views.is units p.described_once p.gives)))
+    (among_kept _ _ (each_kept (λ (e : NamedEntity). entity language e.0 e.1) (viewed language f.units) (λ e v h. entity_kept language e.0 e.1 _ v h) (entities_of f.units) p.views.value p.views.is)
+    (ap (λ es. any_of (described language (entity_names f.units) es) (architectures_of f.units)) (entities_are language f.units p.views.value p.once p.after p.views.is)
+    ∙ at_each_kept (described language (entity_names f.units) p.views.value) (architectures_of f.units)
+    (described_kept language f.units p.views.value p.once p.after p.views.is units p.described_once p.gives)))

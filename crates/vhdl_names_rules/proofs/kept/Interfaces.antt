@@ -1,23 +1,27 @@
 -- Interfaces, entities and components that are given break no rule (IEEE 1076-2008, 3.2, 6.5.6 and 6.8).
-use Rattle.std.proofs.Common.{◌≡◌, true, ◌&&◌, List, [], ◌∷◌, ◌++◌, Option, Some, refl, ap, sym, ◌∙◌}
+use Rattle.std.proofs.Common.{◌≡◌, true, ◌&&◌, List, [], ◌∷◌, ◌++◌, Option, Some, None, refl, ap, sym, ◌∙◌}
+use Rattle.std.specs.Prelude.{option_map}
+use Rattle.std.specs.List.{filter_map, cons_option}
+use Rattle.vhdl_lexer.specs.declared.language.Language.{Language}
 use Rattle.vhdl_tree.specs.Tree as t
-use Rattle.vhdl_tree.specs.Tree.{ContextItem}
+use Rattle.vhdl_tree.specs.Tree.{Ident, ContextItem}
 use Rattle.vhdl_names_rules.specs.declared.fault.NameProblem.TheVariants.{Undeclared, WrongKind}
 use Rattle.vhdl_names_rules.specs.units.Units as u
 use Rattle.vhdl_names_rules.specs.Rules.{all_of}
-use Rattle.vhdl_names_rules.specs.Visibility.{Name, Sight, are_distinct, with_declared, Declares}
+use Rattle.vhdl_names_rules.specs.Visibility.{Name, names_of, Sight, are_distinct, with_declared, Declares}
 use Rattle.vhdl_names_rules.specs.Packages.{no_context, context, sight_of}
 use Rattle.vhdl_names_rules.specs.Declarations.{in_order, generic, port}
 use Rattle.vhdl_names_rules.specs.SameText.{same_generics, same_ports}
 use Rattle.vhdl_names_rules.specs.Interfaces as are
 use Rattle.vhdl_names_rules.specs.Interfaces.{Interface, EntityView, declared_names, entity_named}
+use Rattle.vhdl_names_rules.specs.problems.Broken.{◌▸◌}
 use Rattle.vhdl_names_rules.specs.problems.Declarations as declarations
 use Rattle.vhdl_names_rules.specs.problems.Interfaces as broken
 use Rattle.vhdl_names_rules.specs.problems.Interfaces.{same_text}
 use Rattle.vhdl_names_rules.proofs.laws.Rules.{comes, kept}
 use Rattle.vhdl_names_rules.proofs.laws.Parts.{entity_parts, component_parts}
 use Rattle.vhdl_names_rules.proofs.Telling.{IsKept, both_kept, unless_kept, lacking_kept, given_kept}
-use Rattle.vhdl_names_rules.proofs.kept.Twice.{distinct_front, names_append}
+use Rattle.vhdl_names_rules.proofs.kept.Twice.{twice_kept, distinct_front, names_append}
 use Rattle.vhdl_names_rules.proofs.kept.Named.{of_component}
 use Rattle.vhdl_names_rules.proofs.kept.Declarations.{standing_kept, end_name_kept, context_kept, in_region_kept, generic_kept, port_kept}
 
@@ -45,14 +49,29 @@ interface_kept sight gs ps i none h =
     (ports_kept (with_declared sight g.value.declared) (all_of ps) p.value p.is
     (ap (λ r. are_distinct (declared_names ((r ++ g.value.declared) ++ p.value.declared))) none ∙ k.0)))
 
-pub entity_kept : (items : List ContextItem) (e : t.Entity) (architecture : Option Name) (v : EntityView) → are.entity items e architecture ≡ Some v
-    → IsKept (broken.entity items e)
-entity_kept items e architecture v h =
-    let p = entity_parts items e architecture v h in
-    both_kept _ _ (context_kept items no_context p.seen.value p.seen.is)
+-- the labels of assertions are those of the rules
+assertions_named : (as' : List t.Assertion) → names_of (filter_map (λ (a : t.Assertion). a.label) as') ≡ filter_map (λ (a : t.Assertion). option_map (λ (l : Ident). l.text) a.label) as'
+assertions_named [] = refl
+assertions_named (a ∷ as') = go a.label (assertions_named as')
+  where
+    go : (o : Option Ident) → names_of (filter_map (λ (a : t.Assertion). a.label) as') ≡ filter_map (λ (a : t.Assertion). option_map (λ (l : Ident). l.text) a.label) as'
+        → names_of (cons_option o (filter_map (λ (a : t.Assertion). a.label) as'))
+        ≡ cons_option (option_map (λ (l : Ident). l.text) o) (filter_map (λ (a : t.Assertion). option_map (λ (l : Ident). l.text) a.label) as')
+    go None more = more
+    go (Some l) more = ap (λ ns. l.text ∷ ns) more
+
+pub entity_kept : (language : Language) (items : List ContextItem) (e : t.Entity) (architecture : Option Name) (v : EntityView) → are.entity language items e architecture ≡ Some v
+    → IsKept (broken.entity language items e)
+entity_kept language items e architecture v h =
+    let p = entity_parts language items e architecture v h in
+    let labels : List Ident = filter_map (λ (a : t.Assertion). a.label) (all_of e.statements) in
+    both_kept _ _ (context_kept items (no_context language) p.seen.value p.seen.is)
     (both_kept _ _
-    (given_kept (λ c. broken.interface (sight_of c []) e.generics e.ports) (context no_context items) p.seen.value p.seen.is
-    (interface_kept (sight_of p.seen.value []) e.generics e.ports p.own.value refl p.own.is))
+    (given_kept (λ c. broken.interface (sight_of c []) e.generics e.ports ▸ broken.assertions (sight_of c []) e) (context (no_context language) items) p.seen.value p.seen.is
+    (both_kept _ _ (interface_kept (sight_of p.seen.value []) e.generics e.ports p.own.value refl p.own.is)
+    (given_kept (λ i. declarations.standing_twice i.declared labels) (are.interface (sight_of p.seen.value []) e.generics e.ports) p.own.value p.own.is
+    (twice_kept (declared_names p.own.value.declared) labels
+    (ap (λ ns. are_distinct (declared_names p.own.value.declared ++ ns)) (assertions_named (all_of e.statements)) ∙ p.distinct)))))
     (end_name_kept e.name e.end_name p.ended))
 
 pub component_kept : (entities : List EntityView) (sight : Sight) (c : t.Component) (x : Declares u.Declaration) → are.component entities sight c ≡ Some x

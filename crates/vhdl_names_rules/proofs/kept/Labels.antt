@@ -20,6 +20,7 @@ concurrent_named : (c : t.Concurrent) → names_of (label_of c) ≡ concurrent_l
 concurrent_named (t.assignment a) = label_named a.label
 concurrent_named (t.selected label a) = label_named label
 concurrent_named (t.process label p) = label_named label
+concurrent_named (t.assertion a) = label_named a.label
 concurrent_named _ = refl
 
 pub labels_named : (cs : t.Concurrents) → names_of (labels_of cs) ≡ concurrent_labels cs

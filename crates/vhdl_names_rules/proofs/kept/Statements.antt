@@ -1,22 +1,22 @@
 -- Sequential statements that are given break no rule (IEEE 1076-2008, clause 10).
-use Rattle.std.proofs.Common.{◌≡◌, true, not, List, Option, Some, None}
+use Rattle.std.proofs.Common.{◌≡◌, Bool, true, false, not, List, [], ◌∷◌, Option, Some, None}
 use Rattle.std.specs.Prelude.{is_none}
 use Rattle.vhdl_tree.specs.Tree as t
-use Rattle.vhdl_tree.specs.Tree.{Ident, Expr}
+use Rattle.vhdl_tree.specs.Tree.{Ident, Attribute, Expr}
 use Rattle.vhdl_names_rules.specs.declared.kind.ObjectType.{ObjectType}
 use Rattle.vhdl_names_rules.specs.declared.fault.NameProblem.{NameProblem}
 use Rattle.vhdl_names_rules.specs.declared.fault.NameProblem.TheVariants.{WrongKind, WriteOfIn, LeftOut}
 use Rattle.vhdl_names_rules.specs.units.Expressions.{Value}
 use Rattle.vhdl_names_rules.specs.units.Statements as s
 use Rattle.vhdl_names_rules.specs.Rules.{◌>>=◌, ◌>>◌, rule, each}
-use Rattle.vhdl_names_rules.specs.Visibility.{Meaning, Sight, meaning, label_ends, within_loop}
+use Rattle.vhdl_names_rules.specs.Visibility.{Meaning, Declared, Sight, declaration, label_ends, within_loop}
 use Rattle.vhdl_names_rules.specs.Operators.{Typed}
 use Rattle.vhdl_names_rules.specs.Names.{Suffix}
 use Rattle.vhdl_names_rules.specs.Expressions.{typed, typed_suffix, static_range, condition, value_given}
 use Rattle.vhdl_names_rules.specs.Choices.{choices, selector}
 use Rattle.vhdl_names_rules.specs.Statements as are
-use Rattle.vhdl_names_rules.specs.Statements.{SignalName, VariableName, as_signal, as_variable, is_input, choice_lists}
-use Rattle.vhdl_names_rules.specs.problems.Broken.{Broken, ◌▸◌, unless, lacking, where_given}
+use Rattle.vhdl_names_rules.specs.Statements.{SignalName, VariableName, Target, as_signal, as_variable, is_input, signal_target, variable_target, target_by, assignment, last_branch, branches, conditional, choice_lists}
+use Rattle.vhdl_names_rules.specs.problems.Broken.{Broken, ◌▸◌, unless, lacking, where_given, any_of, of_any}
 use Rattle.vhdl_names_rules.specs.problems.Expressions as expressions
 use Rattle.vhdl_names_rules.specs.problems.Expressions.{no_attribute}
 use Rattle.vhdl_names_rules.specs.problems.Statements as broken
@@ -25,39 +25,39 @@ use Rattle.vhdl_names_rules.proofs.laws.Rules.{comes, kept}
 use Rattle.vhdl_names_rules.proofs.laws.Parts.{case_parts}
 use Rattle.vhdl_names_rules.proofs.Telling.{IsKept, both_kept, unless_kept, lacking_kept, given_kept}
 use Rattle.vhdl_names_rules.proofs.kept.Keeping.{nothing_kept, mapped}
-use Rattle.vhdl_names_rules.proofs.kept.Expressions.{meaning_kept, typed_suffix_kept, static_range_kept, condition_kept, value_given_kept}
+use Rattle.vhdl_names_rules.proofs.kept.Expressions.{declared_kept, typed_suffix_kept, static_range_kept, condition_kept, value_given_kept}
 use Rattle.vhdl_names_rules.proofs.kept.Choices.{choices_kept, selected_by_kept}
 use Rattle.vhdl_names_rules.proofs.kept.Covered.{covered_kept, any_alternative_kept, choices_of_covered}
 
 -- ---- names of signals and variables
 
 -- what an object's name is
-abbrev pub object_named : {A : Type 0} → (Meaning → Suffix → Option A) → Sight → t.Name → Option A
+abbrev pub object_named : {A : Type 0} → (Declared → Suffix → Option A) → Sight → t.Name → Option A
 object_named f sight n = do
   rule LeftOut (is_none n.attribute)
   suffix ← typed_suffix sight n.suffix
-  d ← meaning sight n.identifier.text
+  d ← declaration sight n.identifier.text
   f d suffix
 
-pub no_attribute_kept : (a : Option Ident) → is_none a ≡ true → IsKept (no_attribute a)
+pub no_attribute_kept : (a : Option Attribute) → is_none a ≡ true → IsKept (no_attribute a)
 no_attribute_kept None h = nothing_kept
 no_attribute_kept (Some i) h = absurd cc
 
-pub named_kept : (sight : Sight) (n : t.Name) (d : Meaning) (s : Suffix) → meaning sight n.identifier.text ≡ Some d → typed_suffix sight n.suffix ≡ Some s
+pub named_kept : (sight : Sight) (n : t.Name) (d : Declared) (s : Suffix) → declaration sight n.identifier.text ≡ Some d → typed_suffix sight n.suffix ≡ Some s
     → is_none n.attribute ≡ true → IsKept (broken.named sight n)
 named_kept sight n d s meant given none =
-    both_kept _ _ (meaning_kept sight n.identifier d meant) (both_kept _ _ (typed_suffix_kept n.suffix sight s given) (no_attribute_kept n.attribute none))
+    both_kept _ _ (declared_kept sight n.identifier d meant) (both_kept _ _ (typed_suffix_kept n.suffix sight s given) (no_attribute_kept n.attribute none))
 
-object_kept : {A : Type 0} (problem : Meaning → NameProblem) (f : Meaning → Suffix → Option A) (sight : Sight) (n : t.Name) (x : A) → object_named f sight n ≡ Some x
-    → IsKept (broken.named sight n ▸ where_given (meaning sight n.identifier.text) (λ d. where_given (typed_suffix sight n.suffix) (λ s. lacking (problem d) n.identifier.at (f d s))))
+object_kept : {A : Type 0} (problem : Meaning → NameProblem) (f : Declared → Suffix → Option A) (sight : Sight) (n : t.Name) (x : A) → object_named f sight n ≡ Some x
+    → IsKept (broken.named sight n ▸ where_given (declaration sight n.identifier.text) (λ d. where_given (typed_suffix sight n.suffix) (λ s. lacking (problem d.meaning) n.identifier.at (f d s))))
 object_kept problem f sight n x h =
     let a = kept (is_none n.attribute) _ x h in
     let b = comes (typed_suffix sight n.suffix) _ x a.1 in
-    let d = comes (meaning sight n.identifier.text) _ x b.rest in
+    let d = comes (declaration sight n.identifier.text) _ x b.rest in
     both_kept _ _ (named_kept sight n d.value b.value d.is b.is a.0)
-    (given_kept (λ d. where_given (typed_suffix sight n.suffix) (λ s. lacking (problem d) n.identifier.at (f d s))) (meaning sight n.identifier.text) d.value d.is
-    (given_kept (λ s. lacking (problem d.value) n.identifier.at (f d.value s)) (typed_suffix sight n.suffix) b.value b.is
-    (lacking_kept (problem d.value) n.identifier.at (f d.value b.value) x d.rest)))
+    (given_kept (λ d. where_given (typed_suffix sight n.suffix) (λ s. lacking (problem d.meaning) n.identifier.at (f d s))) (declaration sight n.identifier.text) d.value d.is
+    (given_kept (λ s. lacking (problem d.value.meaning) n.identifier.at (f d.value s)) (typed_suffix sight n.suffix) b.value b.is
+    (lacking_kept (problem d.value.meaning) n.identifier.at (f d.value b.value) x d.rest)))
 
 pub signal_kept : (sight : Sight) (n : t.Name) (x : SignalName) → are.signal sight n ≡ Some x → IsKept (broken.signal sight n)
 unfolding are.signal
@@ -78,17 +78,53 @@ variable_kept sight n x h = object_kept variable_problem (as_variable n.identifi
 
 -- ---- assignments
 
-pub assigned_kept : (sight : Sight) (n : t.Name) (v : t.Value) (x : SignalName) (g : s.Given) → are.target sight n ≡ Some x → value_given sight x.type v ≡ Some g
-    → IsKept (broken.assigned sight n v)
-assigned_kept sight n v x g h k =
-    both_kept _ _ (target_kept sight n x h)
-    (given_kept (λ x. expressions.value_given sight x.type v) (are.target sight n) x h (value_given_kept sight x.type v g k))
+given_to_kept : (sight : Sight) (o : Option Target) (x : Target) (v : t.Value) (y : s.Statement) → o ≡ Some x → assignment sight x v ≡ Some y → IsKept (broken.given sight o v)
+given_to_kept sight o x v y h k =
+    let g = mapped x.assigned (value_given sight x.type x.range v) y k in
+    given_kept (λ x. expressions.value_given sight x.type x.range v) o x h (value_given_kept sight x.type x.range v g.value g.from)
 
-pub variable_assigned_kept : (sight : Sight) (n : t.Name) (v : t.Value) (x : VariableName) (g : s.Given) → are.variable sight n ≡ Some x → value_given sight x.type v ≡ Some g
+pub signal_target_kept : (sight : Sight) (n : t.Name) (x : Target) → signal_target sight n ≡ Some x → IsKept (broken.target sight n)
+signal_target_kept sight n x h = let y = comes (are.target sight n) _ x h in target_kept sight n y.value y.is
+
+variable_target_kept : (sight : Sight) (n : t.Name) (x : Target) → variable_target sight n ≡ Some x → IsKept (broken.variable sight n)
+variable_target_kept sight n x h = let y = comes (are.variable sight n) _ x h in variable_kept sight n y.value y.is
+
+pub assigned_kept : (sight : Sight) (n : t.Name) (v : t.Value) (x : Target) (y : s.Statement) → signal_target sight n ≡ Some x → assignment sight x v ≡ Some y
+    → IsKept (broken.assigned sight n v)
+assigned_kept sight n v x y h k = both_kept _ _ (signal_target_kept sight n x h) (given_to_kept sight (signal_target sight n) x v y h k)
+
+pub variable_assigned_kept : (sight : Sight) (n : t.Name) (v : t.Value) (x : Target) (y : s.Statement) → variable_target sight n ≡ Some x → assignment sight x v ≡ Some y
     → IsKept (broken.variable_assigned sight n v)
-variable_assigned_kept sight n v x g h k =
-    both_kept _ _ (variable_kept sight n x h)
-    (given_kept (λ x. expressions.value_given sight x.type v) (are.variable sight n) x h (value_given_kept sight x.type v g k))
+variable_assigned_kept sight n v x y h k = both_kept _ _ (variable_target_kept sight n x h) (given_to_kept sight (variable_target sight n) x v y h k)
+
+-- under conditions
+pub target_by_kept : (sight : Sight) (is_variable : Bool) (n : t.Name) (x : Target) → target_by sight is_variable n ≡ Some x → IsKept (broken.target_by sight is_variable n)
+target_by_kept sight false n x h = signal_target_kept sight n x h
+target_by_kept sight true n x h = variable_target_kept sight n x h
+
+module _ (sight : Sight) (target : Option Target) (x : Target) (is : target ≡ Some x) where
+  last_kept : (o : Option t.Value) (ys : s.Branches) → last_branch sight x o ≡ Some ys → IsKept (of_any (broken.given sight target) o)
+  last_kept None ys h = nothing_kept
+  last_kept (Some v) ys h = let y = mapped _ (assignment sight x v) ys h in given_to_kept sight target x v y.value is y.from
+
+  branches_kept : (bs : List t.Branch) (o : Option t.Value) (ys : s.Branches) → branches sight x bs o ≡ Some ys
+      → IsKept (any_of (broken.branch sight target) bs) × IsKept (of_any (broken.given sight target) o)
+  branches_kept [] o ys h = (nothing_kept, last_kept o ys h)
+  branches_kept (b ∷ bs) o ys h =
+      let y = comes (assignment sight x b.value) _ ys h in
+      let c = comes (condition sight b.condition) _ ys y.rest in
+      let more = comes (branches sight x bs o) _ ys c.rest in
+      let r = branches_kept bs o more.value more.is in
+      (both_kept _ _ (both_kept _ _ (given_to_kept sight target x b.value y.value is y.is) (condition_kept sight b.condition c.value c.is)) r.0, r.1)
+
+  pub conditional_kept : (bs : List t.Branch) (o : Option t.Value) (y : s.Statement) → conditional sight x bs o ≡ Some y
+      → IsKept (any_of (broken.branch sight target) bs ▸ of_any (broken.given sight target) o)
+  conditional_kept [] (Some v) y h = both_kept _ _ nothing_kept (given_to_kept sight target x v y is h)
+  conditional_kept [] None y h = both_kept _ _ nothing_kept nothing_kept
+  conditional_kept (b ∷ bs) o y h =
+      let m = mapped (s.if_of x.at) (branches sight x (b ∷ bs) o) y h in
+      let r = branches_kept (b ∷ bs) o m.value m.from in
+      both_kept _ _ r.0 r.1
 
 -- ---- statements
 
@@ -109,13 +145,16 @@ mutual
       → IsKept (broken.statement sight label y)
   statement_kept (t.null_of at) sight label x h = nothing_kept
   statement_kept (t.assigned n v) sight label x h =
-      let a = comes (are.target sight n) _ x h in
-      let b = comes (value_given sight a.value.type v) _ x a.rest in
-      assigned_kept sight n v a.value b.value a.is b.is
+      let a = comes (signal_target sight n) _ x h in
+      assigned_kept sight n v a.value x a.is a.rest
   statement_kept (t.variable_assigned n v) sight label x h =
-      let a = comes (are.variable sight n) _ x h in
-      let b = comes (value_given sight a.value.type v) _ x a.rest in
-      variable_assigned_kept sight n v a.value b.value a.is b.is
+      let a = comes (variable_target sight n) _ x h in
+      variable_assigned_kept sight n v a.value x a.is a.rest
+  statement_kept (t.assigned_when is_variable n bs o) sight label x h =
+      let a = comes (target_by sight is_variable n) _ x h in
+      both_kept _ _ (target_by_kept sight is_variable n a.value a.is) (conditional_kept sight (target_by sight is_variable n) a.value a.is bs o x a.rest)
+  statement_kept (t.asserted text) sight label x h = nothing_kept
+  statement_kept (t.reported text) sight label x h = nothing_kept
   statement_kept (t.if_of at bs o end) sight label x h =
       let a = kept (label_ends label end) _ x h in
       let last = comes (are.otherwise sight o) _ x a.1 in

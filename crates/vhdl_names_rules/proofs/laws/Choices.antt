@@ -62,6 +62,7 @@ alone : (sight : Sight) (type : ObjectType) (cs : List t.Choice) (ds : List Choi
     → choices sight type cs ≡ Some ds → slice_get cs place ≡ Some (t.otherwise at) → cs ≡ t.otherwise at ∷ []
 alone sight type [] ds place at e p = cc
 alone sight type (t.chosen c ∷ cs) ds place at e p = absurd (no_choice sight type (t.chosen c ∷ cs) ds place at e p)
+alone sight type (t.chosen_range l w r ∷ cs) ds place at e p = absurd (no_choice sight type (t.chosen_range l w r ∷ cs) ds place at e p)
 alone sight type (t.otherwise b ∷ []) ds zero at e p = cc
 alone sight type (t.otherwise b ∷ []) ds (suc place) at e p = cc
 alone sight type (t.otherwise b ∷ c ∷ cs) ds place at e p = absurd (no_choice sight type (t.otherwise b ∷ c ∷ cs) ds place at e p)

@@ -10,8 +10,7 @@ use Rattle.vhdl_tree.specs.Tree.{File, DesignUnit, LibraryUnit, ContextItem}
 use Rattle.vhdl_names_rules.specs.units.Units as u
 use Rattle.vhdl_names_rules.specs.Rules.{if_any}
 use Rattle.vhdl_names_rules.specs.Visibility.{Name, is_among}
-use Rattle.vhdl_names_rules.specs.Packages.{context}
-use Rattle.vhdl_names_rules.specs.Interfaces.{EntityView, entity}
+use Rattle.vhdl_names_rules.specs.Interfaces.{EntityView}
 use Rattle.vhdl_names_rules.specs.Files.{entities_of, entity_names, described_names, stands_after, stand_after, architecture_of, architecture, viewed, unit}
 use Rattle.vhdl_names_rules.specs.laws.Files.{IsEntityAt, EntitiesStandInOrder}
 use Rattle.vhdl_names_rules.proofs.laws.Rules.{comes, some_is, each_passes, each_keeps}
@@ -87,13 +86,13 @@ before f k d a e p h =
     (i.0, w.0, record { unit = i.1.unit; entity = i.1.entity; at = w.1; is = i.1.is; named = i.1.named })
 
 pub entities_stand_in_order : EntitiesStandInOrder
-entities_stand_in_order f units e =
-    let p = file_parts f units e in
+entities_stand_in_order language f units e =
+    let p = file_parts language f units e in
     record {
       in_order =
           each_keeps (unit p.views.value f.units) (λ (e : EntityView). e.name) (λ (x : u.Entity). x.name) (unit_name p.views.value f.units) p.views.value units p.gives
-          ∙ each_keeps (viewed f.units) (λ (e : List ContextItem × t.Entity). e.1.name.text) (λ (e : EntityView). e.name)
-          (λ e x h. entity_name e.0 e.1 _ x h) (entities_of f.units) p.views.value p.views.is;
+          ∙ each_keeps (viewed language f.units) (λ (e : List ContextItem × t.Entity). e.1.name.text) (λ (e : EntityView). e.name)
+          (λ e x h. entity_name language e.0 e.1 _ x h) (entities_of f.units) p.views.value p.views.is;
       once = stand_once (entity_names f.units) p.once;
       one_architecture = stand_once (described_names f.units) p.described_once;
       entity_first = λ k d a q h. before f k d a p.after q h;

@@ -2,23 +2,24 @@
 use Rattle.std.proofs.Common.{◌≡◌, ℕ, true, ◌&&◌, List, [], ◌∷◌, ◌++◌, map, Option, Some, sym, ap}
 use Rattle.std.specs.Option.{option_map, is_some}
 use Rattle.std.specs.List.{slice_get, filter_map}
+use Rattle.vhdl_lexer.specs.declared.language.Language.{Language}
 use Rattle.vhdl_tree.specs.Tree as t
 use Rattle.vhdl_tree.specs.Tree.{Ident, Expr, ContextItem, File}
 use Rattle.vhdl_names_rules.specs.units.Statements as s
 use Rattle.vhdl_names_rules.specs.units.Units as u
 use Rattle.vhdl_names_rules.specs.units.Units.{Units}
-use Rattle.vhdl_names_rules.specs.Rules.{each, if_any, all_of}
+use Rattle.vhdl_names_rules.specs.Rules.{each, all_of}
 use Rattle.vhdl_names_rules.specs.Visibility as visibility
 use Rattle.vhdl_names_rules.specs.Visibility.{Name, Declared, declare, are_distinct, ends, label_ends, Sight, with_declared, with_variables, Declares}
 use Rattle.vhdl_names_rules.specs.Packages.{context, no_context, sight_of}
-use Rattle.vhdl_names_rules.specs.Expressions.{static, typed}
+use Rattle.vhdl_names_rules.specs.Expressions.{typed}
 use Rattle.vhdl_names_rules.specs.Choices.{covered, selector, arranged}
-use Rattle.vhdl_names_rules.specs.Statements.{target, statement, statements, statement_labels, alternatives, choice_lists}
-use Rattle.vhdl_names_rules.specs.Declarations.{in_order, variables}
-use Rattle.vhdl_names_rules.specs.Interfaces.{EntityView, declared_names, interface, entity, entity_named, component}
+use Rattle.vhdl_names_rules.specs.Statements.{signal_target, assignment, alone, statement, statements, statement_labels, alternatives, choice_lists}
+use Rattle.vhdl_names_rules.specs.Declarations.{in_order, process_declaration}
+use Rattle.vhdl_names_rules.specs.Interfaces.{EntityView, declared_names, assertion_labels, with_labels, interface, entity, entity_named, component}
 use Rattle.vhdl_names_rules.specs.SameText.{same_generics, same_ports}
-use Rattle.vhdl_names_rules.specs.Instances.{Formal, generic_name, port_formal, associated, port_actuals, instantiated, instance}
-use Rattle.vhdl_names_rules.specs.Concurrent.{label_of, assigning, assigned, alone, selected, sensitivity, awaited, resumed_by, behind_wait, process, concurrent_labels, concurrents}
+use Rattle.vhdl_names_rules.specs.Instances.{Formal, GenericFormal, generic_formal, generic_actuals, port_formal, associated, port_actuals, instantiated, instance}
+use Rattle.vhdl_names_rules.specs.Concurrent.{label_of, assigning, selected, sensitivity, awaited, resumed_by, behind_wait, process, concurrent_labels, concurrents}
 use Rattle.vhdl_names_rules.specs.Files.{entity_names, described_names, stand_after, entities_of, viewed, declaration, labelled, architecture, unit, units_of}
 use Rattle.vhdl_names_rules.proofs.laws.Rules.{Comes, comes, kept, some_is}
 
@@ -62,8 +63,8 @@ case_parts sight label at e alts end x h =
     }
 
 pub record SelectedParts (sight : Sight) (label : Option Ident) (a : t.SelectedAssignment) (x : u.Concurrent) : Type 0 where
-  pub to : Given (target sight a.target)
-  pub chosen : ChosenParts sight a.selector (map (λ (w : t.Waveform). w.choices) a.waveforms) (each (λ (w : t.Waveform). option_map alone (assigned sight to.value w.value)) a.waveforms)
+  pub to : Given (signal_target sight a.target)
+  pub chosen : ChosenParts sight a.selector (map (λ (w : t.Waveform). w.choices) a.waveforms) (each (λ (w : t.Waveform). option_map alone (assignment sight to.value w.value)) a.waveforms)
   pub is : assigning a.at label (s.case_of a.at chosen.by.value.1 chosen.all.value) ≡ x
 
 pub selected_parts : (sight : Sight) (label : Option Ident) (a : t.SelectedAssignment) (x : u.Concurrent) → selected sight label a ≡ Some x → SelectedParts sight label a x
@@ -71,9 +72,9 @@ unfolding selected
 selected_parts sight label a x h =
     let b = comes (typed sight a.selector) _ x h in
     let by = comes (selector b.value) _ x b.rest in
-    let to = comes (target sight a.target) _ x by.rest in
+    let to = comes (signal_target sight a.target) _ x by.rest in
     let c = comes (covered sight by.value.0 (map (λ (w : t.Waveform). w.choices) a.waveforms)) _ x to.rest in
-    let d = comes (each (λ (w : t.Waveform). option_map alone (assigned sight to.value w.value)) a.waveforms) _ x c.rest in
+    let d = comes (each (λ (w : t.Waveform). option_map alone (assignment sight to.value w.value)) a.waveforms) _ x c.rest in
     let all = comes (arranged c.value d.value) _ x d.rest in
     record {
       to = given _ _ _ to;
@@ -83,19 +84,19 @@ selected_parts sight label a x h =
 
 pub record ProcessParts (sight : Sight) (label : Option Ident) (p : t.Process) (x : u.Process) : Type 0 where
   pub on : Given (sensitivity sight p.sensitivity (is_some p.wait))
-  pub own : Given (in_order with_variables variables sight p.variables)
+  pub own : Given (in_order with_variables process_declaration sight p.declarations)
   pub own_distinct : are_distinct (declared_names own.value.declared) ≡ true
   pub labels_distinct : are_distinct (statement_labels (t.statements_of p.statements)) ≡ true
   pub edge : Given (awaited (with_variables sight own.value.declared) p.sensitivity p.wait)
   pub body : Given (statements (with_variables sight own.value.declared) (t.statements_of p.statements))
   pub ended : label_ends label p.end_label ≡ true
-  pub is : record { at = p.at; label = label_of label; variables = own.value.analysed; sensitivity = resumed_by edge.value on.value; body = behind_wait p.wait edge.value body.value } ≡ x
+  pub is : record { at = p.at; label = label_of label; declarations = own.value.analysed; sensitivity = resumed_by edge.value on.value; body = behind_wait p.wait edge.value body.value } ≡ x
 
 pub process_parts : (sight : Sight) (label : Option Ident) (p : t.Process) (x : u.Process) → process sight label p ≡ Some x → ProcessParts sight label p x
 unfolding process
 process_parts sight label p x h =
     let on = comes (sensitivity sight p.sensitivity (is_some p.wait)) _ x h in
-    let own = comes (in_order with_variables variables sight p.variables) _ x on.rest in
+    let own = comes (in_order with_variables process_declaration sight p.declarations) _ x on.rest in
     let a = kept (are_distinct (declared_names own.value.declared)) _ x own.rest in
     let b = kept (are_distinct (statement_labels (t.statements_of p.statements))) _ x a.1 in
     let edge = comes (awaited (with_variables sight own.value.declared) p.sensitivity p.wait) _ x b.1 in
@@ -134,11 +135,11 @@ component_parts entities sight c x h =
 pub record InstanceParts (entities : List EntityView) (sight : Sight) (label : Ident) (i : t.Instance) (x : u.Instance) : Type 0 where
   pub place : Given (instantiated entities sight i.unit)
   pub view : Given (slice_get entities place.value)
-  pub generics : Given (associated (filter_map generic_name view.value.interface.declared) (all_of i.generics))
-  pub statics : Given (each (if_any (static sight)) generics.value)
+  pub generics : Given (associated (map (λ (f : GenericFormal). f.name) (filter_map generic_formal view.value.interface.declared)) (all_of i.generics))
+  pub values : Given (generic_actuals sight (filter_map generic_formal view.value.interface.declared) generics.value)
   pub ports : Given (associated (map (λ (f : Formal). f.name) (filter_map port_formal view.value.interface.declared)) (all_of i.ports))
   pub places : Given (port_actuals sight (filter_map port_formal view.value.interface.declared) ports.value)
-  pub is : record { at = label.at; label = label.text; unit = place.value; generics = statics.value; ports = places.value } ≡ x
+  pub is : record { at = label.at; label = label.text; unit = place.value; generics = values.value; ports = places.value } ≡ x
 
 pub instance_parts : (entities : List EntityView) (sight : Sight) (label : Ident) (i : t.Instance) (x : u.Instance) → instance entities sight label i ≡ Some x
     → InstanceParts entities sight label i x
@@ -146,31 +147,33 @@ unfolding instance
 instance_parts entities sight label i x h =
     let k = comes (instantiated entities sight i.unit) _ x h in
     let e = comes (slice_get entities k.value) _ x k.rest in
-    let gs = comes (associated (filter_map generic_name e.value.interface.declared) (all_of i.generics)) _ x e.rest in
-    let g = comes (each (if_any (static sight)) gs.value) _ x gs.rest in
+    let gs = comes (associated (map (λ (f : GenericFormal). f.name) (filter_map generic_formal e.value.interface.declared)) (all_of i.generics)) _ x e.rest in
+    let g = comes (generic_actuals sight (filter_map generic_formal e.value.interface.declared) gs.value) _ x gs.rest in
     let ps = comes (associated (map (λ (f : Formal). f.name) (filter_map port_formal e.value.interface.declared)) (all_of i.ports)) _ x g.rest in
     let p = comes (port_actuals sight (filter_map port_formal e.value.interface.declared) ps.value) _ x ps.rest in
-    record { place = given _ _ _ k; view = given _ _ _ e; generics = given _ _ _ gs; statics = given _ _ _ g; ports = given _ _ _ ps; places = given _ _ _ p; is = some_is _ x p.rest }
+    record { place = given _ _ _ k; view = given _ _ _ e; generics = given _ _ _ gs; values = given _ _ _ g; ports = given _ _ _ ps; places = given _ _ _ p; is = some_is _ x p.rest }
 
 -- ---- entities, architectures and files
 
-pub record EntityParts (items : List ContextItem) (e : t.Entity) (a : Option Name) (v : EntityView) : Type 0 where
-  pub seen : Given (context no_context items)
+pub record EntityParts (language : Language) (items : List ContextItem) (e : t.Entity) (a : Option Name) (v : EntityView) : Type 0 where
+  pub seen : Given (context (no_context language) items)
   pub own : Given (interface (sight_of seen.value []) e.generics e.ports)
+  pub distinct : are_distinct (declared_names own.value.declared ++ assertion_labels e.statements) ≡ true
   pub ended : ends e.name.text e.end_name ≡ true
   pub is :
-      record { at = e.name.at; name = e.name.text; context = seen.value; interface = own.value; generic_text = e.generics; port_text = e.ports; architecture = a } ≡ v
+      record { at = e.name.at; name = e.name.text; context = seen.value; interface = with_labels own.value (assertion_labels e.statements); generic_text = e.generics; port_text = e.ports; architecture = a } ≡ v
 
-pub entity_parts : (items : List ContextItem) (e : t.Entity) (a : Option Name) (v : EntityView) → entity items e a ≡ Some v → EntityParts items e a v
+pub entity_parts : (language : Language) (items : List ContextItem) (e : t.Entity) (a : Option Name) (v : EntityView) → entity language items e a ≡ Some v → EntityParts language items e a v
 unfolding entity
-entity_parts items e a v h =
-    let c = comes (context no_context items) _ v h in
+entity_parts language items e a v h =
+    let c = comes (context (no_context language) items) _ v h in
     let i = comes (interface (sight_of c.value []) e.generics e.ports) _ v c.rest in
-    let k = kept (ends e.name.text e.end_name) _ v i.rest in
-    record { seen = given _ _ _ c; own = given _ _ _ i; ended = k.0; is = some_is _ v k.1 }
+    let d = kept (are_distinct (declared_names i.value.declared ++ assertion_labels e.statements)) _ v i.rest in
+    let k = kept (ends e.name.text e.end_name) _ v d.1 in
+    record { seen = given _ _ _ c; own = given _ _ _ i; distinct = d.0; ended = k.0; is = some_is _ v k.1 }
 
-pub entity_name : (items : List ContextItem) (e : t.Entity) (a : Option Name) (v : EntityView) → entity items e a ≡ Some v → v.name ≡ e.name.text
-entity_name items e a v h = ap (λ (v : EntityView). v.name) (sym (entity_parts items e a v h).is)
+pub entity_name : (language : Language) (items : List ContextItem) (e : t.Entity) (a : Option Name) (v : EntityView) → entity language items e a ≡ Some v → v.name ≡ e.name.text
+entity_name language items e a v h = ap (λ (v : EntityView). v.name) (sym (entity_parts language items e a v h).is)
 
 -- the region of an entity and its architecture
 abbrev pub region_of : EntityView → List Declared → t.Architecture → List Declared
@@ -195,18 +198,18 @@ architecture_parts entities e items a x h =
     let g = kept (ends a.name.text a.end_name) _ x body.rest in
     record { seen = given _ _ _ c; own = given _ _ _ ds; distinct = k.0; body = given _ _ _ body; ended = g.0; is = some_is _ x g.1 }
 
-pub record FileParts (f : File) (units : Units) : Type 0 where
+pub record FileParts (language : Language) (f : File) (units : Units) : Type 0 where
   pub once : are_distinct (entity_names f.units) ≡ true
   pub described_once : are_distinct (described_names f.units) ≡ true
   pub after : stand_after f.units ≡ true
-  pub views : Given (each (viewed f.units) (entities_of f.units))
+  pub views : Given (each (viewed language f.units) (entities_of f.units))
   pub gives : each (unit views.value f.units) views.value ≡ Some units
 
-pub file_parts : (f : File) (units : Units) → units_of f ≡ Some units → FileParts f units
+pub file_parts : (language : Language) (f : File) (units : Units) → units_of language f ≡ Some units → FileParts language f units
 unfolding units_of
-file_parts f units h =
+file_parts language f units h =
     let a = kept (are_distinct (entity_names f.units)) _ units h in
     let b = kept (are_distinct (described_names f.units)) _ units a.1 in
     let c = kept (stand_after f.units) _ units b.1 in
-    let v = comes (each (viewed f.units) (entities_of f.units)) _ units c.1 in
+    let v = comes (each (viewed language f.units) (entities_of f.units)) _ units c.1 in
     record { once = a.0; described_once = b.0; after = c.0; views = given _ _ _ v; gives = v.rest }

@@ -4,18 +4,18 @@ use Rattle.std.specs.List.{flat_map}
 use Rattle.vhdl_tree.specs.Tree as t
 use Rattle.vhdl_names_rules.specs.units.Units as u
 use Rattle.vhdl_names_rules.specs.Rules.{◌>>=◌, all_of}
-use Rattle.vhdl_names_rules.specs.Visibility.{ends, Name, Declared, names_of, are_distinct, Sight, with_declared, with_variables, Declares, followed_by}
+use Rattle.vhdl_names_rules.specs.Visibility.{ends, Name, Declared, names_of, are_distinct, Sight, with_declared, with_variables, declared_here, Declares, followed_by}
 use Rattle.vhdl_names_rules.specs.Packages.{sight_of}
-use Rattle.vhdl_names_rules.specs.Declarations.{in_order, generic, port, variables}
+use Rattle.vhdl_names_rules.specs.Declarations.{in_order, within_variables, generic, port, process_declaration}
 use Rattle.vhdl_names_rules.specs.Interfaces.{Interface, EntityView, declared_names, interface}
 use Rattle.vhdl_names_rules.specs.Concurrent.{concurrent_labels, concurrent}
 use Rattle.vhdl_names_rules.specs.Statements.{statement_labels}
 use Rattle.vhdl_names_rules.specs.Files.{declaration, labelled}
-use Rattle.vhdl_names_rules.specs.laws.Regions.{interface_names, InterfaceNamesStandOnce, names_in, ArchitectureNamesStandOnce, ProcessNamesStandOnce, GenerateLabelsStandOnce}
+use Rattle.vhdl_names_rules.specs.laws.Regions.{interface_names, InterfaceNamesStandOnce, names_in, process_names_in, ArchitectureNamesStandOnce, ProcessNamesStandOnce, GenerateLabelsStandOnce}
 use Rattle.vhdl_names_rules.proofs.laws.Rules.{comes, kept, some_is}
 use Rattle.vhdl_names_rules.proofs.laws.Parts.{region_of, process_parts, architecture_parts}
 use Rattle.vhdl_names_rules.proofs.laws.Once.{stand_once}
-use Rattle.vhdl_names_rules.proofs.kept.Named.{HasNames, of_same, of_generic, of_port, of_signals, of_variables, of_constants, of_enumeration, of_component}
+use Rattle.vhdl_names_rules.proofs.kept.Named.{HasNames, of_same, of_generic, of_port, of_signals, of_variables, of_constants_in, of_constants, of_subtype_in, of_subtype, of_enumeration, of_component}
 
 -- ---- names of declarations
 
@@ -43,8 +43,16 @@ of_declaration : (entities : List EntityView) (sight : Sight) (d : t.Declaration
     → declaration entities sight d ≡ Some x → HasNames x (names_in d)
 of_declaration entities sight (t.signals d) x e = of_signals sight d x e
 of_declaration entities sight (t.constants d) x e = of_constants sight d x e
-of_declaration entities sight (t.enumeration d) x e = of_enumeration sight d x e
+of_declaration entities sight (t.enumeration d) x e = of_enumeration sight.region d x e
 of_declaration entities sight (t.component c) x e = of_component entities sight c x e
+of_declaration entities sight (t.subtype_of d) x e = of_subtype sight d x e
+of_declaration entities sight (t.attribute_of text) x e = of_same _ x [] e refl
+
+of_process_declaration : (sight : Sight) (d : t.ProcessDeclaration) (x : Declares u.Declaration) → process_declaration sight d ≡ Some x → HasNames x (process_names_in d)
+of_process_declaration sight (t.variables d) x e = of_variables sight d x e
+of_process_declaration sight (t.process_constants d) x e = of_constants_in (within_variables sight d.names) (declared_here sight) d x e
+of_process_declaration sight (t.process_enumeration d) x e = of_enumeration (declared_here sight) d x e
+of_process_declaration sight (t.process_subtype d) x e = of_subtype_in (within_variables sight (d.name ∷ [])) (declared_here sight) d x e
 
 -- ---- regions
 
@@ -75,8 +83,8 @@ architecture_names_stand_once entities e items a x h =
 pub process_names_stand_once : ProcessNamesStandOnce
 process_names_stand_once sight label p x e =
     let d = process_parts sight label p x e in
-    let names = names_in_order with_variables variables (λ (v : t.Variables). names_of v.names) of_variables p.variables sight d.own.value d.own.is in (
-      stand_once (flat_map (λ (v : t.Variables). names_of v.names) p.variables) (ap are_distinct (sym names) ∙ d.own_distinct),
+    let names = names_in_order with_variables process_declaration process_names_in of_process_declaration p.declarations sight d.own.value d.own.is in (
+      stand_once (flat_map process_names_in p.declarations) (ap are_distinct (sym names) ∙ d.own_distinct),
       stand_once (statement_labels (t.statements_of p.statements)) d.labels_distinct,
     )
 

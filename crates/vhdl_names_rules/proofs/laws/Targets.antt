@@ -1,5 +1,5 @@
 -- No target is an in port, nor the actual of an out port.
-use Rattle.std.proofs.Common.{◌≡◌, ℕ, true, false, not, Option, Some, None, refl, ap, sym, ◌∙◌, inl, inr}
+use Rattle.std.proofs.Common.{◌≡◌, ℕ, Bool, true, false, not, Option, Some, None, refl, ap, sym, ◌∙◌, inl, inr}
 use Rattle.std.specs.Prelude.{is_none}
 use Rattle.std.specs.Option.{option_map}
 use Rattle.vhdl_tree.specs.declared.declaration.Mode.{Mode}
@@ -10,7 +10,7 @@ use Rattle.vhdl_names_rules.specs.declared.kind.ObjectType.TheVariants.{Elements
 use Rattle.vhdl_names_rules.specs.units.Expressions as e
 use Rattle.vhdl_names_rules.specs.units.Expressions.{Signal, Part}
 use Rattle.vhdl_names_rules.specs.Visibility as visibility
-use Rattle.vhdl_names_rules.specs.Visibility.{Meaning, Sight, meaning}
+use Rattle.vhdl_names_rules.specs.Visibility.{Name, Meaning, DeclaredRange, Sight, meaning, declaration}
 use Rattle.vhdl_names_rules.specs.Names.{Suffix, part_of}
 use Rattle.vhdl_names_rules.specs.Expressions.{typed_suffix}
 use Rattle.vhdl_names_rules.specs.Statements.{SignalName, named_part, as_signal, signal, is_input, target}
@@ -19,33 +19,34 @@ use Rattle.vhdl_names_rules.specs.laws.Sound.{IsDriven, TargetsAreDriven, Actual
 use Rattle.vhdl_names_rules.proofs.laws.Rules.{comes, kept, some_is, not_true}
 
 -- a signal that isn't an in port is driven
-driven_if : (at : ℕ) (o : Option (Part × ObjectType)) (s : Signal) (mode : Option Mode) (x : SignalName)
-    → option_map (named_part at s mode) o ≡ Some x → (x.place.signal ≡ s) × (x.mode ≡ mode)
-driven_if at None s mode x e = cc
-driven_if at (Some p) s mode x e =
-    let h = some_is (named_part at s mode p) x e in
+driven_if : (at : ℕ) (r : Option DeclaredRange) (o : Option (Part × ObjectType)) (s : Signal) (mode : Option Mode) (x : SignalName)
+    → option_map (named_part at s mode r) o ≡ Some x → (x.place.signal ≡ s) × (x.mode ≡ mode)
+driven_if at r None s mode x e = cc
+driven_if at r (Some p) s mode x e =
+    let h = some_is (named_part at s mode r p) x e in
     (ap (λ (x : SignalName). x.place.signal) (sym h), ap (λ (x : SignalName). x.mode) (sym h))
 
-by_meaning : (at : ℕ) (d : Meaning) (suffix : Suffix) (x : SignalName) → as_signal at d suffix ≡ Some x → is_input x.mode ≡ false → IsDriven (Some d) x.place.signal
-by_meaning at (visibility.port k Out kind) suffix x h i =
-    let d = driven_if at (part_of (Elements kind) suffix) (e.port k) (Some Out) x h in
+by_meaning : (at : ℕ) (n : Name) (d : Meaning) (r : Option DeclaredRange) (g : Bool) (suffix : Suffix) (x : SignalName)
+    → as_signal at (record { name = n; meaning = d; range = r; is_global = g }) suffix ≡ Some x → is_input x.mode ≡ false → IsDriven (Some d) x.place.signal
+by_meaning at n (visibility.port k Out kind) r g suffix x h i =
+    let d = driven_if at r (part_of (Elements kind) suffix) (e.port k) (Some Out) x h in
     inl (k, kind, refl, d.0)
-by_meaning at (visibility.port k In kind) suffix x h i =
-    let d = driven_if at (part_of (Elements kind) suffix) (e.port k) (Some In) x h in
-    let g : true ≡ is_input x.mode = ap is_input (sym d.1) in
+by_meaning at n (visibility.port k In kind) r g suffix x h i =
+    let d = driven_if at r (part_of (Elements kind) suffix) (e.port k) (Some In) x h in
+    let same : true ≡ is_input x.mode = ap is_input (sym d.1) in
     absurd (cc)
-by_meaning at (visibility.signal k type) suffix x h i =
-    let d = driven_if at (part_of type suffix) (e.Signal.signal k) None x h in
+by_meaning at n (visibility.signal k type) r g suffix x h i =
+    let d = driven_if at r (part_of type suffix) (e.Signal.signal k) None x h in
     inr (k, type, refl, d.0)
-by_meaning at _ suffix x h i = absurd (cc)
+by_meaning at n _ r g suffix x h i = absurd (cc)
 
 driven : (sight : Sight) (n : t.Name) (x : SignalName) → signal sight n ≡ Some x → is_input x.mode ≡ false → IsDriven (meaning sight n.identifier.text) x.place.signal
 unfolding signal
 driven sight n x h i =
     let k = kept (is_none n.attribute) _ x h in
     let s = comes (typed_suffix sight n.suffix) _ x k.1 in
-    let d = comes (meaning sight n.identifier.text) _ x s.rest in
-    rw d.is (by_meaning n.identifier.at d.value s.value x d.rest i)
+    let d = comes (declaration sight n.identifier.text) _ x s.rest in
+    rw d.is (by_meaning n.identifier.at d.value.name d.value.meaning d.value.range d.value.is_global s.value x d.rest i)
 
 pub targets_are_driven : TargetsAreDriven
 unfolding target

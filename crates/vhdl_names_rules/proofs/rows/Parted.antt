@@ -1,5 +1,5 @@
 -- What a truth of the code is taken apart to, as contracts see it.
-use Rattle.std.proofs.Common.{◌≡◌, ℕ, Bool, true, false, true≢false, List, [], ◌∷◌, length, Box, Global, None, Ok, refl, ap, sym}
+use Rattle.std.proofs.Common.{◌≡◌, ℕ, true, false, true≢false, List, [], ◌∷◌, length, Box, Global, None, Ok, refl, ap, sym}
 use mathlib.Core.Former.{Count}
 use Rattle.vhdl_values.specs.declared.kinds.Edge.{Edge}
 use Rattle.vhdl_values.specs.declared.kinds.Logic.{Logic}

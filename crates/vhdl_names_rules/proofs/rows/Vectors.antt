@@ -1,12 +1,15 @@
 -- The links of a vector in a `Vec`, as contracts see them.
-use Rattle.std.proofs.Common.{◌≡◌, List, [], ◌∷◌, ◌++◌, Vec, Box, Global, refl, ap, ◌∙◌}
+use Rattle.std.proofs.Common.{◌≡◌, ℕ, List, [], ◌∷◌, ◌++◌, Vec, Box, Global, Option, refl, ap, ◌∙◌}
 use mathlib.Core.Former.{Count}
 use Rattle.vhdl_names_rules.specs.declared.vector.Vector.TheVariants as v
-use Rattle.vhdl_names_rules.specs.declared.vector.Vector.TheBlock.{Row_of-VectorLink, end_of-VectorLink, more_of-VectorLink, items-the_row-VectorLink, hidden-the_row-VectorLink-0, items_hidden-the_row-VectorLink-0}
+use Rattle.vhdl_names_rules.specs.declared.vector.Vector.TheBlock.{Row_of-VectorLink, end_of-VectorLink, more_of-VectorLink, items-the_row-VectorLink, hidden-the_row-VectorLink-0, items_hidden-the_row-VectorLink-0, Row_of-VectorElement, end_of-VectorElement, more_of-VectorElement, items-the_row-VectorElement, hidden-the_row-VectorElement-1, items_hidden-the_row-VectorElement-1}
+use Rattle.vhdl_names_rules.specs.declared.integer.StaticRange.{StaticRange}
+use Rattle.vhdl_names_rules.specs.declared.vector.VectorElement.{VectorElement}
 use Rattle.vhdl_names_rules.specs.declared.vector.VectorLink.{VectorLink}
 use Rattle.vhdl_names_rules.specs.declared.vector.VectorStart.{VectorStart}
 use Rattle.vhdl_names_rules.specs.units.Expressions as u
-use Rattle.vhdl_names_rules.specs.views.Vectors.{vector_view, start_view, links_view, linked, vector_chained}
+use Rattle.vhdl_names_rules.specs.views.Integers.{option_range_view}
+use Rattle.vhdl_names_rules.specs.views.Vectors.{vector_view, start_view, links_view, linked, vector_chained, elements_row, with_element, elements_view}
 
 links_row : (left : u.Vector) (n : Count) (row : Row_of-VectorLink n) → links_view left row ≡ vector_chained left (items-the_row-VectorLink n row)
 links_row left n end_of-VectorLink = refl
@@ -22,3 +25,13 @@ vector_chained-push left (y ∷ xs) x = vector_chained-push (linked left y) xs x
 -- one more link
 pub chained-after : (left : u.Vector) (xs ys : List VectorLink) (x : VectorLink) → ys ≡ xs ++ x ∷ [] → vector_chained left ys ≡ linked (vector_chained left xs) x
 chained-after left xs ys x h = ap (vector_chained left) h ∙ vector_chained-push left xs x
+
+-- ---- elements of an aggregate
+
+elements_rows : (n : Count) (row : Row_of-VectorElement n) → elements_row row ≡ elements_view (items-the_row-VectorElement n row)
+elements_rows n end_of-VectorElement = refl
+elements_rows n (more_of-VectorElement x rest) = ap (with_element x) (elements_rows _ rest)
+
+pub view_aggregate : (at : ℕ) (range : Option (Box StaticRange Global)) (es : Vec VectorElement Global) → vector_view (v.Aggregate at range es) ≡ u.aggregate at (option_range_view range) (elements_view es.items)
+view_aggregate at range es =
+    ap (u.aggregate at (option_range_view range)) (elements_rows _ (hidden-the_row-VectorElement-1 es) ∙ ap elements_view (items_hidden-the_row-VectorElement-1 es))

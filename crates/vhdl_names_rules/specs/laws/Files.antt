@@ -1,5 +1,6 @@
 -- The laws of a file's units (IEEE 1076-2008, 3.2, 3.3 and clause 13).
 use Rattle.std.specs.Prelude.{◌≡◌, ℕ, ◌<◌, map, slice_get, Some}
+use Rattle.vhdl_lexer.specs.declared.language.Language.{Language}
 use Rattle.vhdl_tree.specs.Tree as t
 use Rattle.vhdl_tree.specs.Tree.{File, DesignUnit}
 use Rattle.vhdl_names_rules.specs.units.Units as u
@@ -28,4 +29,5 @@ pub record StandInOrder (f : File) (units : Units) : Type 0 where
       → (j : ℕ) × (j < k) × IsEntityAt f j a.entity.text
 
 abbrev pub EntitiesStandInOrder : Type 0
-EntitiesStandInOrder = (f : File) (units : Units) → units_of f ≡ Some units → StandInOrder f units
+EntitiesStandInOrder =
+    (language : Language) (f : File) (units : Units) → units_of language f ≡ Some units → StandInOrder f units

@@ -31,6 +31,15 @@ names_in (t.signals d) = names_of d.names
 names_in (t.constants d) = names_of d.names
 names_in (t.enumeration d) = d.name.text ∷ names_of d.literals
 names_in (t.component c) = c.name.text ∷ []
+names_in (t.subtype_of d) = d.name.text ∷ []
+names_in (t.attribute_of text) = []
+
+-- and one of a process
+abbrev pub process_names_in : t.ProcessDeclaration → List Name
+process_names_in (t.variables d) = names_of d.names
+process_names_in (t.process_constants d) = names_of d.names
+process_names_in (t.process_enumeration d) = d.name.text ∷ names_of d.literals
+process_names_in (t.process_subtype d) = d.name.text ∷ []
 
 -- In the region of an entity and its architecture no name stands twice: generics, ports, declarations and labels.
 abbrev pub ArchitectureNamesStandOnce : Type 0
@@ -40,11 +49,11 @@ ArchitectureNamesStandOnce =
     → StandOnce (declared_names e.interface.declared
     ++ (flat_map names_in a.declarations ++ concurrent_labels (t.concurrents_of a.statements)))
 
--- Nor among a process's variables, nor among the labels inside it.
+-- Nor among a process's declarations, nor among the labels inside it.
 abbrev pub ProcessNamesStandOnce : Type 0
 ProcessNamesStandOnce =
     (sight : Sight) (label : Option Ident) (p : t.Process) (x : u.Process) → process sight label p ≡ Some x
-    → StandOnce (flat_map (λ (v : t.Variables). names_of v.names) p.variables)
+    → StandOnce (flat_map process_names_in p.declarations)
     × StandOnce (statement_labels (t.statements_of p.statements))
 
 -- Nor among the labels of a generate's statements.

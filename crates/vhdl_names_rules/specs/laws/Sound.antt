@@ -1,6 +1,7 @@
 -- Laws of what elaboration may take for granted: what instances name and associate is there, and no in port
 -- is assigned.
 use Rattle.std.specs.Prelude.{◌≡◌, ℕ, ◌⊎◌, List, length, slice_get, Option, Some}
+use Rattle.vhdl_lexer.specs.declared.language.Language.{Language}
 use Rattle.vhdl_tree.specs.declared.declaration.Mode.TheVariants.{Out}
 use Rattle.vhdl_tree.specs.Tree as t
 use Rattle.vhdl_tree.specs.Tree.{File, Ident, Expr}
@@ -38,9 +39,9 @@ ActualsAreDriven =
 -- An instance is of a unit of the file, and has an entry for each of its generics and ports.
 abbrev pub InstancesFitUnits : Type 0
 InstancesFitUnits =
-    (f : File) (units : Units) (entities : List EntityView)
+    (language : Language) (f : File) (units : Units) (entities : List EntityView)
     (sight : Sight) (label : Ident) (i : t.Instance) (x : u.Instance)
-    → units_of f ≡ Some units → each (viewed f.units) (entities_of f.units) ≡ Some entities
+    → units_of language f ≡ Some units → each (viewed language f.units) (entities_of f.units) ≡ Some entities
     → instance entities sight label i ≡ Some x
     → (unit : u.Entity) × (slice_get units x.unit ≡ Some unit)
     × (length x.generics ≡ length unit.generics) × (length x.ports ≡ length unit.ports)

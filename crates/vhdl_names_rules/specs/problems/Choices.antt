@@ -36,6 +36,7 @@ chosen sight type e = literal type e
 
 abbrev pub choice : Sight → ObjectType → t.Choice → Broken
 choice sight type (t.chosen e) = chosen sight type e
+choice sight type (t.chosen_range d direction e) = refused LeftOut (start d)
 choice sight type (t.otherwise at) = refused WrongKind at
 
 -- others stands alone

@@ -1,5 +1,5 @@
 -- Which rules concurrent statements break (IEEE 1076-2008, clause 11), with the declarations in sight.
-use Rattle.std.specs.Prelude.{ℕ, Bool, List, [], map, Option, Some, None, is_some}
+use Rattle.std.specs.Prelude.{ℕ, Bool, false, List, [], map, Option, Some, None, is_some}
 use Rattle.vhdl_tree.specs.Tree as t
 use Rattle.vhdl_tree.specs.Tree.{Ident}
 use Rattle.vhdl_names_rules.specs.declared.kind.ObjectType.{ObjectType}
@@ -10,25 +10,20 @@ use Rattle.vhdl_names_rules.specs.Expressions as expressions
 use Rattle.vhdl_names_rules.specs.Declarations as declarations
 use Rattle.vhdl_names_rules.specs.Interfaces.{EntityView}
 use Rattle.vhdl_names_rules.specs.Concurrent.{sight_within}
-use Rattle.vhdl_names_rules.specs.problems.Broken.{Broken, nothing, refused, ◌▸◌, unless, lacking, earlier, where_given, any_of, of_any}
+use Rattle.vhdl_names_rules.specs.problems.Broken.{Broken, nothing, refused, ◌▸◌, unless, lacking, earlier, where_given, any_of}
 use Rattle.vhdl_names_rules.specs.problems.Twice.{twice}
 use Rattle.vhdl_names_rules.specs.problems.Labels.{labels_of, statement_labels}
 use Rattle.vhdl_names_rules.specs.problems.Expressions.{static_range, condition, static_condition}
 use Rattle.vhdl_names_rules.specs.problems.Choices.{choices}
 use Rattle.vhdl_names_rules.specs.problems.Covered.{covered, any_alternative}
-use Rattle.vhdl_names_rules.specs.problems.Statements.{signal, target, assigned, end_label, by_selector, statements}
-use Rattle.vhdl_names_rules.specs.problems.Declarations.{end_name, in_order, variables}
+use Rattle.vhdl_names_rules.specs.problems.Statements.{signal, target, assigned, conditional, end_label, by_selector, statements}
+use Rattle.vhdl_names_rules.specs.problems.Declarations.{end_name, in_order, process_declaration}
 use Rattle.vhdl_names_rules.specs.problems.Instances.{instance}
 
 -- ---- conditional and selected assignments (11.6)
 
--- value when condition
-abbrev pub branch : Sight → t.Name → t.Branch → Broken
-branch sight n b = assigned sight n b.value ▸ condition sight b.condition
-
 abbrev pub assignment : Sight → t.Assignment → Broken
-assignment sight a =
-    target sight a.target ▸ any_of (branch sight a.target) a.branches ▸ of_any (assigned sight a.target) a.otherwise
+assignment sight a = conditional sight false a.target a.branches a.otherwise
 
 -- value when choices
 abbrev pub waveform : Sight → ObjectType → t.Name → t.Waveform → Broken
@@ -67,10 +62,10 @@ body sight xs = earlier (twice [] (statement_labels xs)) (statements sight xs)
 abbrev pub process : Sight → Option Ident → t.Process → Broken
 process sight label p =
     sensitivity sight p.at p.sensitivity (is_some p.wait)
-    ▸ in_order with_variables declarations.variables variables sight p.variables
-    ▸ where_given (declarations.in_order with_variables declarations.variables sight p.variables)
-    (λ vs. awaited (with_variables sight vs.declared) p.sensitivity p.wait
-    ▸ body (with_variables sight vs.declared) (t.statements_of p.statements))
+    ▸ in_order with_variables declarations.process_declaration process_declaration sight p.declarations
+    ▸ where_given (declarations.in_order with_variables declarations.process_declaration sight p.declarations)
+    (λ ds. awaited (with_variables sight ds.declared) p.sensitivity p.wait
+    ▸ body (with_variables sight ds.declared) (t.statements_of p.statements))
     ▸ end_label label p.end_label
 
 -- ---- all statements, with the entities of the file
@@ -88,6 +83,7 @@ module _ (entities : List EntityView) where
     concurrent sight (t.instance label i) = instance entities sight label i
     concurrent sight (t.generated label at s word cs end) =
         scheme sight s ▸ earlier (twice [] (labels_of cs)) (concurrents (sight_within sight s) cs) ▸ end_name label end
+    concurrent sight (t.assertion a) = nothing
 
     pub concurrents : Sight → t.Concurrents → Broken
     concurrents sight t.no_concurrents = nothing

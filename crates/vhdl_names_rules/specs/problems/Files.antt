@@ -1,13 +1,14 @@
 -- Which rule a file breaks first in order of its text (IEEE 1076-2008, 3.2, 3.3 and clause 13).
-use Rattle.std.specs.Prelude.{ℕ, Bool, true, false, ◌&&◌, not, if◌then◌else◌, nat_eq, List, [], ◌∷◌, ◌++◌, map, find, flat_map, filter_map, Option, Some, None, option_map, bytes_eq}
+use Rattle.std.specs.Prelude.{ℕ, Bool, true, ◌&&◌, not, if◌then◌else◌, nat_eq, List, [], ◌∷◌, ◌++◌, map, find, flat_map, filter_map, Option, Some, None, option_map, bytes_eq}
 use Rattle.std.specs.List.{list_any, enumerate_from}
+use Rattle.vhdl_lexer.specs.declared.language.Language.{Language}
 use Rattle.vhdl_tree.specs.Tree as t
 use Rattle.vhdl_tree.specs.Tree.{File, DesignUnit, LibraryUnit, ContextItem, Ident}
 use Rattle.vhdl_names_rules.specs.declared.fault.NameProblem.TheVariants.{Undeclared, Twice, SecondArchitecture}
 use Rattle.vhdl_names_rules.specs.Visibility as visibility
 use Rattle.vhdl_names_rules.specs.Visibility.{Name, Declared, Sight, declare, is_among, with_declared}
 use Rattle.vhdl_names_rules.specs.Packages as packages
-use Rattle.vhdl_names_rules.specs.Packages.{Context, sight_of}
+use Rattle.vhdl_names_rules.specs.Packages.{Context, no_context, sight_of}
 use Rattle.vhdl_names_rules.specs.Declarations as declarations
 use Rattle.vhdl_names_rules.specs.Interfaces as interfaces
 use Rattle.vhdl_names_rules.specs.Interfaces.{EntityView, declared_names, entity_named}
@@ -16,7 +17,7 @@ use Rattle.vhdl_names_rules.specs.Files as are
 use Rattle.vhdl_names_rules.specs.Files.{entity_names, described_names, stands_after, entities_of, architectures_of}
 use Rattle.vhdl_names_rules.specs.problems.Broken.{Broken, nothing, refused, ◌▸◌, unless, where_given, any_of, earlier}
 use Rattle.vhdl_names_rules.specs.problems.Labels.{labels_of}
-use Rattle.vhdl_names_rules.specs.problems.Declarations.{standing_twice, end_name, context, in_order, signals, constants, enumeration}
+use Rattle.vhdl_names_rules.specs.problems.Declarations.{standing_twice, end_name, context, in_order, signals, constants, subtype_declaration, enumeration}
 use Rattle.vhdl_names_rules.specs.problems.Interfaces.{entity, component}
 use Rattle.vhdl_names_rules.specs.problems.Concurrent.{concurrents}
 
@@ -27,6 +28,8 @@ declaration entities sight (t.signals d) = signals sight d
 declaration entities sight (t.constants d) = constants sight d
 declaration entities sight (t.enumeration d) = enumeration sight d
 declaration entities sight (t.component c) = component entities sight c
+declaration entities sight (t.subtype_of d) = subtype_declaration sight d
+declaration entities sight (t.attribute_of text) = nothing
 
 -- the labels of statements in a region, of names that stand twice the first alone
 abbrev pub with_labels : List Declared → List Name → List Declared
@@ -74,6 +77,7 @@ abbrev mutual
   of_concurrent (t.process label p) = []
   of_concurrent (t.instance label i) = of_instantiated i.unit
   of_concurrent (t.generated label at s word cs end) = of_concurrents cs
+  of_concurrent (t.assertion a) = []
 
   pub of_concurrents : t.Concurrents → List Ident
   of_concurrents t.no_concurrents = []
@@ -112,9 +116,9 @@ placed_architectures ds =
     flat_map (λ d. if stands_after ds d then architectures_of (d.1 ∷ []) else []) (enumerate_from 0 ds)
 
 -- an entity, seen with the name of such an architecture
-abbrev pub seen : List DesignUnit → List ContextItem × t.Entity → Option EntityView
-seen ds e =
-    interfaces.entity e.0 e.1
+abbrev pub seen : Language → List DesignUnit → List ContextItem × t.Entity → Option EntityView
+seen language ds e =
+    interfaces.entity language e.0 e.1
     (option_map (λ a. a.1.name.text) (find (λ a. bytes_eq e.1.name.text a.1.entity.text) (placed_architectures ds)))
 
 -- entities behind others, of one name the first alone
@@ -124,8 +128,8 @@ with_entities es (d ∷ ds) =
     if is_among d.name (map (λ e. e.name) es) then with_entities es ds else with_entities (es ++ (d ∷ [])) ds
 
 -- the entities that are given
-abbrev pub entities_given : List DesignUnit → List EntityView
-entities_given ds = with_entities [] (filter_map (seen ds) (entities_of ds))
+abbrev pub entities_given : Language → List DesignUnit → List EntityView
+entities_given language ds = with_entities [] (filter_map (seen language ds) (entities_of ds))
 
 -- ---- files
 
@@ -135,16 +139,16 @@ is_hidden ns entities n = is_among n ns && not (is_among n (map (λ e. e.name) e
 
 -- an architecture of a file with entities of these names, of which these are given; of one whose own entity isn't given
 -- the context items alone, whatever the entity's context has
-abbrev pub described : List Name → List EntityView → List ContextItem × t.Architecture → Broken
-described ns entities (items, a) = by (entity_named entities a.entity.text)
+abbrev pub described : Language → List Name → List EntityView → List ContextItem × t.Architecture → Broken
+described language ns entities (items, a) = by (entity_named entities a.entity.text)
   where
     by : Option (ℕ × EntityView) → Broken
-    by None = context (record { has_ieee = true; has_logic = false; has_numbers = false }) items
+    by None = context (record (no_context language) { has_ieee = true }) items
     by (Some (k, e)) = up_to_hidden (is_hidden ns entities) a (architecture entities e items a)
 
 -- the first in order of the text: among the names of units, among the entities, and among the architectures
-abbrev pub file : File → Broken
-file f =
+abbrev pub file : Language → File → Broken
+file language f =
     earlier (names [] f.units)
-    (earlier (any_of (λ e. entity e.0 e.1) (entities_of f.units))
-    (any_of (described (entity_names f.units) (entities_given f.units)) (architectures_of f.units)))
+    (earlier (any_of (λ e. entity language e.0 e.1) (entities_of f.units))
+    (any_of (described language (entity_names f.units) (entities_given language f.units)) (architectures_of f.units)))

@@ -1,18 +1,24 @@
 -- Which rule an instance breaks first (IEEE 1076-2008, 6.5.7 and 11.7): its maps are read association by association.
-use Rattle.std.specs.Prelude.{Bool, true, false, not, ◌||◌, if◌then◌else◌, drop, filter, List, [], ◌∷◌, ◌++◌, map, filter_map, slice_get, Option, Some, None, bytes_eq, codes}
+use Rattle.std.specs.Prelude.{ℕ, Bool, true, false, not, ◌||◌, if◌then◌else◌, drop, filter, List, [], ◌∷◌, ◌++◌, map, filter_map, slice_get, Option, Some, None, bytes_eq, codes}
 use Rattle.vhdl_tree.specs.Tree as t
 use Rattle.vhdl_tree.specs.Tree.{Ident, Expr, Association}
 use Rattle.vhdl_names_rules.specs.declared.fault.NameProblem.TheVariants.{Undeclared, Twice, WrongKind, TypeMismatch, WriteOfIn, LeftOut}
+use Rattle.vhdl_names_rules.specs.declared.kind.ElementKind.{ElementKind}
+use Rattle.vhdl_names_rules.specs.declared.kind.ObjectType.TheVariants.{Elements}
 use Rattle.vhdl_names_rules.specs.Rules.{all_of}
+use Rattle.vhdl_names_rules.specs.Operators.{Typed, composite, is_vector}
+use Rattle.vhdl_names_rules.specs.Expressions as expressions
+use Rattle.vhdl_names_rules.specs.Expressions.{as_value}
 use Rattle.vhdl_names_rules.specs.Visibility as visibility
 use Rattle.vhdl_names_rules.specs.Visibility.{Name, Meaning, Sight, is_among}
 use Rattle.vhdl_names_rules.specs.Interfaces.{EntityView, entity_named}
 use Rattle.vhdl_names_rules.specs.Statements as statements
 use Rattle.vhdl_names_rules.specs.Instances as are
-use Rattle.vhdl_names_rules.specs.Instances.{Formal, is_named, formal_of, expression_of, as_name, is_kind, may_join, is_architecture, as_component, generic_name, port_formal}
+use Rattle.vhdl_names_rules.specs.Instances.{Formal, is_named, formal_of, expression_of, as_name, is_kind, may_join, is_architecture, as_component, GenericKind, GenericFormal, generic_formal, port_formal, value_as_actual}
 use Rattle.vhdl_names_rules.specs.problems.Broken.{Broken, nothing, refused, ◌▸◌, unless, lacking, where_given, any_of, of_any}
 use Rattle.vhdl_names_rules.specs.problems.Places.{start, association_place}
-use Rattle.vhdl_names_rules.specs.problems.Expressions.{meaning, static}
+use Rattle.vhdl_names_rules.specs.problems.Expressions.{meaning, typed, static, static_condition}
+use Rattle.vhdl_names_rules.specs.problems.Aggregates.{aggregate}
 use Rattle.vhdl_names_rules.specs.problems.Statements.{named, signal}
 
 -- ---- which unit is instantiated
@@ -35,6 +41,9 @@ instantiated entities sight (t.component_unit word n) =
 abbrev pub is_value : Meaning → t.Suffix → Bool
 is_value (visibility.generic k) suffix = true
 is_value (visibility.integer_constant k) suffix = true
+is_value (visibility.boolean_generic k) suffix = true
+is_value (visibility.boolean_constant k) suffix = true
+is_value (visibility.boolean_literal b) suffix = true
 is_value (visibility.generate_parameter k) suffix = true
 is_value (visibility.loop_parameter k) suffix = true
 is_value (visibility.constant k kind values) suffix = true
@@ -88,8 +97,32 @@ module _ (formals : List Name) (actual : Name → Expr → Broken) where
   abbrev pub associated : List Association → Broken
   associated as' = associations formals false [] as'
 
-abbrev pub generic_map : Sight → List Name → List Association → Broken
-generic_map sight formals as' = associated formals (λ n e. static sight e) as'
+-- ---- actuals of generics
+
+-- an aggregate has a range, the formal's
+abbrev pub given_value : ElementKind → (at : ℕ) → Typed → Broken
+given_value k at (composite p es) =
+    unless TypeMismatch p (is_vector k) ▸ aggregate k true es ▸ lacking LeftOut at (value_as_actual k (composite p es))
+given_value k at x = lacking TypeMismatch at (as_value (Elements k) None x) ▸ lacking LeftOut at (value_as_actual k x)
+
+abbrev pub value_actual : Sight → ElementKind → Expr → Broken
+value_actual sight k e = typed sight e ▸ where_given (expressions.typed sight e) (given_value k (start e))
+
+abbrev pub generic_actual : Sight → Expr → GenericFormal → Broken
+generic_actual sight e f = by f.kind
+  where
+    by : GenericKind → Broken
+    by are.integer = static sight e
+    by are.boolean = static_condition sight e
+    by (are.GenericKind.elements k) = value_actual sight k e
+
+-- the generics of a name
+abbrev pub generics_named : List GenericFormal → Name → List GenericFormal
+generics_named fs n = filter (λ f. bytes_eq n f.name) fs
+
+abbrev pub generic_map : Sight → List GenericFormal → List Association → Broken
+generic_map sight fs as' =
+    associated (map (λ f. f.name) fs) (λ n e. any_of (generic_actual sight e) (generics_named fs n)) as'
 
 abbrev pub port_map : Sight → List Formal → List Association → Broken
 port_map sight fs as' =
@@ -99,7 +132,7 @@ port_map sight fs as' =
 
 abbrev pub maps : Sight → EntityView → t.Instance → Broken
 maps sight e i =
-    generic_map sight (filter_map generic_name e.interface.declared) (all_of i.generics)
+    generic_map sight (filter_map generic_formal e.interface.declared) (all_of i.generics)
     ▸ port_map sight (filter_map port_formal e.interface.declared) (all_of i.ports)
 
 -- an instance behind its label

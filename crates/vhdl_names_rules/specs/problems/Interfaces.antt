@@ -1,5 +1,6 @@
 -- Which rules interfaces, entities and components break (IEEE 1076-2008, 3.2, 6.5.6 and 6.8).
-use Rattle.std.specs.Prelude.{ℕ, ◌&&◌, List, [], ◌∷◌, ◌++◌, Option}
+use Rattle.std.specs.Prelude.{ℕ, ◌&&◌, List, [], ◌∷◌, ◌++◌, filter_map, Option}
+use Rattle.vhdl_lexer.specs.declared.language.Language.{Language}
 use Rattle.vhdl_tree.specs.Tree as t
 use Rattle.vhdl_tree.specs.Tree.{ContextItem}
 use Rattle.vhdl_names_rules.specs.declared.fault.NameProblem.TheVariants.{Undeclared, WrongKind}
@@ -9,6 +10,7 @@ use Rattle.vhdl_names_rules.specs.Packages as packages
 use Rattle.vhdl_names_rules.specs.Packages.{no_context, sight_of}
 use Rattle.vhdl_names_rules.specs.Declarations as declarations
 use Rattle.vhdl_names_rules.specs.SameText.{same_generics, same_ports}
+use Rattle.vhdl_names_rules.specs.Interfaces as interfaces
 use Rattle.vhdl_names_rules.specs.Interfaces.{EntityView, entity_named}
 use Rattle.vhdl_names_rules.specs.problems.Broken.{Broken, ◌▸◌, unless, lacking, where_given}
 use Rattle.vhdl_names_rules.specs.problems.Declarations.{standing_twice, end_name, context, in_order, generic, port}
@@ -26,10 +28,17 @@ interface sight gs ps =
     ▸ where_given (declarations.in_order with_declared declarations.generic sight (all_of gs))
     (λ g. ports (with_declared sight g.declared) (all_of ps))
 
-abbrev pub entity : List ContextItem → t.Entity → Broken
-entity items e =
-    context no_context items
-    ▸ where_given (packages.context no_context items) (λ c. interface (sight_of c []) e.generics e.ports)
+-- the labels of its assertions stand behind them
+abbrev pub assertions : Sight → t.Entity → Broken
+assertions sight e =
+    where_given (interfaces.interface sight e.generics e.ports)
+    (λ i. standing_twice i.declared (filter_map (λ (a : t.Assertion). a.label) (all_of e.statements)))
+
+abbrev pub entity : Language → List ContextItem → t.Entity → Broken
+entity language items e =
+    context (no_context language) items
+    ▸ where_given (packages.context (no_context language) items)
+    (λ c. interface (sight_of c []) e.generics e.ports ▸ assertions (sight_of c []) e)
     ▸ end_name e.name e.end_name
 
 -- a component is the text of the entity of its name

@@ -15,6 +15,7 @@ label_of (t.selected label a) = label_if_any label
 label_of (t.process label p) = label_if_any label
 label_of (t.instance label i) = label ∷ []
 label_of (t.generated label at scheme word cs end) = label ∷ []
+label_of (t.assertion a) = label_if_any a.label
 
 abbrev pub labels_of : t.Concurrents → List Ident
 labels_of t.no_concurrents = []
@@ -27,6 +28,9 @@ abbrev mutual
   inner_labels (t.null_of at) = []
   inner_labels (t.assigned n v) = []
   inner_labels (t.variable_assigned n v) = []
+  inner_labels (t.assigned_when is_variable n bs o) = []
+  inner_labels (t.asserted text) = []
+  inner_labels (t.reported text) = []
   inner_labels (t.if_of at bs o end) = conditional_labels bs ++ otherwise_labels o
   inner_labels (t.case_of at e alts end) = alternative_labels alts
   inner_labels (t.for_of at n r body end) = statement_labels body

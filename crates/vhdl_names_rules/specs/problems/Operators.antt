@@ -76,6 +76,7 @@ edge_problem _ = TypeMismatch
 abbrev pub name_problem : Meaning → Suffix → NameProblem
 name_problem visibility.unfinished s = Undeclared
 name_problem (visibility.integer_type w) s = WrongKind
+name_problem visibility.boolean_type s = WrongKind
 name_problem (visibility.element_type r) s = WrongKind
 name_problem (visibility.enumeration_type e count) s = WrongKind
 name_problem (visibility.component k) s = WrongKind

@@ -12,11 +12,21 @@ start (t.bits at text) = at
 start (t.named n suffix a) = n.at
 start (t.parens at e) = at
 start (t.negation at e) = at
+start (t.absolute at e) = at
+start (t.power d at e) = start d
 start (t.signed sign at e) = at
 start (t.binary begins op at d e) = start d
+start (t.aggregate at es) = at
+start (t.qualified n at es) = n.at
+
+-- a range, which may be a name
+abbrev pub range_start : t.DiscreteRange → ℕ
+range_start (t.bounds r) = start r.left
+range_start (t.range_named n) = n.identifier.at
 
 abbrev pub choice_place : t.Choice → ℕ
 choice_place (t.chosen e) = start e
+choice_place (t.chosen_range d direction e) = start d
 choice_place (t.otherwise at) = at
 
 abbrev pub actual_place : t.Actual → ℕ

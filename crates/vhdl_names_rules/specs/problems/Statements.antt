@@ -1,17 +1,17 @@
 -- Which rules sequential statements break (IEEE 1076-2008, clause 10), with the declarations in sight.
-use Rattle.std.specs.Prelude.{not, Option}
+use Rattle.std.specs.Prelude.{Bool, true, false, not, List, Option}
 use Rattle.vhdl_tree.specs.Tree as t
 use Rattle.vhdl_tree.specs.Tree.{Ident}
 use Rattle.vhdl_names_rules.specs.declared.kind.ObjectType.{ObjectType}
 use Rattle.vhdl_names_rules.specs.declared.fault.NameProblem.{NameProblem}
 use Rattle.vhdl_names_rules.specs.declared.fault.NameProblem.TheVariants.{Undeclared, WrongKind, TypeMismatch, WriteOfIn}
 use Rattle.vhdl_names_rules.specs.Visibility as visibility
-use Rattle.vhdl_names_rules.specs.Visibility.{Meaning, Sight, label_ends, within_loop}
+use Rattle.vhdl_names_rules.specs.Visibility.{Meaning, Sight, declaration, label_ends, within_loop}
 use Rattle.vhdl_names_rules.specs.Expressions as expressions
 use Rattle.vhdl_names_rules.specs.Choices.{selector}
 use Rattle.vhdl_names_rules.specs.Statements as are
-use Rattle.vhdl_names_rules.specs.Statements.{as_signal, as_variable, is_input, choice_lists}
-use Rattle.vhdl_names_rules.specs.problems.Broken.{Broken, nothing, ◌▸◌, unless, lacking, where_given, of_any}
+use Rattle.vhdl_names_rules.specs.Statements.{as_signal, as_variable, is_input, Target, signal_target, variable_target, choice_lists}
+use Rattle.vhdl_names_rules.specs.problems.Broken.{Broken, nothing, ◌▸◌, unless, lacking, where_given, any_of, of_any}
 use Rattle.vhdl_names_rules.specs.problems.Expressions.{meaning, no_attribute, typed_suffix, static_range, condition, value_given}
 use Rattle.vhdl_names_rules.specs.problems.Choices.{choices, selected_by}
 use Rattle.vhdl_names_rules.specs.problems.Covered.{covered, any_alternative}
@@ -32,9 +32,9 @@ signal_problem _ = WrongKind
 abbrev pub signal : Sight → t.Name → Broken
 signal sight n =
     named sight n
-    ▸ where_given (visibility.meaning sight n.identifier.text)
+    ▸ where_given (declaration sight n.identifier.text)
     (λ d. where_given (expressions.typed_suffix sight n.suffix)
-    (λ s. lacking (signal_problem d) n.identifier.at (as_signal n.identifier.at d s)))
+    (λ s. lacking (signal_problem d.meaning) n.identifier.at (as_signal n.identifier.at d s)))
 
 abbrev pub target : Sight → t.Name → Broken
 target sight n =
@@ -48,9 +48,9 @@ variable_problem _ = WrongKind
 abbrev pub variable : Sight → t.Name → Broken
 variable sight n =
     named sight n
-    ▸ where_given (visibility.meaning sight n.identifier.text)
+    ▸ where_given (declaration sight n.identifier.text)
     (λ d. where_given (expressions.typed_suffix sight n.suffix)
-    (λ s. lacking (variable_problem d) n.identifier.at (as_variable n.identifier.at d s)))
+    (λ s. lacking (variable_problem d.meaning) n.identifier.at (as_variable n.identifier.at d s)))
 
 -- ---- statements
 
@@ -58,11 +58,29 @@ variable sight n =
 abbrev pub end_label : Option Ident → Option Ident → Broken
 end_label label end = of_any (λ e. unless WrongKind e.at (label_ends label end)) end
 
+-- a target, which is told once, and what is given to it
+abbrev pub target_by : Sight → (is_variable : Bool) → t.Name → Broken
+target_by sight false n = target sight n
+target_by sight true n = variable sight n
+
+abbrev pub given : Sight → Option Target → t.Value → Broken
+given sight target v = where_given target (λ x. value_given sight x.type x.range v)
+
 abbrev pub assigned : Sight → t.Name → t.Value → Broken
-assigned sight n v = target sight n ▸ where_given (are.target sight n) (λ x. value_given sight x.type v)
+assigned sight n v = target sight n ▸ given sight (signal_target sight n) v
 
 abbrev pub variable_assigned : Sight → t.Name → t.Value → Broken
-variable_assigned sight n v = variable sight n ▸ where_given (are.variable sight n) (λ x. value_given sight x.type v)
+variable_assigned sight n v = variable sight n ▸ given sight (variable_target sight n) v
+
+-- value when condition else ..
+abbrev pub branch : Sight → Option Target → t.Branch → Broken
+branch sight target b = given sight target b.value ▸ condition sight b.condition
+
+abbrev pub conditional : Sight → (is_variable : Bool) → t.Name → List t.Branch → Option t.Value → Broken
+conditional sight is_variable n bs o =
+    target_by sight is_variable n
+    ▸ any_of (branch sight (are.target_by sight is_variable n)) bs
+    ▸ of_any (given sight (are.target_by sight is_variable n)) o
 
 -- what is chosen by a selector of this type
 abbrev pub by_selector : Sight → t.Expr → (ObjectType → Broken) → Broken
@@ -74,6 +92,9 @@ unfoldable mutual
   statement sight label (t.null_of at) = nothing
   statement sight label (t.assigned n v) = assigned sight n v
   statement sight label (t.variable_assigned n v) = variable_assigned sight n v
+  statement sight label (t.assigned_when is_variable n bs o) = conditional sight is_variable n bs o
+  statement sight label (t.asserted text) = nothing
+  statement sight label (t.reported text) = nothing
   statement sight label (t.if_of at bs o end) = conditionals sight bs ▸ otherwise sight o ▸ end_label label end
   statement sight label (t.case_of at e alts end) =
       by_selector sight e (λ type. covered sight type at (choice_lists alts) (alternatives sight type alts))

@@ -1,10 +1,11 @@
 -- What elaboration may take for granted of expressions: numbers are in range, parameters stand inside their generates
 -- and loops, and one element stands where one is asked for.
 use Rattle.std.specs.Prelude.{ℕ, ◌==◌, nat_lt, Bool, true, false, not, ◌&&◌, List, map, slice_get, Option, Some, None}
+use Rattle.std.specs.List.{list_all}
 use Rattle.vhdl_names_rules.specs.declared.operator.VectorOperator.{VectorOperator}
 use Rattle.vhdl_names_rules.specs.declared.operator.VectorOperator.TheVariants as v
 use Rattle.vhdl_names_rules.specs.units.Expressions as e
-use Rattle.vhdl_names_rules.specs.units.Expressions.{Static, Range, StaticTest, Signal, Part, SignalPart, Vector, Value, Test}
+use Rattle.vhdl_names_rules.specs.units.Expressions.{Static, Range, StaticTest, Signal, Part, SignalPart, Vector, Elements, Value, Test}
 use Rattle.vhdl_names_rules.specs.units.Units as u
 use Rattle.vhdl_names_rules.specs.units.Units.{Form, Fixed, Units}
 use Rattle.vhdl_names_rules.specs.Rules.{◌>>=◌, then_some}
@@ -14,6 +15,8 @@ use Rattle.vhdl_names_rules.specs.Rules.{◌>>=◌, then_some}
 pub record Inside : Type 0 where
   pub generics : ℕ
   pub integers : ℕ
+  -- how many ranges are declared
+  pub ranges : ℕ
   pub constants : List Form
   pub ports : List u.Port
   pub signals : List Form
@@ -31,12 +34,16 @@ static_fits i (e.Static.constant k) = nat_lt k i.integers
 static_fits i (e.generate_parameter k) = nat_lt k i.generates
 static_fits i (e.loop_parameter k) = nat_lt k i.loops
 static_fits i (e.Static.negated at x) = static_fits i x
+static_fits i (e.absolute at x) = static_fits i x
+static_fits i (e.bound b k) = nat_lt k i.ranges
+static_fits i (e.slice_bound at b k l d r) = nat_lt k i.ranges && static_fits i l && static_fits i r
 static_fits i (e.Static.binary at op x y) = static_fits i x && static_fits i y
 
 abbrev pub range_fits : Inside → Range → Bool
 range_fits i r = static_fits i r.left && static_fits i r.right
 
 abbrev pub static_test_fits : Inside → StaticTest → Bool
+static_test_fits i (e.known at x) = static_fits i x
 static_test_fits i (e.StaticTest.compared at op x y) = static_fits i x && static_fits i y
 static_test_fits i (e.StaticTest.negated t) = static_test_fits i t
 static_test_fits i (e.StaticTest.both op t r) = static_test_fits i t && static_test_fits i r
@@ -100,30 +107,60 @@ with_static i x n = do
   y ← x
   then_some (is_vector y && static_fits i n) vector
 
-abbrev pub vector_shape : Inside → Vector → Option Shape
-vector_shape i (e.of_signal p) = do
-  x ← place_shape i p
-  then_some (is_elements x) x
-vector_shape i (e.of_variable at k p) = do
-  f ← slice_get i.variables k
-  x ← part_shape i f p
-  then_some (is_elements x) x
-vector_shape i (e.of_constant at k p) = do
-  f ← slice_get i.constants k
-  x ← part_shape i f p
-  then_some (is_elements x) x
-vector_shape i (e.character x) = Some one
-vector_shape i (e.enclosed_character x) = Some one
-vector_shape i (e.Vector.literal at xs) = Some vector
-vector_shape i (e.Vector.inverse x) = vector_shape i x
-vector_shape i (e.Vector.binary at op x y) = do
-  a ← vector_shape i x
-  b ← vector_shape i y
-  operated_shape op a b
-vector_shape i (e.with_integer at op x n) = with_static i (vector_shape i x) n
-vector_shape i (e.integer_with at op n x) = with_static i (vector_shape i x) n
-vector_shape i (e.Vector.encoded at n size) = then_some (static_fits i n && static_fits i size) vector
-vector_shape i (e.counted at op x n) = with_static i (vector_shape i x) n
+-- a range, if there is one
+abbrev pub any_range_fits : Inside → Option Range → Bool
+any_range_fits i None = true
+any_range_fits i (Some r) = range_fits i r
+
+abbrev pub index_fits : Inside → e.Index → Bool
+index_fits i (e.index at x) = static_fits i x
+index_fits i (e.indexes at r) = range_fits i r
+
+abbrev pub is_one : Option Shape → Bool
+is_one (Some one) = true
+is_one _ = false
+
+abbrev pub are_elements : Option Shape → Bool
+are_elements None = false
+are_elements (Some x) = is_elements x
+
+abbrev mutual
+  pub vector_shape : Inside → Vector → Option Shape
+  vector_shape i (e.of_signal p) = do
+    x ← place_shape i p
+    then_some (is_elements x) x
+  vector_shape i (e.of_variable at k p) = do
+    f ← slice_get i.variables k
+    x ← part_shape i f p
+    then_some (is_elements x) x
+  vector_shape i (e.of_constant at k p) = do
+    f ← slice_get i.constants k
+    x ← part_shape i f p
+    then_some (is_elements x) x
+  vector_shape i (e.character x) = Some one
+  vector_shape i (e.enclosed_character x) = Some one
+  vector_shape i (e.Vector.literal at xs) = Some vector
+  vector_shape i (e.Vector.inverse x) = vector_shape i x
+  vector_shape i (e.Vector.binary at op x y) = do
+    a ← vector_shape i x
+    b ← vector_shape i y
+    operated_shape op a b
+  vector_shape i (e.with_integer at op x n) = with_static i (vector_shape i x) n
+  vector_shape i (e.integer_with at op n x) = with_static i (vector_shape i x) n
+  vector_shape i (e.Vector.encoded at n size) = then_some (static_fits i n && static_fits i size) vector
+  vector_shape i (e.counted at op x n) = with_static i (vector_shape i x) n
+  vector_shape i (e.aggregate at r es) = then_some (any_range_fits i r && elements_fit i es) vector
+  vector_shape i (e.sized at r x) = do
+    y ← vector_shape i x
+    then_some (is_vector y && range_fits i r) vector
+
+  -- an element, or a vector, for the next ones, and an element for each index
+  pub elements_fit : Inside → Elements → Bool
+  elements_fit i e.no_elements = true
+  elements_fit i (e.next x es) = are_elements (vector_shape i x) && elements_fit i es
+  elements_fit i (e.chosen is x es) =
+      list_all (index_fits i) is && is_one (vector_shape i x) && elements_fit i es
+  elements_fit i (e.Elements.others x) = is_one (vector_shape i x)
 
 -- ---- values
 

@@ -17,11 +17,12 @@ objects_are_named os = list_all (λ (o : u.Object). has_text o.name) os
 
 abbrev pub declaration_is_named : u.Declaration → Bool
 declaration_is_named (u.Declaration.signal o) = has_text o.name
+declaration_is_named (u.Declaration.variable o) = has_text o.name
 declaration_is_named _ = true
 
 unfoldable mutual
   pub concurrent_is_named : u.Concurrent → Bool
-  concurrent_is_named (u.process p) = label_is_named p.label && objects_are_named p.variables
+  concurrent_is_named (u.process p) = label_is_named p.label && list_all declaration_is_named p.declarations
   concurrent_is_named (u.instance x) = has_text x.label
   concurrent_is_named (u.generate_for at label r body) = has_text label && concurrents_are_named body
   concurrent_is_named (u.generate_if at label t body) = has_text label && concurrents_are_named body

@@ -1,14 +1,14 @@
 -- What elaboration may take for granted of units: lists are as long as those that they are for, and no in port
 -- is assigned.
-use Rattle.std.specs.Prelude.{suc, ◌==◌, nat_lt, nat_le, Bool, true, false, ◌&&◌, List, [], ◌∷◌, ◌++◌, map, length, slice_get, Option, Some, None, option_map, is_some}
-use Rattle.std.specs.List.{list_all}
+use Rattle.std.specs.Prelude.{ℕ, suc, ◌+◌, nat_lt, nat_le, Bool, true, false, not, ◌&&◌, List, [], ◌∷◌, ◌++◌, map, slice_get, Option, Some, None, option_map, is_some}
+use Rattle.std.specs.List.{list_all, list_any}
 use Rattle.vhdl_tree.specs.declared.declaration.Mode.{Mode}
 use Rattle.vhdl_tree.specs.declared.declaration.Mode.TheVariants.{In, Out}
-use Rattle.vhdl_names_rules.specs.units.Expressions.{Static, Signal, SignalPart}
+use Rattle.vhdl_names_rules.specs.units.Expressions.{Range, Signal, SignalPart}
 use Rattle.vhdl_names_rules.specs.units.Units as u
 use Rattle.vhdl_names_rules.specs.units.Units.{Form, Fixed, Units}
-use Rattle.vhdl_names_rules.specs.sound.Expressions.{Inside, Shape, one, vector, static_fits, range_fits, static_test_fits, shape_of, place_shape, is_elements, position_fits, fits_shape}
-use Rattle.vhdl_names_rules.specs.sound.Statements.{is_driven, statements_fit}
+use Rattle.vhdl_names_rules.specs.sound.Expressions.{Inside, Shape, one, vector, static_fits, range_fits, static_test_fits, shape_of, place_shape, is_elements, elements_fit, position_fits, fits_shape}
+use Rattle.vhdl_names_rules.specs.sound.Statements.{is_driven, given_fits, statements_fit}
 
 -- ---- declarations
 
@@ -17,6 +17,9 @@ form_fits i u.element = true
 form_fits i (u.vector r) = range_fits i r
 form_fits i (u.enumeration count) = nat_lt 0 count && nat_le count 256
 
+abbrev pub without_objects : Inside → Inside
+without_objects i = record i { ports = []; signals = []; variables = [] }
+
 abbrev pub fixed_fits : Inside → Shape → Fixed → Bool
 fixed_fits i one (u.Fixed.literal (x ∷ [])) = true
 fixed_fits i vector (u.Fixed.literal (x ∷ xs)) = true
@@ -24,6 +27,9 @@ fixed_fits i x (u.Fixed.position p) = position_fits x p
 fixed_fits i x (u.Fixed.constant k) = is_elements x && fits_shape x (option_map shape_of (slice_get i.constants k))
 fixed_fits i vector (u.Fixed.encoded n size) = static_fits i n && static_fits i size
 fixed_fits i vector (u.Fixed.filled x) = true
+-- no signal and no variable is in it
+fixed_fits i x (u.Fixed.given g) = given_fits (without_objects i) x g
+fixed_fits i vector (u.Fixed.aggregate at es) = elements_fit (without_objects i) es
 fixed_fits i _ _ = false
 
 abbrev pub default_fits : Inside → Shape → Option Fixed → Bool
@@ -46,25 +52,90 @@ port_fits p = is_elements (shape_of p.object.form)
 abbrev pub objects_fit : Inside → List u.Object → Bool
 objects_fit i os = list_all (object_fits i) os
 
-abbrev pub static_default_fits : Inside → Option Static → Bool
-static_default_fits i None = true
-static_default_fits i (Some n) = static_fits i n
+abbrev pub integers_fit : Inside → u.Integers → Bool
+integers_fit i (u.of_type w) = true
+integers_fit i (u.of_range k) = nat_lt k i.ranges
 
--- a generic's default has the generics before it
+abbrev pub subtype_range_fits : Inside → Option (ℕ × Range) → Bool
+subtype_range_fits i None = true
+subtype_range_fits i (Some r) = range_fits i r.1
+
+abbrev pub subtype_fits : Inside → u.IntegerSubtype → Bool
+subtype_fits i s = integers_fit i s.base && subtype_range_fits i s.range
+
+-- a value of a generic's type
+abbrev pub generic_value_fits : Inside → u.GenericType → Fixed → Bool
+generic_value_fits i (u.integers s) (u.Fixed.integer n) = static_fits i n
+generic_value_fits i u.truths (u.Fixed.truth t) = static_test_fits i t
+generic_value_fits i (u.values f) x = fixed_fits i (shape_of f) x
+generic_value_fits i _ _ = false
+
+abbrev pub generic_default_fits : Inside → u.GenericType → Option Fixed → Bool
+generic_default_fits i type None = true
+generic_default_fits i type (Some x) = generic_value_fits i type x
+
+abbrev pub generic_type_fits : Inside → u.GenericType → Bool
+generic_type_fits i (u.integers s) = subtype_fits i s
+generic_type_fits i u.truths = true
+generic_type_fits i (u.values f) = form_fits i f && is_elements (shape_of f)
+
+-- how many ranges what is declared in this form has
+abbrev pub ranges_of : Form → ℕ
+ranges_of (u.vector r) = 1
+ranges_of _ = 0
+
+abbrev pub with_constant : Inside → Form → Inside
+with_constant i f = record i { constants = i.constants ++ f ∷ []; ranges = i.ranges + ranges_of f }
+
+abbrev pub with_generic : Inside → u.GenericType → Inside
+with_generic i (u.values f) = with_constant i f
+with_generic i _ = record i { generics = suc i.generics }
+
+abbrev pub with_generics : Inside → List u.Generic → Inside
+with_generics i [] = i
+with_generics i (g ∷ gs) = with_generics (with_generic i g.type) gs
+
+-- a generic's type and default have the generics before it
 abbrev pub generics_fit : Inside → List u.Generic → Bool
 generics_fit i [] = true
-generics_fit i (g ∷ gs) = static_default_fits i g.default && generics_fit (record i { generics = suc i.generics }) gs
+generics_fit i (g ∷ gs) =
+    generic_type_fits i g.type && generic_default_fits i g.type g.default && generics_fit (with_generic i g.type) gs
+
+-- ports behind those before them
+abbrev pub with_ports : Inside → List u.Port → Inside
+with_ports i [] = i
+with_ports i (p ∷ ps) =
+    with_ports (record i { ports = i.ports ++ p ∷ []; ranges = i.ranges + ranges_of p.object.form }) ps
+
+-- a process declares no signal, and nothing but a process a variable
+abbrev pub is_signal : u.Declaration → Bool
+is_signal (u.Declaration.signal o) = true
+is_signal _ = false
+
+abbrev pub is_variable : u.Declaration → Bool
+is_variable (u.Declaration.variable o) = true
+is_variable _ = false
 
 -- each declaration has those before it
 abbrev pub declaration_fits : Inside → u.Declaration → Bool
-declaration_fits i (u.Declaration.integer at type n) = static_fits i n
+declaration_fits i (u.Declaration.integer at type n) = subtype_fits i type && static_fits i n
+declaration_fits i (u.Declaration.truth at t) = static_test_fits i t
 declaration_fits i (u.Declaration.constant at f x) = form_fits i f && fixed_fits i (shape_of f) x
 declaration_fits i (u.Declaration.signal o) = object_fits i o
+declaration_fits i (u.Declaration.variable o) = object_fits i o
+declaration_fits i (u.vector_subtype at r) = range_fits i r
+declaration_fits i (u.integer_subtype at s) = subtype_fits i s
 
 abbrev pub with_declaration : Inside → u.Declaration → Inside
 with_declaration i (u.Declaration.integer at type n) = record i { integers = suc i.integers }
-with_declaration i (u.Declaration.constant at f x) = record i { constants = i.constants ++ f ∷ [] }
-with_declaration i (u.Declaration.signal o) = record i { signals = i.signals ++ o.form ∷ [] }
+with_declaration i (u.Declaration.truth at t) = record i { integers = suc i.integers }
+with_declaration i (u.Declaration.constant at f x) = with_constant i f
+with_declaration i (u.Declaration.signal o) =
+    record i { signals = i.signals ++ o.form ∷ []; ranges = i.ranges + ranges_of o.form }
+with_declaration i (u.Declaration.variable o) =
+    record i { variables = i.variables ++ o.form ∷ []; ranges = i.ranges + ranges_of o.form }
+with_declaration i (u.vector_subtype at r) = record i { ranges = suc i.ranges }
+with_declaration i (u.integer_subtype at s) = record i { ranges = suc i.ranges }
 
 abbrev pub declarations_fit : Inside → List u.Declaration → Bool
 declarations_fit i [] = true
@@ -82,8 +153,8 @@ sensitivity_fits i _ = true
 
 abbrev pub process_fits : Inside → u.Process → Bool
 process_fits i p =
-    sensitivity_fits i p.sensitivity && objects_fit i p.variables
-    && statements_fit (record i { variables = map (λ (o : u.Object). o.form) p.variables }) p.body
+    sensitivity_fits (with_declarations i p.declarations) p.sensitivity && declarations_fit i p.declarations
+    && not (list_any is_signal p.declarations) && statements_fit (with_declarations i p.declarations) p.body
 
 abbrev pub may_join : Inside → Mode → Signal → Bool
 may_join i In x = true
@@ -99,11 +170,15 @@ actuals_fit i [] [] = true
 actuals_fit i (f ∷ fs) (p ∷ ps) = actual_fits i f p && actuals_fit i fs ps
 actuals_fit i _ _ = false
 
+abbrev pub generic_actuals_fit : Inside → List u.Generic → List (Option Fixed) → Bool
+generic_actuals_fit i [] [] = true
+generic_actuals_fit i (g ∷ gs) (x ∷ xs) = generic_default_fits i g.type x && generic_actuals_fit i gs xs
+generic_actuals_fit i _ _ = false
+
 abbrev pub instance_fits : Inside → u.Instance → Option u.Entity → Bool
 instance_fits i x None = false
 instance_fits i x (Some unit) =
-    (length x.generics == length unit.generics)
-    && list_all (static_default_fits i) x.generics && actuals_fit i unit.ports x.ports
+    generic_actuals_fit i unit.generics x.generics && actuals_fit i unit.ports x.ports
 
 abbrev pub within_generate : Inside → Inside
 within_generate i = record i { generates = suc i.generates }
@@ -126,6 +201,7 @@ abbrev pub nothing_inside : Inside
 nothing_inside = record {
   generics = 0;
   integers = 0;
+  ranges = 0;
   constants = [];
   ports = [];
   signals = [];
@@ -137,16 +213,17 @@ nothing_inside = record {
 abbrev pub architecture_fits : Units → Inside → Option u.Architecture → Bool
 architecture_fits units i None = true
 architecture_fits units i (Some a) =
-    declarations_fit i a.declarations && concurrents_fit units (with_declarations i a.declarations) a.statements
+    declarations_fit i a.declarations && not (list_any is_variable a.declarations)
+    && concurrents_fit units (with_declarations i a.declarations) a.statements
 
 abbrev pub entity_fits : Units → u.Entity → Bool
-entity_fits units x = fits (record nothing_inside { generics = length x.generics })
+entity_fits units x = fits (with_generics nothing_inside x.generics)
   where
     fits : Inside → Bool
     fits i =
         generics_fit nothing_inside x.generics && objects_fit i (map (λ (p : u.Port). p.object) x.ports)
         && list_all port_fits x.ports
-        && architecture_fits units (record i { ports = x.ports }) x.architecture
+        && architecture_fits units (with_ports i x.ports) x.architecture
 
 unfoldable pub are_sound : Units → Bool
 are_sound units = list_all (entity_fits units) units

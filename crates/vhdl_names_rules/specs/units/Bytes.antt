@@ -1,7 +1,7 @@
 -- The bytes of the text that units have: elaboration tells what is wrong at one of them, or at 0.
 use Rattle.std.specs.Prelude.{ℕ, List, [], ◌∷◌, ◌++◌, flat_map, Option, Some, None}
 use Rattle.vhdl_names_rules.specs.units.Expressions as e
-use Rattle.vhdl_names_rules.specs.units.Expressions.{Static, Range, StaticTest, Part, SignalPart, Vector, Value, Test}
+use Rattle.vhdl_names_rules.specs.units.Expressions.{Static, Range, StaticTest, Part, SignalPart, Index, Vector, Elements, Value, Test}
 use Rattle.vhdl_names_rules.specs.units.Statements as s
 use Rattle.vhdl_names_rules.specs.units.Units as u
 use Rattle.vhdl_names_rules.specs.units.Units.{Form, Fixed, Units}
@@ -15,6 +15,8 @@ if_any_bytes f (Some x) = f x
 
 abbrev pub static_bytes : Static → List ℕ
 static_bytes (e.Static.negated at x) = at ∷ static_bytes x
+static_bytes (e.absolute at x) = at ∷ static_bytes x
+static_bytes (e.slice_bound at b k l d r) = at ∷ (static_bytes l ++ static_bytes r)
 static_bytes (e.Static.binary at op x y) = at ∷ (static_bytes x ++ static_bytes y)
 static_bytes _ = []
 
@@ -22,6 +24,7 @@ abbrev pub range_bytes : Range → List ℕ
 range_bytes r = static_bytes r.left ++ static_bytes r.right
 
 abbrev pub static_test_bytes : StaticTest → List ℕ
+static_test_bytes (e.known at x) = at ∷ static_bytes x
 static_test_bytes (e.StaticTest.compared at op x y) = at ∷ (static_bytes x ++ static_bytes y)
 static_test_bytes (e.StaticTest.negated t) = static_test_bytes t
 static_test_bytes (e.StaticTest.both op t r) = static_test_bytes t ++ static_test_bytes r
@@ -34,19 +37,32 @@ part_bytes (e.slice r) = range_bytes r
 abbrev pub place_bytes : SignalPart → List ℕ
 place_bytes p = p.at ∷ part_bytes p.part
 
-abbrev pub vector_bytes : Vector → List ℕ
-vector_bytes (e.of_signal p) = place_bytes p
-vector_bytes (e.of_variable at k p) = at ∷ part_bytes p
-vector_bytes (e.of_constant at k p) = at ∷ part_bytes p
-vector_bytes (e.character x) = []
-vector_bytes (e.enclosed_character x) = []
-vector_bytes (e.Vector.literal at xs) = at ∷ []
-vector_bytes (e.Vector.inverse x) = vector_bytes x
-vector_bytes (e.Vector.binary at op x y) = at ∷ (vector_bytes x ++ vector_bytes y)
-vector_bytes (e.with_integer at op x n) = at ∷ (vector_bytes x ++ static_bytes n)
-vector_bytes (e.integer_with at op n x) = at ∷ (static_bytes n ++ vector_bytes x)
-vector_bytes (e.Vector.encoded at n size) = at ∷ (static_bytes n ++ static_bytes size)
-vector_bytes (e.counted at op x n) = at ∷ (vector_bytes x ++ static_bytes n)
+abbrev pub index_bytes : Index → List ℕ
+index_bytes (e.index at x) = at ∷ static_bytes x
+index_bytes (e.indexes at r) = at ∷ range_bytes r
+
+abbrev mutual
+  pub vector_bytes : Vector → List ℕ
+  vector_bytes (e.of_signal p) = place_bytes p
+  vector_bytes (e.of_variable at k p) = at ∷ part_bytes p
+  vector_bytes (e.of_constant at k p) = at ∷ part_bytes p
+  vector_bytes (e.character x) = []
+  vector_bytes (e.enclosed_character x) = []
+  vector_bytes (e.Vector.literal at xs) = at ∷ []
+  vector_bytes (e.Vector.inverse x) = vector_bytes x
+  vector_bytes (e.Vector.binary at op x y) = at ∷ (vector_bytes x ++ vector_bytes y)
+  vector_bytes (e.with_integer at op x n) = at ∷ (vector_bytes x ++ static_bytes n)
+  vector_bytes (e.integer_with at op n x) = at ∷ (static_bytes n ++ vector_bytes x)
+  vector_bytes (e.Vector.encoded at n size) = at ∷ (static_bytes n ++ static_bytes size)
+  vector_bytes (e.counted at op x n) = at ∷ (vector_bytes x ++ static_bytes n)
+  vector_bytes (e.aggregate at r es) = at ∷ (if_any_bytes range_bytes r ++ elements_bytes es)
+  vector_bytes (e.sized at r x) = at ∷ (range_bytes r ++ vector_bytes x)
+
+  pub elements_bytes : Elements → List ℕ
+  elements_bytes e.no_elements = []
+  elements_bytes (e.next x es) = vector_bytes x ++ elements_bytes es
+  elements_bytes (e.chosen is x es) = flat_map index_bytes is ++ (vector_bytes x ++ elements_bytes es)
+  elements_bytes (e.Elements.others x) = vector_bytes x
 
 abbrev pub value_bytes : Value → List ℕ
 value_bytes (e.Value.elements x) = vector_bytes x
@@ -102,10 +118,22 @@ form_bytes (u.enumeration count) = []
 
 abbrev pub fixed_bytes : Fixed → List ℕ
 fixed_bytes (u.Fixed.encoded n size) = static_bytes n ++ static_bytes size
+fixed_bytes (u.Fixed.given g) = given_bytes g
+fixed_bytes (u.Fixed.aggregate at es) = at ∷ elements_bytes es
+fixed_bytes (u.Fixed.integer n) = static_bytes n
+fixed_bytes (u.Fixed.truth t) = static_test_bytes t
 fixed_bytes _ = []
 
+abbrev pub subtype_bytes : u.IntegerSubtype → List ℕ
+subtype_bytes s = if_any_bytes (λ (r : ℕ × Range). r.0 ∷ range_bytes r.1) s.range
+
+abbrev pub generic_type_bytes : u.GenericType → List ℕ
+generic_type_bytes (u.integers s) = subtype_bytes s
+generic_type_bytes u.truths = []
+generic_type_bytes (u.values f) = form_bytes f
+
 abbrev pub generic_bytes : u.Generic → List ℕ
-generic_bytes g = g.at ∷ if_any_bytes static_bytes g.default
+generic_bytes g = g.at ∷ (generic_type_bytes g.type ++ if_any_bytes fixed_bytes g.default)
 
 abbrev pub object_bytes : u.Object → List ℕ
 object_bytes o = o.at ∷ (form_bytes o.form ++ if_any_bytes fixed_bytes o.default)
@@ -114,9 +142,13 @@ abbrev pub port_bytes : u.Port → List ℕ
 port_bytes p = object_bytes p.object
 
 abbrev pub declaration_bytes : u.Declaration → List ℕ
-declaration_bytes (u.Declaration.integer at type n) = at ∷ static_bytes n
+declaration_bytes (u.Declaration.integer at type n) = at ∷ (subtype_bytes type ++ static_bytes n)
+declaration_bytes (u.Declaration.truth at t) = at ∷ static_test_bytes t
 declaration_bytes (u.Declaration.constant at f x) = at ∷ (form_bytes f ++ fixed_bytes x)
 declaration_bytes (u.Declaration.signal o) = object_bytes o
+declaration_bytes (u.Declaration.variable o) = object_bytes o
+declaration_bytes (u.vector_subtype at r) = at ∷ range_bytes r
+declaration_bytes (u.integer_subtype at s) = at ∷ subtype_bytes s
 
 -- ---- concurrent statements
 
@@ -126,11 +158,11 @@ sensitivity_bytes _ = []
 
 abbrev pub process_bytes : u.Process → List ℕ
 process_bytes p =
-    p.at ∷ (flat_map object_bytes p.variables ++ (sensitivity_bytes p.sensitivity ++ statements_bytes p.body))
+    p.at ∷ (flat_map declaration_bytes p.declarations ++ (sensitivity_bytes p.sensitivity ++ statements_bytes p.body))
 
 abbrev pub instance_bytes : u.Instance → List ℕ
 instance_bytes x =
-    x.at ∷ (flat_map (if_any_bytes static_bytes) x.generics ++ flat_map (if_any_bytes place_bytes) x.ports)
+    x.at ∷ (flat_map (if_any_bytes fixed_bytes) x.generics ++ flat_map (if_any_bytes place_bytes) x.ports)
 
 abbrev mutual
   pub concurrent_bytes : u.Concurrent → List ℕ

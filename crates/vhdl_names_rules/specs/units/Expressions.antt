@@ -2,7 +2,7 @@
 -- each literal its values. Integers, vectors and truths are three types of tree, so that no type is left to be looked
 -- up. Of the text there are the bytes at which elaboration tells what is wrong: where a name, a literal, a call or an
 -- operator starts.
-use Rattle.std.specs.Prelude.{ℕ, List}
+use Rattle.std.specs.Prelude.{ℕ, List, Option}
 use Rattle.vhdl_values.specs.declared.scalar.Nine.{Nine}
 use Rattle.vhdl_values.specs.declared.kinds.Logic.{Logic}
 use Rattle.vhdl_values.specs.declared.kinds.Cmp.{Cmp}
@@ -10,6 +10,7 @@ use Rattle.vhdl_values.specs.declared.kinds.Counted.{Counted}
 use Rattle.vhdl_values.specs.declared.kinds.Edge.{Edge}
 use Rattle.vhdl_tree.specs.declared.operator.Direction.{Direction}
 use Rattle.vhdl_names_rules.specs.declared.operator.Arithmetic.{Arithmetic}
+use Rattle.vhdl_names_rules.specs.declared.operator.Bound.{Bound}
 use Rattle.vhdl_names_rules.specs.declared.operator.Numeric.{Numeric}
 use Rattle.vhdl_names_rules.specs.declared.operator.VectorOperator.{VectorOperator}
 
@@ -24,9 +25,14 @@ pub data Static : Type 0 where
   -- the parameter of the generate, or of the loop, that has so many of its kind round it
   generate_parameter : ℕ → Static
   loop_parameter : ℕ → Static
-  -- a minus sign, and an operator, each with where it starts
+  -- a minus sign, `abs` and an operator, each with where it starts
   negated : (at : ℕ) → Static → Static
+  absolute : (at : ℕ) → Static → Static
   binary : (at : ℕ) → Arithmetic → Static → Static → Static
+  -- a bound or the length of the declared range of this number (16.2.2, 16.2.3), and of a slice of what has that range,
+  -- whose name starts here
+  bound : Bound → ℕ → Static
+  slice_bound : (at : ℕ) → Bound → ℕ → (left : Static) → Direction → (right : Static) → Static
 
 pub record Range : Type 0 where
   pub left : Static
@@ -35,6 +41,8 @@ pub record Range : Type 0 where
 
 -- truth over static integers alone
 pub data StaticTest : Type 0 where
+  -- a boolean by its position, 0 for false and 1 for true (5.2.3, 16.3)
+  known : (at : ℕ) → Static → StaticTest
   compared : (at : ℕ) → Cmp → Static → Static → StaticTest
   negated : StaticTest → StaticTest
   both : Logic → StaticTest → StaticTest → StaticTest
@@ -60,26 +68,47 @@ pub record SignalPart : Type 0 where
 
 -- ---- one element of the nine values, or a vector of them
 
-pub data Vector : Type 0 where
-  of_signal : SignalPart → Vector
-  of_variable : (at : ℕ) → ℕ → Part → Vector
-  of_constant : (at : ℕ) → ℕ → Part → Vector
-  -- A character literal with no parentheses round it, nor round the operand on its left: an edge test is `event p` with
-  -- `alike (elements (of_signal p)) (elements (character v))`, v being '0' or '1'.
-  character : Nine → Vector
-  -- any other character literal
-  enclosed_character : Nine → Vector
-  -- a string or bit string
-  literal : (at : ℕ) → List Nine → Vector
-  inverse : Vector → Vector
-  binary : (at : ℕ) → VectorOperator → Vector → Vector → Vector
-  -- of a number and a static integer, and of a static integer and a number
-  with_integer : (at : ℕ) → Numeric → Vector → Static → Vector
-  integer_with : (at : ℕ) → Numeric → Static → Vector → Vector
-  -- to_unsigned, of a number and a size
-  encoded : (at : ℕ) → Static → Static → Vector
-  -- an operator, a number and a count
-  counted : (at : ℕ) → Counted → Vector → Static → Vector
+-- of an aggregate: an index, or the indexes of a range, and where the choice starts
+pub data Index : Type 0 where
+  index : (at : ℕ) → Static → Index
+  indexes : (at : ℕ) → Range → Index
+
+mutual
+  pub data Vector : Type 0 where
+    of_signal : SignalPart → Vector
+    of_variable : (at : ℕ) → ℕ → Part → Vector
+    of_constant : (at : ℕ) → ℕ → Part → Vector
+    -- A character literal with no parentheses round it, nor round the operand on its left: an edge test is `event p`
+    -- with `alike (elements (of_signal p)) (elements (character v))`, v being '0' or '1'.
+    character : Nine → Vector
+    -- any other character literal
+    enclosed_character : Nine → Vector
+    -- a string or bit string
+    literal : (at : ℕ) → List Nine → Vector
+    inverse : Vector → Vector
+    binary : (at : ℕ) → VectorOperator → Vector → Vector → Vector
+    -- of a number and a static integer, and of a static integer and a number
+    with_integer : (at : ℕ) → Numeric → Vector → Static → Vector
+    integer_with : (at : ℕ) → Numeric → Static → Vector → Vector
+    -- to_unsigned, of a number and a size
+    encoded : (at : ℕ) → Static → Static → Vector
+    -- an operator, a number and a count
+    counted : (at : ℕ) → Counted → Vector → Static → Vector
+    -- an aggregate (9.3.3): where it starts, the range of its indexes where it is given to what has one, and its
+    -- elements
+    aggregate : (at : ℕ) → Option Range → Elements → Vector
+    -- as long as this range, as a type of that range wants it (9.3.5, 9.3.6)
+    sized : (at : ℕ) → Range → Vector → Vector
+
+  -- of an aggregate, in order of the text
+  pub data Elements : Type 0 where
+    no_elements : Elements
+    -- the next from the left: one element, or as many as a vector has
+    next : Vector → Elements → Elements
+    -- one element, for each of these indexes
+    chosen : List Index → Vector → Elements → Elements
+    -- and for each that is left
+    others : Vector → Elements
 
 -- what is assigned, compared or selected by: elements of the nine values, or a value of an enumeration
 pub data Value : Type 0 where

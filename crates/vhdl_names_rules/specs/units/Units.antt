@@ -5,8 +5,8 @@ use Rattle.std.specs.Prelude.{ℕ, Bool, List, Option}
 use Rattle.vhdl_values.specs.declared.scalar.Nine.{Nine}
 use Rattle.vhdl_tree.specs.declared.declaration.Mode.{Mode}
 use Rattle.vhdl_names_rules.specs.declared.operator.IntegerType.{IntegerType}
-use Rattle.vhdl_names_rules.specs.units.Expressions.{Static, Range, StaticTest, SignalPart}
-use Rattle.vhdl_names_rules.specs.units.Statements.{Statements}
+use Rattle.vhdl_names_rules.specs.units.Expressions.{Static, Range, StaticTest, SignalPart, Elements}
+use Rattle.vhdl_names_rules.specs.units.Statements.{Given, Statements}
 
 -- ---- declarations
 
@@ -16,7 +16,17 @@ pub data Form : Type 0 where
   vector : Range → Form
   enumeration : (count : ℕ) → Form
 
--- the value of a constant, or a default
+-- of which integers a subtype is: of a type's, or of those in the declared range of this number
+pub data Integers : Type 0 where
+  of_type : IntegerType → Integers
+  of_range : ℕ → Integers
+
+-- an integer subtype (6.3): those, or of them those in a range, which starts here
+pub record IntegerSubtype : Type 0 where
+  pub base : Integers
+  pub range : Option (ℕ × Range)
+
+-- the value of a constant or generic, or a default
 pub data Fixed : Type 0 where
   -- a character, string or bit string literal
   literal : List Nine → Fixed
@@ -28,12 +38,25 @@ pub data Fixed : Type 0 where
   encoded : Static → Static → Fixed
   -- (others => c)
   filled : Nine → Fixed
+  -- any other value that names no signal and no variable
+  given : Given → Fixed
+  -- of a generic, an aggregate that starts here and has the generic's indexes
+  aggregate : (at : ℕ) → Elements → Fixed
+  -- of an integer, and of a boolean
+  integer : Static → Fixed
+  truth : StaticTest → Fixed
+
+-- Integers, and booleans among them, are numbered by themselves. A generic of the nine values is a constant.
+pub data GenericType : Type 0 where
+  integers : IntegerSubtype → GenericType
+  truths : GenericType
+  values : Form → GenericType
 
 pub record Generic : Type 0 where
   pub at : ℕ
   pub name : List ℕ
-  pub type : IntegerType
-  pub default : Option Static
+  pub type : GenericType
+  pub default : Option Fixed
 
 -- a port, signal or variable
 pub record Object : Type 0 where
@@ -48,11 +71,19 @@ pub record Port : Type 0 where
   pub mode : Mode
   pub object : Object
 
--- in order of the text; each kind is numbered by itself
+-- In order of the text; each kind is numbered by itself. A boolean constant is an integer by its position. The ranges
+-- of vectors and subtypes are numbered too: those of generics and ports, then those of declarations, then those of a
+-- process's.
 pub data Declaration : Type 0 where
-  integer : (at : ℕ) → IntegerType → Static → Declaration
+  integer : (at : ℕ) → IntegerSubtype → Static → Declaration
+  truth : (at : ℕ) → StaticTest → Declaration
   constant : (at : ℕ) → Form → Fixed → Declaration
   signal : Object → Declaration
+  -- of a process alone
+  variable : Object → Declaration
+  -- subtypes with a range (6.3)
+  vector_subtype : (at : ℕ) → Range → Declaration
+  integer_subtype : (at : ℕ) → IntegerSubtype → Declaration
 
 -- ---- concurrent statements
 
@@ -66,7 +97,8 @@ pub data Sensitivity : Type 0 where
 pub record Process : Type 0 where
   pub at : ℕ
   pub label : Option (List ℕ)
-  pub variables : List Object
+  -- constants, subtypes and variables
+  pub declarations : List Declaration
   pub sensitivity : Sensitivity
   pub body : Statements
 
@@ -75,7 +107,7 @@ pub record Instance : Type 0 where
   pub at : ℕ
   pub label : List ℕ
   pub unit : ℕ
-  pub generics : List (Option Static)
+  pub generics : List (Option Fixed)
   pub ports : List (Option SignalPart)
 
 mutual

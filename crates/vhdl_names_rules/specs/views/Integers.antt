@@ -1,12 +1,24 @@
 -- Static integers of the code, with a chain of operators grouped from the left.
-use Rattle.std.specs.Prelude.{List, [], ◌∷◌}
+use Rattle.std.specs.Prelude.{ℕ, List, [], ◌∷◌, Box, Option, option_map}
+use Rattle.std.specs.Global.{Global}
 use Rattle.vhdl_names_rules.specs.declared.integer.Static.{Static}
 use Rattle.vhdl_names_rules.specs.declared.integer.Static.TheVariants as s
 use Rattle.vhdl_names_rules.specs.declared.integer.Static.TheBlock.{Row_of-StaticLink, end_of-StaticLink, more_of-StaticLink}
 use Rattle.vhdl_names_rules.specs.declared.integer.StaticLink.{StaticLink}
 use Rattle.vhdl_names_rules.specs.declared.integer.StaticStart.{StaticStart}
 use Rattle.vhdl_names_rules.specs.declared.integer.StaticRange.{StaticRange}
+use Rattle.vhdl_names_rules.specs.declared.integer.DeclaredRange.{DeclaredRange}
+use Rattle.vhdl_names_rules.specs.declared.integer.TargetRange.{TargetRange}
+use Rattle.vhdl_names_rules.specs.declared.integer.TargetRange.TheVariants as g
+use Rattle.vhdl_names_rules.specs.declared.integer.Index.{Index}
+use Rattle.vhdl_names_rules.specs.declared.integer.Index.TheVariants as i
+use Rattle.vhdl_names_rules.specs.declared.integer.IntegerBase.{IntegerBase}
+use Rattle.vhdl_names_rules.specs.declared.integer.IntegerBase.TheVariants as b
+use Rattle.vhdl_names_rules.specs.declared.integer.IntegerSubtype.{IntegerSubtype}
 use Rattle.vhdl_names_rules.specs.units.Expressions as u
+use Rattle.vhdl_names_rules.specs.units.Units as units
+use Rattle.vhdl_names_rules.specs.Visibility as visibility
+use Rattle.vhdl_names_rules.specs.Ranges.{declared_range}
 
 abbrev mutual
   pub static_view : Static → u.Static
@@ -16,6 +28,10 @@ abbrev mutual
   static_view (s.GenerateParameter k) = u.generate_parameter k
   static_view (s.LoopParameter k) = u.loop_parameter k
   static_view (s.Negated' at p x) = u.Static.negated at (static_view x)
+  static_view (s.Absolute' at p x) = u.absolute at (static_view x)
+  static_view (s.Bound b k) = u.bound b k
+  static_view (s.SliceBound' at b k p left direction q right) =
+      u.slice_bound at b k (static_view left) direction (static_view right)
   static_view (s.Chain' p first operator at operand shape rest) =
       links_view (u.Static.binary at operator (static_view first) (static_view operand)) rest
 
@@ -33,3 +49,25 @@ static_chained left (l ∷ ls) = static_chained (u.Static.binary l.at l.operator
 
 abbrev pub range_view : StaticRange → u.Range
 range_view r = record { left = static_view r.left; direction = r.direction; right = static_view r.right }
+
+abbrev pub option_range_view : Option (Box StaticRange Global) → Option u.Range
+option_range_view = option_map (λ (r : Box StaticRange Global). range_view r.value)
+
+abbrev pub declared_range_view : DeclaredRange → visibility.DeclaredRange
+declared_range_view r = record { number = r.number; direction = r.direction }
+
+abbrev pub target_range_view : TargetRange → u.Range
+target_range_view (g.Declared r) = declared_range (declared_range_view r)
+target_range_view (g.Written r) = range_view r.now
+
+abbrev pub index_view : Index → u.Index
+index_view (i.Single at s) = u.index at (static_view s)
+index_view (i.Range at r) = u.indexes at (range_view r)
+
+abbrev pub base_view : IntegerBase → units.Integers
+base_view (b.Type w) = units.of_type w
+base_view (b.Range k) = units.of_range k
+
+abbrev pub subtype_view : IntegerSubtype → units.IntegerSubtype
+subtype_view s =
+    record { base = base_view s.base; range = option_map (λ (r : ℕ × StaticRange). (r.0, range_view r.1)) s.range }

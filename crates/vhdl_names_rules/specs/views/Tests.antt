@@ -18,6 +18,7 @@ use Rattle.vhdl_names_rules.specs.views.Vectors.{place_view, vector_view, value_
 
 abbrev mutual
   pub static_test_view : StaticTest → u.StaticTest
+  static_test_view (s.Known at x) = u.known at (static_view x)
   static_test_view (s.Compared op at x y) = u.StaticTest.compared at op (static_view x) (static_view y)
   static_test_view (s.Not' b x) = u.StaticTest.negated (static_test_view x)
   static_test_view (s.Chain' b first operator operand shape rest) =

@@ -1,6 +1,6 @@
 -- Elements and vectors of the code, with a chain of operators grouped from the left, and without where a character
 -- literal or `not` stands.
-use Rattle.std.specs.Prelude.{List, [], ◌∷◌}
+use Rattle.std.specs.Prelude.{List, [], ◌∷◌, map}
 use Rattle.vhdl_names_rules.specs.declared.vector.Signal.{Signal}
 use Rattle.vhdl_names_rules.specs.declared.vector.Signal.TheVariants as g
 use Rattle.vhdl_names_rules.specs.declared.vector.Part.{Part}
@@ -8,14 +8,16 @@ use Rattle.vhdl_names_rules.specs.declared.vector.Part.TheVariants as p
 use Rattle.vhdl_names_rules.specs.declared.vector.SignalPart.{SignalPart}
 use Rattle.vhdl_names_rules.specs.declared.vector.Vector.{Vector}
 use Rattle.vhdl_names_rules.specs.declared.vector.Vector.TheVariants as v
-use Rattle.vhdl_names_rules.specs.declared.vector.Vector.TheBlock.{Row_of-VectorLink, end_of-VectorLink, more_of-VectorLink}
+use Rattle.vhdl_names_rules.specs.declared.vector.Vector.TheBlock.{Row_of-VectorLink, end_of-VectorLink, more_of-VectorLink, Row_of-VectorElement, end_of-VectorElement, more_of-VectorElement}
+use Rattle.vhdl_names_rules.specs.declared.vector.VectorElement.{VectorElement}
+use Rattle.vhdl_names_rules.specs.declared.vector.VectorElement.TheVariants as el
 use Rattle.vhdl_names_rules.specs.declared.vector.VectorLink.{VectorLink}
 use Rattle.vhdl_names_rules.specs.declared.vector.VectorLink.TheVariants as l
 use Rattle.vhdl_names_rules.specs.declared.vector.VectorStart.{VectorStart}
 use Rattle.vhdl_names_rules.specs.declared.vector.Value.{Value}
 use Rattle.vhdl_names_rules.specs.declared.vector.Value.TheVariants as e
 use Rattle.vhdl_names_rules.specs.units.Expressions as u
-use Rattle.vhdl_names_rules.specs.views.Integers.{static_view, range_view}
+use Rattle.vhdl_names_rules.specs.views.Integers.{static_view, range_view, option_range_view, index_view}
 
 abbrev pub signal_view : Signal → u.Signal
 signal_view (g.Port k) = u.port k
@@ -42,6 +44,18 @@ abbrev mutual
   vector_view (v.IntegerWith' op at s b x) = u.integer_with at op (static_view s) (vector_view x)
   vector_view (v.Encoded at s t) = u.Vector.encoded at (static_view s) (static_view t)
   vector_view (v.Counted' at op b x s) = u.counted at op (vector_view x) (static_view s)
+  vector_view (v.Aggregate' at r shape es) = u.aggregate at (option_range_view r) (elements_row es)
+  vector_view (v.Sized' at r b x) = u.sized at (range_view r.value) (vector_view x)
+
+  pub elements_row : {m : _} → Row_of-VectorElement m → u.Elements
+  elements_row end_of-VectorElement = u.no_elements
+  elements_row (more_of-VectorElement x rest) = with_element x (elements_row rest)
+
+  -- an element, with those behind it; behind that for all others none is seen
+  pub with_element : VectorElement → u.Elements → u.Elements
+  with_element (el.Next x) rest = u.next (vector_view x) rest
+  with_element (el.Chosen is x) rest = u.chosen (map index_view is.items) (vector_view x) rest
+  with_element (el.Others x) rest = u.Elements.others (vector_view x)
 
   pub links_view : {m : _} → u.Vector → Row_of-VectorLink m → u.Vector
   links_view left end_of-VectorLink = left
@@ -51,6 +65,10 @@ abbrev mutual
   pub linked : u.Vector → VectorLink → u.Vector
   linked left (l.Vector op at x) = u.Vector.binary at op left (vector_view x)
   linked left (l.Integer op at s) = u.with_integer at op left (static_view s)
+
+abbrev pub elements_view : List VectorElement → u.Elements
+elements_view [] = u.no_elements
+elements_view (x ∷ xs) = with_element x (elements_view xs)
 
 abbrev pub start_view : VectorStart → u.Vector
 start_view s = linked (vector_view s.first) s.link
