@@ -1,13 +1,15 @@
 -- An architecture as that of its entity, which is found by its name.
-use Rattle.std.proofs.Common.{◌≡◌, ℕ, true, false, List, map, set, position, Option, Some, None, Result, Vec, Global, Ok, Err, IfOk, refl, ap, sym, ◌∙◌, zero-add}
+use Rattle.std.proofs.Common.{◌≡◌, ℕ, true, List, map, set, position, Option, Some, None, Result, Vec, Global, Ok, Err, IfOk, refl, ap, sym, ◌∙◌, zero-add}
 use Rattle.std.specs.Prelude.{bytes_eq, option_map}
 use Rattle.std.specs.Map.{lookup, keys_of}
+use Rattle.vhdl_lexer.specs.declared.language.Language.{Language}
 use Rattle.vhdl_tree.specs.Tree as t
 use Rattle.vhdl_tree.specs.Tree.{ContextItem}
 use Rattle.vhdl_names_rules.specs.units.Units as u
 use Rattle.vhdl_names_rules.specs.declared.fault.NameFault.{NameFault}
 use Rattle.vhdl_names_rules.specs.Rules.{◌>>=◌}
 use Rattle.vhdl_names_rules.specs.Visibility.{Name}
+use Rattle.vhdl_names_rules.specs.Packages.{no_context}
 use Rattle.vhdl_names_rules.specs.Interfaces.{EntityView, entity_named}
 use Rattle.vhdl_names_rules.specs.Files.{architecture}
 use Rattle.vhdl_names_rules.specs.problems.Broken.{Broken, nothing, ◌▸◌}
@@ -38,7 +40,7 @@ name_apart es n e items a = refl
 
 -- ---- an architecture of an entity that a table is asked for by these bytes
 
-module _ (es : List (Vec ℕ Global × EntityInterface)) (items : List ContextItem) (a : t.Architecture) (m : Name) (same : m ≡ a.entity.text) where
+module _ (language : Language) (es : List (Vec ℕ Global × EntityInterface)) (items : List ContextItem) (a : t.Architecture) (m : Name) (same : m ≡ a.entity.text) where
   entity_at : (k : ℕ) (e : EntityInterface) → Some k ≡ position (λ x. bytes_eq m x.items) (keys_of es) → Some e ≡ lookup (λ x. bytes_eq m x.items) es
       → entity_named (map entry_view es) a.entity.text ≡ Some (k, named_view m e)
   entity_at k e index value = ap (entity_named (map entry_view es)) (sym same) ∙ named_some m es k e (sym index) (sym value)
@@ -48,12 +50,12 @@ module _ (es : List (Vec ℕ Global × EntityInterface)) (items : List ContextIt
 
   pub described_at : (ns : List Name) (k : ℕ) (e : EntityInterface) → Some k ≡ position (λ x. bytes_eq m x.items) (keys_of es)
       → Some e ≡ lookup (λ x. bytes_eq m x.items) es
-      → broken.described ns (map entry_view es) (items, a)
+      → broken.described language ns (map entry_view es) (items, a)
       ≡ broken.up_to_hidden (broken.is_hidden ns (map entry_view es)) a (broken.architecture (map entry_view es) (entity_view e) items a)
   described_at ns k e index value = rw (entity_at k e index value) refl
 
   pub described_nowhere : (ns : List Name) → None ≡ position (λ x. bytes_eq m x.items) (keys_of es)
-      → broken.described ns (map entry_view es) (items, a) ≡ context (record { has_ieee = true; has_logic = false; has_numbers = false }) items
+      → broken.described language ns (map entry_view es) (items, a) ≡ context (record (no_context language) { has_ieee = true }) items
   described_nowhere ns index = rw (nowhere index) refl
 
   pub with_at : (os : List (Option u.Architecture)) (k : ℕ) (e : EntityInterface) → Some k ≡ position (λ x. bytes_eq m x.items) (keys_of es)

@@ -79,12 +79,6 @@ pub ok_finds : {X Y : Type 0} (view : X → Y) (o : Option Y) (b : Broken) (r : 
 ok_finds view o b (Ok x) kept g t = kept (view x) g
 ok_finds view o b (Err f) kept g t = t
 
--- a fault that is passed on, where only what is told is asked for
-pub passed_err : {X : Type 0} (b : Broken) (fault : NameFault) (P : NameFault → Type 0) (r : Result X NameFault) → IsErrAnd r P →
-    ((e : NameFault) → P e → e ≡ fault) → Tells b fault → IfErr r (Tells b)
-passed_err b fault P (Ok x) h same w = tt
-passed_err b fault P (Err e) h same w = let Q : NameFault → Type 0 = λ f. Tells b f in subst Q (sym (same e h)) w
-
 -- ---- a thing beside an answer
 
 module _ {A B : Type 0} (a : A) (q : Result B NameFault) (r : Result (A × B) NameFault) (refused : IfErr r (λ f. q ≡ Err f)) where

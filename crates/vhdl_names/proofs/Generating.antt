@@ -18,6 +18,7 @@ use Rattle.vhdl_names_rules.specs.Concurrent.{concurrent_labels, sight_within, g
 use Rattle.vhdl_names_units.specs.views.Concurrent.{concurrents_of}
 use Rattle.vhdl_names_units.proofs.Lists.{bound}
 use Rattle.vhdl_names.specs.steps.Concurrents as steps
+use Rattle.vhdl_names.specs.steps.Concurrents.{with_any}
 
 pub generate_is : (g : Generate) → tree.concurrent_view (c.Generate g)
     ≡ t.generated (tree.ident_view (out-Generate g).label) (out-Generate g).at (tree.scheme_view (out-Generate g).scheme) (out-Generate g).begin_word
@@ -28,6 +29,11 @@ generate_is g =
 module _ (f : Sight → Ident → t.Instance → Option u.Instance) where
   each_statement : (sight : Sight) (cs : List t.Concurrent) → steps.concurrents f sight (t.concurrents_of cs) ≡ option_map concurrents_of (steps.all f sight cs)
   each_statement sight [] = refl
+  each_statement sight (t.assertion a ∷ cs) = each_statement sight cs ∙ skip (steps.all f sight cs)
+    where
+      skip : (o : Option (List u.Concurrent)) → option_map concurrents_of o ≡ option_map concurrents_of (o >>= λ xs. Some xs)
+      skip None = refl
+      skip (Some xs) = refl
   each_statement sight (x ∷ cs) =
       bound (steps.concurrent f sight x) _ _ (λ y. ap (λ o. o >>= λ ys. Some (u.concurrent y ys)) (each_statement sight cs) ∙ go y (steps.all f sight cs))
       ∙ end (steps.concurrent f sight x) (steps.all f sight cs)
@@ -37,7 +43,7 @@ module _ (f : Sight → Ident → t.Instance → Option u.Instance) where
       go y (Some ys) = refl
 
       end : (p : Option u.Concurrent) (o : Option (List u.Concurrent)) → (p >>= λ y. option_map concurrents_of (o >>= λ ys. Some (y ∷ ys)))
-          ≡ option_map concurrents_of (p >>= λ y. o >>= λ ys. Some (y ∷ ys))
+          ≡ option_map concurrents_of (option_map Some p >>= λ x. o >>= λ xs. Some (with_any x xs))
       end None o = refl
       end (Some y) o = refl
 
@@ -104,9 +110,11 @@ module _ (f : Sight → Ident → t.Instance → Option u.Instance) where
       by_instance sight (t.generated label at k word cs end) =
           ap (λ o. met (ends label.text end) >> (met (are_distinct (concurrent_labels cs)) >> (o >>= λ b. generated sight label.text at k b)))
           (by_instances (sight_within sight k) cs)
+      by_instance sight (t.assertion a) = refl
 
       by_instances : (sight : Sight) (cs : t.Concurrents) → rules.concurrents es sight cs ≡ steps.concurrents f sight cs
       by_instances sight t.no_concurrents = refl
+      by_instances sight (t.concurrent (t.assertion a) cs) = by_instances sight cs
       by_instances sight (t.concurrent x cs) =
           ap (λ o. o >>= λ y. rules.concurrents es sight cs >>= λ ys. Some (u.concurrent y ys)) (by_instance sight x)
           ∙ bound (steps.concurrent f sight x) _ _ (λ y. ap (λ o. o >>= λ ys. Some (u.concurrent y ys)) (by_instances sight cs))

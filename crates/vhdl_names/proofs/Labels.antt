@@ -178,6 +178,7 @@ one_label (t.selected l a) = one_if_any l
 one_label (t.process l p) = one_if_any l
 one_label (t.instance l i) = tt
 one_label (t.generated l at s word cs end) = tt
+one_label (t.assertion a) = one_if_any a.label
 
 pub next_left : (cs : List Concurrent) (i : ℕ) (c : Concurrent) → i < length cs → c ≡ get_or cs i c
     → labels_in (drop i cs) ≡ label_of (concurrent_view c) ++ labels_in (drop (i + 1) cs)

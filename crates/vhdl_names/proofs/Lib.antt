@@ -1,3 +1,4 @@
+pub mod Dropping
 pub mod Generating
 pub mod Labelling
 pub mod Resuming

@@ -3,6 +3,7 @@ use Rattle.std.proofs.Common.{◌≡◌, ◌≢◌, ℕ, suc, ◌+◌, ◌<◌, 
 use Rattle.std.specs.Prelude.{OnErr}
 use Rattle.std.proofs.Math.Seq.{drop-cons}
 use Rattle.std.proofs.lemmas.List.{drop_all}
+use Rattle.vhdl_lexer.specs.declared.language.Language.{Language}
 use Rattle.vhdl_tree.specs.Tree as t
 use Rattle.vhdl_tree.specs.View as view
 use Rattle.vhdl_tree.specs.declared.unit.DesignUnit.{DesignUnit}
@@ -65,9 +66,9 @@ module _ (us : List DesignUnit) (i : ℕ) (d : DesignUnit) (lt : i < length us) 
 
   -- ---- entities
 
-  pub entity_next : (as' : List Keyed) (es : List EntityView) (told r : Result (Unit {0}) NameFault) (vs : List EntityView) → Entered as' (map view.unit_view us) es told (left_at us i)
-      → Gives (λ _. vs) (steps.with_unit as' es (view.unit_view d)) r → IfErr r (Tells (any_of broken (entities_of (view.unit_view d ∷ []))))
-      → IfErr r (λ f. f ≢ NoMemory → vs ≡ es) → Entered as' (map view.unit_view us) vs (first_of told r) (left_at us (i + 1))
-  entity_next as' es told r vs x g w k =
-      let P : List t.DesignUnit → Type 0 = λ ds. Entered as' all es told ds in
-      next_entered as' all es unit.context unit.unit (left_at us (i + 1)) told r vs (subst P next x) g w k
+  pub entity_next : (language : Language) (as' : List Keyed) (es : List EntityView) (told r : Result (Unit {0}) NameFault) (vs : List EntityView) → Entered language as' (map view.unit_view us) es told (left_at us i)
+      → Gives (λ _. vs) (steps.with_unit language as' es (view.unit_view d)) r → IfErr r (Tells (any_of (broken language) (entities_of (view.unit_view d ∷ []))))
+      → IfErr r (λ f. f ≢ NoMemory → vs ≡ es) → Entered language as' (map view.unit_view us) vs (first_of told r) (left_at us (i + 1))
+  entity_next language as' es told r vs x g w k =
+      let P : List t.DesignUnit → Type 0 = λ ds. Entered language as' all es told ds in
+      next_entered language as' all es unit.context unit.unit (left_at us (i + 1)) told r vs (subst P next x) g w k

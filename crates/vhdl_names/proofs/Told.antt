@@ -1,5 +1,5 @@
 -- What is told of the parts of processes and generates is told of the whole.
-use Rattle.std.proofs.Common.{◌≡◌, Bool, true, false, List, [], ◌∷◌, ◌++◌, Option, Some, None, Result, Ok, Err, IfOk, refl, ap, sym, ◌∙◌}
+use Rattle.std.proofs.Common.{◌≡◌, Bool, true, false, List, [], ◌∷◌, ◌++◌, Option, Some, None, Result, Ok, Err, IfOk, refl, ap, sym, subst, ◌∙◌}
 use Rattle.std.specs.Prelude.{option_map, is_some}
 use Rattle.vhdl_tree.specs.Tree as t
 use Rattle.vhdl_tree.specs.Tree.{Ident}
@@ -28,15 +28,17 @@ use Rattle.vhdl_names_rules.specs.Concurrent as rules
 use Rattle.vhdl_names_rules.specs.Concurrent.{sight_within, concurrent_labels}
 use Rattle.vhdl_names_rules.proofs.laws.Rules.{comes, kept}
 use Rattle.vhdl_names_rules.specs.problems.Broken.{Broken, Tells, refused, lacking, ◌▸◌, where_given, any_of}
-use Rattle.vhdl_names_rules.specs.problems.Declarations.{in_order, variables, end_name}
+use Rattle.vhdl_names_rules.specs.problems.Declarations.{in_order, process_declaration, end_name}
 use Rattle.vhdl_names_rules.specs.problems.Concurrent as broken
 use Rattle.vhdl_names_rules.specs.problems.Statements.{end_label}
 use Rattle.vhdl_names_rules.proofs.Telling.{IsKept, both_kept, told_same, told_left, told_right, told_given}
 use Rattle.vhdl_names_rules.proofs.kept.Keeping.{among_kept, mapped}
 use Rattle.vhdl_names_rules.proofs.kept.Expressions.{condition_kept}
 use Rattle.vhdl_names_rules.proofs.kept.Statements.{statements_kept}
-use Rattle.vhdl_names_rules.proofs.kept.Declarations.{all_variables_kept}
+use Rattle.vhdl_names_rules.proofs.kept.Declarations.{process_declarations_kept}
 use Rattle.vhdl_names_rules.proofs.kept.Concurrent.{sensitivity_kept, awaited_kept, inner_labels_kept, labels_kept, scheme_kept, concurrent_kept, concurrents_kept}
+use Rattle.vhdl_names_declarations.specs.Counts.{AreCounts}
+use Rattle.vhdl_names_declarations.specs.declared.counts.Counts.{Counts}
 use Rattle.vhdl_names.specs.steps.Concurrents as parts
 use Rattle.vhdl_names.specs.steps.Processes as steps
 use Rattle.vhdl_names.specs.steps.Told as told
@@ -53,7 +55,7 @@ ok_kept view o b (Err f) h g = tt
 
 -- ---- processes
 
-abbrev first : Sight → Option (Sight × List u.Object) → Sight
+abbrev first : Sight → Option (Sight × List u.Declaration) → Sight
 first s None = s
 first s (Some p) = p.0
 
@@ -67,14 +69,14 @@ module _ (sight : Sight) (label : Option Ident) (p : t.Process) (f : NameFault) 
   resumed = broken.sensitivity sight p.at p.sensitivity (is_some p.wait)
 
   abbrev declares : Broken
-  declares = in_order with_variables declarations.variables variables sight p.variables
+  declares = in_order with_variables declarations.process_declaration process_declaration sight p.declarations
 
   abbrev waits : Sight → Broken
   waits inner = broken.awaited inner p.sensitivity p.wait
 
   abbrev does : Broken
   does =
-      where_given (declarations.in_order with_variables declarations.variables sight p.variables)
+      where_given (declarations.in_order with_variables declarations.process_declaration sight p.declarations)
       (λ vs. waits (with_variables sight vs.declared) ▸ broken.body (with_variables sight vs.declared) (t.statements_of p.statements))
 
   abbrev ended : Broken
@@ -87,24 +89,24 @@ module _ (sight : Sight) (label : Option Ident) (p : t.Process) (f : NameFault) 
     behind : Tells (declares ▸ (does ▸ ended)) f → Tells (broken.process sight label p) f
     behind h = told_right resumed (declares ▸ (does ▸ ended)) f (sensitivity_kept sight p.at p.sensitivity (is_some p.wait) on is) h
 
-    pub process_variables : Tells declares f → Tells (broken.process sight label p) f
-    process_variables h = behind (told_left declares (does ▸ ended) f h)
+    pub process_declares : Tells declares f → Tells (broken.process sight label p) f
+    process_declares h = behind (told_left declares (does ▸ ended) f h)
 
-    module _ (entered : Sight) (vs : List u.Object) (e : steps.variables_in sight p.variables ≡ Some (entered, vs)) where
+    module _ (entered : Sight) (vs : List u.Declaration) (e : steps.declarations_in sight p.declarations ≡ Some (entered, vs)) where
       record Made : Type 0 where
-        declared : Declares u.Object
-        from : declarations.in_order with_variables declarations.variables sight p.variables ≡ Some declared
+        declared : Declares u.Declaration
+        from : declarations.in_order with_variables declarations.process_declaration sight p.declarations ≡ Some declared
         distinct : are_distinct (declared_names (sight.variables ++ declared.declared)) ≡ true
         same : with_variables sight declared.declared ≡ entered
 
       made : Made
       made =
-          let x = comes (declarations.in_order with_variables declarations.variables sight p.variables) _ (entered, vs) e in
+          let x = comes (declarations.in_order with_variables declarations.process_declaration sight p.declarations) _ (entered, vs) e in
           let k = kept (are_distinct (declared_names (sight.variables ++ x.value.declared))) _ (entered, vs) x.rest in
           record { declared = x.value; from = x.is; distinct = k.0; same = ap (first sight) k.1 }
 
       declares_kept : IsKept declares
-      declares_kept = all_variables_kept p.variables sight made.declared made.from made.distinct
+      declares_kept = process_declarations_kept p.declarations sight made.declared made.from made.distinct
 
       abbrev statements_do : Broken
       statements_do = broken.body entered (t.statements_of p.statements)
@@ -170,6 +172,16 @@ within_is sight entered k none e =
     let same : sight_within sight k ≡ entered = cc in
     ap (λ (s : Sight). s.variables) (sym same) ∙ variables_within sight k none
 
+region_within : (sight : Sight) (k : t.Scheme) → (sight_within sight k).region ≡ sight.region
+region_within sight (t.for_each n r) = refl
+region_within sight (t.if_holds e) = refl
+
+-- a generate leaves the region as it is
+pub counts_within : (counts : Counts) (sight entered : Sight) (k : t.Scheme) → AreCounts counts sight.region → Some (sight_within sight k) ≡ Some entered → AreCounts counts entered.region
+counts_within counts sight entered k are e =
+    let same : sight_within sight k ≡ entered = cc in
+    subst (AreCounts counts) (sym (region_within sight k) ∙ ap (λ (s : Sight). s.region) same) are
+
 module _ (es : List EntityView) (sight : Sight) where
   pub concurrents_any : (cs : List t.Concurrent) → any_of (broken.concurrent es sight) cs ≡ broken.concurrents es sight (t.concurrents_of cs)
   unfolding broken.concurrents
@@ -192,8 +204,13 @@ module _ (es : List EntityView) (sight : Sight) where
 
   module _ (f : Sight → Ident → t.Instance → Option u.Instance) (h : (sight : Sight) (label : Ident) (i : t.Instance) → instance es sight label i ≡ f sight label i)
       (outside : sight.variables ≡ []) where
-    pub statement_kept : (x : t.Concurrent) (y : u.Concurrent) → parts.concurrent f sight x ≡ Some y → IsKept (broken.concurrent es sight x)
-    statement_kept x y k = concurrent_kept x es sight y outside (by_instance f es h sight x ∙ k)
+    one_kept : (x : t.Concurrent) (y : Option u.Concurrent) → option_map Some (parts.concurrent f sight x) ≡ Some y → IsKept (broken.concurrent es sight x)
+    one_kept x y k = let m = mapped Some (parts.concurrent f sight x) y k in concurrent_kept x es sight m.value outside (by_instance f es h sight x ∙ m.from)
+
+    pub statement_kept : (x : t.Concurrent) (y : Option u.Concurrent) → parts.kept f sight x ≡ Some y → IsKept (broken.concurrent es sight x)
+    unfolding broken.concurrent
+    statement_kept (t.assertion a) y k = refl
+    statement_kept x y k = one_kept x y k
 
     pub all_kept : (cs : List t.Concurrent) (ys : List u.Concurrent) → parts.all f sight cs ≡ Some ys → IsKept (broken.concurrents es sight (t.concurrents_of cs))
     all_kept cs ys k =

@@ -1,6 +1,7 @@
 -- A file, of what its three readings find.
 use Rattle.std.proofs.Common.{◌≡◌, ◌≢◌, Bool, true, false, not, List, [], map, length, Option, Some, None, Result, Ok, Err, refl, ap, sym, ◌∙◌}
 use Rattle.std.specs.Prelude.{◌&&◌, replicate}
+use Rattle.vhdl_lexer.specs.declared.language.Language.{Language}
 use Rattle.vhdl_tree.specs.Tree.{DesignUnit, File}
 use Rattle.vhdl_names_rules.specs.declared.fault.NameFault.{NameFault}
 use Rattle.vhdl_names_rules.specs.declared.fault.NameFault.TheVariants.{NoMemory}
@@ -29,29 +30,29 @@ use Rattle.vhdl_names.proofs.Tabling.{names_in}
 -- ---- what is told
 
 -- what the reading of names, of entities and of architectures finds
-pub record Read (f : File) (o : OutlineView) (es : List EntityView) {X : Type 0} (told interfaces : Result (Unit {0}) NameFault) (read : Result X NameFault) : Type 0 where
+pub record Read (language : Language) (f : File) (o : OutlineView) (es : List EntityView) {X : Type 0} (told interfaces : Result (Unit {0}) NameFault) (read : Result X NameFault) : Type 0 where
   pub names_found : Finds (names [] f.units) told
   pub names_are : HasMemory told → (n : Name) → is_among n o.entities ≡ is_among n (entity_names f.units)
   pub architectures_are : HasMemory told → (n : Name) → described_of n o.architectures ≡ described_of n (map keyed (placed_architectures f.units))
-  pub entities_found : Finds (any_of broken (entities_of f.units)) interfaces
-  pub entities_are : HasMemory interfaces → es ≡ given_behind o.architectures [] f.units
-  pub found : Finds (any_of (described o.entities es) (architectures_of f.units)) read
+  pub entities_found : Finds (any_of (broken language) (entities_of f.units)) interfaces
+  pub entities_are : HasMemory interfaces → es ≡ given_behind language o.architectures [] f.units
+  pub found : Finds (any_of (described language o.entities es) (architectures_of f.units)) read
 
 -- of two of them, and of these and the third, the earlier one is the first of the file
-pub file_told : {X : Type 0} (f : File) (o : OutlineView) (es : List EntityView) (told interfaces : Result (Unit {0}) NameFault) (read inner : Result X NameFault) (x : NameFault)
-    → Read f o es told interfaces read
+pub file_told : {X : Type 0} (language : Language) (f : File) (o : OutlineView) (es : List EntityView) (told interfaces : Result (Unit {0}) NameFault) (read inner : Result X NameFault) (x : NameFault)
+    → Read language f o es told interfaces read
     → ((a b : Broken) → Finds a interfaces → Finds b read → Finds (earlier a b) inner) → (HasMemory inner → HasMemory interfaces × HasMemory read)
     → ((a b : Broken) → Finds a told → Finds b inner → Tells (earlier a b) x) → (x ≢ NoMemory → HasMemory told × HasMemory inner)
-    → Tells (file f) x
-file_told f o es told interfaces read inner x r inner_told inner_memory outer_told outer_memory =
-    or_memory (file f) x (λ n.
+    → Tells (file language f) x
+file_told language f o es told interfaces read inner x r inner_told inner_memory outer_told outer_memory =
+    or_memory (file language f) x (λ n.
     let m = outer_memory n in
     let k = inner_memory m.1 in
-    let given = r.entities_are k.0 ∙ given_seen f.units o.architectures (r.architectures_are m.0) in
-    let those = any_of (described o.entities es) (architectures_of f.units) in
-    let entities = any_of broken (entities_of f.units) in
-    told_same (earlier (names [] f.units) (earlier entities those)) (file f) x
-    (ap (λ b. earlier (names [] f.units) (earlier entities b)) (architectures_same f.units o.entities es (r.names_are m.0) given))
+    let given = r.entities_are k.0 ∙ given_seen language f.units o.architectures (r.architectures_are m.0) in
+    let those = any_of (described language o.entities es) (architectures_of f.units) in
+    let entities = any_of (broken language) (entities_of f.units) in
+    told_same (earlier (names [] f.units) (earlier entities those)) (file language f) x
+    (ap (λ b. earlier (names [] f.units) (earlier entities b)) (architectures_same language f.units o.entities es (r.names_are m.0) given))
     (outer_told (names [] f.units) (earlier entities those) r.names_found (inner_told entities those r.entities_found r.found)))
 
 pub ok_memory : {X : Type 0} (r : Result X NameFault) (x : X) → r ≡ Ok x → HasMemory r
@@ -77,11 +78,11 @@ none_of_both : (b : Bool) → (b && not b) ≡ false
 none_of_both true = refl
 none_of_both false = refl
 
-module _ (f : File) (o : OutlineView) (h : outlined f.units ≡ Some o) (es : List EntityView) (v : AllViewed o.architectures f.units) (k : es ≡ given_behind o.architectures [] f.units) where
+module _ (language : Language) (f : File) (o : OutlineView) (h : outlined f.units ≡ Some o) (es : List EntityView) (v : AllViewed language o.architectures f.units) (k : es ≡ given_behind language o.architectures [] f.units) where
   names_given : names_in es ≡ entity_names f.units
   names_given =
       let x = outlines f.units o h in
-      ap names_in (k ∙ all_given o.architectures f.units v x.entities) ∙ viewed_names o.architectures f.units v
+      ap names_in (k ∙ all_given language o.architectures f.units v x.entities) ∙ viewed_names language o.architectures f.units v
 
   -- each entity is given
   pub none_hidden : (n : Name) → is_hidden o.entities es n ≡ false
@@ -91,9 +92,9 @@ module _ (f : File) (o : OutlineView) (h : outlined f.units ≡ Some o) (es : Li
       ∙ ap (λ ms. is_among n (entity_names f.units) && not (is_among n ms)) names_given
       ∙ none_of_both (is_among n (entity_names f.units))
 
-  pub file_given : (os : List (Option u.Architecture)) → in_turn (with_unit es) (replicate (length es) None) f.units ≡ Some os → units_of f ≡ Some (joined es os)
+  pub file_given : (os : List (Option u.Architecture)) → in_turn (with_unit es) (replicate (length es) None) f.units ≡ Some os → units_of language f ≡ Some (joined es os)
   file_given os g =
       let x = outlines f.units o h in
       let is : map keyed (architectures_of f.units) ≡ o.architectures = ap (λ (o : OutlineView). o.architectures) x.is in
-      units_given f o h es v k os
+      units_given language f o h es v k os
       (ap (λ l. each (own es l) es) (sym is) ∙ all_placed es (ap are_distinct names_given ∙ x.entities) f.units x.architectures os g)

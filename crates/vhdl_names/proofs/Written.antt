@@ -22,18 +22,18 @@ use Rattle.vhdl_names_registers.proofs.Named.{written_are_named}
 
 module _ (holds : Units → Bool) (written : (units : Units) → holds units ≡ true → holds (units_written units) ≡ true) where
   -- what holds of the units, and stays where they are written anew
-  in_each : (language : Language) (f : File) (units : Units) → ((units : Units) → units_of f ≡ Some units → holds units ≡ true) → units_in language f ≡ Some units
+  in_each : (language : Language) (f : File) (units : Units) → ((units : Units) → units_of language f ≡ Some units → holds units ≡ true) → units_in language f ≡ Some units
       → holds units ≡ true
   in_each Profile f units h e = h units e
   in_each Wide f units h e =
-      let m = mapped units_written (units_of f) units e in
+      let m = mapped units_written (units_of Wide f) units e in
       ap holds (sym m.is) ∙ written m.value (h m.value m.from)
 
 pub units_in_are_sound : (language : Language) (f : File) (units : Units) → IsFileIn language f → units_in language f ≡ Some units → are_sound units ≡ true
-units_in_are_sound language f units formed e = in_each are_sound written_are_sound language f units (λ units q. units_are_sound f units (files_are_wide language f formed) q) e
+units_in_are_sound language f units formed e = in_each are_sound written_are_sound language f units (λ units q. units_are_sound language f units (files_are_wide language f formed) q) e
 
 pub units_in_are_named : (language : Language) (f : File) (units : Units) → HasWords f → units_in language f ≡ Some units → are_named units ≡ true
-units_in_are_named language f units has e = in_each are_named written_are_named language f units (λ units q. units_are_named f units has q) e
+units_in_are_named language f units has e = in_each are_named written_are_named language f units (λ units q. units_are_named language f units has q) e
 
 -- no port is touched
 ports_written : (units : Units) → small_ports_are_distinct (units_written units) ≡ small_ports_are_distinct units
@@ -42,4 +42,4 @@ ports_written (x ∷ xs) = ap (λ b. are_distinct (map (λ (p : u.Port). small p
 
 pub ports_in_are_distinct : (language : Language) (f : File) (units : Units) → HasWords f → units_in language f ≡ Some units → small_ports_are_distinct units ≡ true
 ports_in_are_distinct language f units has e =
-    in_each small_ports_are_distinct (λ units h. ports_written units ∙ h) language f units (λ units q. small_ports_distinct f units has q) e
+    in_each small_ports_are_distinct (λ units h. ports_written units ∙ h) language f units (λ units q. small_ports_distinct language f units has q) e

@@ -11,6 +11,7 @@ ghost use Rattle.vhdl_names_units.specs.Lists.{in_turn};
 ghost use Rattle.vhdl_names_units.specs.Once.{names_view};
 ghost use Rattle.vhdl_names_rules.specs.problems.Broken.{Broken, any_of};
 ghost use Rattle.vhdl_names_rules.specs.problems.Declarations as declarations;
+ghost use Rattle.vhdl_names_rules.specs.Packages.{no_context};
 ghost use Rattle.vhdl_names_rules.specs.problems.Files as broken;
 ghost use Rattle.vhdl_names_rules.specs.Files.{architectures_of as all_of};
 ghost use Rattle.vhdl_names_rules.specs.Visibility.{Name};
@@ -22,20 +23,21 @@ use crate::bodies::architecture;
 use crate::mentions::is_of_hidden;
 use crate::tables::Given;
 use std::alloc::{AllocError, Global};
-use vhdl_names_declarations::{Context, context_after};
+use vhdl_lexer::Language;
+use vhdl_names_packages::{Context, context_after};
 use vhdl_names_rules::NameFault;
 use vhdl_names_units::Architecture;
 use vhdl_tree as syntax;
 use vhdl_tree::{ContextItem, DesignUnit, File, LibraryUnit};
 
 /// What is wrong with context items, whatever the context clause of their entity names.
-fn context(items: &[ContextItem]) -> Result<(), NameFault>
-    ensures { Finds (declarations.context (record { has_ieee = true; has_logic = false; has_numbers = false })
+fn context(language: Language, items: &[ContextItem]) -> Result<(), NameFault>
+    ensures { Finds (declarations.context (record (no_context language) { has_ieee = true })
         (map view.context_view items.now)) result }
 {
     let before = Context {
         has_ieee: true,
-        ..Context::NONE
+        ..Context::none(language)
     };
     let _context = context_after(before, items)?;
     Ok(())
@@ -78,7 +80,8 @@ fn add_architecture(
     requires table { AreEntities given.now.formals.now (entities_view given.now.entities.now) }
     requires room { length all.old ≡ length (entities_view given.now.entities.now) }
     ensures room { length all.new ≡ length all.old }
-    ensures told { Finds (broken.described (names_view given.now.names.now) (entities_view given.now.entities.now)
+    ensures told { Finds (broken.described given.now.language (names_view given.now.names.now)
+        (entities_view given.now.entities.now)
         (map view.context_view items.now, view.architecture_view tree.now)) result }
     ensures given { ((n : Name) → is_hidden given.now n ≡ false) → IfOk result (λ _.
         steps.with_described (entities_view given.now.entities.now) (map (option_map architecture_view) all.old)
@@ -86,7 +89,7 @@ fn add_architecture(
         Some (map (option_map architecture_view) all.new)) }
 {
     match given.entities.get_full(tree.entity.text.as_slice()) {
-        None => context(items),
+        None => context(given.language, items),
         Some((place, _, entity)) => {
             let read = architecture(alloc, given, entity, items, tree);
             all[place] = up_to_hidden(given, tree, read)?;
@@ -105,7 +108,7 @@ fn add_unit(
     requires table { AreEntities given.now.formals.now (entities_view given.now.entities.now) }
     requires room { length all.old ≡ length (entities_view given.now.entities.now) }
     ensures room { length all.new ≡ length all.old }
-    ensures told { Finds (any_of (broken.described (names_view given.now.names.now)
+    ensures told { Finds (any_of (broken.described given.now.language (names_view given.now.names.now)
         (entities_view given.now.entities.now))
         (all_of (view.unit_view unit.now ∷ []))) result }
     ensures given { ((n : Name) → is_hidden given.now n ≡ false) → IfOk result (λ _.
@@ -140,7 +143,7 @@ pub fn architectures_of(
     given: &Given<'_, '_>,
 ) -> Result<Vec<Option<Architecture>>, NameFault>
     requires table { AreEntities given.now.formals.now (entities_view given.now.entities.now) }
-    ensures told { Finds (any_of (broken.described (names_view given.now.names.now)
+    ensures told { Finds (any_of (broken.described given.now.language (names_view given.now.names.now)
         (entities_view given.now.entities.now))
         (all_of (view.units_view file.now.units))) result }
     ensures given { ((n : Name) → is_hidden given.now n ≡ false) → IfOk result (λ v.

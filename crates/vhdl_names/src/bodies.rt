@@ -25,7 +25,7 @@ use crate::faults::{earlier_of, first_of};
 use crate::statements::concurrents;
 use crate::tables::Given;
 use std::alloc::Global;
-use vhdl_names_declarations::declare_label;
+use vhdl_names_declarations::{Counts, declare_label};
 use vhdl_names_instances::InstanceEntities;
 use vhdl_names_interfaces::{EntityInterface, architecture_sight, declarations};
 use vhdl_names_rules::NameFault;
@@ -75,7 +75,9 @@ fn body(
         ▸ end_name (view.architecture_view tree.now).name (view.architecture_view tree.now).end_name)) }
 {
     let labels = declare_each(sight.alloc, &mut sight.region, &tree.statements);
-    let statements = earlier_of(labels, concurrents(formals, sight, &tree.statements))?;
+    let counts = Counts::NONE.of(&sight.region, 0);
+    let statements = concurrents(formals, sight, counts, &tree.statements);
+    let statements = earlier_of(labels, statements)?;
     ends(&tree.name, &tree.end_name)?;
     let name = copied(sight.alloc, &tree.name)?;
     Ok(Architecture {

@@ -19,6 +19,7 @@ use crate::faults::first_of;
 use crate::outline::{Outline, architecture_of};
 use indexmap::IndexMap;
 use std::alloc::Global;
+use vhdl_lexer::Language;
 use vhdl_names_interfaces::{Entities, add_entity, entity};
 use vhdl_names_rules::NameFault;
 use vhdl_tree::{ContextItem, DesignUnit, Entity, File, Identifier, LibraryUnit};
@@ -39,17 +40,19 @@ fn add_viewed<'a>(
     alloc: Global,
     entities: &mut Entities<'a>,
     outline: &Outline<'a>,
+    language: Language,
     items: &[ContextItem],
     tree: &'a Entity,
 ) -> Result<(), NameFault>
     ensures given { Gives (λ _. entities_view entities.new)
-        (steps.with_entity (architectures_view outline.now.architectures) (entities_view entities.old)
+        (steps.with_entity language (architectures_view outline.now.architectures) (entities_view entities.old)
         (map view.context_view items.now) (view.entity_view tree.now)) result }
-    ensures told { IfErr result (Tells (broken.entity (map view.context_view items.now) (view.entity_view tree.now))) }
+    ensures told { IfErr result (Tells
+        (broken.entity language (map view.context_view items.now) (view.entity_view tree.now))) }
     ensures kept { IfErr result (λ f. f ≢ NoMemory → entities_view entities.new ≡ entities_view entities.old) }
 {
     let architecture = architecture_name(outline, &tree.name.text);
-    let viewed = entity(alloc, items, tree, architecture)?;
+    let viewed = entity(alloc, language, items, tree, architecture)?;
     match add_entity(alloc, entities, viewed) {
         Ok(()) => Ok(()),
         Err(NameFault::NoMemory) => Err(NameFault::NoMemory),
@@ -62,17 +65,20 @@ fn add_unit<'a>(
     alloc: Global,
     entities: &mut Entities<'a>,
     outline: &Outline<'a>,
+    language: Language,
     unit: &'a DesignUnit,
 ) -> Result<(), NameFault>
     ensures given { Gives (λ _. entities_view entities.new)
-        (steps.with_unit (architectures_view outline.now.architectures) (entities_view entities.old)
+        (steps.with_unit language (architectures_view outline.now.architectures) (entities_view entities.old)
         (view.unit_view unit.now)) result }
     ensures told { IfErr result (Tells
-        (any_of (λ e. broken.entity e.0 e.1) (rules.entities_of (view.unit_view unit.now ∷ [])))) }
+        (any_of (λ e. broken.entity language e.0 e.1) (rules.entities_of (view.unit_view unit.now ∷ [])))) }
     ensures kept { IfErr result (λ f. f ≢ NoMemory → entities_view entities.new ≡ entities_view entities.old) }
 {
     match &unit.unit {
-        LibraryUnit::Entity(tree) => add_viewed(alloc, entities, outline, &unit.context, tree),
+        LibraryUnit::Entity(tree) => {
+            add_viewed(alloc, entities, outline, language, &unit.context, tree)
+        },
         LibraryUnit::Architecture(_) => Ok(()),
     }
 }
@@ -82,24 +88,28 @@ fn add_unit<'a>(
 /// for what is declared in each and analysed of it.
 pub fn entities_of<'a>(
     alloc: Global,
+    language: Language,
     file: &'a File,
     outline: &Outline<'a>,
 ) -> (Entities<'a>, Result<(), NameFault>)
-    ensures told { Finds (any_of (λ e. broken.entity e.0 e.1) (rules.entities_of (view.units_view file.now.units)))
-        result.1 }
+    ensures told { Finds
+        (any_of (λ e. broken.entity language e.0 e.1) (rules.entities_of (view.units_view file.now.units))) result.1 }
     ensures all { IfOk result.1 (λ _.
-        each (steps.viewed_by (architectures_view outline.now.architectures))
+        each (steps.viewed_by language (architectures_view outline.now.architectures))
         (rules.entities_of (view.units_view file.now.units))
-        ≡ Some (filter_map (steps.viewed_by (architectures_view outline.now.architectures))
+        ≡ Some (filter_map (steps.viewed_by language (architectures_view outline.now.architectures))
         (rules.entities_of (view.units_view file.now.units)))) }
     ensures given { HasMemory result.1 → entities_view result.0
-        ≡ with_entities [] (filter_map (steps.viewed_by (architectures_view outline.now.architectures))
+        ≡ with_entities [] (filter_map (steps.viewed_by language (architectures_view outline.now.architectures))
         (rules.entities_of (view.units_view file.now.units))) }
 {
     let mut entities = IndexMap::new(alloc);
     let mut told: Result<(), NameFault> = Ok(());
     for unit in &file.units {
-        told = first_of(told, add_unit(alloc, &mut entities, outline, unit));
+        told = first_of(
+            told,
+            add_unit(alloc, &mut entities, outline, language, unit),
+        );
     }
     (entities, told)
 }

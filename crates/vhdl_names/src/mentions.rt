@@ -48,6 +48,8 @@ fn is_component(given: &Given<'_, '_>, declaration: &Declaration, at: usize) -> 
         Declaration::Signals(_) => false,
         Declaration::Constants(_) => false,
         Declaration::Enumeration(_) => false,
+        Declaration::Subtype(_) => false,
+        Declaration::Attribute(_) => false,
     }
 }
 
@@ -95,6 +97,7 @@ fn is_within(given: &Given<'_, '_>, statement: &Concurrent, at: usize) -> bool
         Concurrent::Assignment(_) => false,
         Concurrent::Selected { .. } => false,
         Concurrent::Process { .. } => false,
+        Concurrent::Assert(_) => false,
     }
 }
 

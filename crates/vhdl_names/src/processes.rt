@@ -6,6 +6,7 @@ ghost use Rattle.vhdl_names.specs.steps.Processes as steps;
 ghost use Rattle.vhdl_names_rules.specs.problems.Broken.{Tells, any_of};
 ghost use Rattle.vhdl_names_rules.specs.problems.Concurrent as broken;
 ghost use Rattle.vhdl_names_rules.specs.problems.Statements as statements;
+ghost use Rattle.vhdl_names_declarations.specs.Counts.{AreCounts};
 ghost use Rattle.vhdl_names_rules.specs.Concurrent as rules;
 ghost use Rattle.vhdl_names_rules.specs.Gives.{Gives};
 ghost use Rattle.vhdl_names_rules.specs.Rules.{each};
@@ -18,7 +19,8 @@ ghost use Rattle.vhdl_names_units.specs.views.Sequential.{body_view};
 
 use crate::process_labels::statement_labels_are_distinct;
 use indexmap::IndexMap;
-use vhdl_names_declarations::objects::variables;
+use vhdl_names_declarations::Counts;
+use vhdl_names_declarations::process::process_declarations;
 use vhdl_names_expressions::{condition, signal};
 use vhdl_names_registers::{Edge, alone_at, waited_edge};
 use vhdl_names_rules::{NameFault, NameProblem, SignalPart, Test};
@@ -155,14 +157,17 @@ fn leave_process(sight: &mut Sight)
     sight.variables = IndexMap::new(sight.alloc);
 }
 
-/// A process behind its label: its variables are a region of their own, and in sight of its
-/// statements alone. It fails at the first byte where a rule is broken, or where memory is refused.
+/// A process behind its label, in a region with these counts: its declarations are a region of
+/// their own, and in sight of its statements alone. It fails at the first byte where a rule is
+/// broken, or where memory is refused.
 #[tactic(auto, using(crate::proofs::Running::process_by))]
 pub fn process(
     sight: &mut Sight,
+    counts: Counts,
     label: &Option<Identifier>,
     process: &syntax::Process,
 ) -> Result<Process, NameFault>
+    requires counts { AreCounts counts sight.old.region }
     requires outside { sight.old.variables ≡ [] }
     ensures given { Gives process_view
         (rules.process sight.old (tree.option_ident_view label.now) (tree.process_view process.now)) result }
@@ -172,18 +177,18 @@ pub fn process(
 {
     let waits = process.wait.is_some();
     let sensitivity = sensitivity(sight, process.at, &process.sensitivity, waits)?;
-    let variables = variables(sight, &process.variables)?;
+    let declarations = process_declarations(sight, counts, &process.declarations)?;
     let sensitivity = resumed(sight, process, sensitivity)?;
     let statements = body(sight, &process.statements)?;
     let statements = behind_wait(sight, process, statements)?;
     leave_process(sight);
-    let found = (sensitivity, variables, statements);
-    let (sensitivity, variables, statements) = ended(label, &process.end_label, found)?;
+    let found = (sensitivity, declarations, statements);
+    let (sensitivity, declarations, statements) = ended(label, &process.end_label, found)?;
     let label = copied_label(sight.alloc, label)?;
     Ok(Process {
         at: process.at,
         label,
-        variables,
+        declarations,
         sensitivity,
         statements,
     })

@@ -1,6 +1,7 @@
 //! Concurrent statements (IEEE 1076-2008, clause 11).
 
-ghost use Rattle.std.specs.Prelude.{◌≡◌, List, [], map, IfErr, Some, OnOk};
+ghost use Rattle.std.specs.Prelude.{◌≡◌, List, [], map, option_map, IfErr, Some, OnOk};
+ghost use Rattle.vhdl_names_declarations.specs.Counts.{AreCounts};
 ghost use Rattle.vhdl_names_instances.specs.Table.{AreEntities, seens_view};
 ghost use Rattle.vhdl_names.specs.steps.Concurrents as steps;
 ghost use Rattle.vhdl_names_instances.specs.steps.Instances.{instance as instance_of};
@@ -19,7 +20,7 @@ ghost use Rattle.vhdl_names_units.specs.views.Concurrent as views;
 
 use crate::processes::process;
 use crate::schemes::scheme;
-use vhdl_names_declarations::labels_are_distinct;
+use vhdl_names_declarations::{Counts, labels_are_distinct};
 use vhdl_names_instances::{InstanceEntities, instance_in_turn};
 use vhdl_names_rules::NameFault;
 use vhdl_names_sight::{Declared, Meaning, Sight};
@@ -35,8 +36,8 @@ fn enter_parameter(sight: &mut Sight, parameter: &Identifier) -> Result<(), Name
     ensures told { IfErr result (Tells (nothing)) }
 {
     let name = parameter.text.to_vec(sight.alloc)?;
-    let meaning = Meaning::GenerateParameter(sight.generates.len());
-    sight.generates.push(Declared { name, meaning })?;
+    let entry = Meaning::GenerateParameter(sight.generates.len()).entry();
+    sight.generates.push(Declared { name, entry })?;
     Ok(())
 }
 
@@ -76,8 +77,10 @@ fn leave_generate(sight: &mut Sight, scheme: &syntax::Scheme)
 fn statements(
     entities: &InstanceEntities,
     sight: &mut Sight,
+    counts: Counts,
     list: &[syntax::Concurrent],
 ) -> Result<Vec<Concurrent>, NameFault>
+    requires counts { AreCounts counts sight.old.region }
     requires outside { sight.old.variables ≡ [] }
     ensures given { Gives views.concurrents_view
         (steps.all (instance_of (names_view entities.now.names) (seens_view entities.now.formals))
@@ -89,44 +92,51 @@ fn statements(
 {
     let mut all = Vec::new(sight.alloc);
     for item in list {
-        let next = statement(entities, sight, item)?;
+        let Some(next) = statement(entities, sight, counts, item)? else {
+            continue;
+        };
         all.push(next)?;
     }
     Ok(all)
 }
 
-/// A statement.
+/// A statement; an assertion is dropped.
 #[cycle(concurrent)]
 #[tactic(auto, unfolding(vhdl_names_rules::specs::problems::Concurrent::concurrent))]
 fn statement(
     entities: &InstanceEntities,
     sight: &mut Sight,
+    counts: Counts,
     item: &syntax::Concurrent,
-) -> Result<Concurrent, NameFault>
+) -> Result<Option<Concurrent>, NameFault>
+    requires counts { AreCounts counts sight.old.region }
     requires outside { sight.old.variables ≡ [] }
-    ensures given { Gives views.concurrent_view
-        (steps.concurrent (instance_of (names_view entities.now.names) (seens_view entities.now.formals))
+    ensures given { Gives (option_map views.concurrent_view)
+        (steps.kept (instance_of (names_view entities.now.names) (seens_view entities.now.formals))
         sight.old (tree.concurrent_view item.now)) result }
     ensures kept { OnOk result (sight.new ≡ sight.old) }
     ensures told { (all : List EntityView) → AreEntities entities.now all
         → IfErr result (Tells (broken.concurrent all sight.old (tree.concurrent_view item.now))) }
 {
     match item {
+        syntax::Concurrent::Assert(_) => Ok(None),
         syntax::Concurrent::Assignment(written) => {
-            Ok(Concurrent::Process(assignment(sight, written)?))
+            Ok(Some(Concurrent::Process(assignment(sight, written)?)))
         }
         syntax::Concurrent::Selected {
             label,
             assignment: written,
-        } => Ok(Concurrent::Process(selected(sight, label, written)?)),
+        } => Ok(Some(Concurrent::Process(selected(sight, label, written)?))),
         syntax::Concurrent::Process {
             label,
             process: written,
-        } => Ok(Concurrent::Process(process(sight, label, written)?)),
-        syntax::Concurrent::Instance { label, instance } => Ok(Concurrent::Instance(
+        } => Ok(Some(Concurrent::Process(process(sight, counts, label, written)?))),
+        syntax::Concurrent::Instance { label, instance } => Ok(Some(Concurrent::Instance(
             instance_in_turn(entities, sight, label, instance)?,
-        )),
-        syntax::Concurrent::Generate(written) => generate(entities, sight, written),
+        ))),
+        syntax::Concurrent::Generate(written) => {
+            Ok(Some(generate(entities, sight, counts, written)?))
+        }
     }
 }
 
@@ -136,8 +146,10 @@ fn statement(
 fn labelled(
     entities: &InstanceEntities,
     sight: &mut Sight,
+    counts: Counts,
     list: &[syntax::Concurrent],
 ) -> Result<Vec<Concurrent>, NameFault>
+    requires counts { AreCounts counts sight.old.region }
     requires outside { sight.old.variables ≡ [] }
     ensures given { Gives views.concurrents_view
         (steps.labelled (instance_of (names_view entities.now.names) (seens_view entities.now.formals))
@@ -147,7 +159,7 @@ fn labelled(
         → IfErr result (Tells (told.labelled all sight.old (map tree.concurrent_view list.now))) }
 {
     let alloc = sight.alloc;
-    let all = statements(entities, sight, list);
+    let all = statements(entities, sight, counts, list);
     match labels_are_distinct(alloc, list) {
         Ok(()) => all,
         Err(fault) => Err(earlier_in(fault, all)),
@@ -159,8 +171,10 @@ fn labelled(
 fn generate(
     entities: &InstanceEntities,
     sight: &mut Sight,
+    counts: Counts,
     written: &syntax::Generate,
 ) -> Result<Concurrent, NameFault>
+    requires counts { AreCounts counts sight.old.region }
     requires outside { sight.old.variables ≡ [] }
     ensures given { Gives views.concurrent_view
         (steps.generate (instance_of (names_view entities.now.names) (seens_view entities.now.formals))
@@ -177,7 +191,7 @@ fn generate(
 {
     let by = scheme(sight, &written.scheme)?;
     enter_generate(sight, &written.scheme)?;
-    let body = labelled(entities, sight, &written.statements)?;
+    let body = labelled(entities, sight, counts, &written.statements)?;
     leave_generate(sight, &written.scheme);
     ends(&written.label, &written.end_label)?;
     let label = copied(sight.alloc, &written.label)?;
@@ -190,8 +204,10 @@ fn generate(
 pub fn concurrents(
     entities: &InstanceEntities,
     sight: &mut Sight,
+    counts: Counts,
     list: &[syntax::Concurrent],
 ) -> Result<Vec<Concurrent>, NameFault>
+    requires counts { AreCounts counts sight.old.region }
     requires outside { sight.old.variables ≡ [] }
     ensures given { (all : List EntityView) → AreEntities entities.now all
         → Gives steps.body_view (rules.concurrents all sight.old (t.concurrents_of (map tree.concurrent_view list.now)))
@@ -201,5 +217,5 @@ pub fn concurrents(
         → IfErr result (Tells
         (broken.concurrents all sight.old (t.concurrents_of (map tree.concurrent_view list.now)))) }
 {
-    statements(entities, sight, list)
+    statements(entities, sight, counts, list)
 }

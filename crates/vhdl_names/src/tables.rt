@@ -9,15 +9,17 @@ ghost use Rattle.vhdl_names_rules.specs.Gives.{Gives};
 
 use indexmap::IndexSet;
 use std::alloc::Global;
+use vhdl_lexer::Language;
 use vhdl_names_instances::{Formals, InstanceEntities, Names, add_name, formals_of};
 use vhdl_names_interfaces::{Entities, EntityInterface};
 use vhdl_names_rules::NameFault;
 use vhdl_names_sight::names_are_apart;
 
-/// What the architectures of a file are read among: the names of its entities, the entities that
-/// are given, and these as instances see them.
+/// What the architectures of a file are read among: the language that is read, the names of its
+/// entities, the entities that are given, and these as instances see them.
 #[derive(Drop)]
 pub struct Given<'o, 'a> {
+    pub language: Language,
     pub names: &'o Names,
     pub entities: &'o Entities<'a>,
     pub formals: &'o InstanceEntities,

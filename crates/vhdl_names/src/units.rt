@@ -19,6 +19,7 @@ ghost use Rattle.vhdl_names_rules.specs.sound.Named.{are_named};
 ghost use Rattle.vhdl_names_rules.specs.sound.Units.{are_sound};
 ghost use Rattle.vhdl_tree.specs.View.{file_view};
 ghost use Rattle.vhdl_tree.specs.grammar.Units.{IsFile, IsFileIn};
+ghost use Rattle.vhdl_lexer.specs.declared.language.Language.TheVariants.{Profile};
 ghost use Rattle.vhdl_names_rules.specs.Registers.{units_in};
 ghost use Rattle.vhdl_names_units.specs.views.Units as views;
 
@@ -90,11 +91,13 @@ fn joined(
 /// The architectures of a file with this outline and these entities.
 fn described(
     alloc: Global,
+    language: Language,
     file: &File,
     outline: &Outline<'_>,
     entities: &Entities<'_>,
 ) -> Result<Vec<Option<Architecture>>, NameFault>
-    ensures told { Finds (any_of (broken.described (names_view outline.now.entities) (entities_view entities.now))
+    ensures told { Finds
+        (any_of (broken.described language (names_view outline.now.entities) (entities_view entities.now))
         (all_of (file_view file.now).units)) result }
     ensures given { ((n : Name) → broken.is_hidden (names_view outline.now.entities) (entities_view entities.now) n ≡
         false) → IfOk result (λ v.
@@ -103,6 +106,7 @@ fn described(
 {
     let formals = table(alloc, entities)?;
     let given = Given {
+        language,
         names: &outline.entities,
         entities,
         formals: &formals,
@@ -111,24 +115,28 @@ fn described(
 }
 
 /// The entities that are given of a file, and the architecture of each, if the file has one.
-fn read(alloc: Global, file: &File) -> Result<(Entities<'_>, Vec<Option<Architecture>>), NameFault>
-    ensures given { Gives (λ p. steps.joined (entities_view p.0) (options_view p.1)) (units_of (file_view file.now))
-        result }
-    ensures told { IfErr result (Tells (broken.file (file_view file.now))) }
+fn read(
+    alloc: Global,
+    language: Language,
+    file: &File,
+) -> Result<(Entities<'_>, Vec<Option<Architecture>>), NameFault>
+    ensures given { Gives (λ p. steps.joined (entities_view p.0) (options_view p.1))
+        (units_of language (file_view file.now)) result }
+    ensures told { IfErr result (Tells (broken.file language (file_view file.now))) }
 {
     let (outline, names) = outline_of(alloc, file);
-    let (entities, interfaces) = entities_of(alloc, file, &outline);
-    let architectures = described(alloc, file, &outline, &entities);
+    let (entities, interfaces) = entities_of(alloc, language, file, &outline);
+    let architectures = described(alloc, language, file, &outline, &entities);
     let told = earlier_of(names, earlier_of(interfaces, architectures));
     beside(entities, told)
 }
 
 /// The units of a file, with their registers as they are written.
-fn analysed_units(alloc: Global, file: &File) -> Result<Units, NameFault>
-    ensures given { Gives views.units_view (units_of (file_view file.now)) result }
-    ensures told { IfErr result (Tells (broken.file (file_view file.now))) }
+fn analysed_units(alloc: Global, language: Language, file: &File) -> Result<Units, NameFault>
+    ensures given { Gives views.units_view (units_of language (file_view file.now)) result }
+    ensures told { IfErr result (Tells (broken.file language (file_view file.now))) }
 {
-    let (entities, architectures) = read(alloc, file)?;
+    let (entities, architectures) = read(alloc, language, file)?;
     let entities = joined(alloc, entities, architectures)?;
     Ok(Units { entities })
 }
@@ -137,7 +145,7 @@ fn analysed_units(alloc: Global, file: &File) -> Result<Units, NameFault>
 /// as the checker knows them. All else is as `analyse` says. It takes memory for both.
 pub fn analyse_in(alloc: Global, language: Language, file: &File) -> Result<Units, NameFault>
     ensures given { Gives views.units_view (units_in language (file_view file.now)) result }
-    ensures told { IfErr result (Tells (broken.file (file_view file.now))) }
+    ensures told { IfErr result (Tells (broken.file language (file_view file.now))) }
 
     // As those of `analyse`.
     ensures sound { IfOk result (λ units. IsFileIn language (file_view file.now)
@@ -147,7 +155,7 @@ pub fn analyse_in(alloc: Global, language: Language, file: &File) -> Result<Unit
     ensures ports { IfOk result (λ units. IsSpelled (file_view file.now)
         → IsTrue (small_ports_are_distinct (views.units_view units))) }
 {
-    let units = analysed_units(alloc, file)?;
+    let units = analysed_units(alloc, language, file)?;
     match language {
         Language::Profile => Ok(units),
         Language::Wide => Ok(written(alloc, units)?),
@@ -162,8 +170,8 @@ pub fn analyse_in(alloc: Global, language: Language, file: &File) -> Result<Unit
 /// told where the entity is at fault. It takes memory for what is declared in the file and analysed
 /// of it.
 pub fn analyse(alloc: Global, file: &File) -> Result<Units, NameFault>
-    ensures given { Gives views.units_view (units_of (file_view file.now)) result }
-    ensures told { IfErr result (Tells (broken.file (file_view file.now))) }
+    ensures given { Gives views.units_view (units_of Profile (file_view file.now)) result }
+    ensures told { IfErr result (Tells (broken.file Profile (file_view file.now))) }
 
     // Of a file that `parse` gives of the tokens of `lex` they are what elaboration asks for, and
     // the ports of each entity have names of their own.

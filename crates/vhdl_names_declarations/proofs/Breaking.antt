@@ -1,6 +1,6 @@
 -- What is told of a declaration, or of a name that stands twice, is told of the list of declarations that it stands in.
-use Rattle.std.proofs.Common.{◌≡◌, ◌≢◌, ℕ, suc, ◌+◌, ◌<◌, cond, Bool, true, false, List, [], ◌∷◌, ◌++◌, map, length, drop, get_or, Option, Some, None, Result, IfErr, refl, sym, ap, subst, ◌∙◌, append_assoc, append-nil, arith}
-use Rattle.std.specs.Prelude.{IsErrAnd, option_map, is_none, is_some}
+use Rattle.std.proofs.Common.{◌≡◌, ◌≢◌, ℕ, suc, ◌+◌, ◌<◌, cond, Bool, true, false, List, [], ◌∷◌, ◌++◌, map, length, drop, get_or, Option, Some, None, Result, IfErr, sym, ap, subst, ◌∙◌, append_assoc, append-nil, arith}
+use Rattle.std.specs.Prelude.{IsErrAnd}
 use Rattle.std.proofs.Math.Seq.{drop-cons}
 use Rattle.vhdl_tree.specs.Tree as t
 use Rattle.vhdl_tree.specs.Tree.{Ident}
@@ -10,21 +10,17 @@ use Rattle.vhdl_names_rules.specs.declared.fault.NameFault.{NameFault}
 use Rattle.vhdl_names_rules.specs.declared.fault.NameFault.TheVariants.{At, NoMemory}
 use Rattle.vhdl_names_rules.specs.declared.fault.NameProblem.TheVariants.{Twice}
 use Rattle.vhdl_names_rules.specs.Rules.{◌>>=◌, met}
-use Rattle.vhdl_names_rules.specs.Visibility.{Name, Declared, Meaning, Sight, Declares, meaning, names_of, is_among, are_distinct, all_declared, unfinished}
+use Rattle.vhdl_names_rules.specs.Visibility.{Name, Declared, Sight, Declares, names_of, is_among, are_distinct, all_declared, unfinished}
 use Rattle.vhdl_names_rules.specs.Interfaces.{declared_names}
-use Rattle.vhdl_names_rules.specs.Declarations.{single_expression}
 use Rattle.vhdl_names_rules.proofs.laws.Rules.{comes, kept}
-use Rattle.vhdl_names_rules.specs.declared.operator.IntegerType.{IntegerType}
-use Rattle.vhdl_names_rules.specs.Subtypes.{Subtype, subtype, as_integer_type}
+use Rattle.vhdl_names_rules.specs.Subtypes.{Subtype, subtype}
 use Rattle.vhdl_names_rules.specs.problems.Broken.{Broken, Tells, refused, where_given, ◌▸◌}
 use Rattle.vhdl_names_rules.specs.problems.Subtypes as subtypes_broken
 use Rattle.vhdl_names_rules.proofs.kept.Values.{subtype_kept}
-use Rattle.vhdl_names_sight.proofs.Passing.{told_first, told_second}
+use Rattle.vhdl_names_rules.proofs.Passing.{told_first, told_second}
 use Rattle.vhdl_names_rules.specs.problems.Twice.{twice}
-use Rattle.vhdl_names_rules.specs.problems.Expressions.{static, meaning as marked}
-use Rattle.vhdl_names_rules.specs.problems.Declarations.{in_order, standing_twice, integer_value, constants_by, typed_constants}
-use Rattle.vhdl_names_rules.proofs.Telling.{IsKept, told_same, told_left, told_right, told_given, told_on, at_is_told}
-use Rattle.vhdl_names_rules.proofs.kept.Expressions.{meaning_kept}
+use Rattle.vhdl_names_rules.specs.problems.Declarations.{in_order, standing_twice}
+use Rattle.vhdl_names_rules.proofs.Telling.{IsKept, told_same, told_left, told_right, told_given, at_is_told}
 use Rattle.vhdl_names_rules.proofs.kept.Twice.{apart, twice_kept}
 use Rattle.vhdl_names_declarations.specs.Entered.{more}
 use Rattle.vhdl_names_declarations.proofs.Regions.{names-append, names-all}
@@ -38,16 +34,6 @@ told_never b o x (At p at) is none = absurd (no_value x (sym is ∙ none (at_is_
     no_value : {A : Type 0} (x : A) → Some x ≡ None → ⊥
     no_value x e = cc
 told_never b o x NoMemory is none = tt
-
--- ---- constants
-
--- of constants it is told by the type that is meant
-pub constants_told : {X : Type 0} (s : Sight) (d : t.Constants) (m : Meaning) (o : Option IntegerType) (r : Result X NameFault) → meaning s d.subtype.mark.text ≡ Some m → o ≡ as_integer_type m →
-    IfErr r (Tells (constants_by s d o)) → IfErr r (Tells (typed_constants s d))
-constants_told s d m o r meant is =
-    let by = λ (m : Meaning). constants_by s d (as_integer_type m) in
-    told_on _ _ r (λ f h. told_right (marked s d.subtype.mark) (where_given (meaning s d.subtype.mark.text) by) f (meaning_kept s d.subtype.mark m meant)
-    (told_given by (meaning s d.subtype.mark.text) m f meant (subst (λ o. Tells (constants_by s d o) f) is h)))
 
 -- ---- names that stand twice
 
@@ -142,24 +128,6 @@ module _ (region : Sight → List Declared) (with_more : Sight → List Declared
         (told_right (broken s (view c)) (after s (view c) (map view (drop (i + 1) cs))) f (one_kept s (view c) x.value x.is k.0)
         (told_given (λ x. in_order with_more declares broken (with_more s x.declared) (map view (drop (i + 1) cs))) (declares s (view c)) x.value f x.is
         (subst (λ r. Tells (in_order with_more declares broken r (map view (drop (i + 1) cs))) f) (sym same) h)))
-
--- ---- what must not stand there
-
-pub stands_there : {A B : Type 0} (view : A → B) (o : Option A) → is_some o ≡ true → is_none (option_map view o) ≡ false
-stands_there view None h = absurd cc
-stands_there view (Some x) h = refl
-
-pub not_there : {A B : Type 0} (view : A → B) (o : Option A) → is_some o ≡ false → is_none (option_map view o) ≡ true
-not_there view None h = refl
-not_there view (Some x) h = absurd cc
-
--- the value of an integer constant, once it is one expression
-pub value_is : (s : Sight) (v : t.Value) (e : t.Expr) → single_expression v ≡ Some e → static s e ≡ integer_value s v
-value_is s (t.single d) e h = ap (λ x. static s x) (by h)
-  where
-    by : Some d ≡ Some e → e ≡ d
-    by h = cc
-value_is s (t.others at d) e h = absurd cc
 
 -- what is broken behind a subtype indication that is given
 module _ {X : Type 0} (sight : Sight) (i : t.Subtype) (by : Subtype → Broken) (x : Subtype) (fault : NameFault) (P : NameFault → Type 0) (r : Result X NameFault) where

@@ -1,69 +1,91 @@
 -- Counts of a region, declaration by declaration.
-use Rattle.std.proofs.Common.{◌≡◌, ℕ, zero, suc, ◌+◌, ◌^◌, ◌<◌, ◌≤◌, Bool, cond, List, [], ◌∷◌, map, length, take, Some, Vec, Global, sym, ap, ◌∙◌, arith}
-use Rattle.std.specs.Prelude.{slice_get, if◌then◌else◌}
+use Rattle.std.proofs.Common.{◌≡◌, ℕ, zero, suc, ◌+◌, ◌-◌, ◌<◌, ◌≤◌, Bool, List, [], ◌∷◌, ◌++◌, map, length, take, Option, Some, None, Vec, Global, refl, sym, ap, subst, ◌∙◌, append_assoc, arith}
+use Rattle.std.specs.Prelude.{slice_get, if◌then◌else◌, is_some, option_map, count_by}
 use Rattle.std.specs.Map.{values_of}
-use Rattle.std.proofs.lemmas.List.Sums.{count_by-le-length, sum_by-cons}
+use Rattle.std.proofs.lemmas.List.{length-map}
+use Rattle.std.proofs.lemmas.List.Sums.{count_by-le-length, sum_by_push}
 use Rattle.vhdl_names_rules.specs.Visibility as visibility
-use Rattle.vhdl_names_rules.specs.Visibility.{Meaning, Declared, count_of}
-use Rattle.vhdl_names_sight.specs.declared.meaning.Meaning.{Meaning as CodeMeaning}
-use Rattle.vhdl_names_sight.specs.Views.{meaning_view, entry_view}
+use Rattle.vhdl_names_rules.specs.Visibility.{Name, Declared}
+use Rattle.vhdl_names_sight.specs.declared.meaning.Entry.{Entry}
+use Rattle.vhdl_names_sight.specs.Views.{entry_of, entry_view}
 use Rattle.vhdl_names_declarations.specs.declared.counts.Counts.{Counts}
 use Rattle.vhdl_names_declarations.specs.Counts.{AreCounts, AreSmall, counted}
 
-count_next : (class : Meaning → Bool) (es : List (Vec ℕ Global × CodeMeaning)) (i : ℕ) (m : CodeMeaning) → slice_get (values_of es) i ≡ Some m →
-    count_of class (take (suc i) (map entry_view es)) ≡ count_of class (take i (map entry_view es)) + (if class (meaning_view m) then 1 else 0)
-count_next class [] i m h = cc
-count_next class (e ∷ es) zero m h =
-    let same : e.1 ≡ m = cc in
-    ap (λ x. 0 + (if class (meaning_view x) then 1 else 0)) same
-count_next class (e ∷ es) (suc i) m h =
-    let f = λ (d : Declared). cond (class d.meaning) 1 0 in
+-- what is seen of a thing is there if it is
+pub some_seen : {A B : Type 0} (view : A → B) (o : Option A) → is_some o ≡ is_some (option_map view o)
+some_seen view None = refl
+some_seen view (Some x) = refl
+
+-- one declaration more
+counts_last : (c : Counts) (ds : List Declared) (d : Declared) → AreCounts c ds → AreCounts (counted c d) (ds ++ d ∷ [])
+counts_last c ds d h = record {
+  generics = more (λ e. visibility.is_generic e.meaning) c.generics h.generics;
+  ports = more (λ e. visibility.is_port e.meaning) c.ports h.ports;
+  integers = more (λ e. visibility.is_integer_constant e.meaning) c.integers h.integers;
+  constants = more (λ e. visibility.is_constant e.meaning) c.constants h.constants;
+  signals = more (λ e. visibility.is_signal e.meaning) c.signals h.signals;
+  variables = more (λ e. visibility.is_variable e.meaning) c.variables h.variables;
+  enumerations = more (λ e. visibility.is_enumeration_type e.meaning) c.enumerations h.enumerations;
+  ranges = more (λ e. is_some e.range) c.ranges h.ranges;
+}
+  where
+    more : (has : Declared → Bool) (n : ℕ) → n ≡ count_by has ds → n + (if has d then 1 else 0) ≡ count_by has (ds ++ d ∷ [])
+    more has n e = ap (λ k. k + (if has d then 1 else 0)) e ∙ sym (sum_by_push (λ x. if has x then 1 else 0) ds d)
+
+-- what stands up to a place, and the declaration there
+one_more : (es : List (Vec ℕ Global × Entry)) (i : ℕ) (e : Entry) → slice_get (values_of es) i ≡ Some e →
+    (n : Name) × (take (suc i) (map entry_view es) ≡ take i (map entry_view es) ++ entry_of n e ∷ [])
+one_more [] i e h = absurd cc
+one_more (x ∷ es) zero e h = let same : x.1 ≡ e = cc in (x.0.items, ap (λ y. entry_of x.0.items y ∷ []) same)
+one_more (x ∷ es) (suc i) e h = let rest = one_more es i e h in (rest.0, ap (λ l. entry_view x ∷ l) rest.1)
+
+pub counted_more : (before : List Declared) (c x : Counts) (es : List (Vec ℕ Global × Entry)) (i : ℕ) (e : Entry) → slice_get (values_of es) i ≡ Some e →
+    ((n : Name) → x ≡ counted c (entry_of n e)) → AreCounts c (before ++ take i (map entry_view es)) → AreCounts x (before ++ take (i + 1) (map entry_view es))
+counted_more before c x es i e is by h =
     let ds = map entry_view es in
-    let one = if class (meaning_view m) then 1 else 0 in
-    let assoc : f (entry_view e) + (count_of class (take i ds) + one) ≡ (f (entry_view e) + count_of class (take i ds)) + one = omega arith in
-    sum_by-cons f (entry_view e) (take (suc i) ds) ∙ ap (λ n. f (entry_view e) + n) (count_next class es i m h)
-    ∙ assoc ∙ ap (λ n. n + one) (sym (sum_by-cons f (entry_view e) (take i ds)))
+    let next : suc i ≡ i + 1 = omega arith in
+    let one = one_more es i e is in
+    let d = entry_of one.0 e in
+    subst (AreCounts x) (append_assoc before (take i ds) (d ∷ []) ∙ ap (λ l. before ++ l) (sym one.1) ∙ ap (λ k. before ++ take k ds) next)
+    (subst (λ y. AreCounts y ((before ++ take i ds) ++ d ∷ [])) (sym (by one.0)) (counts_last c (before ++ take i ds) d h))
 
-step : (class : Meaning → Bool) (es : List (Vec ℕ Global × CodeMeaning)) (i : ℕ) (m : CodeMeaning) (n : ℕ) → slice_get (values_of es) i ≡ Some m →
-    n ≡ count_of class (take i (map entry_view es)) → n + (if class (meaning_view m) then 1 else 0) ≡ count_of class (take (i + 1) (map entry_view es))
-step class es i m n is h =
-    let s : suc i ≡ i + 1 = omega arith in
-    ap (λ k. k + (if class (meaning_view m) then 1 else 0)) h ∙ sym (count_next class es i m is) ∙ ap (λ k. count_of class (take k (map entry_view es))) s
+-- what counts declarations is less than what they are fewer than
+pub small_counts : (c : Counts) (ds : List Declared) (n : ℕ) → length ds < n → AreCounts c ds → AreSmall c n
+small_counts c ds n small h = record {
+  generics = below (λ e. visibility.is_generic e.meaning) c.generics h.generics;
+  ports = below (λ e. visibility.is_port e.meaning) c.ports h.ports;
+  integers = below (λ e. visibility.is_integer_constant e.meaning) c.integers h.integers;
+  constants = below (λ e. visibility.is_constant e.meaning) c.constants h.constants;
+  signals = below (λ e. visibility.is_signal e.meaning) c.signals h.signals;
+  variables = below (λ e. visibility.is_variable e.meaning) c.variables h.variables;
+  enumerations = below (λ e. visibility.is_enumeration_type e.meaning) c.enumerations h.enumerations;
+  ranges = below (λ e. is_some e.range) c.ranges h.ranges;
+}
+  where
+    below : (has : Declared → Bool) (k : ℕ) → k ≡ count_by has ds → k < n
+    below has k e = let p = count_by-le-length has ds in omega (arith, p, e, small)
 
-pub counted_more : (c : Counts) (es : List (Vec ℕ Global × CodeMeaning)) (i : ℕ) (m : CodeMeaning) → slice_get (values_of es) i ≡ Some m →
-    AreCounts c (take i (map entry_view es)) → AreCounts (counted c (meaning_view m)) (take (i + 1) (map entry_view es))
-counted_more c es i m is h = record {
-  generics = step visibility.is_generic es i m c.generics is h.generics;
-  ports = step visibility.is_port es i m c.ports is h.ports;
-  integers = step visibility.is_integer_constant es i m c.integers is h.integers;
-  constants = step visibility.is_constant es i m c.constants is h.constants;
-  signals = step visibility.is_signal es i m c.signals is h.signals;
-  variables = step visibility.is_variable es i m c.variables is h.variables;
-  enumerations = step visibility.is_enumeration_type es i m c.enumerations is h.enumerations;
+-- what is less than one number is less than a greater one
+pub smaller : (c : Counts) (m n : ℕ) → m ≤ n → AreSmall c m → AreSmall c n
+smaller c m n le h = record {
+  generics = let p = h.generics in omega (arith, p, le);
+  ports = let p = h.ports in omega (arith, p, le);
+  integers = let p = h.integers in omega (arith, p, le);
+  constants = let p = h.constants in omega (arith, p, le);
+  signals = let p = h.signals in omega (arith, p, le);
+  variables = let p = h.variables in omega (arith, p, le);
+  enumerations = let p = h.enumerations in omega (arith, p, le);
+  ranges = let p = h.ranges in omega (arith, p, le);
 }
 
-length-take-le : {A : Type 0} (n : ℕ) (xs : List A) → length (take n xs) ≤ length xs
-length-take-le zero xs = omega arith
-length-take-le (suc n) [] = omega arith
-length-take-le (suc n) (x ∷ xs) = let h = length-take-le n xs in omega (arith, h)
+taken_le : {A : Type 0} (n : ℕ) (xs : List A) → length (take n xs) ≤ length xs
+taken_le zero xs = omega arith
+taken_le (suc n) [] = omega arith
+taken_le (suc n) (x ∷ xs) = let h = taken_le n xs in omega (arith, h)
 
-bound : (class : Meaning → Bool) (ds : List Declared) (i n : ℕ) → length ds < 2 ^ 63 → n ≡ count_of class (take i ds) → n < 2 ^ 63
-bound class ds i n small h =
-    let p = count_by-le-length (λ (d : Declared). class d.meaning) (take i ds) in
-    let q = length-take-le i ds in
-    omega (arith, p, q, h)
-
-pub small_counts : (c : Counts) (ds : List Declared) (i : ℕ) → length ds < 2 ^ 63 → AreCounts c (take i ds) → AreSmall c
-small_counts c ds i small h = record {
-  generics = bound visibility.is_generic ds i c.generics small h.generics;
-  ports = bound visibility.is_port ds i c.ports small h.ports;
-  integers = bound visibility.is_integer_constant ds i c.integers small h.integers;
-  constants = bound visibility.is_constant ds i c.constants small h.constants;
-  signals = bound visibility.is_signal ds i c.signals small h.signals;
-  variables = bound visibility.is_variable ds i c.variables small h.variables;
-  enumerations = bound visibility.is_enumeration_type ds i c.enumerations small h.enumerations;
-}
-
--- a number among those before it
-pub count_below : (class : Meaning → Bool) (ds : List Declared) (n : ℕ) → n ≡ count_of class ds → n ≤ length ds
-count_below class ds n h = let p = count_by-le-length (λ (d : Declared). class d.meaning) ds in omega (arith, p, h)
+-- the same of what a region and a place in another have
+pub taken_size : (es : List (Vec ℕ Global × Entry)) (i : ℕ) → length (take i (map entry_view es)) ≤ length es
+taken_size es i =
+    let p = taken_le i (map entry_view es) in
+    let q = length-map es entry_view in
+    omega (arith, p, q)

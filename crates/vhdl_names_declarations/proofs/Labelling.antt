@@ -1,10 +1,8 @@
 -- Labels of statements, statement by statement.
-use Rattle.std.proofs.Common.{◌≡◌, ℕ, suc, ◌+◌, ◌<◌, ◌≤◌, Bool, true, false, List, [], ◌++◌, map, length, drop, get_or, Option, Some, None, Vec, Global, refl, sym, ap, ◌∙◌, arith}
+use Rattle.std.proofs.Common.{◌≡◌, ℕ, ◌+◌, ◌<◌, ◌≤◌, Bool, true, false, List, [], map, length, drop, get_or, Option, Some, None, Vec, Global, refl, sym, ap, ◌∙◌}
 use Rattle.std.specs.Prelude.{bytes_eq}
 use Rattle.std.specs.List.{IsDistinct}
 use Rattle.std.specs.Map.{keys_of}
-use Rattle.std.proofs.Math.Seq.{drop-cons}
-use Rattle.std.proofs.lemmas.List.{drop_all, map-append}
 use Rattle.vhdl_tree.specs.Tree as t
 use Rattle.vhdl_tree.specs.Tree.{Ident}
 use Rattle.vhdl_tree.specs.View.{concurrent_view}
@@ -20,12 +18,11 @@ use Rattle.vhdl_names_rules.specs.declared.fault.NameFault.{NameFault}
 use Rattle.vhdl_names_rules.specs.problems.Broken.{Tells}
 use Rattle.vhdl_names_rules.specs.problems.Labels.{label_if_any, label_of, labels_of}
 use Rattle.vhdl_names_rules.specs.problems.Declarations.{standing_twice}
-use Rattle.vhdl_names_rules.proofs.Telling.{told_same}
-use Rattle.vhdl_names_sight.specs.declared.meaning.Meaning.{Meaning as CodeMeaning}
+use Rattle.vhdl_names_sight.specs.declared.meaning.Entry.{Entry}
 use Rattle.vhdl_names_sight.specs.Views.{entry_view}
 use Rattle.vhdl_names_declarations.specs.Entered.{more}
-use Rattle.vhdl_names_declarations.proofs.Breaking.{twice_more, standing_behind, from_one}
-use Rattle.vhdl_names_declarations.proofs.Regions.{more_split, more_none, names_apart, names-all}
+use Rattle.vhdl_names_declarations.proofs.Naming.{one_told, one_behind, next_one, none_left}
+use Rattle.vhdl_names_declarations.proofs.Regions.{names-all}
 
 abbrev pub label_names_of : List Concurrent → List Name
 label_names_of cs = concurrent_labels (t.concurrents_of (map concurrent_view cs))
@@ -34,7 +31,7 @@ abbrev pub labels_in : List Concurrent → List Ident
 labels_in cs = labels_of (t.concurrents_of (map concurrent_view cs))
 
 -- labels with their bytes have the names that the rules speak of
-names_if_any : (l : Option Ident) → names_of (label_if_any l) ≡ label_names l
+pub names_if_any : (l : Option Ident) → names_of (label_if_any l) ≡ label_names l
 names_if_any None = refl
 names_if_any (Some l) = refl
 
@@ -44,37 +41,28 @@ names_of_label (t.selected label a) = names_if_any label
 names_of_label (t.process label p) = names_if_any label
 names_of_label (t.instance label i) = refl
 names_of_label (t.generated label at scheme word cs end) = refl
+names_of_label (t.assertion a) = names_if_any a.label
 
 -- labels of one statement, and of those behind it
-labels_from : (cs : List Concurrent) (i : ℕ) (c : Concurrent) → i < length cs → c ≡ get_or cs i c → labels_in (drop i cs) ≡ label_of (concurrent_view c) ++ labels_in (drop (i + 1) cs)
-labels_from cs i c lt is = ap (λ l. labels_of (t.concurrents_of l)) (from_one concurrent_view cs i c lt is)
+module _ (cs : List Concurrent) (i : ℕ) (c : Concurrent) (lt : i < length cs) (is : c ≡ get_or cs i c) where
+  abbrev one_name : Concurrent → List Name
+  one_name c = concurrent_label (concurrent_view c)
 
-pub label_told : (ds : List Declared) (cs : List Concurrent) (i : ℕ) (c : Concurrent) (f : NameFault) → i < length cs → c ≡ get_or cs i c →
-    Tells (standing_twice ds (label_of (concurrent_view c))) f → Tells (standing_twice ds (labels_in (drop i cs))) f
-label_told ds cs i c f lt is h =
-    told_same (standing_twice ds (label_of (concurrent_view c) ++ labels_in (drop (i + 1) cs))) (standing_twice ds (labels_in (drop i cs))) f
-    (ap (standing_twice ds) (sym (labels_from cs i c lt is))) (twice_more (declared_names ds) (label_of (concurrent_view c)) (labels_in (drop (i + 1) cs)) f h)
+  abbrev one_ident : Concurrent → List Ident
+  one_ident c = label_of (concurrent_view c)
 
-pub label_behind : (ds r : List Declared) (cs : List Concurrent) (i : ℕ) (c : Concurrent) → i < length cs → c ≡ get_or cs i c →
-    more ds (labelled (concurrent_label (concurrent_view c))) ≡ Some r → standing_twice ds (labels_in (drop i cs)) ≡ standing_twice r (labels_in (drop (i + 1) cs))
-label_behind ds r cs i c lt is h =
-    let l = concurrent_view c in
-    ap (standing_twice ds) (labels_from cs i c lt is)
-    ∙ standing_behind ds (labelled (concurrent_label l)) (label_of l) (names-all visibility.label (concurrent_label l) ∙ sym (names_of_label l)) r h (labels_in (drop (i + 1) cs))
+  pub label_told : (ds : List Declared) (f : NameFault) → Tells (standing_twice ds (label_of (concurrent_view c))) f → Tells (standing_twice ds (labels_in (drop i cs))) f
+  label_told = one_told one_name label_names_of one_ident labels_in (λ c cs. refl) (λ c cs. refl) (λ c. names_of_label (concurrent_view c)) cs i c lt is
 
-pub next_label : (ds : List Declared) (cs : List Concurrent) (i : ℕ) (c : Concurrent) → i < length cs → c ≡ get_or cs i c →
-    more ds (labelled (label_names_of (drop i cs))) ≡ (more ds (labelled (concurrent_label (concurrent_view c))) >>= λ r. more r (labelled (label_names_of (drop (i + 1) cs))))
-next_label ds cs i c lt is =
-    let s : suc i ≡ i + 1 = omega arith in
-    ap (λ l. more ds (labelled (label_names_of l))) (drop-cons cs i c lt)
-    ∙ ap (λ k. more ds (labelled (concurrent_label (concurrent_view k) ++ label_names_of (drop (suc i) cs)))) (sym is)
-    ∙ ap (more ds) (map-append (λ n. visibility.declare n visibility.label) (concurrent_label (concurrent_view c)) (label_names_of (drop (suc i) cs)))
-    ∙ more_split ds (labelled (concurrent_label (concurrent_view c))) (labelled (label_names_of (drop (suc i) cs)))
-    ∙ ap (λ k. more ds (labelled (concurrent_label (concurrent_view c))) >>= λ r. more r (labelled (label_names_of (drop k cs)))) s
+  pub label_behind : (ds r : List Declared) → more ds (labelled (concurrent_label (concurrent_view c))) ≡ Some r → standing_twice ds (labels_in (drop i cs)) ≡ standing_twice r (labels_in (drop (i + 1) cs))
+  label_behind = one_behind one_name label_names_of one_ident labels_in (λ c cs. refl) (λ c cs. refl) (λ c. names_of_label (concurrent_view c)) cs i c lt is
 
-pub no_labels : (es : List (Vec ℕ Global × CodeMeaning)) (cs : List Concurrent) (i : ℕ) → length cs ≤ i → IsDistinct (λ a b. bytes_eq a.items b.items) (keys_of es) →
+  pub next_label : (ds : List Declared) → more ds (labelled (label_names_of (drop i cs))) ≡ (more ds (labelled (concurrent_label (concurrent_view c))) >>= λ r. more r (labelled (label_names_of (drop (i + 1) cs))))
+  next_label = next_one one_name label_names_of one_ident labels_in (λ c cs. refl) (λ c cs. refl) (λ c. names_of_label (concurrent_view c)) cs i c lt is
+
+pub no_labels : (es : List (Vec ℕ Global × Entry)) (cs : List Concurrent) (i : ℕ) → length cs ≤ i → IsDistinct (λ a b. bytes_eq a.items b.items) (keys_of es) →
     more (map entry_view es) (labelled (label_names_of (drop i cs))) ≡ Some (map entry_view es)
-no_labels es cs i le apart = ap (λ l. more (map entry_view es) (labelled (label_names_of l))) (drop_all i cs le) ∙ more_none (map entry_view es) (names_apart es apart)
+no_labels = none_left label_names_of refl
 
 -- labels of a region of their own
 labels_distinct : (ns : List Name) → are_distinct (declared_names (labelled ns)) ≡ are_distinct ns

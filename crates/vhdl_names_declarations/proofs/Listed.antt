@@ -1,15 +1,17 @@
 -- Declarations of a list, on the regions that they enter.
-use Rattle.std.proofs.Common.{◌≡◌, ℕ, ◌+◌, ◌<◌, ◌≤◌, Bool, true, false, List, [], ◌∷◌, ◌++◌, map, flat_map, length, take, get_or, Option, Some, None, refl, sym, ap, subst, ◌∙◌, append_assoc, append-nil, arith}
+use Rattle.std.proofs.Common.{◌≡◌, ℕ, ◌+◌, ◌<◌, ◌≤◌, Bool, true, false, List, [], ◌∷◌, ◌++◌, map, flat_map, length, take, get_or, Option, Some, None, Vec, Global, refl, sym, ap, subst, ◌∙◌, append_assoc, append-nil, arith}
 use Rattle.std.proofs.Math.Seq.{take-append_seam}
 use Rattle.std.proofs.lemmas.Grind.{flat_map-append}
 use Rattle.std.proofs.lemmas.List.{length-map, length-append}
 use Rattle.vhdl_names_rules.specs.Rules.{◌>>=◌, met}
-use Rattle.vhdl_names_rules.specs.Visibility.{Declared, Sight, Declares, are_distinct, with_declared, with_variables}
+use Rattle.vhdl_names_rules.specs.Visibility.{Declared, Sight, Declares, are_distinct, declared_here, with_declared, with_variables}
 use Rattle.vhdl_names_rules.specs.Declarations.{in_order}
 use Rattle.vhdl_names_rules.specs.Interfaces.{declared_names}
 use Rattle.vhdl_names_sight.specs.declared.sight.Sight.TheInside.{Inside}
 use Rattle.vhdl_names_sight.specs.Seen.{sight_view}
 use Rattle.vhdl_names_sight.specs.Views.{entry_view}
+use Rattle.vhdl_names_units.specs.declared.declaration.Declaration.{Declaration}
+use Rattle.vhdl_names_units.specs.views.Declarations.{declaration_view, declarations_view}
 use Rattle.vhdl_names_declarations.specs.declared.counts.Counts.{Counts}
 use Rattle.vhdl_names_declarations.specs.Counts.{AreCounts}
 use Rattle.vhdl_names_declarations.specs.Entered.{entering, entering_variables}
@@ -132,10 +134,16 @@ module _ {A B : Type 0} (declares : Sight → A → Option (Declares B)) where
 pub all_more : {X Y : Type 0} (f : X → List Y) (xs : List X) (x : X) → flat_map f (xs ++ x ∷ []) ≡ flat_map f xs ++ f x
 all_more f xs x = flat_map-append f xs (x ∷ []) ∙ ap (λ l. flat_map f xs ++ l) (append-nil (f x))
 
+pub none_more : (v : Vec Declaration Global) → declarations_view v ≡ declarations_view v ++ []
+none_more v = sym (append-nil (declarations_view v))
+
+pub one_more : (v w : Vec Declaration Global) (d : Declaration) → w.items ≡ v.items ++ d ∷ [] → declarations_view w ≡ declarations_view v ++ declaration_view d
+one_more v w d h = ap (flat_map declaration_view) h ∙ all_more declaration_view v.items d
+
 -- ---- the same of a process's variables
 
 module _ {A B : Type 0} (declares : Sight → A → Option (Declares B)) where
-  pub grown_by_variables : (s t : Sight) (a : A) (ys : List B) → entering_variables declares s a ≡ Some (t, ys) → (ds : List Declared) × (t.variables ≡ s.variables ++ ds)
+  grown_by_variables : (s t : Sight) (a : A) (ys : List B) → entering_variables declares s a ≡ Some (t, ys) → (ds : List Declared) × (t.variables ≡ s.variables ++ ds)
   grown_by_variables s t a ys h = go (declares s a) h
     where
       by : (x : Declares B) (b : Bool) → (met b >>= λ _. Some (o.pair (with_variables s x.declared) x.analysed)) ≡ Some (t, ys) → t.variables ≡ s.variables ++ x.declared
@@ -146,15 +154,26 @@ module _ {A B : Type 0} (declares : Sight → A → Option (Declares B)) where
       go None e = cc
       go (Some x) e = (x.declared, by x (are_distinct (declared_names (s.variables ++ x.declared))) e)
 
-  pub counts_before_variables : (c : Counts) (s t : Sight) (a : A) (ys : List B) (first : ℕ) → entering_variables declares s a ≡ Some (t, ys) → first ≡ length s.variables →
-      AreCounts c s.variables → AreCounts c (take first t.variables)
-  counts_before_variables c s t a ys first h size counts =
-      let g = grown_by_variables s t a ys h in
-      subst (AreCounts c) (sym (ap (λ n. take n t.variables) size ∙ ap (take (length s.variables)) g.1 ∙ take-append_seam s.variables g.0)) counts
-
-  pub place_within_variables : (s t : Sight) (a : A) (ys : List B) → entering_variables declares s a ≡ Some (t, ys) → length s.variables ≤ length t.variables
+  place_within_variables : (s t : Sight) (a : A) (ys : List B) → entering_variables declares s a ≡ Some (t, ys) → length s.variables ≤ length t.variables
   place_within_variables s t a ys h =
       let g = grown_by_variables s t a ys h in
       let e = ap length g.1 in
       let l = length-append s.variables g.0 in
       omega (arith, e, l)
+
+  pub place_after_variables : (s t : Sight) (a : A) (ys : List B) (i j : Inside) (first : ℕ) → entering_variables declares s a ≡ Some (t, ys) → sight_view i ≡ s → sight_view j ≡ t →
+      first ≡ length i.variables.entries → first ≤ length j.variables.entries
+  place_after_variables s t a ys i j first h e d size =
+      let w = place_within_variables s t a ys h in
+      let p = variables_size i s e in
+      let q = variables_size j t d in
+      omega (arith, w, p, q, size)
+
+  -- the region stays as it is
+  pub counts_after_variables : (c : Counts) (s t : Sight) (a : A) (ys : List B) (i j : Inside) (first : ℕ) → entering_variables declares s a ≡ Some (t, ys) → t ≡ record s { variables = t.variables } →
+      sight_view i ≡ s → sight_view j ≡ t → first ≡ length i.variables.entries → AreCounts c (declared_here s) → AreCounts c ((sight_view j).region ++ take first (sight_view j).variables)
+  counts_after_variables c s t a ys i j first h kept e d size counts =
+      let g = grown_by_variables s t a ys h in
+      let all = ap (λ n. take n t.variables) (size ∙ sym (variables_size i s e)) ∙ ap (take (length s.variables)) g.1 ∙ take-append_seam s.variables g.0 in
+      subst (λ (x : Sight). AreCounts c (x.region ++ take first x.variables)) (sym d)
+      (subst (AreCounts c) (sym (ap (λ (x : Sight). x.region ++ take first t.variables) kept ∙ ap (λ l. s.region ++ l) all)) counts)

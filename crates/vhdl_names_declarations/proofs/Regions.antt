@@ -1,10 +1,10 @@
 -- Names of a region, and declarations that enter it.
-use Rattle.std.proofs.Common.{◌≡◌, ℕ, zero, suc, ◌+◌, ◌<◌, ◌≤◌, Bool, true, false, not, ◌&&◌, ◌||◌, List, [], ◌∷◌, ◌++◌, map, length, drop, get_or, Some, None, Vec, Global, refl, sym, ap, ◌∙◌, true≢false, append_assoc, append-nil, arith}
+use Rattle.std.proofs.Common.{◌≡◌, ℕ, suc, ◌+◌, ◌<◌, ◌≤◌, Bool, true, false, not, ◌&&◌, ◌||◌, List, [], ◌∷◌, ◌++◌, map, length, drop, get_or, Some, None, Vec, Global, refl, sym, ap, ◌∙◌, true≢false, append_assoc, append-nil, arith}
 use Rattle.std.specs.Prelude.{bytes_eq, is_some}
 use Rattle.std.specs.List.{IsDistinct}
 use Rattle.std.specs.Map.{lookup, keys_of}
 use Rattle.std.proofs.Math.Seq.{drop-cons}
-use Rattle.std.proofs.lemmas.List.{map-append, length-map, drop_all}
+use Rattle.std.proofs.lemmas.List.{map-append, drop_all}
 use Rattle.std.proofs.lemmas.Slice.Eq.{bytes_eq-Decides}
 use Rattle.vhdl_names_rules.specs.Rules.{◌>>=◌, met}
 use Rattle.vhdl_names_rules.specs.Visibility as visibility
@@ -12,12 +12,10 @@ use Rattle.vhdl_tree.specs.declared.expression.Identifier.{Identifier}
 use Rattle.vhdl_tree.specs.View.{ident_view}
 use Rattle.vhdl_names_rules.specs.Visibility.{Name, names_of, Declared, Meaning, is_among, are_distinct, all_declared, numbered}
 use Rattle.vhdl_names_rules.specs.Interfaces.{declared_names}
-use Rattle.vhdl_names_sight.specs.declared.meaning.Meaning.{Meaning as CodeMeaning}
-use Rattle.vhdl_names_sight.specs.Views.{meaning_view, entry_view}
+use Rattle.vhdl_names_sight.specs.declared.meaning.Entry.{Entry}
+use Rattle.vhdl_names_sight.specs.Views.{entry_of, entry_view}
 use Rattle.vhdl_names_declarations.specs.Entered.{more}
-use Rattle.vhdl_names_declarations.specs.Settled.{settled}
 use Rattle.vhdl_names_declarations.proofs.Keyed.{among_table, table_apart}
-use Rattle.indexmap.specs.Layout.{set_value_at}
 
 -- ---- names
 
@@ -105,49 +103,27 @@ more_last ds d h =
 
 -- ---- tables
 
-pub among_keys : (n : Name) (es : List (Vec ℕ Global × CodeMeaning)) → is_some (lookup (λ k. bytes_eq n k.items) es) ≡ is_among n (declared_names (map entry_view es))
+pub among_keys : (n : Name) (es : List (Vec ℕ Global × Entry)) → is_some (lookup (λ k. bytes_eq n k.items) es) ≡ is_among n (declared_names (map entry_view es))
 among_keys = among_table entry_view (λ (d : Declared). d.name) (λ e. refl)
 
-pub names_apart : (es : List (Vec ℕ Global × CodeMeaning)) → IsDistinct (λ a b. bytes_eq a.items b.items) (keys_of es)
+pub names_apart : (es : List (Vec ℕ Global × Entry)) → IsDistinct (λ a b. bytes_eq a.items b.items) (keys_of es)
     → are_distinct (declared_names (map entry_view es)) ≡ true
 names_apart = table_apart entry_view (λ (d : Declared). d.name) (λ e. refl)
 
-pub refused : (es : List (Vec ℕ Global × CodeMeaning)) (n : Name) (m : Meaning) → IsDistinct (λ a b. bytes_eq a.items b.items) (keys_of es)
-    → is_some (lookup (λ k. bytes_eq n k.items) es) ≡ true → more (map entry_view es) (visibility.declare n m ∷ []) ≡ None
-refused es n m apart there =
-    more_last (map entry_view es) (visibility.declare n m) (names_apart es apart)
-    ∙ ap (λ b. met (not b) >>= λ _. Some (map entry_view es ++ visibility.declare n m ∷ [])) (sym (among_keys n es) ∙ there)
+pub refused : (es : List (Vec ℕ Global × Entry)) (d : Declared) → IsDistinct (λ a b. bytes_eq a.items b.items) (keys_of es)
+    → is_some (lookup (λ k. bytes_eq d.name k.items) es) ≡ true → more (map entry_view es) (d ∷ []) ≡ None
+refused es d apart there =
+    more_last (map entry_view es) d (names_apart es apart)
+    ∙ ap (λ b. met (not b) >>= λ _. Some (map entry_view es ++ d ∷ [])) (sym (among_keys d.name es) ∙ there)
 
-pub grown : (es es' : List (Vec ℕ Global × CodeMeaning)) (n : Name) (key : Vec ℕ Global) (m : CodeMeaning) → IsDistinct (λ a b. bytes_eq a.items b.items) (keys_of es)
-    → is_some (lookup (λ k. bytes_eq n k.items) es) ≡ false → key.items ≡ n → es' ≡ es ++ (key, m) ∷ []
-    → more (map entry_view es) (visibility.declare n (meaning_view m) ∷ []) ≡ Some (map entry_view es')
-grown es es' n key m apart new same e =
-    more_last (map entry_view es) (visibility.declare n (meaning_view m)) (names_apart es apart)
-    ∙ ap (λ b. met (not b) >>= λ _. Some (map entry_view es ++ visibility.declare n (meaning_view m) ∷ [])) (sym (among_keys n es) ∙ new)
-    ∙ ap (λ t. Some (map entry_view es ++ visibility.declare t (meaning_view m) ∷ [])) (sym same)
-    ∙ ap Some (sym (map-append entry_view es ((key, m) ∷ []))) ∙ ap (λ l. Some (map entry_view l)) (sym e)
-
--- ---- names that get their meaning
-
-place_more : (f : ℕ → Meaning) (number place : ℕ) (es : List (Vec ℕ Global × CodeMeaning)) (m : CodeMeaning) → place < length es → meaning_view m ≡ f number →
-    settled f number place (map entry_view es) ≡ settled f (suc number) (suc place) (map entry_view (set_value_at es place m))
-place_more f number place [] m lt is = absurd (omega arith)
-place_more f number zero (e ∷ es) m lt is = ap (λ x. visibility.declare e.0.items x ∷ numbered f (suc number) (declared_names (map entry_view es))) (sym is)
-place_more f number (suc place) (e ∷ es) m lt is =
-    ap (λ ds. entry_view e ∷ ds) (place_more f number place es m (omega (arith, lt)) is)
-
-pub settled_more : (f : ℕ → Meaning) (number place place' : ℕ) (es : List (Vec ℕ Global × CodeMeaning)) (m : CodeMeaning) → place < length es → place' ≡ place + 1 → meaning_view m ≡ f number →
-    settled f number place (map entry_view es) ≡ settled f (number + 1) place' (map entry_view (set_value_at es place m))
-settled_more f number place place' es m lt next is =
-    let s : suc number ≡ number + 1 = omega arith in
-    let t : suc place ≡ place' = omega arith in
-    place_more f number place es m lt is
-    ∙ ap (λ k. settled f k (suc place) (map entry_view (set_value_at es place m))) s
-    ∙ ap (λ k. settled f (number + 1) k (map entry_view (set_value_at es place m))) t
-
-pub settled_all : (f : ℕ → Meaning) (number : ℕ) (ds : List Declared) → settled f number (length ds) ds ≡ ds
-settled_all f number [] = refl
-settled_all f number (d ∷ ds) = ap (λ l. d ∷ l) (settled_all f number ds)
+pub grown : (es es' : List (Vec ℕ Global × Entry)) (n : Name) (key : Vec ℕ Global) (e : Entry) → IsDistinct (λ a b. bytes_eq a.items b.items) (keys_of es)
+    → is_some (lookup (λ k. bytes_eq n k.items) es) ≡ false → key.items ≡ n → es' ≡ es ++ (key, e) ∷ []
+    → more (map entry_view es) (entry_of n e ∷ []) ≡ Some (map entry_view es')
+grown es es' n key e apart new same is =
+    more_last (map entry_view es) (entry_of n e) (names_apart es apart)
+    ∙ ap (λ b. met (not b) >>= λ _. Some (map entry_view es ++ entry_of n e ∷ [])) (sym (among_keys n es) ∙ new)
+    ∙ ap (λ t. Some (map entry_view es ++ entry_of t e ∷ [])) (sym same)
+    ∙ ap Some (sym (map-append entry_view es ((key, e) ∷ []))) ∙ ap (λ l. Some (map entry_view l)) (sym is)
 
 -- ---- names of one meaning
 
@@ -163,13 +139,9 @@ next_name ds m names i n lt is =
     ∙ more_split ds (visibility.declare n.text.items m ∷ []) (all_of_names m (drop (suc i) names))
     ∙ ap (λ k. more ds (visibility.declare n.text.items m ∷ []) >>= λ r. more r (all_of_names m (drop k names))) s
 
-pub no_names : (es : List (Vec ℕ Global × CodeMeaning)) (m : Meaning) (names : List Identifier) (i : ℕ) → length names ≤ i → IsDistinct (λ a b. bytes_eq a.items b.items) (keys_of es) →
+pub no_names : (es : List (Vec ℕ Global × Entry)) (m : Meaning) (names : List Identifier) (i : ℕ) → length names ≤ i → IsDistinct (λ a b. bytes_eq a.items b.items) (keys_of es) →
     more (map entry_view es) (all_of_names m (drop i names)) ≡ Some (map entry_view es)
 no_names es m names i le apart = ap (λ l. more (map entry_view es) (all_of_names m l)) (drop_all i names le) ∙ more_none (map entry_view es) (names_apart es apart)
-
-pub settled_end : (f : ℕ → Meaning) (number place : ℕ) (es : List (Vec ℕ Global × CodeMeaning)) → place ≡ length es → settled f number place (map entry_view es) ≡ map entry_view es
-settled_end f number place es e =
-    ap (λ k. settled f number k (map entry_view es)) (e ∙ sym (length-map es entry_view)) ∙ settled_all f number (map entry_view es)
 
 -- ---- declarations one by one
 
@@ -181,6 +153,6 @@ next_of view ds xs i none lt =
     ∙ more_split ds (view (get_or xs i none) ∷ []) (map view (drop (suc i) xs))
     ∙ ap (λ k. more ds (view (get_or xs i none) ∷ []) >>= λ r. more r (map view (drop k xs))) s
 
-pub none_left : {X : Type 0} (view : X → Declared) (es : List (Vec ℕ Global × CodeMeaning)) (xs : List X) (i : ℕ) → length xs ≤ i → IsDistinct (λ a b. bytes_eq a.items b.items) (keys_of es) →
+pub none_left : {X : Type 0} (view : X → Declared) (es : List (Vec ℕ Global × Entry)) (xs : List X) (i : ℕ) → length xs ≤ i → IsDistinct (λ a b. bytes_eq a.items b.items) (keys_of es) →
     more (map entry_view es) (map view (drop i xs)) ≡ Some (map entry_view es)
 none_left view es xs i le apart = ap (λ l. more (map entry_view es) (map view l)) (drop_all i xs le) ∙ more_none (map entry_view es) (names_apart es apart)

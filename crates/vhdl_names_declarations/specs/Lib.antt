@@ -1,7 +1,8 @@
 pub mod Constants
-pub mod Contexts
 pub mod Counts
 pub mod Entered
-pub mod Rows
+pub mod Enumerating
+pub mod Porting
 pub mod Settled
+pub mod Subtyping
 pub mod Typed

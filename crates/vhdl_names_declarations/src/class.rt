@@ -1,12 +1,13 @@
 //! What names of one declaration are declared to be, but for their numbers.
 
-ghost use Rattle.std.specs.Prelude.{◌≡◌, IfOk, option_map};
+ghost use Rattle.std.specs.Prelude.{◌≡◌, IfOk};
 ghost use Rattle.vhdl_names_declarations.specs.Settled.{class_view};
+ghost use Rattle.vhdl_names_declarations.specs.Typed as typed;
 ghost use Rattle.vhdl_names_sight.specs.Views.{meaning_view};
 
 use std::alloc::{AllocError, Global};
 use vhdl_names_rules::{ElementKind, ObjectType};
-use vhdl_names_sight::Meaning;
+use vhdl_names_sight::{Meaning, copied_values};
 use vhdl_tree::Mode;
 use vhdl_values::Nine;
 
@@ -14,25 +15,14 @@ use vhdl_values::Nine;
 #[derive(Drop)]
 pub enum ObjectClass {
     Generic,
+    BooleanGeneric,
     Port(Mode, ElementKind),
     Integer,
+    Boolean,
     /// A constant that is no integer, with the literal that declares it, if one does.
     Constant(ElementKind, Option<Vec<Nine>>),
     Signal(ObjectType),
     Variable(ObjectType),
-}
-
-/// A copy of the values of a literal, if there is one.
-pub fn copied_values(
-    alloc: Global,
-    values: &Option<Vec<Nine>>,
-) -> Result<Option<Vec<Nine>>, AllocError>
-    ensures { IfOk result (λ v. option_map (λ x. x.items) v ≡ option_map (λ x. x.items) values.now) }
-{
-    match values {
-        None => Ok(None),
-        Some(values) => Ok(Some(Vec::from_slice(alloc, values)?)),
-    }
 }
 
 impl ObjectClass {
@@ -42,8 +32,10 @@ impl ObjectClass {
     {
         match self {
             ObjectClass::Generic => Ok(Meaning::Generic(number)),
+            ObjectClass::BooleanGeneric => Ok(Meaning::BooleanGeneric(number)),
             ObjectClass::Port(mode, kind) => Ok(Meaning::Port(number, *mode, *kind)),
             ObjectClass::Integer => Ok(Meaning::IntegerConstant(number)),
+            ObjectClass::Boolean => Ok(Meaning::BooleanConstant(number)),
             ObjectClass::Constant(kind, values) => {
                 let values = copied_values(alloc, values)?;
                 Ok(Meaning::Constant(number, *kind, values))
@@ -51,5 +43,24 @@ impl ObjectClass {
             ObjectClass::Signal(object_type) => Ok(Meaning::Signal(number, *object_type)),
             ObjectClass::Variable(object_type) => Ok(Meaning::Variable(number, *object_type)),
         }
+    }
+}
+
+/// Of which class a type is: of integers, of booleans, or of the nine values or an enumeration.
+#[derive(Clone, Copy)]
+pub enum TypeClass {
+    Integers,
+    Booleans,
+    Others,
+}
+
+/// The class of a type.
+pub fn class_of(meaning: &Meaning) -> TypeClass
+    ensures { typed.type_class_view result ≡ typed.class_of (meaning_view meaning.now) }
+{
+    match meaning {
+        Meaning::IntegerType(_) => TypeClass::Integers,
+        Meaning::BooleanType => TypeClass::Booleans,
+        _ => TypeClass::Others,
     }
 }

@@ -1,45 +1,58 @@
-//! Constants of an architecture (IEEE 1076-2008, 6.4.2.2).
+//! Constants of an architecture or a process (IEEE 1076-2008, 6.4.2.2).
 
-ghost use Rattle.std.specs.Prelude.{◌≡◌, map, option_map, IfOk, OnOk, IfErr};
+ghost use Rattle.std.specs.Prelude.{◌≡◌, ◌++◌, option_map, IfOk, OnOk, IfErr};
 ghost use Rattle.vhdl_names_declarations.specs.Constants as typed;
-ghost use Rattle.vhdl_names_declarations.specs.Entered.{entering};
-ghost use Rattle.vhdl_names_declarations.specs.Settled.{class_view};
+ghost use Rattle.vhdl_names_declarations.specs.Counts.{AreCounts};
+ghost use Rattle.vhdl_names_declarations.specs.Entered.{entering, entering_variables};
 ghost use Rattle.vhdl_names_rules.specs.Declarations as rules;
 ghost use Rattle.vhdl_names_rules.specs.Gives.{Gives};
 ghost use Rattle.vhdl_names_rules.specs.Subtypes.{declaring_literal};
-ghost use Rattle.vhdl_names_rules.specs.Visibility as visibility;
-ghost use Rattle.vhdl_names_rules.specs.Visibility.{count_of, is_constant, is_integer_constant};
+ghost use Rattle.vhdl_names_rules.specs.views.Integers.{base_view, subtype_view as integers_view};
 ghost use Rattle.vhdl_tree.specs.View as tree;
-ghost use Rattle.vhdl_names_sight.specs.Views.{meaning_view};
 ghost use Rattle.vhdl_names_units.specs.views.Answers.{fixed_view};
 ghost use Rattle.vhdl_names_units.specs.views.Declarations.{declaration_view};
 ghost use Rattle.vhdl_names_rules.specs.problems.Broken.{Tells};
 ghost use Rattle.vhdl_names_rules.specs.problems.Declarations as broken;
 
-use crate::class::ObjectClass;
+use crate::class::{ObjectClass, TypeClass, class_of};
+use crate::counts::{Counts, region_is_small};
+use crate::generics::is_global;
 use crate::names::copied_names;
 use crate::ports::kind_of;
-use crate::region::{hide, settle};
+use crate::region::{Settled, hide, settle};
 use std::alloc::{AllocError, Global};
-use vhdl_names_expressions::{fixed_value, static_integer, subtype};
-use vhdl_names_rules::{ElementKind, IntegerType, NameFault, NameProblem, Static};
-use vhdl_names_sight::{Meaning, Sight, meaning_of};
+use vhdl_names_expressions::{start, static_condition, static_integer};
+use vhdl_names_parts::is_local;
+use vhdl_names_rules::{
+    ElementKind, IntegerBase, IntegerSubtype, NameFault, NameProblem, Static, StaticTest,
+};
+use vhdl_names_sight::{Sight, declaration_of};
 use vhdl_names_units::{Declaration, Fixed, Form};
+use vhdl_names_values::{fixed_value, integer_subtype, integers_of, subtype};
 use vhdl_tree::{Constants, Expr, Identifier, Value};
 use vhdl_values::Nine;
 
-/// What constants of one declaration are: of a type of integers, or of the nine values.
+/// What constants of one declaration are: integers, with the byte at which a wrong value is told if
+/// not at the names; booleans; or of the nine values.
 #[derive(Drop)]
-pub enum Constant {
-    Integer(IntegerType, Static),
+enum Constant {
+    Integer(Option<usize>, IntegerSubtype, Static),
+    Truth(StaticTest),
     Other(ElementKind, Form, Fixed),
 }
 
-/// The value of an integer constant is one expression; `(others => e)` is a TypeMismatch.
+/// What constants of one declaration are, and whether they are globally static alone.
+#[derive(Drop)]
+struct TypedConstant {
+    constant: Constant,
+    is_global: bool,
+}
+
+/// The value of an integer or boolean constant is one expression; `(others => e)` is a
+/// TypeMismatch.
 fn single_expression(value: &Value) -> Result<&Expr, NameFault>
     ensures given { Gives (λ e. tree.view e.now) (rules.single_expression (tree.value_view value.now)) result }
-    ensures told { IfErr result (λ f. (inner : visibility.Sight)
-        → Tells (broken.integer_value inner (tree.value_view value.now)) f) }
+    ensures told { IfErr result (Tells (typed.no_single (tree.value_view value.now))) }
 {
     match value {
         Value::Expr(e) => Ok(e),
@@ -47,54 +60,79 @@ fn single_expression(value: &Value) -> Result<&Expr, NameFault>
     }
 }
 
-/// Constants of a type of integers, which takes no range.
+/// The byte at which a value of a subtype is told where it is wrong, if not at a name: that of a
+/// subtype with a range is told where it starts.
+fn told_at(subtype: &IntegerSubtype, e: &Expr) -> Option<usize>
+    ensures { result ≡ typed.told_at (integers_view subtype.now) (tree.view e.now) }
+{
+    match (subtype.base, &subtype.range) {
+        (IntegerBase::Type(_), None) => None,
+        _ => Some(start(e)),
+    }
+}
+
+/// Constants of integers of this base.
 fn integer(
     sight: &Sight,
-    integer_type: IntegerType,
+    base: IntegerBase,
     declaration: &Constants,
-) -> Result<Constant, NameFault>
+) -> Result<TypedConstant, NameFault>
     ensures given { Gives typed.constant_view
-        (typed.integer sight.now integer_type (tree.constants_view declaration.now)) result }
+        (typed.integer sight.now (base_view base) (tree.constants_view declaration.now)) result }
     ensures told { IfErr result (Tells (broken.integer_constants sight.now (tree.constants_view declaration.now))) }
 {
-    if declaration.subtype.range.is_some() {
+    let subtype = integer_subtype(sight, base, &declaration.subtype)?;
+    let e = single_expression(&declaration.value)?;
+    let value = static_integer(sight, e)?;
+    Ok(TypedConstant {
+        constant: Constant::Integer(told_at(&subtype, e), subtype, value),
+        is_global: is_global(sight, &declaration.subtype) || !is_local(sight, e),
+    })
+}
+
+/// Constants of booleans, whose type takes no range.
+fn boolean(sight: &Sight, declaration: &Constants) -> Result<TypedConstant, NameFault>
+    ensures given { Gives typed.constant_view (typed.boolean sight.now (tree.constants_view declaration.now)) result }
+    ensures told { IfErr result (Tells (broken.boolean_constants sight.now (tree.constants_view declaration.now))) }
+{
+    if declaration.subtype.constraint.is_some() {
         return Err(NameProblem::LeftOut.at(declaration.subtype.mark.at));
     }
     let e = single_expression(&declaration.value)?;
-    let value = static_integer(sight, e)?;
-    Ok(Constant::Integer(integer_type, value))
+    let value = static_condition(sight, e)?;
+    Ok(TypedConstant {
+        constant: Constant::Truth(value),
+        is_global: is_global(sight, &declaration.subtype) || !is_local(sight, e),
+    })
 }
 
 /// Constants of the nine values.
-fn other(sight: &Sight, declaration: &Constants) -> Result<Constant, NameFault>
+fn other(sight: &Sight, declaration: &Constants) -> Result<TypedConstant, NameFault>
     ensures given { Gives typed.constant_view (typed.other sight.now (tree.constants_view declaration.now)) result }
     ensures told { IfErr result (Tells (broken.other_constants sight.now (tree.constants_view declaration.now))) }
 {
     let subtype = subtype(sight, &declaration.subtype)?;
     let kind = kind_of(subtype.object_type, declaration.subtype.mark.at)?;
-    let value = fixed_value(sight, subtype.object_type, &declaration.value)?;
-    Ok(Constant::Other(kind, subtype.form, value))
-}
-
-/// A type of integers, if it is one.
-fn as_integer_type(meaning: &Meaning) -> Option<IntegerType>
-    ensures { result ≡ typed.as_integer_type (meaning_view meaning.now) }
-{
-    match meaning {
-        Meaning::IntegerType(integer_type) => Some(*integer_type),
-        _ => None,
-    }
+    let range = subtype.form.range();
+    let value = fixed_value(sight, subtype.object_type, range, &declaration.value)?;
+    Ok(TypedConstant {
+        constant: Constant::Other(kind, subtype.form, value),
+        is_global: is_global(sight, &declaration.subtype),
+    })
 }
 
 /// What constants of one declaration are, with their names hidden.
-fn typed_constant(sight: &Sight, declaration: &Constants) -> Result<Constant, NameFault>
+fn typed_constant(sight: &Sight, declaration: &Constants) -> Result<TypedConstant, NameFault>
     ensures given { Gives typed.constant_view (typed.constant sight.now (tree.constants_view declaration.now)) result }
     ensures told { IfErr result (Tells (broken.typed_constants sight.now (tree.constants_view declaration.now))) }
 {
-    let mark = meaning_of(sight, &declaration.subtype.mark)?;
-    match as_integer_type(mark) {
-        Some(integer_type) => integer(sight, integer_type, declaration),
-        None => other(sight, declaration),
+    let mark = declaration_of(sight, &declaration.subtype.mark)?;
+    if let Some(base) = integers_of(mark) {
+        return integer(sight, base, declaration);
+    }
+    match class_of(&mark.meaning) {
+        TypeClass::Booleans => boolean(sight, declaration),
+        _ => other(sight, declaration),
     }
 }
 
@@ -108,53 +146,49 @@ fn declaring(alloc: Global, value: &Fixed) -> Result<Option<Vec<Nine>>, AllocErr
     }
 }
 
-/// The class of constants.
-fn class_of(alloc: Global, constant: &Constant) -> Result<ObjectClass, AllocError>
-    ensures { IfOk result (λ c. class_view c ≡ typed.declared_as (typed.constant_view constant.now)) }
+/// How constants stand in their region.
+fn settled(alloc: Global, constants: &TypedConstant) -> Result<Settled, AllocError>
+    ensures { IfOk result (λ s. typed.standing_view s ≡ typed.standing (typed.constant_view constants.now)) }
 {
-    match constant {
-        Constant::Integer(..) => Ok(ObjectClass::Integer),
-        Constant::Other(kind, _, value) => Ok(ObjectClass::Constant(
-            *kind,
-            declaring(alloc, value)?,
-        )),
-    }
-}
-
-/// The number of the next constant of a class.
-fn number_of(constant: &Constant, integers: usize, constants: usize) -> usize
-    ensures { result ≡ typed.number integers constants (typed.constant_view constant.now) }
-{
-    match constant {
-        Constant::Integer(..) => integers,
-        Constant::Other(..) => constants,
-    }
+    let (class, direction) = match &constants.constant {
+        Constant::Integer(..) => (ObjectClass::Integer, None),
+        Constant::Truth(_) => (ObjectClass::Boolean, None),
+        Constant::Other(kind, form, value) => {
+            let values = declaring(alloc, value)?;
+            (ObjectClass::Constant(*kind, values), form.direction())
+        }
+    };
+    Ok(Settled {
+        class,
+        direction,
+        is_global: constants.is_global,
+    })
 }
 
 /// The declaration that stands for constants.
-fn declaration_of(names: Vec<Identifier>, constant: Constant) -> Declaration
-    ensures { declaration_view result ≡ typed.declarations (tree.idents_view names) (typed.constant_view constant) }
+fn declared(names: Vec<Identifier>, constants: TypedConstant) -> Declaration
+    ensures { declaration_view result ≡ typed.declarations (tree.idents_view names) (typed.constant_view constants) }
 {
-    match constant {
-        Constant::Integer(integer_type, value) => Declaration::Integers {
+    match constants.constant {
+        Constant::Integer(told_at, subtype, value) => Declaration::Integers {
             names,
-            integer_type,
+            told_at,
+            subtype,
             value,
         },
+        Constant::Truth(value) => Declaration::Truths { names, value },
         Constant::Other(_, form, value) => Declaration::Constants { names, form, value },
     }
 }
 
-/// Constants of one declaration, numbered from here on within their class. Within it their names
-/// hide outer ones.
+/// Constants of one declaration of a region, numbered from here on. Within it their names hide
+/// outer ones.
 pub fn constants(
     sight: &mut Sight,
-    integers: usize,
-    constants: usize,
+    counts: Counts,
     declaration: &Constants,
 ) -> Result<Declaration, NameFault>
-    requires integers { integers ≡ count_of is_integer_constant sight.old.region }
-    requires constants { constants ≡ count_of is_constant sight.old.region }
+    requires { AreCounts counts sight.old.region }
     ensures given { Gives (λ o. (sight.new, declaration_view o))
         (entering rules.constants sight.old (tree.constants_view declaration.now)) result }
     ensures kept { OnOk result (sight.new ≡ record sight.old { region = sight.new.region }) }
@@ -162,10 +196,31 @@ pub fn constants(
 {
     let first = sight.region.len();
     hide(sight.alloc, &mut sight.region, &declaration.names)?;
-    let typed = typed_constant(sight, declaration)?;
-    let class = class_of(sight.alloc, &typed)?;
-    let number = number_of(&typed, integers, constants);
-    settle(sight.alloc, &mut sight.region, first, number, &class)?;
+    let constant = typed_constant(sight, declaration)?;
+    let settled = settled(sight.alloc, &constant)?;
+    settle(sight.alloc, &mut sight.region, first, counts, &settled)?;
     let names = copied_names(sight.alloc, &declaration.names)?;
-    Ok(declaration_of(names, typed))
+    Ok(declared(names, constant))
+}
+
+/// The same of a process.
+pub fn process_constants(
+    sight: &mut Sight,
+    counts: Counts,
+    declaration: &Constants,
+) -> Result<Declaration, NameFault>
+    requires { AreCounts counts (sight.old.region ++ sight.old.variables) }
+    ensures given { Gives (λ o. (sight.new, declaration_view o))
+        (entering_variables typed.of_process sight.old (tree.constants_view declaration.now)) result }
+    ensures kept { OnOk result (sight.new ≡ record sight.old { variables = sight.new.variables }) }
+    ensures told { IfErr result (Tells (typed.process_breaks sight.old (tree.constants_view declaration.now))) }
+{
+    region_is_small(&sight.region);
+    let first = sight.variables.len();
+    hide(sight.alloc, &mut sight.variables, &declaration.names)?;
+    let constant = typed_constant(sight, declaration)?;
+    let settled = settled(sight.alloc, &constant)?;
+    settle(sight.alloc, &mut sight.variables, first, counts, &settled)?;
+    let names = copied_names(sight.alloc, &declaration.names)?;
+    Ok(declared(names, constant))
 }

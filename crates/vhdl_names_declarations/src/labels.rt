@@ -1,7 +1,6 @@
 //! The labels that stand directly among concurrent statements (IEEE 1076-2008, 11.1 and 12.1).
 
-ghost use Rattle.std.specs.Prelude.{◌≡◌, ◌≢◌, ◌∷◌, [], map, option_map, IfErr};
-ghost use Rattle.std.specs.Option.{option_copied};
+ghost use Rattle.std.specs.Prelude.{◌≡◌, ◌≢◌, ◌∷◌, [], map, IfErr};
 ghost use Rattle.vhdl_names_declarations.specs.Entered.{more};
 ghost use Rattle.vhdl_names_rules.specs.Concurrent as rules;
 ghost use Rattle.vhdl_names_rules.specs.Files.{labelled};
@@ -11,7 +10,7 @@ ghost use Rattle.vhdl_names_rules.specs.Rules.{rule};
 ghost use Rattle.vhdl_names_rules.specs.Statements.{label_names};
 ghost use Rattle.vhdl_names_rules.specs.Visibility.{are_distinct};
 ghost use Rattle.vhdl_tree.specs.Tree.{concurrents_of};
-ghost use Rattle.vhdl_tree.specs.View.{ident_view, option_ident_view, concurrent_view};
+ghost use Rattle.vhdl_tree.specs.View.{option_ident_view, concurrent_view};
 ghost use Rattle.vhdl_names_sight.specs.Views.{region_view};
 ghost use Rattle.vhdl_names_rules.specs.declared.fault.NameFault.TheVariants.{NoMemory};
 ghost use Rattle.vhdl_names_rules.specs.problems.Broken.{Tells};
@@ -26,8 +25,8 @@ use vhdl_names_rules::NameFault;
 use vhdl_names_sight::{Meaning, Region, names_are_apart};
 use vhdl_tree::{Concurrent, Identifier};
 
-/// A label, if there is one.
-fn declare_if_any(
+/// A label, if there is one. It takes the memory of the label and its entry.
+pub fn declare_if_any(
     alloc: Global,
     region: &mut Region,
     label: &Option<Identifier>,
@@ -63,6 +62,7 @@ pub fn declare_label(
         Concurrent::Selected { label, .. } => declare_if_any(alloc, region, label),
         Concurrent::Process { label, .. } => declare_if_any(alloc, region, label),
         Concurrent::Instance { label, .. } => declare(alloc, region, label, Meaning::Label),
+        Concurrent::Assert(assertion) => declare_if_any(alloc, region, &assertion.label),
         Concurrent::Generate(generate) => {
             declare(alloc, region, &generate.label, Meaning::Label)
         }

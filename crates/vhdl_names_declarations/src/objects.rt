@@ -1,46 +1,51 @@
 //! Objects of one type: signals of an architecture and variables of a process (IEEE 1076-2008,
 //! 6.4.2), and what ports share with them.
 
-ghost use Rattle.std.specs.Prelude.{◌≡◌, map, option_map, IfOk, OnOk, IfErr};
+ghost use Rattle.std.specs.Prelude.{◌≡◌, ◌++◌, map, option_map, IfOk, OnOk, IfErr};
+ghost use Rattle.vhdl_names_declarations.specs.Counts.{AreCounts};
 ghost use Rattle.vhdl_names_declarations.specs.Entered.{entering, entering_variables};
 ghost use Rattle.vhdl_names_declarations.specs.Typed.{typed_object};
 ghost use Rattle.vhdl_names_rules.specs.Declarations as rules;
 ghost use Rattle.vhdl_names_rules.specs.Gives.{Gives};
 ghost use Rattle.vhdl_names_rules.specs.Rules.{if_any};
 ghost use Rattle.vhdl_names_rules.specs.Subtypes as types;
-ghost use Rattle.vhdl_names_rules.specs.Visibility.{count_of, is_signal, is_variable, with_variables};
+ghost use Rattle.vhdl_names_rules.specs.views.Integers.{target_range_view};
 ghost use Rattle.vhdl_tree.specs.View as tree;
 ghost use Rattle.vhdl_names_units.specs.views.Answers.{subtype_view, fixed_view};
-ghost use Rattle.vhdl_names_units.specs.views.Declarations.{declaration_view, object_view, objects_view};
+ghost use Rattle.vhdl_names_units.specs.views.Declarations.{declaration_view, object_view};
 ghost use Rattle.vhdl_names_rules.specs.problems.Broken.{Tells, of_any};
 ghost use Rattle.vhdl_names_rules.specs.problems.Declarations as broken;
 ghost use Rattle.vhdl_names_rules.specs.problems.Subtypes as subtypes_broken;
 
 use crate::class::ObjectClass;
-use crate::counts::Counts;
+use crate::counts::{Counts, region_is_small};
+use crate::generics::is_global;
 use crate::names::copied_names;
-use crate::region::{hide, settle};
+use crate::region::{Settled, hide, settle};
 use std::alloc::{AllocError, Global};
-use vhdl_names_expressions::{fixed_value, subtype};
-use vhdl_names_rules::{NameFault, ObjectType};
-use vhdl_names_sight::{Sight, names_are_apart};
+use vhdl_names_rules::{NameFault, ObjectType, TargetRange};
+use vhdl_names_sight::Sight;
 use vhdl_names_units::{Declaration, Fixed, Objects, Subtype};
+use vhdl_names_values::{fixed_value, subtype};
 use vhdl_tree::{Identifier, Signals, Subtype as TreeSubtype, Value, Variables};
 
-/// A default for objects of a type, if there is one.
+/// A default for objects of a type, with this range if they are vectors, if there is one.
 pub fn fixed_if_any(
     sight: &Sight,
     object_type: ObjectType,
+    range: Option<TargetRange<'_>>,
     value: &Option<Value>,
 ) -> Result<Option<Fixed>, NameFault>
     ensures given { Gives (option_map fixed_view)
-        (if_any (types.fixed_value sight.now object_type) (tree.option_value_view value.now)) result }
+        (if_any (types.fixed_value sight.now object_type (option_map target_range_view range.entry))
+        (tree.option_value_view value.now)) result }
     ensures told { IfErr result (Tells
-        (of_any (subtypes_broken.fixed_value sight.now object_type) (tree.option_value_view value.now))) }
+        (of_any (subtypes_broken.fixed_value sight.now object_type (option_map target_range_view range.entry))
+        (tree.option_value_view value.now))) }
 {
     match value {
         None => Ok(None),
-        Some(value) => Ok(Some(fixed_value(sight, object_type, value)?)),
+        Some(value) => Ok(Some(fixed_value(sight, object_type, range, value)?)),
     }
 }
 
@@ -56,7 +61,7 @@ pub fn object_type(
         (broken.object sight.now (tree.subtype_view indication.now) (tree.option_value_view value.now))) }
 {
     let subtype = subtype(sight, indication)?;
-    let default = fixed_if_any(sight, subtype.object_type, value)?;
+    let default = fixed_if_any(sight, subtype.object_type, subtype.form.range(), value)?;
     Ok((subtype, default))
 }
 
@@ -83,10 +88,10 @@ pub fn objects(
 /// Signals of one declaration, numbered from here on. Within it their names hide outer ones.
 pub fn signals(
     sight: &mut Sight,
-    number: usize,
+    counts: Counts,
     declaration: &Signals,
 ) -> Result<Declaration, NameFault>
-    requires { number ≡ count_of is_signal sight.old.region }
+    requires { AreCounts counts sight.old.region }
     ensures given { Gives (λ o. (sight.new, declaration_view o))
         (entering rules.signals sight.old (tree.signals_view declaration.now)) result }
     ensures kept { OnOk result (sight.new ≡ record sight.old { region = sight.new.region }) }
@@ -95,49 +100,38 @@ pub fn signals(
     let first = sight.region.len();
     hide(sight.alloc, &mut sight.region, &declaration.names)?;
     let (subtype, default) = object_type(sight, &declaration.subtype, &declaration.default)?;
-    let class = ObjectClass::Signal(subtype.object_type);
-    settle(sight.alloc, &mut sight.region, first, number, &class)?;
+    let settled = Settled {
+        class: ObjectClass::Signal(subtype.object_type),
+        direction: subtype.form.direction(),
+        is_global: is_global(sight, &declaration.subtype),
+    };
+    settle(sight.alloc, &mut sight.region, first, counts, &settled)?;
     let objects = objects(sight.alloc, &declaration.names, subtype, default)?;
     Ok(Declaration::Signals(objects))
 }
 
 /// Variables of one declaration, numbered from here on. Within it their names hide outer ones.
-fn variables_of_one(
+pub fn variables(
     sight: &mut Sight,
-    number: usize,
+    counts: Counts,
     declaration: &Variables,
-) -> Result<Objects, NameFault>
-    requires { number ≡ count_of is_variable sight.old.variables }
-    ensures given { Gives (λ o. (sight.new, object_view o))
+) -> Result<Declaration, NameFault>
+    requires { AreCounts counts (sight.old.region ++ sight.old.variables) }
+    ensures given { Gives (λ o. (sight.new, declaration_view o))
         (entering_variables rules.variables sight.old (tree.variables_view declaration.now)) result }
+    ensures kept { OnOk result (sight.new ≡ record sight.old { variables = sight.new.variables }) }
     ensures told { IfErr result (Tells (broken.variables sight.old (tree.variables_view declaration.now))) }
 {
+    region_is_small(&sight.region);
     let first = sight.variables.len();
     hide(sight.alloc, &mut sight.variables, &declaration.names)?;
     let (subtype, default) = object_type(sight, &declaration.subtype, &declaration.default)?;
-    let class = ObjectClass::Variable(subtype.object_type);
-    settle(sight.alloc, &mut sight.variables, first, number, &class)?;
+    let settled = Settled {
+        class: ObjectClass::Variable(subtype.object_type),
+        direction: subtype.form.direction(),
+        is_global: is_global(sight, &declaration.subtype),
+    };
+    settle(sight.alloc, &mut sight.variables, first, counts, &settled)?;
     let objects = objects(sight.alloc, &declaration.names, subtype, default)?;
-    Ok(objects)
-}
-
-/// The variables of a process, which are in sight of what follows. It takes memory for what is
-/// declared and analysed.
-pub fn variables(sight: &mut Sight, all: &[Variables]) -> Result<Vec<Objects>, NameFault>
-    ensures given { Gives (λ v. (sight.new, objects_view v))
-        (entering_variables (rules.in_order with_variables rules.variables) sight.old (map tree.variables_view all.now))
-        result }
-    ensures told { IfErr result (Tells
-        (broken.in_order with_variables rules.variables broken.variables sight.old (map tree.variables_view all.now))) }
-{
-    let mut done = Vec::new(sight.alloc);
-    names_are_apart(&sight.variables);
-    let mut counts = Counts::NONE.of(&sight.variables, 0);
-    for one in all {
-        let first = sight.variables.len();
-        let next = variables_of_one(sight, counts.variables, one)?;
-        done.push(next)?;
-        counts = counts.of(&sight.variables, first);
-    }
-    Ok(done)
+    Ok(Declaration::Variables(objects))
 }

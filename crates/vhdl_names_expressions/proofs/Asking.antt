@@ -1,43 +1,68 @@
 -- What is asked of expressions and names, in the words of `typed`.
-use Rattle.std.proofs.Common.{◌≡◌, ℕ, Bool, true, false, true≢false, Option, Some, None, refl, ap}
+use Rattle.std.proofs.Common.{◌≡◌, ℕ, Bool, true, false, true≢false, Option, Some, None, refl, ap, ◌∙◌}
 use Rattle.std.specs.Prelude.{not, is_none}
 use Rattle.vhdl_tree.specs.Tree as t
 use Rattle.vhdl_names_rules.specs.declared.kind.ObjectType.{ObjectType}
 use Rattle.vhdl_names_rules.specs.units.Expressions as u
 use Rattle.vhdl_names_rules.specs.views.Tests.{is_fixed}
-use Rattle.vhdl_names_rules.specs.Rules.{◌>>=◌, ◌>>◌, met, then_some}
-use Rattle.vhdl_names_rules.specs.Visibility.{Sight, Meaning, meaning}
+use Rattle.vhdl_names_rules.specs.Rules.{◌>>=◌, ◌>>◌, met, then_some, wider}
+use Rattle.vhdl_names_rules.specs.Visibility.{Sight, Declared, declaration}
 use Rattle.vhdl_names_rules.specs.Names.{Suffix}
-use Rattle.vhdl_names_rules.specs.Operators.{Typed, elements, truth}
+use Rattle.vhdl_names_rules.specs.Ranges.{named_range}
+use Rattle.vhdl_names_rules.specs.Operators.{Typed, elements, truth, is_vector}
 use Rattle.vhdl_names_rules.specs.declared.kind.ElementKind.{ElementKind}
 use Rattle.vhdl_names_rules.specs.declared.kind.ElementKind.TheVariants.{Element}
 use Rattle.vhdl_names_rules.specs.declared.kind.ObjectType.TheVariants.{Elements}
 use Rattle.vhdl_names_rules.specs.units.Statements.{filled}
-use Rattle.vhdl_names_rules.specs.Expressions.{typed, typed_suffix, condition, value_given, as_test, as_static_test, as_value, as_filled, is_vector}
-use Rattle.vhdl_names_expressions.specs.Asked.{unattributed}
+use Rattle.vhdl_names_rules.specs.Expressions.{typed, typed_suffix, named, static_range, condition, value_given, as_range, as_test, as_static_test, as_value, as_filled}
+use Rattle.vhdl_names_expressions.specs.Asked.{unattributed, subtype_range}
+use Rattle.vhdl_names_expressions.proofs.Chains.{named_in_turn}
+use Rattle.vhdl_names_rules.proofs.laws.Ranged.{range_alone}
 use Rattle.vhdl_names_rules.specs.Statements.{signal, target, variable, as_signal, as_variable, is_input}
 
 pub condition_is : (sight : Sight) (e : t.Expr) → condition sight e ≡ (typed sight e >>= as_test)
 unfolding condition
 condition_is sight e = refl
 
-pub given_single : (sight : Sight) (type : ObjectType) (e : t.Expr) → value_given sight type (t.single e) ≡ (typed sight e >>= as_value type)
+pub given_single : (sight : Sight) (type : ObjectType) (r : Option u.Range) (e : t.Expr) → value_given sight type r (t.single e) ≡ (typed sight e >>= as_value type r)
 unfolding value_given
-given_single sight type e = refl
+given_single sight type r e = refl
 
-pub given_others : (sight : Sight) (type : ObjectType) (at : ℕ) (e : t.Expr) → value_given sight type (t.others at e) ≡ (typed sight e >>= as_filled type)
+pub given_others : (sight : Sight) (type : ObjectType) (r : Option u.Range) (at : ℕ) (e : t.Expr) → value_given sight type r (t.others at e) ≡ (typed sight e >>= as_filled type)
 unfolding value_given
-given_others sight type at e = refl
+given_others sight type r at e = refl
 
 pub not_static : (x : u.Test) → is_fixed x ≡ false → as_static_test (truth x) ≡ None
 not_static (u.Test.fixed a) h = absurd (true≢false h)
 not_static x h = refl
 
-abbrev pub both : Meaning → Suffix → Meaning × Suffix
+-- ---- ranges by name
+
+pub range_named_is : (sight : Sight) (n : t.Name) → static_range sight (t.range_named n) ≡ (typed sight (t.named n.identifier n.suffix n.attribute) >>= as_range)
+unfolding static_range
+range_named_is sight n = refl
+
+-- a name without an attribute
+pub subtype_range_is : (sight : Sight) (n : t.Name) → n.attribute ≡ None → static_range sight (t.range_named n) ≡ subtype_range sight n
+subtype_range_is sight n h =
+    range_named_is sight n
+    ∙ ap (λ a. typed sight (t.named n.identifier n.suffix a) >>= as_range) h
+    ∙ ap (λ o. o >>= as_range) (named_in_turn sight n.identifier n.suffix None)
+    ∙ go (declaration sight n.identifier.text) (typed_suffix sight n.suffix)
+  where
+    go : (p : Option Declared) (o : Option Suffix) →
+        ((p >>= λ d. (o >>= λ s. named sight.language n.identifier.at None d s)) >>= as_range) ≡ (p >>= λ d. (o >>= λ s. wider sight.language (named_range None d s)))
+    go None o = refl
+    go (Some d) None = refl
+    go (Some d) (Some s) = range_alone sight.language n.identifier.at d s
+
+-- ---- objects
+
+abbrev pub both : Declared → Suffix → Declared × Suffix
 both d s = (d, s)
 
 -- the identifier first, and the attribute last
-turned : {A : Type 0} (b : Bool) (o : Option Suffix) (p : Option Meaning) (f : Meaning → Suffix → Option A) →
+turned : {A : Type 0} (b : Bool) (o : Option Suffix) (p : Option Declared) (f : Declared → Suffix → Option A) →
     (met b >> (o >>= λ s. (p >>= λ d. f d s))) ≡ ((p >>= λ d. (o >>= λ s. (met b >> Some (both d s)))) >>= λ m. f m.0 m.1)
 turned true None None f = refl
 turned true (Some s) None f = refl
@@ -47,11 +72,17 @@ turned b o p f = refl
 
 pub signal_in_turn : (sight : Sight) (n : t.Name) → signal sight n ≡ (unattributed sight n >>= λ m. as_signal n.identifier.at m.0 m.1)
 unfolding signal
-signal_in_turn sight n = turned (is_none n.attribute) (typed_suffix sight n.suffix) (meaning sight n.identifier.text) (as_signal n.identifier.at)
+signal_in_turn sight n = turned (is_none n.attribute) (typed_suffix sight n.suffix) (declaration sight n.identifier.text) (as_signal n.identifier.at)
+
+pub signal_by : (sight : Sight) (n : t.Name) (m : Declared × Suffix) → unattributed sight n ≡ Some m → signal sight n ≡ as_signal n.identifier.at m.0 m.1
+signal_by sight n m h = signal_in_turn sight n ∙ ap (λ (o : Option (Declared × Suffix)). o >>= λ p. as_signal n.identifier.at p.0 p.1) h
 
 pub variable_in_turn : (sight : Sight) (n : t.Name) → variable sight n ≡ (unattributed sight n >>= λ m. as_variable n.identifier.at m.0 m.1)
 unfolding variable
-variable_in_turn sight n = turned (is_none n.attribute) (typed_suffix sight n.suffix) (meaning sight n.identifier.text) (as_variable n.identifier.at)
+variable_in_turn sight n = turned (is_none n.attribute) (typed_suffix sight n.suffix) (declaration sight n.identifier.text) (as_variable n.identifier.at)
+
+pub variable_by : (sight : Sight) (n : t.Name) (m : Declared × Suffix) → unattributed sight n ≡ Some m → variable sight n ≡ as_variable n.identifier.at m.0 m.1
+variable_by sight n m h = variable_in_turn sight n ∙ ap (λ (o : Option (Declared × Suffix)). o >>= λ p. as_variable n.identifier.at p.0 p.1) h
 
 pub target_is : (sight : Sight) (n : t.Name) → target sight n ≡ (signal sight n >>= λ x. (met (not (is_input x.mode)) >> Some x))
 unfolding target

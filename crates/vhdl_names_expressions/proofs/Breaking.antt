@@ -1,37 +1,34 @@
 -- What a part of an expression breaks first, the expression breaks first, where the parts before it break nothing.
-use Rattle.std.proofs.Common.{◌≡◌, ℕ, suc, ◌<◌, Bool, true, false, List, [], ◌∷◌, map, length, get_or, drop, drop-cons, Option, Some, None, Result, Ok, Err, IfErr, Vec, Box, Global, refl, sym, ap, ◌∙◌}
+use Rattle.std.proofs.Common.{◌≡◌, ℕ, suc, ◌<◌, Bool, true, false, List, [], ◌∷◌, map, length, get_or, drop, drop-cons, Option, Some, None, Result, Ok, Err, IfErr, Box, Global, refl, sym, ap, ◌∙◌}
 use Rattle.vhdl_tree.specs.Tree as t
-use Rattle.vhdl_tree.specs.Tree.{Ident, exprs_of}
-use Rattle.vhdl_tree.specs.View.{view, chain_view, pair_view, suffix_view, range_view}
-use Rattle.vhdl_tree.specs.declared.operator.Sign.{Sign}
-use Rattle.vhdl_tree.specs.declared.expression.Literal.{Literal}
-use Rattle.vhdl_tree.specs.declared.expression.Range.{Range}
-use Rattle.vhdl_tree.specs.declared.expression.Suffix as f
-use Rattle.vhdl_tree.specs.declared.expression.Suffix.TheVariants as s
+use Rattle.vhdl_tree.specs.View.{view, chain_view, pair_view}
 use Rattle.vhdl_tree.specs.declared.expression.Expr.{Expr}
 use Rattle.vhdl_tree.specs.declared.expression.Expr.TheVariants as x
 use Rattle.vhdl_tree.specs.declared.expression.Chain.{Chain, out-Chain}
 use Rattle.vhdl_tree.specs.declared.expression.Link.{Link}
-use Rattle.vhdl_tree.proofs.Rows.{chain_is, view_arguments}
+use Rattle.vhdl_tree.proofs.Rows.{chain_is}
 use Rattle.vhdl_names_rules.specs.declared.fault.NameFault.{NameFault}
 use Rattle.vhdl_names_rules.specs.declared.fault.NameProblem.{NameProblem}
-use Rattle.vhdl_names_rules.specs.declared.fault.NameProblem.TheVariants.{TypeMismatch, LeftOut}
+use Rattle.vhdl_names_rules.specs.declared.fault.NameProblem.TheVariants.{TypeMismatch}
 use Rattle.vhdl_names_rules.specs.Gives.{Gives}
 use Rattle.vhdl_names_rules.specs.units.Expressions as u
-use Rattle.vhdl_names_rules.specs.Visibility as visibility
 use Rattle.vhdl_names_rules.specs.Visibility.{Sight}
-use Rattle.vhdl_names_rules.specs.Literals.{number_of, nine_of, values_of_string, values_of_bits}
-use Rattle.vhdl_names_rules.specs.Names.{Suffix, denoted}
-use Rattle.vhdl_names_rules.specs.Operators.{Typed, operated, inverse}
+use Rattle.vhdl_tree.specs.declared.operator.Operator.{Operator}
+use Rattle.vhdl_names_rules.specs.declared.kind.ElementKind.{ElementKind}
+use Rattle.vhdl_names_rules.specs.declared.kind.ElementKind.TheVariants.{Element}
+use Rattle.vhdl_names_rules.specs.Operators.{Typed, elements, operated}
 use Rattle.vhdl_names_rules.specs.Expressions as are
-use Rattle.vhdl_names_rules.specs.Expressions.{beside, as_integer}
+use Rattle.vhdl_names_rules.specs.Expressions.{beside}
 use Rattle.vhdl_names_rules.proofs.laws.Rules.{comes}
 use Rattle.vhdl_names_rules.specs.problems.Broken.{Broken, Tells, nothing, refused, ◌▸◌, lacking, where_given}
 use Rattle.vhdl_names_rules.specs.problems.Places.{start}
-use Rattle.vhdl_names_rules.specs.problems.Operators.{string_problem, operator_problem, name_problem}
-use Rattle.vhdl_names_rules.specs.problems.Expressions.{typed, typed_suffix, typed_each, static, static_range, integer_wanted, meaning, attributed, of_no_value, with_suffix}
+use Rattle.vhdl_names_rules.specs.problems.Operators.{operator_problem}
+use Rattle.vhdl_names_rules.specs.problems.Expressions.{typed, operand}
 use Rattle.vhdl_names_rules.proofs.Telling.{IsKept, both_kept, behind_kept, lacking_kept, given_kept, told_same, told_left, told_right, told_lacking, told_given, told_on}
-use Rattle.vhdl_names_rules.proofs.kept.Expressions.{meaning_kept, typed_kept, typed_suffix_kept, static_kept}
+use Rattle.vhdl_names_rules.proofs.kept.Expressions.{typed_kept}
+use Rattle.vhdl_names_rules.proofs.kept.Operands.{first_kept, second_kept}
+use Rattle.vhdl_names_operators.specs.Resolving.{kind_of, operand_breaks}
+use Rattle.vhdl_names_operators.proofs.Resolving.{operand_is}
 use Rattle.vhdl_names_expressions.specs.Breaking.{link_breaks, all_break, started_breaks}
 use Rattle.vhdl_names_expressions.specs.Chosen.{started, links_of}
 use Rattle.vhdl_names_expressions.specs.Steps.{is_parens, enclosed_if, linked}
@@ -88,12 +85,57 @@ asked_of sight e wanted see at v r given same h k =
 
 -- ---- chains
 
+-- what an operator breaks on operands, of which the right one counts as this one
+abbrev on_operands : Sight → Link → (v y z : Typed) → Broken
+on_operands sight l v y z =
+    operand l.operator y v ▸ operand l.operator v y ▸ lacking (operator_problem l.operator v z) l.at (operated sight.numbers l.at l.operator v z)
+
 operator_is : (sight : Sight) (x : t.Expr) (l : Link) (o q : Option Typed) →
-    where_given o (λ v. where_given q (λ y. lacking (operator_problem l.operator v (beside x y)) l.at (operated sight.numbers l.at l.operator v (beside x y))))
-    ≡ where_given o (λ v. where_given q (λ y. lacking (operator_problem l.operator v (enclosed_if (is_parens x) y)) l.at (operated sight.numbers l.at l.operator v (enclosed_if (is_parens x) y))))
+    where_given o (λ v. where_given q (λ y. on_operands sight l v y (beside x y))) ≡ where_given o (λ v. where_given q (λ y. on_operands sight l v y (enclosed_if (is_parens x) y)))
 operator_is sight x l None q = refl
 operator_is sight x l (Some v) None = refl
-operator_is sight x l (Some v) (Some y) = ap (λ z. lacking (operator_problem l.operator v z) l.at (operated sight.numbers l.at l.operator v z)) (beside_if x y)
+operator_is sight x l (Some v) (Some y) = ap (on_operands sight l v y) (beside_if x y)
+
+-- what stands in parentheses is of its kind, and is an aggregate or none
+kind_enclosed : (b : Bool) (y : Typed) → kind_of (enclosed_if b y) ≡ kind_of y
+kind_enclosed false y = refl
+kind_enclosed true (elements Element (u.character v)) = refl
+kind_enclosed true y = refl
+
+operand_enclosed : (q : Operator) (k : Option ElementKind) (b : Bool) (y : Typed) → operand_breaks q k (enclosed_if b y) ≡ operand_breaks q k y
+operand_enclosed q k false y = refl
+operand_enclosed q k true (elements Element (u.character v)) = refl
+operand_enclosed q k true y = refl
+
+-- an operator on its operands, as the code has it
+operands_are : (sight : Sight) (l : Link) (b : Bool) (v y : Typed) →
+    (operand_breaks l.operator (kind_of (enclosed_if b y)) v ▸ operand_breaks l.operator (kind_of v) (enclosed_if b y)
+    ▸ lacking (operator_problem l.operator v (enclosed_if b y)) l.at (operated sight.numbers l.at l.operator v (enclosed_if b y)))
+    ≡ on_operands sight l v y (enclosed_if b y)
+operands_are sight l b v y =
+    let z = enclosed_if b y in
+    let last = lacking (operator_problem l.operator v z) l.at (operated sight.numbers l.at l.operator v z) in
+    ap (λ c. c ▸ operand_breaks l.operator (kind_of v) z ▸ last) (ap (λ k. operand_breaks l.operator k v) (kind_enclosed b y) ∙ sym (operand_is l.operator y v))
+    ∙ ap (λ c. operand l.operator y v ▸ c ▸ last) (operand_enclosed l.operator (kind_of v) b y ∙ sym (operand_is l.operator v y))
+
+-- an expression behind which an operand stands in parentheses, or doesn't
+abbrev behind_parens : Bool → t.Expr
+behind_parens true = t.parens 0 (t.integer 0 [])
+behind_parens false = t.integer 0 []
+
+as_beside : (b : Bool) (y : Typed) → enclosed_if b y ≡ beside (behind_parens b) y
+as_beside true y = refl
+as_beside false y = refl
+
+-- an operator that gives a value breaks nothing
+on_operands_kept : (sight : Sight) (l : Link) (b : Bool) (v y w : Typed) → operated sight.numbers l.at l.operator v (enclosed_if b y) ≡ Some w
+    → IsKept (on_operands sight l v y (enclosed_if b y))
+on_operands_kept sight l b v y w h =
+    let d = behind_parens b in
+    let k = sym (ap (operated sight.numbers l.at l.operator v) (as_beside b y)) ∙ h in
+    both_kept (operand l.operator y v) _ (first_kept sight.numbers l.at l.operator d v y w k)
+    (both_kept (operand l.operator v y) _ (second_kept sight.numbers l.at l.operator d v y w k)
+    (lacking_kept (operator_problem l.operator v (enclosed_if b y)) l.at (operated sight.numbers l.at l.operator v (enclosed_if b y)) w h))
 
 binary_is : (sight : Sight) (b : Bool) (x : t.Expr) (l : Link) →
     typed sight (t.binary b l.operator l.at x (view l.operand)) ≡ (typed sight x ▸ link_breaks sight (is_parens x) (are.typed sight x) l)
@@ -138,8 +180,7 @@ link_kept : (sight : Sight) (b : Bool) (v w : Typed) (l : Link) → linked sight
 link_kept sight b v w l h =
     let y = comes (are.typed sight (view l.operand)) (λ y. operated sight.numbers l.at l.operator v (enclosed_if b y)) w h in
     both_kept (typed sight (view l.operand)) _ (typed_kept (view l.operand) sight y.value y.is)
-    (given_kept (λ q. lacking (operator_problem l.operator v (enclosed_if b q)) l.at (operated sight.numbers l.at l.operator v (enclosed_if b q))) (are.typed sight (view l.operand)) y.value y.is
-    (lacking_kept (operator_problem l.operator v (enclosed_if b y.value)) l.at (operated sight.numbers l.at l.operator v (enclosed_if b y.value)) w y.rest))
+    (given_kept (λ q. on_operands sight l v q (enclosed_if b q)) (are.typed sight (view l.operand)) y.value y.is (on_operands_kept sight l b v y.value w y.rest))
 
 begun_kept : (sight : Sight) (e : t.Expr) (l : Link) (w : Typed) (o : Option Typed) → are.typed sight e ≡ o → linked sight (is_parens e) o l ≡ Some w →
     IsKept (typed sight e ▸ link_breaks sight (is_parens e) o l)
@@ -198,158 +239,14 @@ rest_goes sight v w ls i j l lt e next gives =
 
 -- an operator, where both operands are given
 pub operator_on : {X : Type 0} (sight : Sight) (b : Bool) (v y z : Typed) (l : Link) (r : Result X NameFault) → are.typed sight (view l.operand) ≡ Some y →
-    z ≡ enclosed_if b y → IfErr r (Tells (lacking (operator_problem l.operator v z) l.at (operated sight.numbers l.at l.operator v z))) → IfErr r (Tells (link_breaks sight b (Some v) l))
+    z ≡ enclosed_if b y → IfErr r (Tells
+    (operand_breaks l.operator (kind_of z) v ▸ operand_breaks l.operator (kind_of v) z ▸ lacking (operator_problem l.operator v z) l.at (operated sight.numbers l.at l.operator v z))) →
+    IfErr r (Tells (link_breaks sight b (Some v) l))
 operator_on sight b v y z l r given at h =
-    asked_told (typed sight (view l.operand)) (are.typed sight (view l.operand))
-    (λ q. lacking (operator_problem l.operator v (enclosed_if b q)) l.at (operated sight.numbers l.at l.operator v (enclosed_if b q))) y r
-    (typed_kept (view l.operand) sight y given) given
-    (told_as _ _ r (ap (λ q. lacking (operator_problem l.operator v q) l.at (operated sight.numbers l.at l.operator v q)) at) h)
+    asked_told (typed sight (view l.operand)) (are.typed sight (view l.operand)) (λ q. on_operands sight l v q (enclosed_if b q)) y r (typed_kept (view l.operand) sight y given) given
+    (told_as _ _ r
+    (ap (λ q. operand_breaks l.operator (kind_of q) v ▸ operand_breaks l.operator (kind_of v) q ▸ lacking (operator_problem l.operator v q) l.at (operated sight.numbers l.at l.operator v q)) at
+    ∙ operands_are sight l b v y) h)
 
 pub link_first : (sight : Sight) (b : Bool) (v : Typed) (l : Link) (f : NameFault) → Tells (typed sight (view l.operand)) f → Tells (link_breaks sight b (Some v) l) f
 link_first sight b v l f = told_left (typed sight (view l.operand)) _ f
-
--- ---- names
-
-module _ (sight : Sight) (n : Ident) (y : t.Suffix) (a : Option Ident) where
-  abbrev behind : Broken
-  behind = where_given (visibility.meaning sight n.text) (λ d. where_given (are.typed_suffix sight y) (with_suffix n.at a d))
-
-  named_is : typed sight (t.named n y a) ≡ (meaning sight n ▸ typed_suffix sight y ▸ behind)
-  unfolding typed
-  named_is = refl
-
-  pub named_meaning : (f : NameFault) → Tells (meaning sight n) f → Tells (typed sight (t.named n y a)) f
-  named_meaning f h = told_same _ _ f (sym named_is) (told_left (meaning sight n) (typed_suffix sight y ▸ behind) f h)
-
-  pub named_suffix : (d : visibility.Meaning) (f : NameFault) → visibility.meaning sight n.text ≡ Some d → Tells (typed_suffix sight y) f → Tells (typed sight (t.named n y a)) f
-  named_suffix d f e1 h =
-      told_same _ _ f (sym named_is)
-      (told_right (meaning sight n) (typed_suffix sight y ▸ behind) f (meaning_kept sight n d e1) (told_left (typed_suffix sight y) behind f h))
-
-  module _ (d : visibility.Meaning) (x : Suffix) (e1 : visibility.meaning sight n.text ≡ Some d) (e2 : are.typed_suffix sight y ≡ Some x) where
-    of_both : (f : NameFault) → Tells (with_suffix n.at a d x) f → Tells (typed sight (t.named n y a)) f
-    of_both f h =
-        told_same _ _ f (sym named_is)
-        (told_right (meaning sight n) (typed_suffix sight y ▸ behind) f (meaning_kept sight n d e1)
-        (told_right (typed_suffix sight y) behind f (typed_suffix_kept y sight x e2)
-        (told_given (λ m. where_given (are.typed_suffix sight y) (with_suffix n.at a m)) (visibility.meaning sight n.text) d f e1
-        (told_given (with_suffix n.at a d) (are.typed_suffix sight y) x f e2 h))))
-
-    abbrev of_name : Broken
-    of_name = lacking (name_problem d x) n.at (denoted n.at d x)
-
-    abbrev of_attribute : Broken
-    of_attribute = where_given (denoted n.at d x) (attributed n.at a)
-
-    pub named_no_value : (f : NameFault) → Tells (of_no_value d x a) f → Tells (typed sight (t.named n y a)) f
-    named_no_value f h = of_both f (told_left (of_no_value d x a) (of_name ▸ of_attribute) f h)
-
-    pub named_denoted : (f : NameFault) → IsKept (of_no_value d x a) → Tells of_name f → Tells (typed sight (t.named n y a)) f
-    named_denoted f kept h = of_both f (told_right (of_no_value d x a) (of_name ▸ of_attribute) f kept (told_left of_name of_attribute f h))
-
-    pub named_attributed : (v : Typed) (f : NameFault) → IsKept (of_no_value d x a) → denoted n.at d x ≡ Some v → Tells (attributed n.at a v) f → Tells (typed sight (t.named n y a)) f
-    named_attributed v f kept e3 h =
-        of_both f
-        (told_right (of_no_value d x a) (of_name ▸ of_attribute) f kept
-        (told_right of_name of_attribute f (lacking_kept (name_problem d x) n.at (denoted n.at d x) v e3) (told_given (attributed n.at a) (denoted n.at d x) v f e3 h)))
-
--- ---- arguments
-
--- the arguments that are left, the next of them first
-rest_each : (sight : Sight) (es : List Expr) (i : ℕ) (e : Expr) → i < length es → e ≡ get_or es i e →
-    (typed sight (view e) ▸ typed_each sight (exprs_of (map view (drop (suc i) es)))) ≡ typed_each sight (exprs_of (map view (drop i es)))
-unfolding typed_each
-rest_each sight es i e lt is =
-    ap (λ k. typed sight (view k) ▸ typed_each sight (exprs_of (map view (drop (suc i) es)))) is
-    ∙ sym (ap (λ l. typed_each sight (exprs_of (map view l))) (drop-cons es i e lt))
-
-pub each_told : (sight : Sight) (es : List Expr) (i : ℕ) (e : Expr) (f : NameFault) → i < length es → e ≡ get_or es i e →
-    Tells (typed sight (view e)) f → Tells (typed_each sight (exprs_of (map view (drop i es)))) f
-each_told sight es i e f lt is h =
-    told_same _ _ f (rest_each sight es i e lt is) (told_left (typed sight (view e)) (typed_each sight (exprs_of (map view (drop (suc i) es)))) f h)
-
-pub each_left : (sight : Sight) (es : List Expr) (i j : ℕ) (e : Expr) (v : Typed) → i < length es → e ≡ get_or es i e → suc i ≡ j → are.typed sight (view e) ≡ Some v →
-    typed_each sight (exprs_of (map view (drop i es))) ≡ typed_each sight (exprs_of (map view (drop j es)))
-each_left sight es i j e v lt is next given =
-    sym (rest_each sight es i e lt is)
-    ∙ behind_kept (typed sight (view e)) (typed_each sight (exprs_of (map view (drop (suc i) es)))) (typed_kept (view e) sight v given)
-    ∙ ap (λ k. typed_each sight (exprs_of (map view (drop k es)))) next
-
-pub arguments_on : {X : Type 0} (sight : Sight) (y : f.Suffix) (all : Vec Expr Global) (es : List Expr) (r : Result X NameFault) → y ≡ s.Arguments all → es ≡ all.items →
-    IfErr r (Tells (typed_each sight (exprs_of (map view es)))) → IfErr r (Tells (typed_suffix sight (suffix_view y)))
-unfolding typed_suffix
-arguments_on sight y all es r is e =
-    told_as _ _ r
-    (ap (λ l. typed_each sight (exprs_of (map view l))) e ∙ sym (ap (λ z. typed_suffix sight (suffix_view z)) is ∙ ap (typed_suffix sight) (view_arguments all)))
-
--- ---- expressions, form by form
-
-module _ {X : Type 0} (sight : Sight) (e : Expr) (r : Result X NameFault) where
-  pub integer_told : (l : Literal) → e ≡ x.Integer l → IfErr r (Tells (lacking LeftOut l.at (number_of l.text.items))) → IfErr r (Tells (typed sight (view e)))
-  unfolding typed
-  integer_told l is = told_as _ _ r (sym (ap (λ v. typed sight (view v)) is))
-
-  pub character_told : (at c : ℕ) → e ≡ x.Character at c → IfErr r (Tells (lacking TypeMismatch at (nine_of c))) → IfErr r (Tells (typed sight (view e)))
-  unfolding typed
-  character_told at c is = told_as _ _ r (sym (ap (λ v. typed sight (view v)) is))
-
-  pub string_told : (l : Literal) → e ≡ x.StringLiteral l → IfErr r (Tells (lacking (string_problem l.text.items) l.at (values_of_string l.text.items))) → IfErr r (Tells (typed sight (view e)))
-  unfolding typed
-  string_told l is = told_as _ _ r (sym (ap (λ v. typed sight (view v)) is))
-
-  pub bits_told : (l : Literal) → e ≡ x.BitString l → IfErr r (Tells (lacking LeftOut l.at (values_of_bits l.text.items))) → IfErr r (Tells (typed sight (view e)))
-  unfolding typed
-  bits_told l is = told_as _ _ r (sym (ap (λ v. typed sight (view v)) is))
-
-module _ (sight : Sight) (e d : Expr) (at : ℕ) (box : Box Expr Global) where
-  parens_is : e ≡ x.Parens at box → d ≡ box.value → typed sight (view e) ≡ typed sight (view d)
-  unfolding typed
-  parens_is is e2 = ap (λ v. typed sight (view v)) is ∙ sym (ap (λ v. typed sight (view v)) e2)
-
-  negation_is : e ≡ x.Not at box → d ≡ box.value → typed sight (view e) ≡ (typed sight (view d) ▸ where_given (are.typed sight (view d)) (λ y. lacking TypeMismatch at (inverse y)))
-  unfolding typed
-  negation_is is e2 = ap (λ v. typed sight (view v)) is ∙ sym (ap (λ v. typed sight (view v) ▸ where_given (are.typed sight (view v)) (λ y. lacking TypeMismatch at (inverse y))) e2)
-
-  sign_is : (sign : Sign) → e ≡ x.Signed sign at box → d ≡ box.value → typed sight (view e) ≡ (typed sight (view d) ▸ integer_wanted at (are.typed sight (view d)))
-  unfolding typed
-  sign_is sign is e2 = ap (λ v. typed sight (view v)) is ∙ sym (ap (λ v. typed sight (view v) ▸ integer_wanted at (are.typed sight (view v))) e2)
-
-  -- what stands in parentheses, or behind an operator
-  pub parens_told : (f : NameFault) → e ≡ x.Parens at box → d ≡ box.value → Tells (typed sight (view d)) f → Tells (typed sight (view e)) f
-  parens_told f is e2 = told_same _ _ f (sym (parens_is is e2))
-
-  pub negation_first : (f : NameFault) → e ≡ x.Not at box → d ≡ box.value → Tells (typed sight (view d)) f → Tells (typed sight (view e)) f
-  negation_first f is e2 h =
-      told_same _ _ f (sym (negation_is is e2)) (told_left (typed sight (view d)) (where_given (are.typed sight (view d)) (λ y. lacking TypeMismatch at (inverse y))) f h)
-
-  pub negation_told : {X : Type 0} (v : Typed) (r : Result X NameFault) → e ≡ x.Not at box → d ≡ box.value → are.typed sight (view d) ≡ Some v →
-      IfErr r (Tells (lacking TypeMismatch at (inverse v))) → IfErr r (Tells (typed sight (view e)))
-  negation_told v r is e2 given h =
-      told_as _ _ r (sym (negation_is is e2))
-      (asked_told (typed sight (view d)) (are.typed sight (view d)) (λ y. lacking TypeMismatch at (inverse y)) v r (typed_kept (view d) sight v given) given h)
-
-  pub sign_first : (sign : Sign) (f : NameFault) → e ≡ x.Signed sign at box → d ≡ box.value → Tells (typed sight (view d)) f → Tells (typed sight (view e)) f
-  sign_first sign f is e2 h =
-      told_same _ _ f (sym (sign_is sign is e2)) (told_left (typed sight (view d)) (integer_wanted at (are.typed sight (view d))) f h)
-
-  pub sign_told : {X : Type 0} (sign : Sign) (v : Typed) (r : Result X NameFault) → e ≡ x.Signed sign at box → d ≡ box.value → are.typed sight (view d) ≡ Some v →
-      IfErr r (Tells (lacking TypeMismatch at (as_integer v))) → IfErr r (Tells (typed sight (view e)))
-  sign_told sign v r is e2 given h =
-      told_as _ _ r (sym (sign_is sign is e2))
-      (asked_told (typed sight (view d)) (are.typed sight (view d)) (λ y. lacking TypeMismatch at (as_integer y)) v r (typed_kept (view d) sight v given) given h)
-
--- ---- ranges
-
-pub slice_told : (sight : Sight) (y : f.Suffix) (box : Box Range Global) (w : Range) (f : NameFault) → y ≡ s.Range box → w ≡ box.value →
-    Tells (static_range sight (range_view w)) f → Tells (typed_suffix sight (suffix_view y)) f
-unfolding typed_suffix
-slice_told sight y box w f is e = told_same _ _ f (ap (λ v. static_range sight (range_view v)) e ∙ sym (ap (λ z. typed_suffix sight (suffix_view z)) is))
-
-pub range_first : (sight : Sight) (w : t.Range) (f : NameFault) → Tells (static sight w.left) f → Tells (static_range sight w) f
-range_first sight w = told_left (static sight w.left) (static sight w.right)
-
-pub range_second : (sight : Sight) (w : t.Range) (l : u.Static) (f : NameFault) → are.static sight w.left ≡ Some l → Tells (static sight w.right) f → Tells (static_range sight w) f
-range_second sight w l f given = told_right (static sight w.left) (static sight w.right) f (static_kept sight w.left l given)
-
-pub static_first : (sight : Sight) (e : t.Expr) (f : NameFault) → Tells (typed sight e) f → Tells (static sight e) f
-static_first sight e = told_left (typed sight e) (integer_wanted (start e) (are.typed sight e))

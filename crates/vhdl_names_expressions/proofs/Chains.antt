@@ -3,7 +3,7 @@ use Rattle.std.proofs.Common.{◌≡◌, ℕ, suc, ◌<◌, ◌≤◌, Bool, tru
 use Rattle.std.specs.Prelude.{option_map}
 use Rattle.std.proofs.lemmas.List.{drop_all}
 use Rattle.vhdl_tree.specs.Tree as t
-use Rattle.vhdl_tree.specs.Tree.{Ident, exprs_of}
+use Rattle.vhdl_tree.specs.Tree.{Ident, Attribute, exprs_of}
 use Rattle.vhdl_tree.specs.View.{view, chain_view, pair_view, suffix_view}
 use Rattle.vhdl_tree.specs.declared.expression.Suffix as f
 use Rattle.vhdl_tree.specs.declared.expression.Suffix.TheVariants as s
@@ -14,12 +14,11 @@ use Rattle.vhdl_tree.specs.declared.expression.Chain.{Chain, out-Chain}
 use Rattle.vhdl_tree.specs.declared.expression.Link.{Link}
 use Rattle.vhdl_tree.proofs.Rows.{chain_is, view_arguments}
 use Rattle.vhdl_names_rules.specs.Rules.{◌>>=◌}
-use Rattle.vhdl_names_rules.specs.Visibility as visibility
-use Rattle.vhdl_names_rules.specs.Visibility.{Sight}
-use Rattle.vhdl_names_rules.specs.Names.{Suffix, range, denoted, attributed}
+use Rattle.vhdl_names_rules.specs.Visibility.{Sight, Declared, declaration}
+use Rattle.vhdl_names_rules.specs.Names.{Suffix, range}
 use Rattle.vhdl_names_rules.specs.units.Expressions as u
 use Rattle.vhdl_names_rules.specs.Operators.{Typed, operated}
-use Rattle.vhdl_names_rules.specs.Expressions.{typed, typed_suffix, typed_each, beside, static, static_range, as_integer}
+use Rattle.vhdl_names_rules.specs.Expressions.{typed, typed_suffix, typed_each, named, beside, static, static_range, as_integer}
 use Rattle.vhdl_names_expressions.specs.Chosen.{arguments_of, started, links_of}
 use Rattle.vhdl_names_expressions.specs.Steps.{is_parens, enclosed_if, linked, all_linked}
 
@@ -79,13 +78,13 @@ link_goes sight v w ls i j l lt e next gives =
 -- ---- names
 
 -- the identifier first
-pub named_in_turn : (sight : Sight) (n : Ident) (s : t.Suffix) (a : Option Ident) →
-    typed sight (t.named n s a) ≡ (visibility.meaning sight n.text >>= λ d. (typed_suffix sight s >>= λ x. (denoted n.at d x >>= attributed a)))
+pub named_in_turn : (sight : Sight) (n : Ident) (s : t.Suffix) (a : Option Attribute) →
+    typed sight (t.named n s a) ≡ (declaration sight n.text >>= λ d. (typed_suffix sight s >>= λ x. named sight.language n.at a d x))
 unfolding typed
-named_in_turn sight n s a = go (typed_suffix sight s) (visibility.meaning sight n.text)
+named_in_turn sight n s a = go (typed_suffix sight s) (declaration sight n.text)
   where
-    go : (o : Option Suffix) (p : Option visibility.Meaning) →
-        (o >>= λ x. (p >>= λ d. (denoted n.at d x >>= attributed a))) ≡ (p >>= λ d. (o >>= λ x. (denoted n.at d x >>= attributed a)))
+    go : (o : Option Suffix) (p : Option Declared) →
+        (o >>= λ x. (p >>= λ d. named sight.language n.at a d x)) ≡ (p >>= λ d. (o >>= λ x. named sight.language n.at a d x))
     go None None = refl
     go None (Some d) = refl
     go (Some x) None = refl
@@ -147,8 +146,8 @@ arguments_whole sight x all is = ap (λ y. typed_suffix sight (suffix_view y)) i
 
 -- a slice is a range of static integers
 pub sliced_is : (sight : Sight) (d : t.Expr) (way : Direction) (e : t.Expr) →
-    typed_suffix sight (t.sliced d way e) ≡ option_map range (static_range sight (record { left = d; direction = way; right = e }))
-unfolding typed_suffix static
+    typed_suffix sight (t.sliced d way e) ≡ option_map range (static_range sight (t.bounds (record { left = d; direction = way; right = e })))
+unfolding typed_suffix static static_range
 sliced_is sight d way e = go (typed sight d)
   where
     made : u.Static → u.Static → u.Range

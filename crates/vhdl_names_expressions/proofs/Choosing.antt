@@ -4,14 +4,20 @@ use Rattle.std.specs.Prelude.{option_map}
 use Rattle.vhdl_tree.specs.Tree as t
 use Rattle.vhdl_tree.specs.Tree.{Pair, exprs_of, all_joined}
 use Rattle.vhdl_tree.specs.View.{view, pair_view, chain_view}
-use Rattle.vhdl_tree.specs.declared.expression.Expr.{Expr}
+use Rattle.vhdl_tree.specs.declared.expression.Expr.{Expr, roll-Expr, roll-out-Expr}
 use Rattle.vhdl_tree.specs.declared.expression.Expr.TheVariants as x
+use Rattle.vhdl_tree.specs.declared.expression.Expr.TheVariants.{outs-Qualified', rolls-Qualified}
+use Rattle.vhdl_tree.specs.declared.expression.Choice.TheBlock.{shown-the_row-Element-1}
+use Rattle.vhdl_tree.specs.declared.expression.Element as d
+use Rattle.vhdl_tree.specs.declared.expression.Identifier.{Identifier}
+use Rattle.vhdl_tree.specs.declared.expression.Name.{Name}
 use Rattle.vhdl_tree.specs.declared.expression.Chain.{Chain, out-Chain}
 use Rattle.vhdl_tree.specs.declared.operator.Operator.{Operator}
 use Rattle.vhdl_tree.proofs.Rows.{chain_is}
 use Rattle.vhdl_names_rules.specs.declared.kind.ElementKind.{ElementKind}
 use Rattle.vhdl_names_rules.specs.declared.kind.ElementKind.TheVariants.{Element}
-use Rattle.vhdl_names_rules.specs.Expressions.{is_one_name, is_vector}
+use Rattle.vhdl_names_rules.specs.Expressions.{is_one_name}
+use Rattle.vhdl_names_rules.specs.Operators.{is_vector}
 use Rattle.vhdl_tree.specs.declared.expression.Suffix as f
 use Rattle.vhdl_tree.specs.declared.expression.Suffix.TheVariants as s
 use Rattle.vhdl_tree.specs.View.{suffix_view, choice_view}
@@ -41,13 +47,13 @@ chain_is_as f a each chain =
     let c = out-Chain chain in
     sym (ap f (chain_is chain) ∙ chain_as f a each true c.second.operator c.second.at (view c.first) (view c.second.operand) (map pair_view c.rest.items))
 
-pub chain_is_no_parens : (chain : Chain) → false ≡ is_parens (chain_view chain)
+chain_is_no_parens : (chain : Chain) → false ≡ is_parens (chain_view chain)
 chain_is_no_parens = chain_is_as is_parens false (λ b op at d e. refl)
 
-pub chain_is_no_name : (chain : Chain) → false ≡ is_name (chain_view chain)
+chain_is_no_name : (chain : Chain) → false ≡ is_name (chain_view chain)
 chain_is_no_name = chain_is_as is_name false (λ b op at d e. refl)
 
-pub chain_has_no_name : (chain : Chain) → None ≡ as_name (chain_view chain)
+chain_has_no_name : (chain : Chain) → None ≡ as_name (chain_view chain)
 chain_has_no_name = chain_is_as as_name None (λ b op at d e. refl)
 
 pub chain_is_no_character : (chain : Chain) → None ≡ as_character (chain_view chain)
@@ -55,6 +61,27 @@ chain_is_no_character = chain_is_as as_character None (λ b op at d e. refl)
 
 pub chain_is_no_literal : (e : Expr) (chain : Box Chain Global) → e ≡ x.Chain chain → is_literal (view e) ≡ false
 chain_is_no_literal e chain is = ap (λ y. is_literal (view y)) is ∙ sym (chain_is_as is_literal false (λ b op at d e. refl) chain.value)
+
+-- ---- what has no parentheses, and what is no name
+
+pub no_parens : (e : Expr) → ((at : ℕ) (inner : Box Expr Global) → e ≡ x.Parens at inner → ⊥) → ((mark : Identifier) (at : ℕ) (elements : Vec d.Element Global) → e ≡ x.Qualified mark at elements → ⊥) →
+    false ≡ is_parens (view e)
+no_parens (x.Parens' at p inner) parens qualified = absurd (parens at (record { ptr = p.ptr; alloc = p.alloc; value = inner }) refl)
+no_parens (x.Qualified' mark at shape row) parens qualified =
+    let v = shown-the_row-Element-1 shape row in
+    absurd (qualified mark at v (cc (roll-out-Expr (x.Qualified' mark at shape row), ap roll-Expr (outs-Qualified' mark at shape row), rolls-Qualified mark at v)))
+no_parens (x.Chain' p chain) parens qualified = chain_is_no_parens chain
+no_parens e parens qualified = refl
+
+pub no_name : (e : Expr) → ((n : Name) → e ≡ x.Name n → ⊥) → None ≡ as_name (view e)
+no_name (x.Name' identifier suffix attribute) other = absurd (other (record { identifier = identifier; suffix = suffix; attribute = attribute }) refl)
+no_name (x.Chain' p chain) other = chain_has_no_name chain
+no_name e other = refl
+
+pub no_bare_name : (e : Expr) → ((n : Name) → e ≡ x.Name n → ⊥) → false ≡ is_name (view e)
+no_bare_name (x.Name' identifier suffix attribute) other = absurd (other (record { identifier = identifier; suffix = suffix; attribute = attribute }) refl)
+no_bare_name (x.Chain' p chain) other = chain_is_no_name chain
+no_bare_name e other = refl
 
 -- ---- arguments that are one name
 
@@ -115,7 +142,7 @@ pub ruleset literal_forms = (literal_character, literal_string, literal_bits, no
 
 -- ---- names as choices
 
-pub arguments_not_bare : (y : f.Suffix) (all : Vec Expr Global) (a : Option t.Ident) → y ≡ s.Arguments all → is_bare (suffix_view y) a ≡ false
+pub arguments_not_bare : (y : f.Suffix) (all : Vec Expr Global) (a : Option t.Attribute) → y ≡ s.Arguments all → is_bare (suffix_view y) a ≡ false
 arguments_not_bare y all a is = ap (λ z. is_bare (suffix_view z) a) is ∙ ap (λ z. is_bare z a) (view_arguments all)
 
 none_after : {A B : Type 0} (o : Option A) (f : A → Option B) → (o >>= λ d. (met false >> f d)) ≡ None
@@ -123,12 +150,12 @@ none_after None f = refl
 none_after (Some d) f = refl
 
 -- a name is no literal
-name_unchosen : (type : ObjectType) (n : t.Ident) (y : t.Suffix) (a : Option t.Ident) → c.literal_choice type (t.named n y a) ≡ None
+name_unchosen : (type : ObjectType) (n : t.Ident) (y : t.Suffix) (a : Option t.Attribute) → c.literal_choice type (t.named n y a) ≡ None
 name_unchosen (Elements k) n y a = ap (option_map Choice.values) (no_literal k (t.named n y a) refl)
 name_unchosen (Enumeration e count) n y a = refl
 
 -- a name whose identifier comes first
-pub chosen_named : (sight : Sight) (type : ObjectType) (n : t.Ident) (y : t.Suffix) (a : Option t.Ident) →
+pub chosen_named : (sight : Sight) (type : ObjectType) (n : t.Ident) (y : t.Suffix) (a : Option t.Attribute) →
     c.chosen sight type (t.named n y a) ≡ (visibility.meaning sight n.text >>= λ d. (met (is_bare y a) >> c.named_choice type d))
 chosen_named sight type n t.plain None = refl
 chosen_named sight type n t.plain (Some a) = name_unchosen type n t.plain (Some a) ∙ sym (none_after (visibility.meaning sight n.text) (c.named_choice type))
@@ -144,6 +171,7 @@ chosen_literal sight type e h = refl
 
 more_choices : (x y : t.Choice) (cs : List t.Choice) → c.is_others (x ∷ y ∷ cs) ≡ false
 more_choices (t.chosen e) y cs = refl
+more_choices (t.chosen_range d w e) y cs = refl
 more_choices (t.otherwise at) y cs = refl
 
 pub not_others : (cs : List h.Choice) → (length cs ≡ 1 → ⊥) → c.is_others (map choice_view cs) ≡ false

@@ -1,15 +1,19 @@
 -- What is asked of an expression beyond a value: a generate's condition, and what a case selects by; and of an
 -- object's name.
-use Rattle.std.specs.Prelude.{Option, Some, is_none}
+use Rattle.std.specs.Prelude.{Option, Some, None, is_none}
+use Rattle.vhdl_tree.specs.Tree as t
 use Rattle.vhdl_tree.specs.Tree.{Expr, Name}
 use Rattle.vhdl_names_rules.specs.declared.kind.ObjectType.{ObjectType}
-use Rattle.vhdl_names_rules.specs.units.Expressions.{StaticTest, Value}
-use Rattle.vhdl_names_rules.specs.declared.fault.NameProblem.TheVariants.{LeftOut}
-use Rattle.vhdl_names_rules.specs.Rules.{◌>>=◌, ◌>>◌, rule}
-use Rattle.vhdl_names_rules.specs.Visibility.{Sight, Meaning, meaning}
+use Rattle.vhdl_names_rules.specs.units.Expressions.{Range, StaticTest, Value}
+use Rattle.vhdl_names_rules.specs.declared.fault.NameProblem.TheVariants.{TypeMismatch, LeftOut}
+use Rattle.vhdl_names_rules.specs.Rules.{◌>>=◌, ◌>>◌, rule, wider}
+use Rattle.vhdl_names_rules.specs.Ranges.{named_range}
+use Rattle.vhdl_names_rules.specs.Visibility.{Sight, Declared, declaration}
 use Rattle.vhdl_names_rules.specs.Names.{Suffix}
-use Rattle.vhdl_names_rules.specs.Expressions.{typed, typed_suffix, as_static_test}
+use Rattle.vhdl_names_rules.specs.Expressions.{typed, typed_suffix, as_range, as_static_test}
 use Rattle.vhdl_names_rules.specs.Choices.{selector}
+use Rattle.vhdl_names_rules.specs.problems.Broken.{Broken, ◌▸◌, lacking, where_given}
+use Rattle.vhdl_names_rules.specs.problems.Expressions as broken
 
 abbrev pub static_condition : Sight → Expr → Option StaticTest
 static_condition sight e = typed sight e >>= as_static_test
@@ -17,10 +21,27 @@ static_condition sight e = typed sight e >>= as_static_test
 abbrev pub selected_by : Sight → Expr → Option (ObjectType × Value)
 selected_by sight e = typed sight e >>= selector
 
--- what a name means, and what stands behind it; no attribute is offered
-abbrev pub unattributed : Sight → Name → Option (Meaning × Suffix)
+-- the range of a subtype of integers
+abbrev pub subtype_range : Sight → Name → Option Range
+subtype_range sight n = do
+  d ← declaration sight n.identifier.text
+  s ← typed_suffix sight n.suffix
+  wider sight.language (named_range None d s)
+
+-- a range that is a name with an attribute
+abbrev pub attribute_range : Sight → Name → Option Range
+attribute_range sight n = typed sight (t.named n.identifier n.suffix n.attribute) >>= as_range
+
+abbrev pub attribute_range_breaks : Sight → Name → Broken
+attribute_range_breaks sight n =
+    broken.typed sight (t.named n.identifier n.suffix n.attribute)
+    ▸ where_given (typed sight (t.named n.identifier n.suffix n.attribute))
+    (λ x. lacking TypeMismatch n.identifier.at (as_range x))
+
+-- what a name is declared to be, and what stands behind it; no attribute is offered
+abbrev pub unattributed : Sight → Name → Option (Declared × Suffix)
 unattributed sight n = do
-  d ← meaning sight n.identifier.text
+  d ← declaration sight n.identifier.text
   suffix ← typed_suffix sight n.suffix
   rule LeftOut (is_none n.attribute)
   Some (d, suffix)

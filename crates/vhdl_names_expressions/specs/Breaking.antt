@@ -7,7 +7,7 @@ use Rattle.vhdl_names_rules.specs.Visibility.{Sight}
 use Rattle.vhdl_names_rules.specs.Expressions as are
 use Rattle.vhdl_names_rules.specs.Operators.{Typed, operated}
 use Rattle.vhdl_names_rules.specs.problems.Broken.{Broken, nothing, ◌▸◌, lacking, where_given}
-use Rattle.vhdl_names_rules.specs.problems.Expressions.{typed}
+use Rattle.vhdl_names_rules.specs.problems.Expressions.{typed, operand}
 use Rattle.vhdl_names_rules.specs.problems.Operators.{operator_problem}
 use Rattle.vhdl_names_expressions.specs.Steps.{is_parens, enclosed_if, linked}
 
@@ -16,7 +16,8 @@ abbrev pub link_breaks : Sight → Bool → Option Typed → Link → Broken
 link_breaks sight b o l =
     typed sight (view l.operand)
     ▸ where_given o (λ x. where_given (are.typed sight (view l.operand)) (λ y.
-    lacking (operator_problem l.operator x (enclosed_if b y)) l.at
+    operand l.operator y x ▸ operand l.operator x y
+    ▸ lacking (operator_problem l.operator x (enclosed_if b y)) l.at
     (operated sight.numbers l.at l.operator x (enclosed_if b y))))
 
 -- further links, on what stands before them

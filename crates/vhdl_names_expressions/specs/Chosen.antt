@@ -2,13 +2,13 @@
 use Rattle.std.specs.Prelude.{ℕ, Bool, true, false, List, [], ◌∷◌, Option, Some, None, option_map}
 use Rattle.vhdl_values.specs.declared.scalar.Nine.{Nine}
 use Rattle.vhdl_tree.specs.Tree as t
-use Rattle.vhdl_tree.specs.Tree.{Expr, Exprs, Ident}
+use Rattle.vhdl_tree.specs.Tree.{Expr, Exprs, Attribute}
 use Rattle.vhdl_names_rules.specs.declared.kind.ElementKind.{ElementKind}
 use Rattle.vhdl_names_rules.specs.declared.kind.ElementKind.TheVariants.{Element}
 use Rattle.vhdl_names_rules.specs.Literals.{nine_of}
-use Rattle.vhdl_names_rules.specs.Names.{Suffix, arguments}
+use Rattle.vhdl_names_rules.specs.Names.{Suffix}
 use Rattle.vhdl_names_rules.specs.Visibility.{Sight}
-use Rattle.vhdl_names_rules.specs.Expressions.{typed, typed_each, is_one_name}
+use Rattle.vhdl_names_rules.specs.Expressions.{typed, typed_each, is_one_name, suffix_of}
 use Rattle.vhdl_names_rules.specs.Operators.{Typed}
 use Rattle.vhdl_tree.specs.View.{view}
 use Rattle.vhdl_tree.specs.declared.expression.Chain.{Chain, out-Chain}
@@ -21,7 +21,7 @@ is_name (t.named n suffix None) = true
 is_name _ = false
 
 -- nothing stands behind an identifier
-abbrev pub is_bare : t.Suffix → Option Ident → Bool
+abbrev pub is_bare : t.Suffix → Option Attribute → Bool
 is_bare t.plain None = true
 is_bare _ _ = false
 
@@ -44,7 +44,7 @@ character_values _ c = None
 
 -- arguments with their types, and whether they are one name alone
 abbrev pub arguments_of : Sight → Exprs → Option Suffix
-arguments_of sight es = option_map (arguments (is_one_name es)) (typed_each sight es)
+arguments_of sight es = option_map (suffix_of (is_one_name es)) (typed_each sight es)
 
 -- a chain's first operand, and the first operator with its right operand
 unfoldable pub started : Sight → Chain → Option Typed

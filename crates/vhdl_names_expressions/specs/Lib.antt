@@ -1,6 +1,5 @@
 pub mod Asked
 pub mod Breaking
 pub mod Chosen
-pub mod Fixing
-pub mod Marking
+pub mod Elements
 pub mod Steps

@@ -1,30 +1,30 @@
 //! The types of expressions (IEEE 1076-2008, clause 9). Faults are told in order of the text, those
 //! of operands before those of their operator.
 
-ghost use Rattle.std.specs.Prelude.{◌≡◌, ℕ, true, Some, map, option_map, IfOk, IfErr, OnErr, None};
-ghost use Rattle.vhdl_names_rules.specs.problems.Broken.{Tells, nothing, refused};
+ghost use Rattle.std.specs.Prelude.{◌≡◌, Some, IfErr};
+ghost use Rattle.vhdl_names_rules.specs.problems.Broken.{Tells, refused};
 ghost use Rattle.vhdl_names_rules.specs.problems.Expressions as broken;
 ghost use Rattle.vhdl_names_rules.specs.problems.Places as places;
 ghost use Rattle.vhdl_names_rules.specs.Expressions as rules;
 ghost use Rattle.vhdl_names_rules.specs.Gives.{Gives};
-ghost use Rattle.vhdl_names_rules.specs.Names.{plain, denoted as denoted_of};
 ghost use Rattle.vhdl_names_rules.specs.declared.fault.NameProblem.TheVariants.{TypeMismatch};
-ghost use Rattle.vhdl_names_rules.specs.views.Integers.{static_view, range_view};
+ghost use Rattle.vhdl_names_rules.specs.views.Integers.{static_view};
 ghost use Rattle.vhdl_tree.specs.Tree as t;
-ghost use Rattle.vhdl_tree.specs.View.{view, suffix_view, ident_view, range_view as tree_range_view};
-ghost use Rattle.vhdl_names_expressions.specs.Chosen.{is_name, arguments_of, started, links_of};
+ghost use Rattle.vhdl_tree.specs.View.{view};
+ghost use Rattle.vhdl_names_expressions.specs.Chosen.{started, links_of};
 ghost use Rattle.vhdl_names_expressions.specs.Steps.{is_parens, enclosed_if, linked, all_linked};
 ghost use Rattle.vhdl_names_expressions.specs.Breaking.{link_breaks, all_break, started_breaks};
-ghost use Rattle.vhdl_names_sight.specs.Views.{meaning_view};
-ghost use Rattle.vhdl_names_rules.specs.views.Expressions.{typed_view, typed_suffix_view};
+ghost use Rattle.vhdl_names_rules.specs.views.Expressions.{typed_view};
 
+use crate::elements::{qualified, typed_elements};
+use crate::named::named;
 use vhdl_names_operators::{
-    bit_string_literal, character_literal, enclosed, integer_literal, inverse, operated, signed,
-    string_literal,
+    absolute, bit_string_literal, character_literal, enclosed, in_parentheses, integer_literal,
+    inverse, operated, power, signed, string_literal,
 };
-use vhdl_names_rules::{NameFault, NameProblem, Static, StaticRange, Typed, TypedSuffix};
-use vhdl_names_sight::{Meaning, Sight, attributed, denoted, meaning_of};
-use vhdl_tree::{Chain, Expr, Identifier, Link, Name, Range, Suffix};
+use vhdl_names_rules::{NameFault, NameProblem, Static, Typed};
+use vhdl_names_sight::Sight;
+use vhdl_tree::{Chain, Expr, Link, Power};
 
 /// The byte at which an expression starts.
 #[tactic(auto, using(crate::proofs::Starting::chain_starts))]
@@ -39,8 +39,12 @@ pub fn start(e: &Expr) -> usize
         Expr::Name(name) => name.identifier.at,
         Expr::Parens { at, .. } => *at,
         Expr::Not { at, .. } => *at,
+        Expr::Abs { at, .. } => *at,
+        Expr::Power(power) => start(&power.base),
         Expr::Signed { at, .. } => *at,
         Expr::Chain(chain) => start(&chain.first),
+        Expr::Aggregate { at, .. } => *at,
+        Expr::Qualified { mark, .. } => mark.at,
     }
 }
 
@@ -66,35 +70,12 @@ fn beside(after_parens: bool, operand: Typed) -> Typed
     }
 }
 
-/// Whether an expression stands in parentheses.
-#[tactic(auto, using(crate::proofs::Choosing::chain_is_no_parens))]
+/// Whether an expression stands in parentheses, or is a qualified one.
 fn stands_in_parens(e: &Expr) -> bool
     ensures { result ≡ is_parens (view e.now) }
 {
     match e {
-        Expr::Parens { .. } => true,
-        _ => false,
-    }
-}
-
-/// Whether an expression is a name with no attribute.
-#[tactic(auto, using(crate::proofs::Choosing::chain_is_no_name))]
-fn is_bare_name(e: &Expr) -> bool
-    ensures { result ≡ is_name (view e.now) }
-{
-    match e {
-        Expr::Name(name) => name.attribute.is_none(),
-        _ => false,
-    }
-}
-
-/// Whether arguments are one name alone.
-#[tactic(auto, using(crate::proofs::Choosing::just_one, crate::proofs::Choosing::not_one))]
-fn is_one_name(arguments: &[Expr]) -> bool
-    ensures { result ≡ rules.is_one_name (t.exprs_of (map view arguments.now)) }
-{
-    match arguments {
-        [only] => is_bare_name(only),
+        Expr::Parens { .. } | Expr::Qualified { .. } => true,
         _ => false,
     }
 }
@@ -115,12 +96,17 @@ pub fn typed(sight: &Sight, e: &Expr) -> Result<Typed, NameFault>
         Expr::Name(name) => named(sight, name),
         Expr::Parens { inner, .. } => {
             let operand = typed(sight, inner)?;
-            Ok(enclosed(operand))
+            in_parentheses(operand, start(inner))
         }
         Expr::Not { at, operand } => {
             let operand = typed(sight, operand)?;
             inverse(sight.alloc, *at, operand)
         }
+        Expr::Abs { at, operand } => {
+            let operand = typed(sight, operand)?;
+            absolute(sight.alloc, operand, *at)
+        }
+        Expr::Power(power) => raised(sight, power),
         Expr::Signed { sign, at, operand } => {
             let operand = typed(sight, operand)?;
             signed(sight.alloc, *sign, operand, *at)
@@ -129,7 +115,25 @@ pub fn typed(sight: &Sight, e: &Expr) -> Result<Typed, NameFault>
             let begun = begun(sight, chain)?;
             further(sight, chain, begun)
         }
+        Expr::Aggregate { at, elements } => {
+            let elements = typed_elements(sight, elements)?;
+            Ok(Typed::composite(*at, elements))
+        }
+        Expr::Qualified { mark, at, elements } => qualified(sight, mark, elements, *at),
     }
+}
+
+/// A power: a base, and behind it an exponent.
+#[cycle(typed)]
+fn raised(sight: &Sight, raised: &Power) -> Result<Typed, NameFault>
+    ensures given { Gives typed_view
+        (rules.typed sight.now (t.power (view raised.now.base) raised.now.at (view raised.now.exponent))) result }
+    ensures told { IfErr result (Tells
+        (broken.typed sight.now (t.power (view raised.now.base) raised.now.at (view raised.now.exponent)))) }
+{
+    let base = typed(sight, &raised.base)?;
+    let exponent = typed(sight, &raised.exponent)?;
+    power(sight.alloc, raised.at, base, exponent)
 }
 
 /// A chain's first operand and its first operator with the right operand.
@@ -184,110 +188,6 @@ fn links(sight: &Sight, links: &[Link], first: Typed) -> Result<Typed, NameFault
     Ok(done)
 }
 
-/// Whether a name of this meaning is a type's, a component's or a label's.
-fn is_no_value(meaning: &Meaning) -> bool
-    ensures { result ≡ broken.is_no_value (meaning_view meaning.now) }
-{
-    match meaning {
-        Meaning::IntegerType(_) | Meaning::ElementType { .. } | Meaning::VectorType(..) => true,
-        Meaning::EnumerationType { .. } | Meaning::Component(_) | Meaning::Label => true,
-        _ => false,
-    }
-}
-
-/// The attribute of a name, if it has one: no other than 'event is offered.
-fn offered(attribute: &Option<Identifier>) -> Result<(), NameFault>
-    ensures kept { IfOk result (λ _. broken.attribute (option_map ident_view attribute.now) ≡ nothing) }
-    ensures told { IfErr result (Tells (broken.attribute (option_map ident_view attribute.now))) }
-{
-    let Some(attribute) = attribute else {
-        return Ok(());
-    };
-    if attribute.text.as_slice() == b"event".as_slice() {
-        Ok(())
-    } else {
-        Err(NameProblem::LeftOut.at(attribute.at))
-    }
-}
-
-/// The attribute of a type, a component or a label with nothing behind its name is told in place of
-/// the name.
-fn of_no_value(
-    meaning: &Meaning,
-    suffix: &TypedSuffix,
-    attribute: &Option<Identifier>,
-) -> Result<(), NameFault>
-    ensures kept { IfOk result (λ _.
-        broken.of_no_value (meaning_view meaning.now) (typed_suffix_view suffix.now)
-        (option_map ident_view attribute.now) ≡ nothing) }
-    ensures none { OnErr result ((at : ℕ)
-        → denoted_of at (meaning_view meaning.now) (typed_suffix_view suffix.now) ≡ None) }
-    ensures told { IfErr result (Tells
-        (broken.of_no_value (meaning_view meaning.now) (typed_suffix_view suffix.now)
-        (option_map ident_view attribute.now))) }
-{
-    match suffix {
-        TypedSuffix::Plain => {
-            if is_no_value(meaning) {
-                offered(attribute)
-            } else {
-                Ok(())
-            }
-        }
-        TypedSuffix::Arguments(..) => Ok(()),
-        TypedSuffix::Range(_) => Ok(()),
-    }
-}
-
-/// What a name is, with what follows its identifier.
-#[cycle(typed)]
-#[tactic(auto, using(crate::proofs::Chains::named_in_turn))]
-fn named(sight: &Sight, name: &Name) -> Result<Typed, NameFault>
-    ensures given { Gives typed_view
-        (rules.typed sight.now
-        (t.named (ident_view name.now.identifier) (suffix_view name.now.suffix)
-        (option_map ident_view name.now.attribute))) result }
-    ensures told { IfErr result (Tells
-        (broken.typed sight.now
-        (t.named (ident_view name.now.identifier) (suffix_view name.now.suffix)
-        (option_map ident_view name.now.attribute)))) }
-{
-    let at = name.identifier.at;
-    let meaning = meaning_of(sight, &name.identifier)?;
-    let suffix = typed_suffix(sight, &name.suffix)?;
-    of_no_value(meaning, &suffix, &name.attribute)?;
-    let value = denoted(sight.alloc, meaning, suffix, at)?;
-    attributed(&name.attribute, value, at)
-}
-
-/// What stands in parentheses after an identifier, with its types. It takes memory for what is
-/// analysed.
-#[cycle(typed)]
-#[tactic(auto, using(crate::proofs::Chains::sliced_is), unfolding(vhdl_names_rules::specs::Expressions::typed_suffix))]
-pub fn typed_suffix(sight: &Sight, suffix: &Suffix) -> Result<TypedSuffix, NameFault>
-    ensures given { Gives typed_suffix_view (rules.typed_suffix sight.now (suffix_view suffix.now)) result }
-    ensures told { IfErr result (Tells (broken.typed_suffix sight.now (suffix_view suffix.now))) }
-{
-    match suffix {
-        Suffix::Plain => Ok(TypedSuffix::Plain),
-        Suffix::Arguments(all) => arguments(sight, all),
-        Suffix::Range(range) => {
-            let range = static_range(sight, range)?;
-            Ok(TypedSuffix::Range(Box::new(sight.alloc, range)?))
-        }
-    }
-}
-
-/// Indices or arguments.
-#[cycle(typed)]
-fn arguments(sight: &Sight, all: &[Expr]) -> Result<TypedSuffix, NameFault>
-    ensures given { Gives typed_suffix_view (arguments_of sight.now (t.exprs_of (map view all.now))) result }
-    ensures told { IfErr result (Tells (broken.typed_each sight.now (t.exprs_of (map view all.now)))) }
-{
-    let typed = typed_each(sight, all)?;
-    Ok(TypedSuffix::Arguments(is_one_name(all), typed))
-}
-
 /// The static integer that an expression is. It takes memory for what is analysed.
 #[cycle(typed)]
 #[tactic(auto, using(crate::proofs::Chains::static_is))]
@@ -297,34 +197,4 @@ pub fn static_integer(sight: &Sight, e: &Expr) -> Result<Static, NameFault>
 {
     let value = typed(sight, e)?;
     as_integer(value, start(e))
-}
-
-/// A range of static integers. It takes memory for what is analysed.
-#[cycle(typed)]
-pub fn static_range(sight: &Sight, range: &Range) -> Result<StaticRange, NameFault>
-    ensures given { Gives range_view (rules.static_range sight.now (tree_range_view range.now)) result }
-    ensures told { IfErr result (Tells (broken.static_range sight.now (tree_range_view range.now))) }
-{
-    let left = static_integer(sight, &range.left)?;
-    let right = static_integer(sight, &range.right)?;
-    Ok(StaticRange {
-        left,
-        direction: range.direction,
-        right,
-    })
-}
-
-/// Arguments with their types. It takes memory for what is analysed.
-#[cycle(typed)]
-pub fn typed_each(sight: &Sight, arguments: &[Expr]) -> Result<Vec<Typed>, NameFault>
-    ensures given { Gives (λ v. map typed_view v.items)
-        (rules.typed_each sight.now (t.exprs_of (map view arguments.now))) result }
-    ensures told { IfErr result (Tells (broken.typed_each sight.now (t.exprs_of (map view arguments.now)))) }
-{
-    let mut done = Vec::new(sight.alloc);
-    for argument in arguments {
-        let value = typed(sight, argument)?;
-        done.push(value)?;
-    }
-    Ok(done)
 }

@@ -2,20 +2,15 @@
 //! expressions and names, by the rules of `vhdl_names_rules`.
 #![tactic(auto)]
 
-mod alternatives;
 mod asked;
+mod elements;
 mod expressions;
-mod fixed;
-mod literals;
+mod named;
 mod objects;
-mod subtypes;
+mod ranges;
 
-pub use alternatives::{choice, choices};
-pub use asked::{condition, given, selector, static_condition};
-pub use expressions::{
-    as_integer, start, static_integer, static_range, typed, typed_each, typed_suffix,
-};
-pub use fixed::fixed_value;
-pub use literals::name_of;
-pub use objects::{signal, target, variable};
-pub use subtypes::subtype;
+pub use asked::{condition, given, given_as, given_expression, selector, static_condition};
+pub use expressions::{as_integer, start, static_integer, typed};
+pub use named::{name_of, typed_each, typed_suffix};
+pub use objects::{signal, target, unattributed, variable};
+pub use ranges::{range_start, static_range};

@@ -6,7 +6,6 @@ use Rattle.std.proofs.lemmas.Option.{slice_get-map}
 use Rattle.std.proofs.lemmas.List.{append_assoc, append-nil}
 use Rattle.vhdl_tree.specs.Tree as t
 use Rattle.vhdl_tree.specs.declared.expression.Expr.{Expr}
-use Rattle.vhdl_names_rules.specs.units.Expressions.{SignalPart}
 use Rattle.vhdl_names_rules.specs.Rules.{◌>>=◌}
 use Rattle.vhdl_names_rules.specs.Visibility as visibility
 use Rattle.vhdl_names_rules.specs.Visibility.{Meaning, Sight}
@@ -26,64 +25,63 @@ use Rattle.vhdl_names_rules.proofs.Telling.{IsKept, behind_kept, unless_kept, la
 use Rattle.vhdl_names_rules.proofs.kept.Expressions.{meaning_kept, typed_suffix_kept}
 use Rattle.vhdl_names_rules.proofs.kept.Instances.{names_no_value, actual_signal_kept}
 use Rattle.vhdl_names_expressions.proofs.Each.{behind}
-use Rattle.vhdl_names_instances.specs.declared.actuals.PortType.{PortType}
 use Rattle.vhdl_names_instances.specs.Views.{actual_view}
-use Rattle.vhdl_names_instances.specs.steps.Actuals.{port_entry, port_actuals, entry_of, entry}
+use Rattle.vhdl_names_instances.specs.steps.Actuals.{each_of, one_of}
 
--- ---- ports in order
+-- ---- actuals in order
 
 -- an actual at a place
 pub entry_at : (as' : List (Option (Bor Expr))) (i : ℕ) (o : Option (Option (Bor Expr))) → o ≡ slice_get as' i
     → slice_get (map actual_view as') i ≡ option_map actual_view o
 entry_at as' i o e = slice_get-map actual_view as' i ∙ ap (option_map actual_view) (sym e)
 
-module _ (sight : Sight) where
+module _ {F X : Type 0} (one : F → Option t.Expr → Option X) where
   -- an entry before the others
-  abbrev more : Option (List (Option SignalPart)) → Option (Option SignalPart) → Option (List (Option SignalPart))
+  abbrev more : Option (List X) → Option X → Option (List X)
   more rest None = Some []
   more rest (Some x) = rest >>= λ xs. Some (x ∷ xs)
 
-  no_actuals : (ps : List PortType) → port_actuals sight ps [] ≡ Some []
+  no_actuals : (fs : List F) → each_of one fs [] ≡ Some []
   no_actuals [] = refl
-  no_actuals (p ∷ ps) = refl
+  no_actuals (f ∷ fs) = refl
 
-  no_entry : (o : Option PortType) → entry_of sight o None ≡ Some None
+  no_entry : (o : Option F) → one_of one o None ≡ Some None
   no_entry None = refl
-  no_entry (Some p) = refl
+  no_entry (Some f) = refl
 
-  unrolled : (ps : List PortType) (es : List (Option t.Expr)) (i : ℕ)
-      → port_actuals sight (drop i ps) (drop i es) ≡ (entry sight ps es i >>= more (port_actuals sight (drop (suc i) ps) (drop (suc i) es)))
+  abbrev here : List F → List (Option t.Expr) → ℕ → Option (Option X)
+  here fs es i = one_of one (slice_get fs i) (slice_get es i)
+
+  unrolled : (fs : List F) (es : List (Option t.Expr)) (i : ℕ) → each_of one (drop i fs) (drop i es) ≡ (here fs es i >>= more (each_of one (drop (suc i) fs) (drop (suc i) es)))
   unrolled [] es zero = refl
   unrolled [] es (suc i) = refl
-  unrolled (p ∷ ps) [] zero = refl
-  unrolled (p ∷ ps) [] (suc i) =
-      no_actuals (drop i ps) ∙ ap (λ o. o >>= more (port_actuals sight (drop (suc i) ps) [])) (sym (no_entry (slice_get ps i)))
-  unrolled (p ∷ ps) (e ∷ es) zero = go (port_entry sight p e)
+  unrolled (f ∷ fs) [] zero = refl
+  unrolled (f ∷ fs) [] (suc i) = no_actuals (drop i fs) ∙ ap (λ o. o >>= more (each_of one (drop (suc i) fs) [])) (sym (no_entry (slice_get fs i)))
+  unrolled (f ∷ fs) (e ∷ es) zero = go (one f e)
     where
-      go : (o : Option (Option SignalPart)) → (o >>= λ x. port_actuals sight ps es >>= λ xs. Some (x ∷ xs)) ≡ ((o >>= λ x. Some (Some x)) >>= more (port_actuals sight ps es))
+      go : (o : Option X) → (o >>= λ x. each_of one fs es >>= λ xs. Some (x ∷ xs)) ≡ ((o >>= λ x. Some (Some x)) >>= more (each_of one fs es))
       go None = refl
       go (Some x) = refl
-  unrolled (p ∷ ps) (e ∷ es) (suc i) = unrolled ps es i
+  unrolled (f ∷ fs) (e ∷ es) (suc i) = unrolled fs es i
 
-  module _ (whole : Option (List (Option SignalPart))) (ys : List (Option SignalPart)) (ps : List PortType) (es : List (Option t.Expr)) (i : ℕ)
-      (h : whole ≡ behind ys (port_actuals sight (drop i ps) (drop i es))) where
-    abbrev rest : Option (List (Option SignalPart))
-    rest = port_actuals sight (drop (suc i) ps) (drop (suc i) es)
+  module _ (whole : Option (List X)) (ys : List X) (fs : List F) (es : List (Option t.Expr)) (i : ℕ) (h : whole ≡ behind ys (each_of one (drop i fs) (drop i es))) where
+    abbrev rest : Option (List X)
+    rest = each_of one (drop (suc i) fs) (drop (suc i) es)
 
-    by_entry : (o : Option (Option (Option SignalPart))) → entry sight ps es i ≡ o → whole ≡ behind ys (o >>= more rest)
-    by_entry o e = h ∙ ap (behind ys) (unrolled ps es i ∙ ap (λ o. o >>= more rest) e)
+    by_entry : (o : Option (Option X)) → here fs es i ≡ o → whole ≡ behind ys (o >>= more rest)
+    by_entry o e = h ∙ ap (behind ys) (unrolled fs es i ∙ ap (λ o. o >>= more rest) e)
 
-    pub port_fails : entry sight ps es i ≡ None → whole ≡ None
-    port_fails e = by_entry None e
+    pub entry_fails : here fs es i ≡ None → whole ≡ None
+    entry_fails e = by_entry None e
 
-    pub port_goes : (x : Option SignalPart) → entry sight ps es i ≡ Some (Some x) → whole ≡ behind (ys ++ x ∷ []) rest
-    port_goes x e = by_entry (Some (Some x)) e ∙ go rest
+    pub entry_goes : (x : X) → here fs es i ≡ Some (Some x) → whole ≡ behind (ys ++ x ∷ []) rest
+    entry_goes x e = by_entry (Some (Some x)) e ∙ go rest
       where
-        go : (o : Option (List (Option SignalPart))) → behind ys (o >>= λ xs. Some (x ∷ xs)) ≡ behind (ys ++ x ∷ []) o
+        go : (o : Option (List X)) → behind ys (o >>= λ xs. Some (x ∷ xs)) ≡ behind (ys ++ x ∷ []) o
         go None = refl
         go (Some zs) = ap Some (sym (append_assoc ys (x ∷ []) zs))
 
-    pub actuals_end : entry sight ps es i ≡ Some None → whole ≡ Some ys
+    pub actuals_end : here fs es i ≡ Some None → whole ≡ Some ys
     actuals_end e = by_entry (Some None) e ∙ ap Some (append-nil ys)
 
 -- ---- the name of a value

@@ -6,20 +6,22 @@ use Rattle.std.proofs.lemmas.Option.{slice_get-map}
 use Rattle.std.proofs.lemmas.Iterator.Adapters.{position_from-zero}
 use Rattle.vhdl_tree.specs.Tree as t
 use Rattle.vhdl_tree.specs.Tree.{Ident, Expr, Association}
+use Rattle.vhdl_names_rules.specs.units.Expressions.{SignalPart}
 use Rattle.vhdl_names_rules.specs.units.Units as u
-use Rattle.vhdl_names_rules.specs.Rules.{◌>>=◌, ◌>>◌, met, each, if_any, all_of}
+use Rattle.vhdl_names_rules.specs.Rules.{◌>>=◌, ◌>>◌, met, if_any, all_of}
 use Rattle.vhdl_names_rules.specs.Visibility.{Name, Sight}
-use Rattle.vhdl_names_rules.specs.Expressions.{static}
 use Rattle.vhdl_names_rules.specs.Instances as rules
-use Rattle.vhdl_names_rules.specs.Instances.{Formal, associated, is_architecture, generic_name, port_formal, port_actual}
+use Rattle.vhdl_names_rules.specs.Instances.{Formal, GenericFormal, associated, is_architecture, generic_formal, generic_actual, port_formal, port_actual}
 use Rattle.vhdl_names_rules.specs.Interfaces.{EntityView, entity_named}
 use Rattle.vhdl_names_units.proofs.Lists.{bound}
-use Rattle.vhdl_names_instances.specs.Table.{Seen, seen, seen_view, type_of, items, AreEntities}
+use Rattle.vhdl_names_instances.specs.Table.{Seen, seen, seen_view, type_of, kind_of, items, AreEntities}
 use Rattle.vhdl_names_instances.specs.declared.instances.Formals.{Formals}
 use Rattle.vhdl_names_instances.specs.declared.instances.InstanceEntities.{InstanceEntities}
 use Rattle.vhdl_names_instances.specs.steps.Actuals as actuals
+use Rattle.vhdl_names_instances.specs.steps.Generics as generics
 use Rattle.vhdl_names_instances.specs.steps.Instances as steps
 use Rattle.vhdl_names_units.specs.Once.{names_view}
+use Rattle.vhdl_names_instances.proofs.Sorted.{ports, port_name, generics_of, generic_name}
 
 -- ---- places of names
 
@@ -107,45 +109,54 @@ module _ (es : List EntityView) where
   instantiated_by sight (t.entity_unit library n a) = entity_by library n a sight
   instantiated_by sight (t.component_unit word n) = refl
 
-  -- ---- ports by their types
+  -- ---- formals by their types
 
-  port_by : (sight : Sight) (f : Formal) (e : Expr) → port_actual sight f e ≡ port_actual sight (actuals.formal (type_of f)) e
-  unfolding port_actual
-  port_by sight f e = refl
+  generic_entry_by : (sight : Sight) (f : GenericFormal) (e : Option Expr) → if_any (generic_actual sight f) e ≡ generics.generic_entry sight (kind_of f) e
+  generic_entry_by sight f None = refl
+  generic_entry_by sight f (Some e) = ap (λ o. o >>= λ y. Some (Some y)) (sym ((generics_of sight).same_given f e))
 
-  entry_by : (sight : Sight) (f : Formal) (e : Option Expr) → if_any (port_actual sight f) e ≡ actuals.port_entry sight (type_of f) e
-  entry_by sight f None = refl
-  entry_by sight f (Some e) = ap (λ o. o >>= λ y. Some (Some y)) (port_by sight f e)
+  generics_by : (sight : Sight) (fs : List GenericFormal) (es : List (Option Expr)) → rules.generic_actuals sight fs es ≡ generics.generic_actuals sight (map kind_of fs) es
+  generics_by sight [] es = refl
+  generics_by sight (f ∷ fs) [] = refl
+  generics_by sight (f ∷ fs) (e ∷ es) =
+      ap (λ o. o >>= λ p. rules.generic_actuals sight fs es >>= λ ps. Some (p ∷ ps)) (generic_entry_by sight f e)
+      ∙ ap (λ o. generics.generic_entry sight (kind_of f) e >>= λ p. o >>= λ ps. Some (p ∷ ps)) (generics_by sight fs es)
+
+  port_entry_by : (sight : Sight) (f : Formal) (e : Option Expr) → if_any (port_actual sight f) e ≡ actuals.port_entry sight (type_of f) e
+  port_entry_by sight f None = refl
+  port_entry_by sight f (Some e) = ap (λ o. o >>= λ y. Some (Some y)) (sym ((ports sight).same_given f e))
 
   ports_by : (sight : Sight) (fs : List Formal) (es : List (Option Expr)) → rules.port_actuals sight fs es ≡ actuals.port_actuals sight (map type_of fs) es
   ports_by sight [] es = refl
   ports_by sight (f ∷ fs) [] = refl
   ports_by sight (f ∷ fs) (e ∷ es) =
-      ap (λ o. o >>= λ p. rules.port_actuals sight fs es >>= λ ps. Some (p ∷ ps)) (entry_by sight f e)
+      ap (λ o. o >>= λ p. rules.port_actuals sight fs es >>= λ ps. Some (p ∷ ps)) (port_entry_by sight f e)
       ∙ ap (λ o. actuals.port_entry sight (type_of f) e >>= λ p. o >>= λ ps. Some (p ∷ ps)) (ports_by sight fs es)
 
   -- ---- the whole
 
+  abbrev made : Ident → ℕ → List (Option u.Fixed) → List (Option SignalPart) → Option u.Instance
+  made label k generics ports = Some (record { at = label.at; label = label.text; unit = k; generics = generics; ports = ports })
+
   formals_by : (sight : Sight) (label : Ident) (k : ℕ) (e : EntityView) (as' bs : List Association)
-      → (associated (filter_map generic_name e.interface.declared) as' >>= λ gs. each (if_any (static sight)) gs >>= λ generics.
-      associated (map (λ (f : Formal). f.name) (filter_map port_formal e.interface.declared)) bs >>= λ ps.
-      rules.port_actuals sight (filter_map port_formal e.interface.declared) ps >>= λ ports.
-      let i : u.Instance = record { at = label.at; label = label.text; unit = k; generics = generics; ports = ports } in Some i)
+      → (associated (map generic_name (filter_map generic_formal e.interface.declared)) as' >>= λ gs. rules.generic_actuals sight (filter_map generic_formal e.interface.declared) gs >>= λ generics.
+      associated (map port_name (filter_map port_formal e.interface.declared)) bs >>= λ ps. rules.port_actuals sight (filter_map port_formal e.interface.declared) ps >>= λ ports. made label k generics ports)
       ≡ steps.with_formals sight label k (seen e) as' bs
   formals_by sight label k e as' bs =
-      bound (associated (filter_map generic_name e.interface.declared) as') _ _ (λ gs. bound (each (if_any (static sight)) gs) _ _ (λ generics.
-      bound (associated (map (λ (f : Formal). f.name) (filter_map port_formal e.interface.declared)) bs) _ _ (λ ps.
-      ap (λ o. o >>= λ ports. let i : u.Instance = record { at = label.at; label = label.text; unit = k; generics = generics; ports = ports } in Some i)
-      (ports_by sight (filter_map port_formal e.interface.declared) ps))))
+      bound (associated (map generic_name (filter_map generic_formal e.interface.declared)) as') _ _ (λ gs.
+      ap (λ o. o >>= λ generics. associated (map port_name (filter_map port_formal e.interface.declared)) bs >>= λ ps.
+      rules.port_actuals sight (filter_map port_formal e.interface.declared) ps >>= λ ports. made label k generics ports) (generics_by sight (filter_map generic_formal e.interface.declared) gs)
+      ∙ bound (generics.generic_actuals sight (map kind_of (filter_map generic_formal e.interface.declared)) gs) _ _ (λ generics.
+      bound (associated (map port_name (filter_map port_formal e.interface.declared)) bs) _ _ (λ ps.
+      ap (λ o. o >>= λ ports. made label k generics ports) (ports_by sight (filter_map port_formal e.interface.declared) ps))))
 
   instance_by : (sight : Sight) (label : Ident) (i : t.Instance)
       → rules.instance es sight label i ≡ steps.instance (map (λ (e : EntityView). e.name) es) (map seen es) sight label i
   unfolding rules.instance
   instance_by sight label i =
-      ap (λ o. o >>= λ k. slice_get es k >>= λ e. associated (filter_map generic_name e.interface.declared) (all_of i.generics)
-      >>= λ gs. each (if_any (static sight)) gs >>= λ generics. associated (map (λ (f : Formal). f.name) (filter_map port_formal e.interface.declared)) (all_of i.ports)
-      >>= λ ps. rules.port_actuals sight (filter_map port_formal e.interface.declared) ps >>= λ ports.
-      let i : u.Instance = record { at = label.at; label = label.text; unit = k; generics = generics; ports = ports } in Some i) (instantiated_by sight i.unit)
+      ap (λ o. o >>= λ k. slice_get es k >>= λ e. associated (map generic_name (filter_map generic_formal e.interface.declared)) (all_of i.generics)
+      >>= λ gs. rules.generic_actuals sight (filter_map generic_formal e.interface.declared) gs >>= λ generics. associated (map port_name (filter_map port_formal e.interface.declared)) (all_of i.ports)
+      >>= λ ps. rules.port_actuals sight (filter_map port_formal e.interface.declared) ps >>= λ ports. made label k generics ports) (instantiated_by sight i.unit)
       ∙ bound (steps.instantiated (map (λ (e : EntityView). e.name) es) (map seen es) sight i.unit) _ _
       (λ k. bound (slice_get es k) _ _ (λ e. formals_by sight label k e (all_of i.generics) (all_of i.ports))
       ∙ go k (slice_get es k) ∙ ap (λ o. o >>= λ e. steps.with_formals sight label k e (all_of i.generics) (all_of i.ports)) (sym (slice_get-map seen es k)))

@@ -5,6 +5,8 @@ pub mod Instancing
 pub mod Mapping
 pub mod Porting
 pub mod Reading
+pub mod Sorted
 pub mod Tabling
 pub mod Taking
 pub mod Told
+pub mod Valued

@@ -4,7 +4,7 @@ use Rattle.std.specs.Prelude.{option_map, slice_get}
 use Rattle.std.proofs.lemmas.Option.{slice_get-map}
 use Rattle.vhdl_names_rules.specs.Rules.{◌>>=◌}
 use Rattle.vhdl_names_rules.specs.Visibility.{Declared}
-use Rattle.vhdl_names_sight.specs.declared.meaning.Meaning.{Meaning}
+use Rattle.vhdl_names_sight.specs.declared.meaning.Entry.{Entry}
 use Rattle.vhdl_names_sight.specs.Views.{entry_view}
 use Rattle.vhdl_names_units.specs.Lists.{in_turn}
 use Rattle.vhdl_names_instances.specs.Table.{Seen}
@@ -18,7 +18,7 @@ unrolled f (d ∷ ds) zero = refl
 unrolled f (d ∷ ds) (suc i) = unrolled f ds i
 
 -- an entry of a region, as contracts see it
-pub entry_at : (es : List (Vec ℕ Global × Meaning)) (i : ℕ) (o : Option (Vec ℕ Global × Meaning)) → o ≡ slice_get es i
+pub entry_at : (es : List (Vec ℕ Global × Entry)) (i : ℕ) (o : Option (Vec ℕ Global × Entry)) → o ≡ slice_get es i
     → slice_get (map entry_view es) i ≡ option_map entry_view o
 entry_at es i o e = slice_get-map entry_view es i ∙ ap (option_map entry_view) (sym e)
 

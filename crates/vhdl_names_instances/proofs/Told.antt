@@ -1,5 +1,5 @@
 -- What is told of parts of instances.
-use Rattle.std.proofs.Common.{◌≡◌, ◌≢◌, Option, Some, None, Result, Ok, Err, IfOk, IfErr, ap, sym, subst, true≢false}
+use Rattle.std.proofs.Common.{◌≡◌, ◌≢◌, Option, Some, None, Result, Ok, Err, IfOk, ap, true≢false}
 use Rattle.std.specs.Prelude.{IsErrAnd, is_some}
 use Rattle.vhdl_names_rules.specs.declared.fault.NameFault.{NameFault}
 use Rattle.vhdl_names_rules.specs.declared.fault.NameFault.TheVariants.{At, NoMemory}
@@ -19,12 +19,6 @@ only_memory b x f h = or_memory b f (λ n. absurd (true≢false (ap is_some (h n
 -- along an equation of what is looked at
 pub told_along : {A : Type 0} (b : A → Broken) (x y : A) → x ≡ y → (f : NameFault) → Tells (b x) f → Tells (b y) f
 told_along b x y e f h = told_same (b x) (b y) f (ap b e) h
-
--- a fault that is passed on
-pub passed_told : {X : Type 0} (b : Broken) (fault : NameFault) (P : NameFault → Type 0) (r : Result X NameFault) → IsErrAnd r P → ((e : NameFault) → P e → e ≡ fault) → Tells b fault
-    → IfErr r (Tells b)
-passed_told b fault P (Ok x) h same w = tt
-passed_told b fault P (Err e) h same w = subst (Tells b) (sym (same e h)) w
 
 -- what holds where something is answered
 pub ok_on : {X : Type 0} {P Q : Type 0} (r : Result X NameFault) → IfOk r (λ _. P) → (P → Q) → IfOk r (λ _. Q)

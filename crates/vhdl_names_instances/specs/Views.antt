@@ -5,12 +5,13 @@ use Rattle.std.specs.Borrow.{Bor}
 use Rattle.vhdl_tree.specs.declared.expression.Expr.{Expr}
 use Rattle.vhdl_tree.specs.Tree as t
 use Rattle.vhdl_tree.specs.View.{view}
-use Rattle.vhdl_names_rules.specs.declared.integer.Static.{Static}
 use Rattle.vhdl_names_rules.specs.declared.vector.SignalPart.{SignalPart}
 use Rattle.vhdl_names_rules.specs.units.Expressions as u
-use Rattle.vhdl_names_rules.specs.views.Integers.{static_view}
+use Rattle.vhdl_names_rules.specs.units.Units as units
 use Rattle.vhdl_names_rules.specs.views.Vectors.{place_view}
 use Rattle.vhdl_names_units.specs.declared.actuals.Actuals.{Actuals}
+use Rattle.vhdl_names_units.specs.declared.answers.Fixed.{Fixed}
+use Rattle.vhdl_names_units.specs.views.Answers.{fixed_view}
 use Rattle.vhdl_names_units.specs.views.Actuals.{each_actual}
 
 -- the actual of a formal
@@ -20,8 +21,8 @@ actual_view = option_map (λ (e : Bor Expr). view e.now)
 abbrev pub actuals_view : Vec (Option (Bor Expr)) Global → List (Option t.Expr)
 actuals_view v = map actual_view v.items
 
-abbrev pub statics_view : Actuals Static → List (Option u.Static)
-statics_view actuals = map (option_map static_view) (each_actual actuals)
+abbrev pub fixeds_view : Actuals Fixed → List (Option units.Fixed)
+fixeds_view actuals = map (option_map fixed_view) (each_actual actuals)
 
 abbrev pub places_view : Actuals SignalPart → List (Option u.SignalPart)
 places_view actuals = map (option_map place_view) (each_actual actuals)

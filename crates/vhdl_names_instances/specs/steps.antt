@@ -3,3 +3,4 @@ pub mod Associations
 pub mod Instances
 pub mod Maps
 pub mod Tables
+pub mod Generics

@@ -1,27 +1,25 @@
-//! The actuals of generics and ports (IEEE 1076-2008, 6.5.7.2 and 6.5.7.3).
+//! The actuals of ports (IEEE 1076-2008, 6.5.7.3).
 
 ghost use Rattle.std.specs.Prelude.{◌≡◌, true, IfErr, map, option_map, slice_get};
-ghost use Rattle.vhdl_names_instances.specs.Views.{actual_view, places_view, statics_view};
+ghost use Rattle.vhdl_names_instances.specs.Views.{actual_view, places_view};
 ghost use Rattle.vhdl_names_instances.specs.steps.Actuals as steps;
-ghost use Rattle.vhdl_names_rules.specs.problems.Broken.{Tells, ◌▸◌, of_any, refused};
-ghost use Rattle.vhdl_names_rules.specs.problems.Expressions.{no_attribute, static as broken_static};
+ghost use Rattle.vhdl_names_rules.specs.problems.Broken.{Tells, ◌▸◌, refused};
+ghost use Rattle.vhdl_names_rules.specs.problems.Expressions.{no_attribute};
 ghost use Rattle.vhdl_names_rules.specs.problems.Instances as broken;
 ghost use Rattle.vhdl_names_rules.specs.problems.Statements.{named};
-ghost use Rattle.vhdl_names_rules.specs.Expressions.{static as static_of};
 ghost use Rattle.vhdl_names_rules.specs.Gives.{Gives};
 ghost use Rattle.vhdl_names_rules.specs.Instances as rules;
-ghost use Rattle.vhdl_names_rules.specs.Rules.{each, if_any};
 ghost use Rattle.vhdl_names_rules.specs.Statements.{signal as signal_of};
 ghost use Rattle.vhdl_names_rules.specs.declared.fault.NameProblem.TheVariants.{LeftOut};
 ghost use Rattle.vhdl_names_rules.specs.Visibility as visibility;
-ghost use Rattle.vhdl_names_rules.specs.views.Integers.{static_view};
 ghost use Rattle.vhdl_names_rules.specs.views.Vectors.{place_view};
-ghost use Rattle.vhdl_tree.specs.View.{view, name_view, option_ident_view, suffix_view};
+ghost use Rattle.vhdl_tree.specs.View.{view, name_view, attribute_view, suffix_view};
 ghost use Rattle.vhdl_names_sight.specs.Views.{meaning_view};
 ghost use Rattle.vhdl_names_units.specs.views.Answers.{signal_name_view};
 
-use vhdl_names_expressions::{name_of, signal, start, static_integer, typed_suffix};
-use vhdl_names_rules::{ElementKind, NameFault, NameProblem, ObjectType, SignalPart, Static};
+use vhdl_names_expressions::{name_of, signal, start, typed_suffix};
+use vhdl_names_parts::attribute_start;
+use vhdl_names_rules::{ElementKind, NameFault, NameProblem, ObjectType, SignalPart};
 use vhdl_names_sight::{Meaning, Sight};
 use vhdl_names_units::{Actuals, SignalName};
 use vhdl_tree::{Expr, Mode, Name, Suffix};
@@ -61,6 +59,8 @@ fn is_value(meaning: &Meaning, suffix: &Suffix) -> bool
 {
     match meaning {
         Meaning::Generic(_) | Meaning::IntegerConstant(_) => true,
+        Meaning::BooleanGeneric(_) | Meaning::BooleanConstant(_) => true,
+        Meaning::BooleanLiteral(_) => true,
         Meaning::GenerateParameter(_) | Meaning::LoopParameter(_) => true,
         Meaning::Constant(..) | Meaning::Literal { .. } | Meaning::Function(_) => true,
         Meaning::VectorType(..) => matches!(suffix, Suffix::Arguments(_)),
@@ -81,12 +81,12 @@ fn names_value(sight: &Sight, name: &Name) -> bool
 
 /// The byte at which a value is left out: an attribute is left out at itself.
 fn left_out_place(name: &Name) -> usize
-    ensures { (no_attribute (option_ident_view name.now.attribute) ▸ refused LeftOut name.now.identifier.at) ≡
+    ensures { (no_attribute (option_map attribute_view name.now.attribute) ▸ refused LeftOut name.now.identifier.at) ≡
         refused LeftOut result }
 {
     match &name.attribute {
         None => name.identifier.at,
-        Some(attribute) => attribute.at,
+        Some(attribute) => attribute_start(attribute),
     }
 }
 
@@ -152,7 +152,7 @@ fn port_entry(
 
 /// The actual at a place, if there are so many.
 #[tactic(auto, using(crate::proofs::Actual::entry_at))]
-fn entry_at<'a>(actuals: &[Option<&'a Expr>], index: usize) -> Option<Option<&'a Expr>>
+pub(crate) fn entry_at<'a>(actuals: &[Option<&'a Expr>], index: usize) -> Option<Option<&'a Expr>>
     ensures { option_map actual_view result ≡ slice_get (map actual_view actuals.now) index }
 {
     match actuals.get(index) {
@@ -204,36 +204,6 @@ pub(crate) fn port_actuals(
             None => return Ok(all),
             Some(actual) => all.push(actual)?,
         }
-    }
-    Ok(all)
-}
-
-/// The actual of a generic, if one is associated: a static integer.
-pub(crate) fn generic_entry(
-    sight: &Sight,
-    actual: &Option<&Expr>,
-) -> Result<Option<Static>, NameFault>
-    ensures given { Gives (option_map static_view) (if_any (static_of sight.now) (actual_view actual.now)) result }
-    ensures told { IfErr result (Tells (of_any (broken_static sight.now) (actual_view actual.now))) }
-{
-    match actual {
-        None => Ok(None),
-        Some(e) => Ok(Some(static_integer(sight, e)?)),
-    }
-}
-
-/// The actuals of generics, in the order of the generics.
-#[tactic(auto, using(vhdl_names_units::proofs::Lists::each_in_turn))]
-pub(crate) fn generic_actuals(
-    sight: &Sight,
-    actuals: &[Option<&Expr>],
-) -> Result<Actuals<Static>, NameFault>
-    ensures { Gives statics_view (each (if_any (static_of sight.now)) (map actual_view actuals.now)) result }
-{
-    let mut all = Actuals::none(sight.alloc);
-    for actual in actuals {
-        let next = generic_entry(sight, actual)?;
-        all.push(next)?;
     }
     Ok(all)
 }

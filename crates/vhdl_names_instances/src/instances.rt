@@ -20,8 +20,9 @@ ghost use Rattle.vhdl_tree.specs.View as tree;
 ghost use Rattle.vhdl_names_sight.specs.Views.{meaning_view};
 ghost use Rattle.vhdl_names_units.specs.views.Concurrent.{instance_view};
 
-use crate::actuals::{PortType, generic_actuals, port_actuals};
+use crate::actuals::{PortType, port_actuals};
 use crate::associations::{Names, associated};
+use crate::generics::{GenericKind, generic_actuals};
 use crate::maps::maps;
 use drops::take_apart;
 use vhdl_names_rules::{NameFault, NameProblem};
@@ -31,17 +32,18 @@ use vhdl_tree as syntax;
 use vhdl_tree::{Association, Identifier, Instantiated};
 
 /// What instances see of an entity: the name of its architecture, if the file has one, its
-/// generics, and its ports with their types.
+/// generics with their kinds, and its ports with their types.
 pub struct Formals {
     pub architecture: Option<Vec<u8>>,
     pub generics: Names,
+    pub generic_kinds: Vec<GenericKind>,
     pub ports: Names,
     pub port_types: Vec<PortType>,
 }
 
 impl Drop for Formals {
     fn drop(self) {
-        take_apart!(self: { architecture, generics, ports, port_types });
+        take_apart!(self: { architecture, generics, generic_kinds, ports, port_types });
     }
 }
 
@@ -202,6 +204,7 @@ fn by_formals(
 {
     let generics = generic_actuals(
         sight,
+        &formals.generic_kinds,
         &associated(sight.alloc, &formals.generics, listed(&instance.generics))?,
     )?;
     let ports = port_actuals(

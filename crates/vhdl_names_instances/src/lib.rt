@@ -4,6 +4,7 @@
 
 mod actuals;
 mod associations;
+mod generics;
 mod instances;
 mod maps;
 mod tables;

@@ -5,22 +5,28 @@ ghost use Rattle.vhdl_names_units.specs.Lists.{in_turn};
 ghost use Rattle.vhdl_names_instances.specs.Table.{seen_view};
 ghost use Rattle.vhdl_names_instances.specs.steps.Tables as steps;
 ghost use Rattle.vhdl_names_rules.specs.Gives.{Gives};
-ghost use Rattle.vhdl_names_rules.specs.Visibility as visibility;
-ghost use Rattle.vhdl_names_sight.specs.Views.{meaning_view, region_view};
+ghost use Rattle.vhdl_names_sight.specs.Views.{meaning_view, entry_of, region_view};
 
 use crate::actuals::PortType;
 use crate::associations::add_name;
+use crate::generics::GenericKind;
 use crate::instances::Formals;
 use indexmap::IndexSet;
 use std::alloc::{AllocError, Global};
 use vhdl_names_rules::NameFault;
-use vhdl_names_sight::{Meaning, Region};
+use vhdl_names_sight::{Entry, Meaning, Region};
 use vhdl_tree::Identifier;
 
-fn is_generic(meaning: &Meaning) -> bool
-    ensures { result ≡ visibility.is_generic (meaning_view meaning.now) }
+/// The kind of a generic; one of the nine values is a constant.
+fn generic_kind(meaning: &Meaning) -> Option<GenericKind>
+    ensures { result ≡ steps.generic_kind (meaning_view meaning.now) }
 {
-    matches!(meaning, Meaning::Generic(_))
+    match meaning {
+        Meaning::Generic(_) => Some(GenericKind::Integer),
+        Meaning::BooleanGeneric(_) => Some(GenericKind::Boolean),
+        Meaning::Constant(_, kind, _) => Some(GenericKind::Elements(*kind)),
+        _ => None,
+    }
 }
 
 /// The type of a port.
@@ -34,6 +40,20 @@ fn port_type(meaning: &Meaning) -> Option<PortType>
         }),
         _ => None,
     }
+}
+
+/// One more generic.
+fn add_generic(
+    alloc: Global,
+    formals: &mut Formals,
+    name: &[u8],
+    kind: GenericKind,
+) -> Result<(), NameFault>
+    ensures { Gives (λ _. seen_view formals.new) (steps.with_generic (seen_view formals.old) name.now kind) result }
+{
+    add_name(alloc, &mut formals.generics, name, 0)?;
+    formals.generic_kinds.push(kind)?;
+    Ok(())
 }
 
 /// One more port.
@@ -55,15 +75,15 @@ fn add_declared(
     alloc: Global,
     formals: &mut Formals,
     name: &[u8],
-    meaning: &Meaning,
+    entry: &Entry,
 ) -> Result<(), NameFault>
     ensures { Gives (λ _. seen_view formals.new)
-        (steps.with_declared (seen_view formals.old) (visibility.declare name.now (meaning_view meaning.now))) result }
+        (steps.with_declared (seen_view formals.old) (entry_of name.now entry.now)) result }
 {
-    if is_generic(meaning) {
-        return add_name(alloc, &mut formals.generics, name, 0);
+    if let Some(kind) = generic_kind(&entry.meaning) {
+        return add_generic(alloc, formals, name, kind);
     }
-    match port_type(meaning) {
+    match port_type(&entry.meaning) {
         None => Ok(()),
         Some(port) => add_port(alloc, formals, name, port),
     }
@@ -81,7 +101,7 @@ fn add_declared_at(
 {
     match region.get_index(place) {
         None => Ok(()),
-        Some((name, meaning)) => add_declared(alloc, formals, name, meaning),
+        Some((name, entry)) => add_declared(alloc, formals, name, entry),
     }
 }
 
@@ -109,6 +129,7 @@ pub fn formals_of(
     let mut formals = Formals {
         architecture,
         generics: IndexSet::new(alloc),
+        generic_kinds: Vec::new(alloc),
         ports: IndexSet::new(alloc),
         port_types: Vec::new(alloc),
     };

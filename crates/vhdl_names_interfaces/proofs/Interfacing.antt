@@ -1,8 +1,8 @@
 -- An interface, its generics first and then its ports.
 use Rattle.std.proofs.Common.{◌≡◌, Bool, true, false, List, [], ◌++◌, Option, Some, None, refl, sym, ap, subst, ◌∙◌}
-use Rattle.std.proofs.Common.{◌≢◌}
 use Rattle.vhdl_names_rules.specs.declared.fault.NameFault.{NameFault}
 use Rattle.vhdl_names_rules.specs.declared.fault.NameFault.TheVariants.{At, NoMemory}
+use Rattle.vhdl_lexer.specs.declared.language.Language.{Language}
 use Rattle.vhdl_tree.specs.Tree as t
 use Rattle.vhdl_names_rules.specs.units.Units as u
 use Rattle.vhdl_names_rules.specs.Rules.{◌>>=◌, met, all_of}
@@ -100,23 +100,30 @@ ports_told s w gs ps x f given h =
 
 -- ---- and of the entity
 
-abbrev of_interface : List t.ContextItem → t.Entity → Broken
-of_interface items e = where_given (context no_context items) (λ c. interfaces_broken.interface (sight_of c []) e.generics e.ports)
+abbrev of_interface : Language → List t.ContextItem → t.Entity → Broken
+of_interface language items e =
+    where_given (context (no_context language) items) (λ c. interfaces_broken.interface (sight_of c []) e.generics e.ports ▸ interfaces_broken.assertions (sight_of c []) e)
 
 abbrev ends_so : t.Entity → Broken
 ends_so e = broken.end_name e.name e.end_name
 
-pub context_told : (items : List t.ContextItem) (e : t.Entity) (f : NameFault) → Tells (broken.context no_context items) f → Tells (interfaces_broken.entity items e) f
-context_told items e f = told_left (broken.context no_context items) (of_interface items e ▸ ends_so e) f
+pub context_told : (language : Language) (items : List t.ContextItem) (e : t.Entity) (f : NameFault) → Tells (broken.context (no_context language) items) f → Tells (interfaces_broken.entity language items e) f
+context_told language items e f = told_left (broken.context (no_context language) items) (of_interface language items e ▸ ends_so e) f
+
+grouped : (a b c : Broken) → (a ▸ (b ▸ c)) ≡ ((a ▸ b) ▸ c)
+unfolding ◌▸◌
+grouped None b c = refl
+grouped (Some x) b c = refl
 
 -- behind its context clauses
-pub behind_told : (items : List t.ContextItem) (e : t.Entity) (c : Context) (s : Sight) → context no_context items ≡ Some c → Some (sight_of c []) ≡ Some s →
-    (f : NameFault) → Tells (interfaces_broken.interface s e.generics e.ports ▸ ends_so e) f → Tells (interfaces_broken.entity items e) f
-behind_told items e c s h k f told =
-    told_right (broken.context no_context items) (of_interface items e ▸ ends_so e) f (context_kept items no_context c h)
-    (told_same (interfaces_broken.interface s e.generics e.ports ▸ ends_so e) (of_interface items e ▸ ends_so e) f
-    (sym (ap (λ o. where_given o (λ c. interfaces_broken.interface (sight_of c []) e.generics e.ports) ▸ ends_so e) h
-    ∙ ap (λ s. interfaces_broken.interface s e.generics e.ports ▸ ends_so e) (some_is (sight_of c []) s k))) told)
+pub behind_told : (language : Language) (items : List t.ContextItem) (e : t.Entity) (c : Context) (s : Sight) → context (no_context language) items ≡ Some c → Some (sight_of c []) ≡ Some s →
+    (f : NameFault) → Tells (interfaces_broken.interface s e.generics e.ports ▸ interfaces_broken.assertions s e ▸ ends_so e) f → Tells (interfaces_broken.entity language items e) f
+behind_told language items e c s h k f told =
+    let of_sight = λ (s : Sight). interfaces_broken.interface s e.generics e.ports ▸ interfaces_broken.assertions s e in
+    told_right (broken.context (no_context language) items) (of_interface language items e ▸ ends_so e) f (context_kept items (no_context language) c h)
+    (told_same (interfaces_broken.interface s e.generics e.ports ▸ interfaces_broken.assertions s e ▸ ends_so e) (of_interface language items e ▸ ends_so e) f
+    (grouped (interfaces_broken.interface s e.generics e.ports) (interfaces_broken.assertions s e) (ends_so e)
+    ∙ sym (ap (λ o. where_given o (λ c. of_sight (sight_of c [])) ▸ ends_so e) h ∙ ap (λ s. of_sight s ▸ ends_so e) (some_is (sight_of c []) s k))) told)
 
 -- of nothing that is broken nothing is told
 pub told_nothing : (b : Broken) (f : NameFault) → Tells nothing f → Tells b f
@@ -125,13 +132,13 @@ told_nothing b NoMemory h = tt
 
 -- ---- entities
 
-pub no_entity : (items : List t.ContextItem) (e : t.Entity) (a : Option Name) → context no_context items ≡ None → entity items e a ≡ None
+pub no_entity : (language : Language) (items : List t.ContextItem) (e : t.Entity) (a : Option Name) → context (no_context language) items ≡ None → entity language items e a ≡ None
 unfolding entity
-no_entity items e a h = ap (λ o. o >>= λ c. behind_interface c e a (interface (sight_of c []) e.generics e.ports)) h
+no_entity language items e a h = ap (λ o. o >>= λ c. behind_interface c e a (interface (sight_of c []) e.generics e.ports)) h
 
-pub entity_is : (items : List t.ContextItem) (e : t.Entity) (a : Option Name) (c : Context) (s : Sight) → context no_context items ≡ Some c → Some (sight_of c []) ≡ Some s →
-    entity items e a ≡ behind_interface c e a (interface s e.generics e.ports)
+pub entity_is : (language : Language) (items : List t.ContextItem) (e : t.Entity) (a : Option Name) (c : Context) (s : Sight) → context (no_context language) items ≡ Some c → Some (sight_of c []) ≡ Some s →
+    entity language items e a ≡ behind_interface c e a (interface s e.generics e.ports)
 unfolding entity
-entity_is items e a c s h k =
+entity_is language items e a c s h k =
     ap (λ o. o >>= λ c. behind_interface c e a (interface (sight_of c []) e.generics e.ports)) h
     ∙ ap (λ s. behind_interface c e a (interface s e.generics e.ports)) (some_is (sight_of c []) s k)

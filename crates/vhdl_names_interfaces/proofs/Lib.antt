@@ -1,7 +1,11 @@
+pub mod Asserting
+pub mod Chained
 pub mod Copying
+pub mod Elementwise
 pub mod Interfacing
 pub mod Named
 pub mod Pairwise
-pub mod Chained
-pub mod Telling
+pub mod Portless
 pub mod Standing
+pub mod Telling
+pub mod Unlike

@@ -7,7 +7,7 @@ use Rattle.vhdl_tree.specs.View.{ident_view, idents_view, generic_view, generics
 use Rattle.vhdl_names_rules.specs.SameText.{same_each, same_name, same_generic, same_port}
 
 module _ {A B : Type 0} (view : A → B) (same : B → B → Bool) where
-  each_alike : (xs ys : List A) → same_each same (map view xs) (map view ys) ≡ same_each (λ x y. same (view x) (view y)) xs ys
+  pub each_alike : (xs ys : List A) → same_each same (map view xs) (map view ys) ≡ same_each (λ x y. same (view x) (view y)) xs ys
   each_alike [] [] = refl
   each_alike [] (y ∷ ys) = refl
   each_alike (x ∷ xs) [] = refl

@@ -1,11 +1,10 @@
 -- A component in turn: its entity, its text, its own region, its end, and its name in the region it stands in.
-use Rattle.std.proofs.Common.{◌≡◌, ℕ, Bool, true, false, ◌&&◌, List, [], ◌∷◌, ◌++◌, flat_map, Option, Some, None, Vec, Global, refl, sym, ap, ◌∙◌, append-nil}
-use Rattle.vhdl_names_declarations.proofs.Listed.{all_more}
+use Rattle.std.proofs.Common.{◌≡◌, ℕ, Bool, true, false, ◌&&◌, List, [], ◌∷◌, ◌++◌, Option, Some, None, Vec, Global, refl, sym, ap, ◌∙◌, append-nil}
 use Rattle.vhdl_names_declarations.proofs.Regions.{names-append, refused, grown}
 use Rattle.std.specs.Prelude.{bytes_eq, is_some, map}
 use Rattle.std.specs.List.{IsDistinct}
 use Rattle.std.specs.Map.{keys_of, lookup}
-use Rattle.vhdl_names_sight.specs.declared.meaning.Meaning.{Meaning as CodeMeaning}
+use Rattle.vhdl_names_sight.specs.declared.meaning.Entry.{Entry}
 use Rattle.vhdl_names_sight.specs.declared.meaning.Meaning.TheVariants.{Unfinished}
 use Rattle.vhdl_names_sight.specs.Views.{entry_view}
 use Rattle.vhdl_tree.specs.Tree as t
@@ -16,12 +15,10 @@ use Rattle.vhdl_names_rules.specs.Visibility as visibility
 use Rattle.vhdl_names_rules.specs.Visibility.{Name, Declared, Sight, Declares, declare, are_distinct, with_declared, ends}
 use Rattle.vhdl_names_rules.specs.Interfaces.{Interface, EntityView, declared_names, interface, component, entity_named}
 use Rattle.vhdl_names_declarations.specs.Entered.{more, entered, entering}
-use Rattle.vhdl_names_units.specs.declared.declaration.Declaration.{Declaration}
-use Rattle.vhdl_names_units.specs.views.Declarations.{declaration_view, declarations_view}
 use Rattle.vhdl_names_interfaces.specs.Components.{inner, has_interface, is_new}
 use Rattle.vhdl_names_interfaces.proofs.Interfacing.{pair}
 
-abbrev none_analysed : List u.Declaration
+abbrev pub none_analysed : List u.Declaration
 none_analysed = []
 
 -- its name enters the region
@@ -118,13 +115,15 @@ component_in_turn es s c = in_entity es s c ∙ by (are_distinct (declared_names
         ∙ sym (ap (λ b. first b >>= λ _. (entity_named es c.name.text >>= of_entity s c)) h)
 
 -- what a region that has a name says of it, and one that has it not
-pub is_twice : (es : List (Vec ℕ Global × CodeMeaning)) (n : Name) → IsDistinct (λ a b. bytes_eq a.items b.items) (keys_of es) →
+pub is_twice : (es : List (Vec ℕ Global × Entry)) (n : Name) → IsDistinct (λ a b. bytes_eq a.items b.items) (keys_of es) →
     is_some (lookup (λ k. bytes_eq n k.items) es) ≡ true → is_new (map entry_view es) n ≡ None
-is_twice es n unique h = ap (λ o. o >>= λ _. there) (refused es n visibility.unfinished unique h)
+is_twice es n unique h = ap (λ o. o >>= λ _. there) (refused es (declare n visibility.unfinished) unique h)
 
-pub is_once : (es : List (Vec ℕ Global × CodeMeaning)) (key : Vec ℕ Global) → IsDistinct (λ a b. bytes_eq a.items b.items) (keys_of es) →
+pub is_once : (es : List (Vec ℕ Global × Entry)) (key : Vec ℕ Global) → IsDistinct (λ a b. bytes_eq a.items b.items) (keys_of es) →
     is_some (lookup (λ k. bytes_eq key.items k.items) es) ≡ false → is_new (map entry_view es) key.items ≡ Some tt
-is_once es key unique h = ap (λ o. o >>= λ _. there) (grown es (es ++ (key, Unfinished) ∷ []) key.items key Unfinished unique h refl refl)
+is_once es key unique h =
+    let e : Entry = record { meaning = Unfinished; range = None; is_global = false } in
+    ap (λ o. o >>= λ _. there) (grown es (es ++ (key, e) ∷ []) key.items key e unique h refl refl)
 
 -- ---- a component's own region, which trades places with the one round it
 
@@ -141,14 +140,6 @@ swapped_inner s h =
 
 pub swapped_back : (s t : Sight) → s.enclosing ≡ [] → t ≡ record (swapped s) { region = t.region } → record t { region = t.enclosing; enclosing = [] } ≡ s
 swapped_back s t h kept = ap (λ (x : Sight). record x { region = x.enclosing; enclosing = [] }) kept ∙ ap (λ ds. record s { enclosing = ds }) (sym h)
-
--- ---- what is analysed
-
-pub none_more : (v : Vec Declaration Global) → declarations_view v ≡ declarations_view v ++ []
-none_more v = sym (append-nil (declarations_view v))
-
-pub one_more : (v w : Vec Declaration Global) (d : Declaration) → w.items ≡ v.items ++ d ∷ [] → declarations_view w ≡ declarations_view v ++ declaration_view d
-one_more v w d h = ap (flat_map declaration_view) h ∙ all_more declaration_view v.items d
 
 -- ---- a component that isn't given, by the part of it that isn't
 

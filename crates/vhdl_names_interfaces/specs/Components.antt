@@ -1,13 +1,10 @@
--- A component's own region, and what is analysed of a declaration.
-use Rattle.std.specs.Prelude.{List, [], ◌∷◌, ◌++◌, Option, Some, None}
+-- A component's own region.
+use Rattle.std.specs.Prelude.{List, [], ◌∷◌, ◌++◌, Option, Some}
 use Rattle.vhdl_tree.specs.Tree as t
-use Rattle.vhdl_names_rules.specs.units.Units as u
 use Rattle.vhdl_names_rules.specs.Rules.{◌>>=◌}
 use Rattle.vhdl_names_rules.specs.Visibility.{Name, Declared, Sight, declare, unfinished}
 use Rattle.vhdl_names_rules.specs.Interfaces.{interface}
 use Rattle.vhdl_names_declarations.specs.Entered.{more}
-use Rattle.vhdl_names_units.specs.declared.declaration.Declaration.{Declaration}
-use Rattle.vhdl_names_units.specs.views.Declarations.{declaration_view}
 
 -- what is in sight where a component's region begins
 abbrev pub inner : Sight → Sight
@@ -20,8 +17,3 @@ has_interface sight c = interface (inner sight) c.generics c.ports >>= λ _. Som
 -- a name that a region may still declare
 abbrev pub is_new : List Declared → Name → Option (Unit {0})
 is_new ds n = more ds (declare n unfinished ∷ []) >>= λ _. Some tt
-
--- of a type or a component nothing is analysed
-abbrev pub analysed_view : Option Declaration → List u.Declaration
-analysed_view None = []
-analysed_view (Some d) = declaration_view d

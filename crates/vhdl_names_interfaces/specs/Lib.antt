@@ -1,3 +1,4 @@
+pub mod Assertions
 pub mod Views
 pub mod Parts
 pub mod Components

@@ -4,8 +4,9 @@ use Rattle.vhdl_tree.specs.Lexeme.{same_kind}
 use Rattle.vhdl_tree.specs.grammar.Expressions.{kind_of}
 use Rattle.vhdl_tree.specs.declared.expression.Chain.{Chain, out-Chain}
 use Rattle.vhdl_tree.specs.declared.expression.Link.{Link}
+use Rattle.vhdl_tree.specs.Tree as t
 use Rattle.vhdl_tree.specs.View.{view}
-use Rattle.vhdl_names_rules.specs.SameText.{same_expr, same_each}
+use Rattle.vhdl_names_rules.specs.SameText.{same_expr, same_each, same_choice}
 
 -- an operator and its right operand
 abbrev pub same_link : Link → Link → Bool
@@ -17,3 +18,7 @@ same_chain a b =
     same_expr (view (out-Chain a).first) (view (out-Chain b).first)
     && (same_link (out-Chain a).second (out-Chain b).second
     && same_each same_link (out-Chain a).rest.items (out-Chain b).rest.items)
+
+-- choices, and a value
+abbrev pub same_element : t.Element → t.Element → Bool
+same_element a b = same_each same_choice a.choices b.choices && same_expr a.value b.value

@@ -4,16 +4,16 @@ use Rattle.indexmap.specs.IndexMap.{IndexMap}
 use Rattle.std.specs.Global.{Global}
 use Rattle.vhdl_tree.specs.View as tree
 use Rattle.vhdl_names_rules.specs.declared.fault.NameProblem.TheVariants.{Twice, WrongKind}
-use Rattle.vhdl_names_rules.specs.Rules.{◌>>=◌, rule}
+use Rattle.vhdl_names_rules.specs.Rules.{◌>>=◌, ◌>>◌, rule}
 use Rattle.vhdl_tree.specs.Tree.{ContextItem, Entity}
 use Rattle.vhdl_names_rules.specs.Packages.{Context, context, sight_of}
-use Rattle.vhdl_names_rules.specs.Visibility.{Name, Declared, Sight, ends, is_among}
-use Rattle.vhdl_names_rules.specs.Interfaces.{Interface, EntityView, interface}
+use Rattle.vhdl_names_rules.specs.Visibility.{Name, Declared, Sight, ends, is_among, are_distinct}
+use Rattle.vhdl_names_rules.specs.Interfaces.{Interface, EntityView, interface, assertion_labels, with_labels, declared_names}
 use Rattle.vhdl_names_sight.specs.Views.{region_view}
 use Rattle.vhdl_names_units.specs.declared.declaration.Generics.{Generics}
 use Rattle.vhdl_names_units.specs.declared.declaration.Ports.{Ports}
 use Rattle.vhdl_names_units.specs.views.Declarations.{all_generics_view, all_ports_view}
-use Rattle.vhdl_names_declarations.specs.Contexts.{context_view}
+use Rattle.vhdl_names_packages.specs.Contexts.{context_view}
 use Rattle.vhdl_names_interfaces.specs.declared.interface.EntityInterface.{EntityInterface}
 
 -- generics and ports, in this region
@@ -61,7 +61,11 @@ entity_of c i e a = record {
 
 -- where its interface is given
 abbrev pub behind_interface : Context → Entity → Option Name → Option Interface → Option EntityView
-behind_interface c e a o = o >>= λ i. (rule WrongKind (ends e.name.text e.end_name) >>= λ _. Some (entity_of c i e a))
+behind_interface c e a o = do
+  i ← o
+  rule Twice (are_distinct (declared_names i.declared ++ assertion_labels e.statements))
+  rule WrongKind (ends e.name.text e.end_name)
+  Some (entity_of c (with_labels i (assertion_labels e.statements)) e a)
 
 -- an entity whose context clauses bring this in sight
 abbrev pub entity_in : Context → Sight → Entity → Option Name → Option EntityView

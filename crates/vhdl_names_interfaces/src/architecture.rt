@@ -1,9 +1,9 @@
 //! The declarations of an architecture (IEEE 1076-2008, 3.3.2).
 
-ghost use Rattle.std.specs.Prelude.{◌≡◌, ◌++◌, [], map, OnOk, IfErr};
-ghost use Rattle.vhdl_names_interfaces.specs.Components.{analysed_view};
+ghost use Rattle.std.specs.Prelude.{◌≡◌, [], map, OnOk, IfErr};
 ghost use Rattle.vhdl_names_declarations.specs.Counts.{AreCounts};
 ghost use Rattle.vhdl_names_declarations.specs.Entered.{entering};
+ghost use Rattle.vhdl_names_declarations.specs.Subtyping.{analysed_view};
 ghost use Rattle.vhdl_names_interfaces.specs.Views.{entities_view};
 ghost use Rattle.vhdl_names_rules.specs.Declarations.{in_order};
 ghost use Rattle.vhdl_names_rules.specs.Files as rules;
@@ -17,11 +17,12 @@ ghost use Rattle.vhdl_names_rules.specs.problems.Files as broken;
 
 use crate::components::component;
 use crate::entities::Entities;
-use std::alloc::AllocError;
 use vhdl_names_declarations::Counts;
 use vhdl_names_declarations::constants::constants;
 use vhdl_names_declarations::enumeration::enumeration;
 use vhdl_names_declarations::objects::signals;
+use vhdl_names_declarations::process::push_if_any;
+use vhdl_names_declarations::subtypes::subtype_declaration;
 use vhdl_names_rules::NameFault;
 use vhdl_names_sight::{Sight, names_are_apart};
 use vhdl_names_units::Declaration;
@@ -46,34 +47,25 @@ fn declaration(
 {
     match one {
         syntax::Declaration::Signals(one) => {
-            let done = signals(sight, counts.signals, one)?;
+            let done = signals(sight, counts, one)?;
             Ok(Some(done))
         }
         syntax::Declaration::Constants(one) => {
-            let done = constants(sight, counts.integers, counts.constants, one)?;
+            let done = constants(sight, counts, one)?;
             Ok(Some(done))
         }
         syntax::Declaration::Enumeration(one) => {
-            enumeration(sight, counts.enumerations, one)?;
+            enumeration(sight, counts, one)?;
+            Ok(None)
+        }
+        syntax::Declaration::Subtype(one) => subtype_declaration(sight, counts, one),
+        syntax::Declaration::Attribute(_) => {
+            names_are_apart(&sight.region);
             Ok(None)
         }
         syntax::Declaration::Component(one) => {
             component(entities, sight, one)?;
             Ok(None)
-        }
-    }
-}
-
-/// One more, if there is one.
-#[tactic(auto, using(crate::proofs::Standing::none_more, crate::proofs::Standing::one_more))]
-fn push_if_any(done: &mut Vec<Declaration>, one: Option<Declaration>) -> Result<(), AllocError>
-    ensures { OnOk result (declarations_view done.new ≡ declarations_view done.old ++ analysed_view one) }
-{
-    match one {
-        None => Ok(()),
-        Some(one) => {
-            done.push(one)?;
-            Ok(())
         }
     }
 }

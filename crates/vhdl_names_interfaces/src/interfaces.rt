@@ -6,8 +6,10 @@ ghost use Rattle.vhdl_names_rules.specs.SameText as rules;
 ghost use Rattle.vhdl_tree.specs.View as tree;
 
 use crate::alike::Alike;
-use crate::same::{same_expr, same_range};
-use vhdl_tree::{Component, Entity, Expr, Generic, Mode, Port, Range, Subtype, Value};
+use crate::same::{same_expr, same_named, same_range};
+use vhdl_tree::{
+    Component, Constraint, DiscreteRange, Entity, Expr, Generic, Mode, Port, Subtype, Value,
+};
 
 impl Alike for bool {
     ghost alike = { rules.same_word };
@@ -36,14 +38,6 @@ impl Alike for Expr {
     }
 }
 
-impl Alike for Range {
-    ghost alike = { λ a b. rules.same_range (tree.range_view a) (tree.range_view b) };
-
-    fn is_like(&self, other: &Range) -> bool {
-        same_range(self, other)
-    }
-}
-
 impl Alike for Value {
     ghost alike = { λ a b. rules.same_value (tree.value_view a) (tree.value_view b) };
 
@@ -56,11 +50,35 @@ impl Alike for Value {
     }
 }
 
+impl Alike for DiscreteRange {
+    ghost alike = { λ a b. rules.same_discrete_range (tree.discrete_range_view a) (tree.discrete_range_view b) };
+
+    fn is_like(&self, other: &DiscreteRange) -> bool {
+        match (self, other) {
+            (DiscreteRange::Bounds(a), DiscreteRange::Bounds(b)) => same_range(a, b),
+            (DiscreteRange::Name(a), DiscreteRange::Name(b)) => same_named(a, b),
+            _ => false,
+        }
+    }
+}
+
+impl Alike for Constraint {
+    ghost alike = { λ a b. rules.same_constraint (tree.constraint_view a) (tree.constraint_view b) };
+
+    fn is_like(&self, other: &Constraint) -> bool {
+        match (self, other) {
+            (Constraint::Index(a), Constraint::Index(b)) => a.is_like(b),
+            (Constraint::Range(a), Constraint::Range(b)) => a.is_like(b),
+            _ => false,
+        }
+    }
+}
+
 impl Alike for Subtype {
     ghost alike = { λ a b. rules.same_subtype (tree.subtype_view a) (tree.subtype_view b) };
 
     fn is_like(&self, other: &Subtype) -> bool {
-        self.mark.is_like(&other.mark) && self.range.is_like(&other.range)
+        self.mark.is_like(&other.mark) && self.constraint.is_like(&other.constraint)
     }
 }
 
@@ -72,7 +90,7 @@ impl Alike for Generic {
         self.constant_word.is_like(&other.constant_word)
             && self.names.is_like(&other.names)
             && self.in_word.is_like(&other.in_word)
-            && self.mark.is_like(&other.mark)
+            && self.subtype.is_like(&other.subtype)
             && self.default.is_like(&other.default)
     }
 }

@@ -1,22 +1,36 @@
 //! Whether two expressions are the same text, token for token apart from case (IEEE 1076-2008, 4.10
 //! and 6.8).
 
-ghost use Rattle.std.specs.Prelude.{◌≡◌, ◌==◌, ◌&&◌};
+ghost use Rattle.std.specs.Prelude.{◌≡◌, ◌==◌, ◌&&◌, option_map};
 ghost use Rattle.std.specs.Char.{to_ascii_lowercase};
-ghost use Rattle.vhdl_names_interfaces.specs.Parts.{same_chain, same_link};
+ghost use Rattle.vhdl_names_interfaces.specs.Parts.{same_chain, same_link, same_element};
 ghost use Rattle.vhdl_names_rules.specs.SameText as rules;
 ghost use Rattle.vhdl_tree.specs.Lexeme as tree;
-ghost use Rattle.vhdl_tree.specs.View.{view, ident_view, option_ident_view, range_view, suffix_view};
+ghost use Rattle.vhdl_tree.specs.View.{view, ident_view, attribute_view, choice_view, element_view, range_view, suffix_view};
 
 use crate::alike::Alike;
 use vhdl_lexer::TokenKind;
-use vhdl_tree::{Chain, Expr, Identifier, Link, Literal, Name, Range, Suffix};
+use vhdl_tree::{
+    Attribute, Chain, Choice, Element, Expr, Identifier, Link, Literal, Name, Range, Suffix,
+};
 
 impl Alike for Identifier {
     ghost alike = { λ a b. rules.same_name (ident_view a) (ident_view b) };
 
     fn is_like(&self, other: &Identifier) -> bool {
         self.text.as_slice() == other.text.as_slice()
+    }
+}
+
+impl Alike for Attribute {
+    ghost alike = { λ a b. rules.same_attribute (attribute_view a) (attribute_view b) };
+
+    fn is_like(&self, other: &Attribute) -> bool {
+        match (self, other) {
+            (Attribute::Name(a), Attribute::Name(b)) => a.is_like(b),
+            (Attribute::Range { .. }, Attribute::Range { .. }) => true,
+            _ => false,
+        }
     }
 }
 
@@ -44,7 +58,6 @@ fn same_kind(a: TokenKind, b: TokenKind) -> bool
 
 /// Whether two expressions are the same text.
 #[cycle(same)]
-#[tactic(auto, using(crate::proofs::Chained::before_chain, crate::proofs::Chained::behind_chain))]
 pub fn same_expr(a: &Expr, b: &Expr) -> bool
     ensures { result ≡ rules.same_expr (view a.now) (view b.now) }
 {
@@ -58,6 +71,10 @@ pub fn same_expr(a: &Expr, b: &Expr) -> bool
         (Expr::Name(a), Expr::Name(b)) => same_named(a, b),
         (Expr::Parens { inner: a, .. }, Expr::Parens { inner: b, .. }) => same_expr(a, b),
         (Expr::Not { operand: a, .. }, Expr::Not { operand: b, .. }) => same_expr(a, b),
+        (Expr::Abs { operand: a, .. }, Expr::Abs { operand: b, .. }) => same_expr(a, b),
+        (Expr::Power(a), Expr::Power(b)) => {
+            same_expr(&a.base, &b.base) && same_expr(&a.exponent, &b.exponent)
+        }
         (
             Expr::Signed {
                 sign,
@@ -71,16 +88,85 @@ pub fn same_expr(a: &Expr, b: &Expr) -> bool
             },
         ) => { same_kind(sign.kind(), other.kind()) && same_expr(a, b) }
         (Expr::Chain(a), Expr::Chain(b)) => same_chain(a, b),
+        (Expr::Aggregate { elements: a, .. }, Expr::Aggregate { elements: b, .. }) => {
+            same_elements(a, b)
+        }
+        (
+            Expr::Qualified {
+                mark,
+                elements: a,
+                ..
+            },
+            Expr::Qualified {
+                mark: other,
+                elements: b,
+                ..
+            },
+        ) => { mark.is_like(other) && same_elements(a, b) }
+        _ => false,
+    }
+}
+
+/// Whether the elements of two aggregates are the same text.
+#[cycle(same)]
+fn same_elements(a: &[Element], b: &[Element]) -> bool
+    ensures { result ≡ rules.same_each (λ x y. same_element (element_view x) (element_view y)) a.now b.now }
+{
+    if a.len() != b.len() {
+        return false;
+    }
+    for (place, element) in a.iter().enumerate() {
+        if !same_element(element, &b[place]) {
+            return false;
+        }
+    }
+    true
+}
+
+/// Whether two elements are: their choices, and their values.
+#[cycle(same)]
+fn same_element(a: &Element, b: &Element) -> bool
+    ensures { result ≡ same_element (element_view a.now) (element_view b.now) }
+{
+    same_choices(&a.choices, &b.choices) && same_expr(&a.value, &b.value)
+}
+
+/// Whether the choices of two elements are.
+#[cycle(same)]
+fn same_choices(a: &[Choice], b: &[Choice]) -> bool
+    ensures { result ≡ rules.same_each (λ x y. rules.same_choice (choice_view x) (choice_view y)) a.now b.now }
+{
+    if a.len() != b.len() {
+        return false;
+    }
+    for (place, choice) in a.iter().enumerate() {
+        if !same_choice(choice, &b[place]) {
+            return false;
+        }
+    }
+    true
+}
+
+/// Whether two choices are.
+#[cycle(same)]
+fn same_choice(a: &Choice, b: &Choice) -> bool
+    ensures { result ≡ rules.same_choice (choice_view a.now) (choice_view b.now) }
+{
+    match (a, b) {
+        (Choice::Expr(a), Choice::Expr(b)) => same_expr(a, b),
+        (Choice::Range(a), Choice::Range(b)) => same_range(a, b),
+        (Choice::Others { .. }, Choice::Others { .. }) => true,
         _ => false,
     }
 }
 
 /// Whether two names are the same text.
 #[cycle(same)]
-fn same_named(a: &Name, b: &Name) -> bool
+pub fn same_named(a: &Name, b: &Name) -> bool
     ensures { result ≡ (rules.same_name (ident_view a.now.identifier) (ident_view b.now.identifier)
         && rules.same_suffix (suffix_view a.now.suffix) (suffix_view b.now.suffix)
-        && rules.same_option rules.same_name (option_ident_view a.now.attribute) (option_ident_view b.now.attribute)) }
+        && rules.same_option rules.same_attribute (option_map attribute_view a.now.attribute)
+        (option_map attribute_view b.now.attribute)) }
 {
     a.identifier.is_like(&b.identifier)
         && same_suffix(&a.suffix, &b.suffix)

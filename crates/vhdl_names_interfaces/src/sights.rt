@@ -2,76 +2,30 @@
 
 ghost use Rattle.std.specs.Prelude.{◌≡◌, ◌∷◌, [], map, Some, IfOk, IfErr};
 ghost use Rattle.vhdl_names_declarations.specs.Entered.{ident, more};
-ghost use Rattle.vhdl_names_rules.specs.Visibility.{declare};
 ghost use Rattle.vhdl_names_interfaces.specs.Views.{entity_view, sight_behind};
 ghost use Rattle.vhdl_names_rules.specs.Gives.{Gives};
 ghost use Rattle.vhdl_tree.specs.View as view;
-ghost use Rattle.vhdl_names_sight.specs.Views.{meaning_view, region_view};
+ghost use Rattle.vhdl_names_sight.specs.Views.{entry_of, region_view};
 ghost use Rattle.vhdl_names_rules.specs.problems.Broken.{Tells, nothing};
 ghost use Rattle.vhdl_names_rules.specs.problems.Declarations as broken;
 
 use crate::interface::EntityInterface;
 use indexmap::IndexMap;
-use std::alloc::{AllocError, Global};
-use vhdl_names_declarations::{context_after, copied_values, declare_name, sight_of};
+use std::alloc::Global;
+use vhdl_names_declarations::declare_entry;
+use vhdl_names_packages::{context_after, sight_of};
 use vhdl_names_rules::NameFault;
-use vhdl_names_sight::{Meaning, Region, Sight, names_are_apart};
+use vhdl_names_sight::{Entry, Region, Sight, names_are_apart};
 use vhdl_tree::ContextItem;
 
-/// A copy of what a name is declared to be. It takes the memory of a constant's literal.
-fn copied_meaning(alloc: Global, meaning: &Meaning) -> Result<Meaning, AllocError>
-    ensures { IfOk result (λ m. meaning_view m ≡ meaning_view meaning.now) }
-{
-    match meaning {
-        Meaning::Generic(k) => Ok(Meaning::Generic(*k)),
-        Meaning::IntegerConstant(k) => Ok(Meaning::IntegerConstant(*k)),
-        Meaning::GenerateParameter(k) => Ok(Meaning::GenerateParameter(*k)),
-        Meaning::LoopParameter(k) => Ok(Meaning::LoopParameter(*k)),
-        Meaning::Port(k, mode, kind) => Ok(Meaning::Port(*k, *mode, *kind)),
-        Meaning::Signal(k, object_type) => Ok(Meaning::Signal(*k, *object_type)),
-        Meaning::Variable(k, object_type) => Ok(Meaning::Variable(*k, *object_type)),
-        Meaning::Constant(k, kind, values) => {
-            let values = copied_values(alloc, values)?;
-            Ok(Meaning::Constant(*k, *kind, values))
-        }
-        Meaning::Literal {
-            number,
-            count,
-            position,
-        } => Ok(Meaning::Literal {
-            number: *number,
-            count: *count,
-            position: *position,
-        }),
-        Meaning::IntegerType(integer_type) => Ok(Meaning::IntegerType(*integer_type)),
-        Meaning::ElementType { is_resolved } => Ok(Meaning::ElementType {
-            is_resolved: *is_resolved,
-        }),
-        Meaning::VectorType(kind, is_resolved) => Ok(Meaning::VectorType(*kind, *is_resolved)),
-        Meaning::EnumerationType { number, count } => Ok(Meaning::EnumerationType {
-            number: *number,
-            count: *count,
-        }),
-        Meaning::Function(function) => Ok(Meaning::Function(*function)),
-        Meaning::Component(k) => Ok(Meaning::Component(*k)),
-        Meaning::Label => Ok(Meaning::Label),
-        Meaning::Unfinished => Ok(Meaning::Unfinished),
-    }
-}
-
 /// One declaration of a region, copied behind those of another.
-fn copy_one(
-    alloc: Global,
-    copy: &mut Region,
-    name: &[u8],
-    meaning: &Meaning,
-) -> Result<(), NameFault>
+fn copy_one(alloc: Global, copy: &mut Region, name: &[u8], entry: &Entry) -> Result<(), NameFault>
     ensures given { Gives (λ _. region_view copy.new)
-        (more (region_view copy.old) (declare name.now (meaning_view meaning.now) ∷ [])) result }
+        (more (region_view copy.old) (entry_of name.now entry.now ∷ [])) result }
     ensures told { IfErr result (Tells (broken.standing_twice (region_view copy.old) (ident 0 name.now ∷ []))) }
 {
-    let meaning = copied_meaning(alloc, meaning)?;
-    declare_name(alloc, copy, name, 0, meaning)?;
+    let entry = entry.copied(alloc)?;
+    declare_entry(alloc, copy, name, 0, entry)?;
     Ok(())
 }
 
@@ -83,8 +37,8 @@ fn copied_region(alloc: Global, region: &Region) -> Result<Region, NameFault>
     names_are_apart(region);
     let mut copy: Region = IndexMap::new(alloc);
     for place in 0..region.len() {
-        let (name, meaning) = region.get_index(place).unwrap();
-        copy_one(alloc, &mut copy, name.as_slice(), meaning)?;
+        let (name, entry) = region.get_index(place).unwrap();
+        copy_one(alloc, &mut copy, name.as_slice(), entry)?;
     }
     names_are_apart(&copy);
     Ok(copy)

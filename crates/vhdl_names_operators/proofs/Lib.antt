@@ -2,3 +2,6 @@ pub mod Characters
 pub mod Closing
 pub mod Quotations
 pub mod Operating
+pub mod Arranging
+pub mod Composing
+pub mod Resolving

@@ -1,2 +1,4 @@
+pub mod Resolving
+pub mod Arranging
 pub mod Steps
 pub mod Views

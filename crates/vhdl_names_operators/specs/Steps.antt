@@ -66,3 +66,7 @@ integer_literal text = option_map (λ n. integer (u.number n)) (number_of text)
 -- a sign before an operand
 abbrev pub signed_by : (at : ℕ) → Sign → Typed → Option Typed
 signed_by at sign x = as_integer x >>= λ s. Some (integer (signed at sign s))
+
+-- `abs` before an operand
+abbrev pub absolute_of : (at : ℕ) → Typed → Option Typed
+absolute_of at x = as_integer x >>= λ s. Some (integer (u.absolute at s))

@@ -2,13 +2,17 @@
 //! `vhdl_names_rules`.
 #![tactic(auto)]
 
+mod aggregates;
+mod beside;
 mod literals;
 mod numbers;
 mod operands;
 mod operators;
 
+pub use aggregates::{aggregate, arranged};
 pub use literals::{bit_string_values, string_values};
 pub use operands::{
-    bit_string_literal, character_literal, enclosed, integer_literal, signed, string_literal,
+    absolute, bit_string_literal, character_literal, enclosed, in_parentheses, integer_literal,
+    signed, string_literal,
 };
-pub use operators::{inverse, operated};
+pub use operators::{inverse, operated, power};

@@ -11,7 +11,7 @@ ghost use Rattle.vhdl_names_rules.specs.Operators as table;
 ghost use Rattle.vhdl_names_rules.specs.declared.kind.ElementKind.TheVariants.{Element, OpenVector};
 ghost use Rattle.vhdl_names_rules.specs.units.Expressions as u;
 ghost use Rattle.vhdl_names_rules.specs.views.Vectors.{vector_view};
-ghost use Rattle.vhdl_names_operators.specs.Steps.{closed, integer_literal as integer_of, signed_by};
+ghost use Rattle.vhdl_names_operators.specs.Steps.{closed, integer_literal as integer_of, signed_by, absolute_of};
 ghost use Rattle.vhdl_names_rules.specs.views.Expressions.{typed_view};
 
 use crate::literals::{bit_string_values, string_values};
@@ -91,6 +91,19 @@ pub fn signed(alloc: Global, sign: Sign, operand: Typed, at: usize) -> Result<Ty
     }
 }
 
+/// `abs` at byte `at`, before an integer (9.2.8), or else there is TypeMismatch. It takes the
+/// memory of a box.
+#[inline(never)]
+pub fn absolute(alloc: Global, operand: Typed, at: usize) -> Result<Typed, NameFault>
+    ensures given { Gives typed_view (absolute_of at (typed_view operand)) result }
+    ensures told { IfErr result (Tells (lacking TypeMismatch at (rules.as_integer (typed_view operand)))) }
+{
+    match operand {
+        Typed::Integer(integer) => Ok(Typed::Integer(Static::absolute(alloc, at, integer)?)),
+        operand => Err(without(operand, NameProblem::TypeMismatch.at(at))),
+    }
+}
+
 /// A vector as it counts in parentheses.
 fn closed_vector(vector: Vector) -> Vector
     ensures { vector_view result ≡ closed (vector_view vector) }
@@ -111,5 +124,20 @@ pub fn enclosed(operand: Typed) -> Typed
             Typed::Elements(ElementKind::Element, closed_vector(vector))
         }
         operand => operand,
+    }
+}
+
+/// What stands in parentheses, and starts at byte `at`: neither the name of a range, nor an
+/// aggregate.
+pub fn in_parentheses(operand: Typed, at: usize) -> Result<Typed, NameFault>
+    ensures given { Gives typed_view (rules.in_parentheses (typed_view operand)) result }
+    ensures told { IfErr result (Tells (lacking TypeMismatch at (rules.in_parentheses (typed_view operand)))) }
+{
+    match operand {
+        Typed::Interval(range) => Err(without(range, NameProblem::TypeMismatch.at(at))),
+        Typed::Composite(_, elements) => {
+            Err(without(elements, NameProblem::TypeMismatch.at(at)))
+        }
+        operand => Ok(enclosed(operand)),
     }
 }

@@ -1,16 +1,20 @@
 //! Operators on typed operands (IEEE 1076-2008, 9.2; numeric_std for unsigned, 16.8). Each takes
 //! the memory of a list or a box.
 
-ghost use Rattle.vhdl_names_rules.specs.problems.Broken.{Tells, refused, lacking};
+ghost use Rattle.vhdl_names_rules.specs.problems.Broken.{Tells, refused, ◌▸◌, lacking};
 ghost use Rattle.vhdl_names_rules.specs.problems.Operators.{is_unordered, arithmetic_problem, order_problem, operator_problem};
 ghost use Rattle.vhdl_names_rules.specs.declared.fault.NameProblem.TheVariants.{TypeMismatch, LeftOut};
-ghost use Rattle.std.specs.Prelude.{◌≡◌, ◌||◌, if◌then◌else◌, IfOk, IfErr};
+ghost use Rattle.std.specs.Prelude.{◌≡◌, ◌==◌, true, ◌||◌, if◌then◌else◌, IfOk, IfErr};
 ghost use Rattle.vhdl_names_rules.specs.Gives.{Gives};
+ghost use Rattle.vhdl_names_rules.specs.Rules.{given_that};
 ghost use Rattle.vhdl_names_rules.specs.Operators as table;
 ghost use Rattle.vhdl_names_rules.specs.views.Vectors.{value_view};
 ghost use Rattle.vhdl_names_operators.specs.Steps.{same_by};
+ghost use Rattle.vhdl_names_operators.specs.Resolving.{is_plain, kind_of as kind_seen, operand_breaks};
+ghost use Rattle.vhdl_names_rules.specs.declared.operator.Arithmetic.TheVariants.{Power};
 ghost use Rattle.vhdl_names_rules.specs.views.Expressions.{typed_view};
 
+use crate::beside::{kind_of, resolved};
 use crate::numbers::{as_numbers, calculated, compared, integers_compared};
 use std::alloc::{AllocError, Global};
 use vhdl_names_rules::{
@@ -146,6 +150,26 @@ fn same(
     Ok(Typed::Truth(test))
 }
 
+/// = or /=, at byte `at`, of two values, each of the enumeration of its number.
+fn same_of(
+    alloc: Global,
+    comparison: Cmp,
+    at: usize,
+    left: (usize, Value),
+    right: (usize, Value),
+) -> Result<Typed, NameFault>
+    ensures given { Gives typed_view (given_that TypeMismatch (left.0 == right.0)
+        (table.truth (same_by at comparison (value_view left.1) (value_view right.1)))) result }
+    ensures told { IfErr result (Tells (refused TypeMismatch at)) }
+{
+    let (number, value) = left;
+    let (other, beside) = right;
+    if number != other {
+        return Err(without((value, beside), NameProblem::TypeMismatch.at(at)));
+    }
+    Ok(same(alloc, comparison, at, value, beside)?)
+}
+
 /// = and /=, at byte `at`.
 fn equality(
     alloc: Global,
@@ -153,6 +177,8 @@ fn equality(
     comparison: Cmp,
     operands: (Typed, Typed),
 ) -> Result<Typed, NameFault>
+    requires left { is_plain (typed_view operands.0) ≡ true }
+    requires right { is_plain (typed_view operands.1) ≡ true }
     ensures given { Gives typed_view
         (table.equality at comparison (same_by at comparison) (typed_view operands.0) (typed_view operands.1)) result }
     ensures told { IfErr result (Tells (refused TypeMismatch at)) }
@@ -194,7 +220,7 @@ fn equality(
                 number: other,
                 value: beside,
                 ..
-            } if number == other => Ok(same(alloc, comparison, at, value, beside)?),
+            } => same_of(alloc, comparison, at, (number, value), (other, beside)),
             right => Err(without((value, right), problem.at(at))),
         },
         left => Err(without((left, right), problem.at(at))),
@@ -242,23 +268,31 @@ fn ordering(
     Ok(compared(alloc, at, comparison, numbers)?)
 }
 
-/// A binary operator, at byte `at`, on typed operands; `numbers` says whether the operators of
-/// numeric_std are in sight.
+/// `**`, at byte `at`.
 #[inline(never)]
-pub fn operated(
+pub fn power(alloc: Global, at: usize, base: Typed, exponent: Typed) -> Result<Typed, NameFault>
+    ensures given { Gives typed_view (table.integral at Power (typed_view base) (typed_view exponent)) result }
+    ensures told { IfErr result (Tells (refused TypeMismatch at)) }
+{
+    integral(alloc, at, Arithmetic::Power, (base, exponent))
+}
+
+/// A binary operator, at byte `at`, on operands of which none is an aggregate.
+fn applied(
     alloc: Global,
     numbers: bool,
     operator: Operator,
     at: usize,
-    left: Typed,
-    right: Typed,
+    operands: (Typed, Typed),
 ) -> Result<Typed, NameFault>
-    ensures given { Gives typed_view (table.operated numbers at operator (typed_view left) (typed_view right)) result }
+    requires left { is_plain (typed_view operands.0) ≡ true }
+    requires right { is_plain (typed_view operands.1) ≡ true }
+    ensures given { Gives typed_view
+        (table.operated numbers at operator (typed_view operands.0) (typed_view operands.1)) result }
     ensures told { IfErr result (Tells
-        (lacking (operator_problem operator (typed_view left) (typed_view right)) at
-        (table.operated numbers at operator (typed_view left) (typed_view right)))) }
+        (lacking (operator_problem operator (typed_view operands.0) (typed_view operands.1)) at
+        (table.operated numbers at operator (typed_view operands.0) (typed_view operands.1)))) }
 {
-    let operands = (left, right);
     match operator {
         Operator::And => logical(alloc, at, Logic::And, operands),
         Operator::Or => logical(alloc, at, Logic::Or, operands),
@@ -286,4 +320,29 @@ pub fn operated(
         Operator::Modulo => integral(alloc, at, Arithmetic::Modulo, operands),
         Operator::Remainder => integral(alloc, at, Arithmetic::Remainder, operands),
     }
+}
+
+/// A binary operator, at byte `at`, on typed operands; `numbers` says whether the operators of
+/// numeric_std are in sight. An aggregate is told before its operator.
+#[inline(never)]
+pub fn operated(
+    alloc: Global,
+    numbers: bool,
+    operator: Operator,
+    at: usize,
+    left: Typed,
+    right: Typed,
+) -> Result<Typed, NameFault>
+    ensures given { Gives typed_view (table.operated numbers at operator (typed_view left) (typed_view right)) result }
+    ensures told { IfErr result (Tells
+        (operand_breaks operator (kind_seen (typed_view right)) (typed_view left)
+        ▸ operand_breaks operator (kind_seen (typed_view left)) (typed_view right)
+        ▸ lacking (operator_problem operator (typed_view left) (typed_view right)) at
+        (table.operated numbers at operator (typed_view left) (typed_view right)))) }
+{
+    let own = kind_of(&left);
+    let other = kind_of(&right);
+    let first = resolved(alloc, operator, other, left)?;
+    let second = resolved(alloc, operator, own, right)?;
+    applied(alloc, numbers, operator, at, (first, second))
 }

@@ -4,7 +4,7 @@ use Rattle.std.specs.Prelude.{IsTrue, is_some, option_map}
 use Rattle.vhdl_names_rules.specs.units.Expressions.{Test}
 use Rattle.vhdl_names_rules.specs.units.Statements as s
 use Rattle.vhdl_names_rules.specs.Rules.{◌>>=◌}
-use Rattle.vhdl_names_rules.specs.Concurrent.{alone}
+use Rattle.vhdl_names_rules.specs.Statements.{alone}
 use Rattle.vhdl_names_rules.specs.Edges.{Edge, conditions, at_edge}
 use Rattle.vhdl_names_rules.specs.Registers.{gate_under, edge_first, last_edge_first}
 use Rattle.vhdl_names_rules.proofs.laws.Rules.{some_is}

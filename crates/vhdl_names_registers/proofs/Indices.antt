@@ -4,6 +4,7 @@ use mathlib.Core.Former.{Count}
 use Rattle.vhdl_names_rules.specs.declared.integer.Static.{Static}
 use Rattle.vhdl_names_rules.specs.declared.integer.Static.TheVariants as t
 use Rattle.vhdl_names_rules.specs.declared.operator.Arithmetic.{Arithmetic}
+use Rattle.vhdl_names_rules.specs.declared.operator.Bound.{Bound}
 use Rattle.vhdl_names_rules.specs.units.Expressions as u
 use Rattle.vhdl_names_rules.specs.declared.integer.Static.TheBlock.{Row_of-StaticLink, end_of-StaticLink, more_of-StaticLink}
 use Rattle.vhdl_names_rules.specs.declared.integer.StaticLink.{StaticLink}
@@ -86,12 +87,25 @@ negated_differs at x (t.Negated' place p z) h other = absurd (other place (recor
 negated_differs at x (t.Chain' p first op place operand shape rest) h other = absurd (row_has_last place op (static_view first) (static_view operand) _ rest h)
 negated_differs at x _ h other = refl
 
+pub absolute_differs : (at : ℕ) (x : u.Static) (y : Static) → last_of (static_view y) ≡ None → ((at : ℕ) (z : Box Static Global) → y ≡ t.Absolute at z → ⊥) → same_index (u.absolute at x) (static_view y) ≡ false
+absolute_differs at x (t.Absolute' place p z) h other = absurd (other place (record { ptr = p.ptr; alloc = p.alloc; value = z }) refl)
+absolute_differs at x (t.Chain' p first op place operand shape rest) h other = absurd (row_has_last place op (static_view first) (static_view operand) _ rest h)
+absolute_differs at x _ h other = refl
+
+pub bound_differs : (b : Bound) (n : ℕ) (y : Static) → last_of (static_view y) ≡ None → ((c : Bound) (m : ℕ) → y ≡ t.Bound c m → ⊥) → same_index (u.bound b n) (static_view y) ≡ false
+bound_differs b n (t.Bound c m) h other = absurd (other c m refl)
+bound_differs b n (t.Chain' p first op at operand shape rest) h other = absurd (row_has_last at op (static_view first) (static_view operand) _ rest h)
+bound_differs b n _ h other = refl
+
 pub other_differs : (x : Static) (y : u.Static) → last_of (static_view x) ≡ None → ((n : ℕ) → x ≡ t.Number n → ⊥) → ((n : ℕ) → x ≡ t.Generic n → ⊥)
-    → ((n : ℕ) → x ≡ t.Constant n → ⊥) → ((n : ℕ) → x ≡ t.GenerateParameter n → ⊥) → ((at : ℕ) (z : Box Static Global) → x ≡ t.Negated at z → ⊥) → same_index (static_view x) y ≡ false
-other_differs (t.Number n) y h a b c d e = absurd (a n refl)
-other_differs (t.Generic n) y h a b c d e = absurd (b n refl)
-other_differs (t.Constant n) y h a b c d e = absurd (c n refl)
-other_differs (t.GenerateParameter n) y h a b c d e = absurd (d n refl)
-other_differs (t.LoopParameter n) y h a b c d e = refl
-other_differs (t.Negated' place p z) y h a b c d e = absurd (e place (record { ptr = p.ptr; alloc = p.alloc; value = z }) refl)
-other_differs (t.Chain' p first op place operand shape rest) y h a b c d e = absurd (row_has_last place op (static_view first) (static_view operand) _ rest h)
+    → ((n : ℕ) → x ≡ t.Constant n → ⊥) → ((n : ℕ) → x ≡ t.GenerateParameter n → ⊥) → ((at : ℕ) (z : Box Static Global) → x ≡ t.Negated at z → ⊥)
+    → ((at : ℕ) (z : Box Static Global) → x ≡ t.Absolute at z → ⊥) → ((b : Bound) (n : ℕ) → x ≡ t.Bound b n → ⊥) → same_index (static_view x) y ≡ false
+other_differs (t.Number n) y h a b c d e f g = absurd (a n refl)
+other_differs (t.Generic n) y h a b c d e f g = absurd (b n refl)
+other_differs (t.Constant n) y h a b c d e f g = absurd (c n refl)
+other_differs (t.GenerateParameter n) y h a b c d e f g = absurd (d n refl)
+other_differs (t.Negated' place p z) y h a b c d e f g = absurd (e place (record { ptr = p.ptr; alloc = p.alloc; value = z }) refl)
+other_differs (t.Absolute' place p z) y h a b c d e f g = absurd (f place (record { ptr = p.ptr; alloc = p.alloc; value = z }) refl)
+other_differs (t.Bound k n) y h a b c d e f g = absurd (g k n refl)
+other_differs (t.Chain' p first op place operand shape rest) y h a b c d e f g = absurd (row_has_last place op (static_view first) (static_view operand) _ rest h)
+other_differs _ y h a b c d e f g = refl

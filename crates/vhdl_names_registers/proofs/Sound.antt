@@ -1,7 +1,7 @@
 -- Units with their registers as the checker knows them are sound where the units are.
-use Rattle.std.proofs.Common.{◌≡◌, ℕ, Bool, true, false, cond, ◌&&◌, List, [], ◌∷◌, length, map, Option, Some, None, refl, ap, subst, ◌∙◌}
+use Rattle.std.proofs.Common.{◌≡◌, ℕ, Bool, true, false, cond, ◌&&◌, not, List, [], ◌∷◌, map, Option, Some, None, refl, ap, subst, ◌∙◌}
 use Rattle.std.specs.Prelude.{option_map, unwrap_or}
-use Rattle.std.specs.List.{list_all, slice_get, AllByRecursion}
+use Rattle.std.specs.List.{list_all, list_any, slice_get, AllByRecursion}
 use Rattle.std.proofs.lemmas.Bool.{and_parts, and_from}
 use Rattle.std.proofs.lemmas.Option.{slice_get-map}
 use Rattle.vhdl_values.specs.declared.kinds.Logic.TheVariants.{And}
@@ -16,7 +16,7 @@ use Rattle.vhdl_names_rules.specs.Edges.{Edge, conditions, joined, gated}
 use Rattle.vhdl_names_rules.specs.Registers.{gate_under, edge_first, last_edge_first, behind, are_one_edge, as_one, followed, registered, has_register, body_written, concurrent_written, concurrents_written, architecture_written, entity_written, units_written}
 use Rattle.vhdl_names_rules.specs.sound.Expressions.{Inside, range_fits, static_test_fits, edge_fits, test_fits}
 use Rattle.vhdl_names_rules.specs.sound.Statements.{statement_fits, statements_fit, branches_fit}
-use Rattle.vhdl_names_rules.specs.sound.Units.{sensitivity_fits, objects_fit, instance_fits, within_generate, concurrent_fits, concurrents_fit, nothing_inside, architecture_fits, generics_fit, port_fits, declarations_fit, with_declarations, entity_fits, are_sound}
+use Rattle.vhdl_names_rules.specs.sound.Units.{sensitivity_fits, objects_fit, instance_fits, within_generate, concurrent_fits, concurrents_fit, nothing_inside, architecture_fits, generics_fit, with_generics, with_ports, port_fits, is_signal, is_variable, declarations_fit, with_declarations, entity_fits, are_sound}
 use Rattle.vhdl_names_rules.proofs.laws.Rules.{some_is}
 use Rattle.vhdl_names_rules.proofs.laws.Edges.{conditions_fit, gated_fits}
 
@@ -149,9 +149,10 @@ mutual
 
   concurrent_is : (units : Units) (i : Inside) (x : u.Concurrent) → concurrent_fits units i x ≡ true → concurrent_fits (units_written units) i (concurrent_written x) ≡ true
   concurrent_is units i (u.process p) h =
-      let j : Inside = record i { variables = map (λ (o : u.Object). o.form) p.variables } in
-      let a = and_parts (sensitivity_fits i p.sensitivity && objects_fit i p.variables) (statements_fit j p.body) h in
-      and_from (sensitivity_fits i p.sensitivity && objects_fit i p.variables) (statements_fit j (body_written p.body)) a.0 (body_fits j p.body a.1)
+      let j : Inside = with_declarations i p.declarations in
+      let head : Bool = sensitivity_fits j p.sensitivity && declarations_fit i p.declarations && not (list_any is_signal p.declarations) in
+      let a = and_parts head (statements_fit j p.body) h in
+      and_from head (statements_fit j (body_written p.body)) a.0 (body_fits j p.body a.1)
   concurrent_is units i (u.instance x) h = ap (instance_fits i x) (slice_get-map entity_written units x.unit) ∙ instance_written units i x (slice_get units x.unit) h
   concurrent_is units i (u.generate_for at label r body) h =
       let a = and_parts (range_fits i r) (concurrents_fit units (within_generate i) body) h in
@@ -169,17 +170,18 @@ mutual
 architecture_is : (units : Units) (i : Inside) (o : Option u.Architecture) → architecture_fits units i o ≡ true → architecture_fits (units_written units) i (option_map architecture_written o) ≡ true
 architecture_is units i None h = h
 architecture_is units i (Some a) h =
-    let k = and_parts (declarations_fit i a.declarations) (concurrents_fit units (with_declarations i a.declarations) a.statements) h in
-    and_from (declarations_fit i a.declarations) (concurrents_fit (units_written units) (with_declarations i a.declarations) (concurrents_written a.statements)) k.0
+    let head : Bool = declarations_fit i a.declarations && not (list_any is_variable a.declarations) in
+    let k = and_parts head (concurrents_fit units (with_declarations i a.declarations) a.statements) h in
+    and_from head (concurrents_fit (units_written units) (with_declarations i a.declarations) (concurrents_written a.statements)) k.0
     (concurrents_are units (with_declarations i a.declarations) a.statements k.1)
 
 entity_is : (units : Units) (x : u.Entity) → entity_fits units x ≡ true → entity_fits (units_written units) (entity_written x) ≡ true
 entity_is units x h =
-    let i : Inside = record nothing_inside { generics = length x.generics } in
+    let i : Inside = with_generics nothing_inside x.generics in
     let interface : Bool = generics_fit nothing_inside x.generics && objects_fit i (map (λ (p : u.Port). p.object) x.ports) && list_all port_fits x.ports in
-    let a = and_parts interface (architecture_fits units (record i { ports = x.ports }) x.architecture) h in
-    and_from interface (architecture_fits (units_written units) (record i { ports = x.ports }) (option_map architecture_written x.architecture)) a.0
-    (architecture_is units (record i { ports = x.ports }) x.architecture a.1)
+    let a = and_parts interface (architecture_fits units (with_ports i x.ports) x.architecture) h in
+    and_from interface (architecture_fits (units_written units) (with_ports i x.ports) (option_map architecture_written x.architecture)) a.0
+    (architecture_is units (with_ports i x.ports) x.architecture a.1)
 
 entities_are : (units xs : Units) → list_all (entity_fits units) xs ≡ true → list_all (entity_fits (units_written units)) (units_written xs) ≡ true
 entities_are units [] h = refl

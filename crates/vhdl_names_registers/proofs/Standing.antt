@@ -9,7 +9,7 @@ use Rattle.vhdl_names_rules.specs.units.Expressions.{Test}
 use Rattle.vhdl_names_rules.specs.units.Statements as s
 use Rattle.vhdl_names_rules.specs.units.Units as u
 use Rattle.vhdl_names_rules.specs.units.Units.{Units}
-use Rattle.vhdl_names_rules.specs.units.Bytes.{if_any_bytes, range_bytes, static_test_bytes, place_bytes, test_bytes, statement_bytes, statements_bytes, branches_bytes, object_bytes, declaration_bytes, generic_bytes, port_bytes, sensitivity_bytes, concurrent_bytes, concurrents_bytes, architecture_bytes, entity_bytes, units_bytes}
+use Rattle.vhdl_names_rules.specs.units.Bytes.{if_any_bytes, range_bytes, static_test_bytes, place_bytes, test_bytes, statement_bytes, statements_bytes, branches_bytes, declaration_bytes, generic_bytes, port_bytes, sensitivity_bytes, concurrent_bytes, concurrents_bytes, architecture_bytes, entity_bytes, units_bytes}
 use Rattle.vhdl_names_rules.specs.Operators.{both}
 use Rattle.vhdl_names_rules.specs.Rules.{then_some}
 use Rattle.vhdl_names_rules.specs.Edges.{Edge, conditions, joined, gated}
@@ -135,7 +135,7 @@ module _ (P : ℕ → Type 0) where
 
     concurrent_holds : (x : u.Concurrent) → Hold (concurrent_bytes x) → Hold (concurrent_bytes (concurrent_written x))
     concurrent_holds (u.process p) h =
-        let own = flat_map object_bytes p.variables in
+        let own = flat_map declaration_bytes p.declarations in
         let inner = right_of own (sensitivity_bytes p.sensitivity ++ statements_bytes p.body) h.1 in (
           h.0,
           both_of own (sensitivity_bytes p.sensitivity ++ statements_bytes (body_written p.body)) (left_of own (sensitivity_bytes p.sensitivity ++ statements_bytes p.body) h.1)

@@ -33,5 +33,6 @@ last_of _ = None
 -- how many operators and signs it has
 abbrev pub size : Static → ℕ
 size (u.Static.negated at x) = suc (size x)
+size (u.absolute at x) = suc (size x)
 size (u.Static.binary at op x y) = suc (size x + size y)
 size _ = 0

@@ -11,8 +11,8 @@ ghost use Rattle.vhdl_names_rules.specs.views.Vectors.{place_view, value_view};
 use crate::gates::edge_of;
 use crate::seen::{character_in, edge_to, level_of};
 use std::alloc::{AllocError, Global};
+use vhdl_names_parts::is_static_part;
 use vhdl_names_rules::{SignalPart, Test, Value};
-use vhdl_names_sight::is_static_part;
 use vhdl_values::Logic;
 
 /// An edge of a signal.

@@ -8,7 +8,7 @@ ghost use Rattle.vhdl_names_rules.specs.views.Tests.{test_view};
 
 use crate::same::{same_kind, same_place};
 use crate::seen::{Many, NamedEdge, Seen, Start, seen_in};
-use vhdl_names_rules::{SignalPart, Test};
+use vhdl_names_rules::Test;
 
 /// An edge that no other condition stands in the way of, and whether it is all of them.
 #[derive(Clone, Copy)]

@@ -2,7 +2,7 @@
 
 ghost use Rattle.std.specs.Prelude.{◌≡◌, IfOk, option_map};
 ghost use Rattle.vhdl_names_registers.specs.Branching as spec;
-ghost use Rattle.vhdl_names_rules.specs.Concurrent.{alone};
+ghost use Rattle.vhdl_names_rules.specs.Statements.{alone};
 ghost use Rattle.vhdl_names_rules.specs.Registers as rules;
 ghost use Rattle.vhdl_names_rules.specs.units.Statements as units;
 ghost use Rattle.vhdl_names_rules.specs.views.Tests.{test_view};

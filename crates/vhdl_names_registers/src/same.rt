@@ -7,7 +7,9 @@ ghost use Rattle.vhdl_names_rules.specs.Edges as edges;
 ghost use Rattle.vhdl_names_rules.specs.views.Integers.{static_view};
 ghost use Rattle.vhdl_names_rules.specs.views.Vectors.{signal_view, part_view, place_view};
 
-use vhdl_names_rules::{Arithmetic, Part, Signal, SignalPart, Static, StaticLink, StaticStart};
+use vhdl_names_rules::{
+    Arithmetic, Bound, Part, Signal, SignalPart, Static, StaticLink, StaticStart,
+};
 use vhdl_values::Edge;
 
 /// Whether two edges are of one kind.
@@ -45,6 +47,7 @@ fn same_operator(left: Arithmetic, right: Arithmetic) -> bool
         (Arithmetic::Divide, Arithmetic::Divide) => true,
         (Arithmetic::Modulo, Arithmetic::Modulo) => true,
         (Arithmetic::Remainder, Arithmetic::Remainder) => true,
+        (Arithmetic::Power, Arithmetic::Power) => true,
         _ => false,
     }
 }
@@ -115,6 +118,10 @@ fn same_whole(left: &Static, right: &Static) -> bool
         (Static::Constant(left), Static::Constant(right)) => *left == *right,
         (Static::GenerateParameter(left), Static::GenerateParameter(right)) => *left == *right,
         (Static::Negated(_, left), Static::Negated(_, right)) => same_index(left, right),
+        (Static::Absolute(_, left), Static::Absolute(_, right)) => same_index(left, right),
+        (Static::Bound(left, range), Static::Bound(right, other)) => {
+            same_bound(*left, *right) && *range == *other
+        }
         _ => false,
     }
 }
@@ -128,6 +135,20 @@ fn same_leaf(left: Prefix<'_>, right: Prefix<'_>) -> bool
 {
     match (left, right) {
         (Prefix::Whole(left), Prefix::Whole(right)) => same_whole(left, right),
+        _ => false,
+    }
+}
+
+/// Whether two bounds are the same.
+fn same_bound(left: Bound, right: Bound) -> bool
+    ensures { result ≡ edges.same_bound left right }
+{
+    match (left, right) {
+        (Bound::Left, Bound::Left) => true,
+        (Bound::Right, Bound::Right) => true,
+        (Bound::High, Bound::High) => true,
+        (Bound::Low, Bound::Low) => true,
+        (Bound::Length, Bound::Length) => true,
         _ => false,
     }
 }

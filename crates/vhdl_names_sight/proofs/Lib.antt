@@ -1,3 +1,1 @@
-pub mod Meant
 pub mod Sights
-pub mod Passing

@@ -1,4 +1,3 @@
 pub mod Seen
 pub mod Sights
-pub mod Steps
 pub mod Views

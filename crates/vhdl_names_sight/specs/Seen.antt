@@ -13,4 +13,5 @@ sight_view s = record {
   enclosing = region_view s.enclosing;
   packages = region_view s.packages;
   numbers = s.has_numbers;
+  language = s.language;
 }

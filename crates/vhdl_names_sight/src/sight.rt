@@ -3,7 +3,7 @@
 ghost use Rattle.std.specs.Prelude.{◌≡◌, ℕ, List, bytes_eq, map, reverse, option_map, option_copied, IfErr};
 ghost use Rattle.indexmap.specs.IndexMap.{IsUnique};
 ghost use Rattle.vhdl_names_rules.specs.Visibility as visibility;
-ghost use Rattle.vhdl_names_sight.specs.Views.{meaning_view, declared_view};
+ghost use Rattle.vhdl_names_sight.specs.Views.{meaning_view, declared_view, entry_of};
 ghost use Rattle.vhdl_names_rules.specs.Gives.{Gives};
 ghost use Rattle.vhdl_names_rules.specs.declared.fault.NameFault.TheVariants.{At};
 ghost use Rattle.vhdl_names_rules.specs.problems.Broken.{Tells};
@@ -12,16 +12,17 @@ ghost use Rattle.vhdl_names_rules.specs.problems.Missing.{is_named, offered, lef
 ghost use Rattle.vhdl_names_sight.specs.Sights.{found};
 ghost use Rattle.vhdl_tree.specs.View.{ident_view};
 
-use crate::meaning::{Declared, Meaning};
+use crate::meaning::{Declared, Entry, Meaning};
 use drops::take_apart;
 use indexmap::IndexMap;
 use std::alloc::Global;
 use std::marker::Model;
+use vhdl_lexer::Language;
 use vhdl_names_rules::{NameFault, NameProblem};
 use vhdl_tree::Identifier;
 
-/// What the names of a region mean, in order of declaration.
-pub type Region = IndexMap<Vec<u8>, Meaning>;
+/// What the names of a region are declared to be, in order of declaration.
+pub type Region = IndexMap<Vec<u8>, Entry>;
 
 /// No name stands twice in a map, for a proof that asks it: nothing is computed.
 pub fn names_are_apart<T>(names: &IndexMap<Vec<u8>, T>)
@@ -48,6 +49,8 @@ pub struct Sight {
     pub packages: Region,
     /// Whether the operators of numeric_std are in sight.
     pub has_numbers: bool,
+    /// Which is read.
+    pub language: Language,
 }
 
 /// Contracts see what the rules call a sight.
@@ -64,31 +67,33 @@ impl Model for Sight {
 impl Drop for Sight {
     fn drop(self) {
         take_apart!(self: {
-            alloc, loops, variables, generates, region, enclosing, packages, has_numbers
+            alloc, loops, variables, generates, region, enclosing, packages, has_numbers,
+            language
         });
     }
 }
 
-/// What a name means among parameters of which the last is the innermost.
+/// What a name is declared to be among parameters of which the last is the innermost.
 #[tactic(auto, using(crate::proofs::Sights::innermost_more))]
-fn innermost<'a>(parameters: &'a [Declared], name: &[u8]) -> Option<&'a Meaning>
+fn innermost<'a>(parameters: &'a [Declared], name: &[u8]) -> Option<&'a Entry>
     ensures { found (reverse (map declared_view parameters.now)) name.now ≡
-        option_map meaning_view (option_copied result) }
+        option_map (entry_of name.now) (option_copied result) }
 {
     let mut last = None;
     for parameter in parameters {
         if name == parameter.name.as_slice() {
-            last = Some(&parameter.meaning);
+            last = Some(&parameter.entry);
         }
     }
     last
 }
 
 impl Sight {
-    /// What a name, in small letters, means here.
-    #[tactic(auto, using(crate::proofs::Sights::meaning_in_turn, crate::proofs::Sights::found_entries))]
-    pub fn meaning(&self, name: &[u8]) -> Option<&Meaning>
-        ensures { visibility.meaning self.now name.now ≡ option_map meaning_view (option_copied result) }
+    /// What a name, in small letters, is declared to be here.
+    #[tactic(auto, using(crate::proofs::Sights::declaration_in_turn, crate::proofs::Sights::found_entries))]
+    pub fn declaration(&self, name: &[u8]) -> Option<&Entry>
+        ensures { visibility.declaration self.now name.now ≡
+            option_map (entry_of name.now) (option_copied result) }
     {
         if let Some(parameter) = innermost(&self.loops, name) {
             return Some(parameter);
@@ -106,6 +111,16 @@ impl Sight {
             return Some(outer);
         }
         self.packages.get(name)
+    }
+
+    /// What a name, in small letters, means here.
+    pub fn meaning(&self, name: &[u8]) -> Option<&Meaning>
+        ensures { visibility.meaning self.now name.now ≡ option_map meaning_view (option_copied result) }
+    {
+        match self.declaration(name) {
+            Some(entry) => Some(&entry.meaning),
+            None => None,
+        }
     }
 }
 
@@ -229,16 +244,27 @@ fn missing(name: &[u8]) -> NameProblem
     }
 }
 
-/// What a name means here. Where it means nothing, it is NotVisible if a package declares it that
-/// no use clause names, LeftOut if a package declares what the language leaves out, as `boolean`,
-/// `signed` and `to_integer`, and else Undeclared.
+/// What a name is declared to be here. Where it means nothing, it is NotVisible if a package
+/// declares it that no use clause names, LeftOut if a package declares what the language leaves
+/// out, as `boolean`, `signed` and `to_integer`, and else Undeclared.
+pub fn declaration_of<'a>(sight: &'a Sight, name: &Identifier) -> Result<&'a Entry, NameFault>
+    ensures declared { Gives (λ e. entry_of name.now.text.items e.now)
+        (visibility.declaration sight.now name.now.text.items) result }
+    ensures fault { IfErr result (λ f. f ≡ At (problem_of name.now.text.items) name.now.at) }
+    ensures told { IfErr result (Tells (broken.meaning sight.now (ident_view name.now))) }
+{
+    match sight.declaration(&name.text) {
+        Some(entry) => Ok(entry),
+        None => Err(missing(&name.text).at(name.at)),
+    }
+}
+
+/// What a name means here, likewise.
 pub fn meaning_of<'a>(sight: &'a Sight, name: &Identifier) -> Result<&'a Meaning, NameFault>
     ensures meant { Gives (λ m. meaning_view m.now) (visibility.meaning sight.now name.now.text.items) result }
     ensures fault { IfErr result (λ f. f ≡ At (problem_of name.now.text.items) name.now.at) }
     ensures told { IfErr result (Tells (broken.meaning sight.now (ident_view name.now))) }
 {
-    match sight.meaning(&name.text) {
-        Some(meaning) => Ok(meaning),
-        None => Err(missing(&name.text).at(name.at)),
-    }
+    let entry = declaration_of(sight, name)?;
+    Ok(&entry.meaning)
 }

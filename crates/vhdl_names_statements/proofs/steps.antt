@@ -2,8 +2,11 @@ pub mod Assigning
 pub mod Cases
 pub mod Choosing
 pub mod Completing
+pub mod Conditional
 pub mod Concurrent
 pub mod Covering
+pub mod Entering
+pub mod Labelling
 pub mod Sequential
 pub mod Told
 pub mod Turns

@@ -1,38 +1,27 @@
 //! How concurrent assignments are analysed (IEEE 1076-2008, 11.6).
 
-ghost use Rattle.std.specs.Prelude.{◌≡◌, ◌∷◌, [], map, option_map, IfErr, IfOk};
-ghost use Rattle.vhdl_names_rules.specs.problems.Broken.{Tells, any_of, of_any};
+ghost use Rattle.std.specs.Prelude.{◌≡◌, map, option_map, IfErr, IfOk};
+ghost use Rattle.vhdl_names_rules.specs.problems.Broken.{Tells, any_of};
 ghost use Rattle.vhdl_names_rules.specs.problems.Concurrent as problems;
-ghost use Rattle.vhdl_names_rules.specs.problems.Statements as broken;
 ghost use Rattle.vhdl_names_rules.specs.Concurrent as rules;
-ghost use Rattle.vhdl_names_rules.specs.Rules.{each, if_any};
+ghost use Rattle.vhdl_names_rules.specs.Rules.{each};
 ghost use Rattle.vhdl_names_rules.specs.Gives.{Gives};
 ghost use Rattle.vhdl_tree.specs.View as tree;
 ghost use Rattle.vhdl_names_statements.specs.steps.Cases as cases;
 ghost use Rattle.vhdl_names_statements.specs.steps.Concurrent as steps;
-ghost use Rattle.vhdl_names_statements.specs.steps.Sequential as sequential;
-ghost use Rattle.vhdl_names_statements.specs.steps.Told as told;
 ghost use Rattle.vhdl_names_units.specs.views.Concurrent.{one_process};
 ghost use Rattle.vhdl_names_units.specs.views.Sequential as views;
 
 use crate::choices::{but_last, covered};
-use crate::statements::assigned;
+use crate::conditional::{alone, conditional, single};
 use std::alloc::{AllocError, Global};
-use vhdl_names_expressions::{choices, condition, selector, target};
+use vhdl_names_expressions::{selector, target};
 use vhdl_names_rules::{NameFault, ObjectType};
 use vhdl_names_sight::Sight;
-use vhdl_names_units::{Alternative, Branch, Process, Sensitivity, Statement, copied_label};
+use vhdl_names_units::{Alternative, Process, Sensitivity, Statement, copied_label};
+use vhdl_names_values::choices;
 use vhdl_tree as syntax;
 use vhdl_tree::Identifier;
-
-/// A statement alone.
-fn single(alloc: Global, statement: Statement) -> Result<Vec<Statement>, AllocError>
-    ensures { IfOk result (λ v. views.statements_view v ≡ views.statement_view statement ∷ []) }
-{
-    let mut statements = Vec::new(alloc);
-    statements.push(statement)?;
-    Ok(statements)
-}
 
 /// A process that assigns what it reads; it starts at byte `at`.
 fn assigning(
@@ -49,115 +38,10 @@ fn assigning(
     Ok(Process {
         at,
         label,
-        variables: Vec::new(alloc),
+        declarations: Vec::new(alloc),
         sensitivity: Sensitivity::AsRead,
         statements,
     })
-}
-
-/// An assignment alone.
-fn alone(
-    sight: &Sight,
-    target: &syntax::Name,
-    value: &syntax::Value,
-) -> Result<Vec<Statement>, NameFault>
-    ensures given { Gives views.statements_view
-        (steps.alone sight.now (tree.name_view target.now) (tree.value_view value.now)) result }
-    ensures told { IfErr result (Tells
-        (broken.assigned sight.now (tree.name_view target.now) (tree.value_view value.now))) }
-{
-    let statement = assigned(sight, target, value)?;
-    Ok(single(sight.alloc, statement)?)
-}
-
-/// `value when condition`.
-fn waveform(
-    sight: &Sight,
-    target: &syntax::Name,
-    item: &syntax::Branch,
-) -> Result<Branch, NameFault>
-    ensures given { Gives views.branch_view
-        (steps.waveform sight.now (tree.name_view target.now) (tree.branch_view item.now)) result }
-    ensures told { IfErr result (Tells
-        (problems.branch sight.now (tree.name_view target.now) (tree.branch_view item.now))) }
-{
-    let statements = alone(sight, target, &item.value)?;
-    let condition = condition(sight, &item.condition)?;
-    Ok(Branch::new(condition, statements))
-}
-
-/// Waveforms with conditions.
-#[tactic(auto, using(vhdl_names_units::proofs::Lists::each_in_turn))]
-fn waveforms(
-    sight: &Sight,
-    target: &syntax::Name,
-    list: &[syntax::Branch],
-) -> Result<Vec<Branch>, NameFault>
-    ensures given { Gives views.branches_view
-        (each (steps.waveform sight.now (tree.name_view target.now)) (map tree.branch_view list.now)) result }
-    ensures told { IfErr result (Tells
-        (any_of (problems.branch sight.now (tree.name_view target.now)) (map tree.branch_view list.now))) }
-{
-    let mut all = Vec::new(sight.alloc);
-    for item in list {
-        let next = waveform(sight, target, item)?;
-        all.push(next)?;
-    }
-    Ok(all)
-}
-
-/// What is assigned where no condition holds.
-fn otherwise(
-    sight: &Sight,
-    target: &syntax::Name,
-    value: &Option<syntax::Value>,
-) -> Result<Option<Vec<Statement>>, NameFault>
-    ensures given { Gives views.option_statements_view
-        (if_any (steps.alone sight.now (tree.name_view target.now)) (option_map tree.value_view value.now)) result }
-    ensures told { IfErr result (Tells
-        (of_any (broken.assigned sight.now (tree.name_view target.now)) (option_map tree.value_view value.now))) }
-{
-    match value {
-        None => Ok(None),
-        Some(value) => Ok(Some(alone(sight, target, value)?)),
-    }
-}
-
-/// Values under conditions.
-fn conditional(
-    sight: &Sight,
-    target: &syntax::Name,
-    list: &[syntax::Branch],
-    value: &Option<syntax::Value>,
-) -> Result<Statement, NameFault>
-    ensures given { Gives views.statement_view (steps.conditional sight.now (tree.name_view target.now)
-        (map tree.branch_view list.now) (option_map tree.value_view value.now)) result }
-    ensures told { IfErr result (Tells
-        (told.conditional sight.now (tree.name_view target.now) (map tree.branch_view list.now)
-        (option_map tree.value_view value.now))) }
-{
-    let branches = waveforms(sight, target, list)?;
-    let otherwise = otherwise(sight, target, value)?;
-    Ok(Statement::conditional(target.identifier.at, branches, otherwise))
-}
-
-/// What an assignment does.
-fn body(
-    sight: &Sight,
-    target: &syntax::Name,
-    list: &[syntax::Branch],
-    value: &Option<syntax::Value>,
-) -> Result<Statement, NameFault>
-    ensures given { Gives views.statement_view (steps.body sight.now (tree.name_view target.now)
-        (map tree.branch_view list.now) (option_map tree.value_view value.now)) result }
-    ensures told { IfErr result (Tells
-        (told.conditional sight.now (tree.name_view target.now) (map tree.branch_view list.now)
-        (option_map tree.value_view value.now))) }
-{
-    match (list, value) {
-        ([], Some(value)) => assigned(sight, target, value),
-        _ => conditional(sight, target, list, value),
-    }
 }
 
 /// `value when choices`.
@@ -172,7 +56,7 @@ fn chosen(
     ensures told { IfErr result (Tells
         (problems.waveform sight.now selected (tree.name_view target.now) (tree.waveform_view item.now))) }
 {
-    let statements = alone(sight, target, &item.value)?;
+    let statements = alone(sight, false, target, &item.value)?;
     let choices = choices(sight, selected, &item.choices)?;
     Ok(Alternative::new(choices, statements))
 }
@@ -238,9 +122,9 @@ pub fn assignment(sight: &Sight, assignment: &syntax::Assignment) -> Result<Proc
     ensures given { Gives one_process (rules.assignment sight.now (tree.assignment_view assignment.now)) result }
     ensures told { IfErr result (Tells (problems.assignment sight.now (tree.assignment_view assignment.now))) }
 {
-    let _ = target(sight, &assignment.target)?;
-    let statement = body(
+    let statement = conditional(
         sight,
+        false,
         &assignment.target,
         &assignment.branches,
         &assignment.otherwise,

@@ -20,10 +20,11 @@ ghost use Rattle.vhdl_names_units.specs.views.Sequential.{Chosen};
 
 use indexmap::IndexSet;
 use std::alloc::{AllocError, Global};
-use vhdl_names_expressions::{choice, start};
+use vhdl_names_expressions::start;
 use vhdl_names_rules::{NameFault, NameProblem, ObjectType};
 use vhdl_names_sight::Sight;
 use vhdl_names_units::{Alternative, Choice, Statement, earlier_in};
+use vhdl_names_values::choice;
 use vhdl_tree as syntax;
 
 /// What tells choices apart: the places of their values among the nine, or 9 and a position.
@@ -62,6 +63,7 @@ fn place(written: &syntax::Choice) -> usize
 {
     match written {
         syntax::Choice::Expr(e) => start(e),
+        syntax::Choice::Range(range) => start(&range.left),
         syntax::Choice::Others { at } => *at,
     }
 }

@@ -5,6 +5,7 @@
 
 mod assignments;
 mod choices;
+mod conditional;
 mod statements;
 
 pub use assignments::{assignment, selected};

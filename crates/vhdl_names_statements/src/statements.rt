@@ -18,48 +18,14 @@ ghost use Rattle.vhdl_names_statements.specs.steps.Sequential as steps;
 ghost use Rattle.vhdl_names_statements.specs.steps.Told as told;
 
 use crate::choices::{but_last, choice_lists, covered};
-use vhdl_names_expressions::{choices, condition, given, selector, static_range, target, variable};
+use crate::conditional::{assigned, conditional};
+use vhdl_names_expressions::{condition, selector, static_range};
 use vhdl_names_rules::{NameFault, ObjectType};
 use vhdl_names_sight::{Declared, Meaning, Sight};
 use vhdl_names_units::{Alternative, Branch, Statement, ended};
+use vhdl_names_values::choices;
 use vhdl_tree as syntax;
 use vhdl_tree::Identifier;
-
-/// An assignment to a signal.
-pub(crate) fn assigned(
-    sight: &Sight,
-    name: &syntax::Name,
-    value: &syntax::Value,
-) -> Result<Statement, NameFault>
-    ensures given { Gives views.statement_view
-        (steps.assigned sight.now (tree.name_view name.now) (tree.value_view value.now)) result }
-    ensures told { IfErr result (Tells
-        (broken.assigned sight.now (tree.name_view name.now) (tree.value_view value.now))) }
-{
-    let signal = target(sight, name)?;
-    let value = given(sight, signal.object_type, value)?;
-    Ok(Statement::Assign {
-        target: signal.place,
-        value,
-    })
-}
-
-/// An assignment to a variable.
-fn set(sight: &Sight, name: &syntax::Name, value: &syntax::Value) -> Result<Statement, NameFault>
-    ensures given { Gives views.statement_view
-        (steps.set sight.now (tree.name_view name.now) (tree.value_view value.now)) result }
-    ensures told { IfErr result (Tells
-        (broken.variable_assigned sight.now (tree.name_view name.now) (tree.value_view value.now))) }
-{
-    let variable = variable(sight, name)?;
-    let value = given(sight, variable.object_type, value)?;
-    Ok(Statement::Set {
-        at: variable.at,
-        variable: variable.number,
-        part: variable.part,
-        value,
-    })
-}
 
 /// The sight within a loop.
 fn enter_loop(sight: &mut Sight, parameter: &Identifier) -> Result<(), NameFault>
@@ -69,8 +35,8 @@ fn enter_loop(sight: &mut Sight, parameter: &Identifier) -> Result<(), NameFault
     ensures told { IfErr result (Tells (nothing)) }
 {
     let name = parameter.text.to_vec(sight.alloc)?;
-    let meaning = Meaning::LoopParameter(sight.loops.len());
-    sight.loops.push(Declared { name, meaning })?;
+    let entry = Meaning::LoopParameter(sight.loops.len()).entry();
+    sight.loops.push(Declared { name, entry })?;
     Ok(())
 }
 
@@ -108,9 +74,21 @@ fn statements(sight: &mut Sight, list: &[syntax::Sequential]) -> Result<Vec<Stat
     let mut all = Vec::new(sight.alloc);
     for item in list {
         let next = statement(sight, item)?;
-        all.push(next)?;
+        if !is_dropped(&item.statement) {
+            all.push(next)?;
+        }
     }
     Ok(all)
+}
+
+/// Whether a statement is read and dropped.
+fn is_dropped(statement: &syntax::Statement) -> bool
+    ensures { result ≡ steps.is_dropped (tree.statement_view statement.now) }
+{
+    match statement {
+        syntax::Statement::Assert(_) | syntax::Statement::Report(_) => true,
+        _ => false,
+    }
 }
 
 /// A statement behind its label.
@@ -124,11 +102,22 @@ fn statement(sight: &mut Sight, item: &syntax::Sequential) -> Result<Statement, 
 {
     match &item.statement {
         syntax::Statement::Null { .. } => Ok(Statement::Null),
-        syntax::Statement::SignalAssignment { target, value } => assigned(sight, target, value),
-        syntax::Statement::VariableAssignment { target, value } => set(sight, target, value),
+        syntax::Statement::SignalAssignment { target, value } => {
+            assigned(sight, false, target, value)
+        }
+        syntax::Statement::VariableAssignment { target, value } => {
+            assigned(sight, true, target, value)
+        }
+        syntax::Statement::ConditionalAssignment {
+            is_variable,
+            target,
+            branches,
+            otherwise,
+        } => conditional(sight, *is_variable, target, branches, otherwise),
         syntax::Statement::If(conditional) => if_statement(sight, &item.label, conditional),
         syntax::Statement::Case(case) => case_statement(sight, &item.label, case),
         syntax::Statement::For(repeated) => for_loop(sight, &item.label, repeated),
+        syntax::Statement::Assert(_) | syntax::Statement::Report(_) => Ok(Statement::Null),
     }
 }
 
@@ -298,7 +287,8 @@ fn for_loop(
     ensures given { Gives views.statement_view
         (steps.repetition sight.old (option_map tree.ident_view label.now) (out-For repeated.now).at
         (tree.ident_view (out-For repeated.now).parameter)
-        (tree.range_view (out-For repeated.now).range) (tree.sequentials_view (out-For repeated.now).statements)
+        (tree.discrete_range_view (out-For repeated.now).range)
+        (tree.sequentials_view (out-For repeated.now).statements)
         (tree.option_ident_view (out-For repeated.now).end_label)) result }
     ensures kept { sight.new ≡ sight.old }
     ensures told { IfErr result (Tells

@@ -1,8 +1,16 @@
 //! What is analysed of names, values, choices and subtype indications.
 
+ghost use Rattle.std.specs.Prelude.{◌≡◌, option_map};
+ghost use Rattle.vhdl_names_rules.specs.Statements as statements;
+ghost use Rattle.vhdl_names_rules.specs.views.Integers.{declared_range_view, target_range_view};
+ghost use Rattle.vhdl_names_rules.specs.views.Vectors.{part_view};
+
 use drops::take_apart;
-use vhdl_names_rules::{ObjectType, Part, SignalPart, Static, StaticRange, Value, Vector};
-use vhdl_tree::Mode;
+use vhdl_names_rules::{
+    DeclaredRange, ObjectType, Part, SignalPart, Static, StaticRange, StaticTest, TargetRange,
+    Value, Vector, VectorElement,
+};
+use vhdl_tree::{Direction, Mode};
 use vhdl_values::Nine;
 
 /// What is assigned: a value, or `(others => e)`, one element for each of the target's.
@@ -29,21 +37,40 @@ impl Drop for Choice {
     }
 }
 
-/// A signal, port, or part of one, with its mode if it is a port, and its type.
+/// A signal, port, or part of one, with its mode if it is a port, its type, and the range with
+/// which it is declared.
 #[derive(Drop)]
 pub struct SignalName {
     pub place: SignalPart,
     pub mode: Option<Mode>,
     pub object_type: ObjectType,
+    pub declared: Option<DeclaredRange>,
 }
 
-/// A variable, or part of one, with its type, and the byte at which its name starts.
+/// A variable, or part of one, with its type, the range with which it is declared, and the byte at
+/// which its name starts.
 #[derive(Drop)]
 pub struct VariableName {
     pub at: usize,
     pub number: usize,
     pub part: Part,
     pub object_type: ObjectType,
+    pub declared: Option<DeclaredRange>,
+}
+
+/// The range of a part of what is declared with a range: that one, or the slice's.
+pub fn part_range(declared: Option<DeclaredRange>, part: &Part) -> Option<TargetRange<'_>>
+    ensures { option_map target_range_view result ≡
+        statements.part_range (option_map declared_range_view declared) (part_view part.now) }
+{
+    match part {
+        Part::Whole => match declared {
+            Some(range) => Some(TargetRange::Declared(range)),
+            None => None,
+        },
+        Part::Element(_) => None,
+        Part::Slice(range) => Some(TargetRange::Written(range)),
+    }
 }
 
 /// One element, a vector of this range, or an enumeration of so many literals.
@@ -54,7 +81,33 @@ pub enum Form {
     Enumeration(u16),
 }
 
-/// The value of a constant, or a default.
+impl Form {
+    ghost use Rattle.std.specs.Prelude.{◌≡◌, option_map};
+    ghost use Rattle.vhdl_names_rules.specs.Subtypes as subtypes;
+    ghost use Rattle.vhdl_names_units.specs.views.Answers.{form_view};
+
+    /// The range of a vector.
+    pub fn range(&self) -> Option<TargetRange<'_>>
+        ensures { option_map target_range_view result ≡ subtypes.form_range (form_view self.now) }
+    {
+        match self {
+            Form::Vector(range) => Some(TargetRange::Written(range)),
+            _ => None,
+        }
+    }
+
+    /// The direction of a vector.
+    pub fn direction(&self) -> Option<Direction>
+        ensures { result ≡ subtypes.form_direction (form_view self.now) }
+    {
+        match self {
+            Form::Vector(range) => Some(range.direction),
+            _ => None,
+        }
+    }
+}
+
+/// The value of a constant or generic, or a default.
 #[derive(Drop)]
 pub enum Fixed {
     /// A character, string or bit string literal.
@@ -67,6 +120,13 @@ pub enum Fixed {
     Encoded(Static, Static),
     /// `(others => c)`.
     Filled(Nine),
+    /// Any other value that names no signal and no variable.
+    Given(Given),
+    /// Of a generic, an aggregate that starts at this byte and has the generic's indexes.
+    Aggregate(usize, Vec<VectorElement>),
+    /// Of an integer, and of a boolean.
+    Integer(Static),
+    Truth(StaticTest),
 }
 
 /// A type mark with its range: what objects of it are.

@@ -4,10 +4,11 @@ ghost use Rattle.std.specs.Prelude.{◌≡◌};
 ghost use Rattle.vhdl_names_units.specs.views.Concurrent as views;
 
 use crate::actuals::Actuals;
-use crate::declaration::Objects;
+use crate::answers::Fixed;
+use crate::declaration::Declaration;
 use crate::sequential::Statement;
 use drops::take_apart;
-use vhdl_names_rules::{SignalPart, Static, StaticRange, StaticTest};
+use vhdl_names_rules::{SignalPart, StaticRange, StaticTest};
 use vhdl_tree::Identifier;
 
 /// What resumes a process.
@@ -29,14 +30,14 @@ impl Drop for Sensitivity {
 pub struct Process {
     pub at: usize,
     pub label: Option<Identifier>,
-    pub variables: Vec<Objects>,
+    pub declarations: Vec<Declaration>,
     pub sensitivity: Sensitivity,
     pub statements: Vec<Statement>,
 }
 
 impl Drop for Process {
     fn drop(self) {
-        take_apart!(self: { at, label, variables, sensitivity, statements });
+        take_apart!(self: { at, label, declarations, sensitivity, statements });
     }
 }
 
@@ -44,7 +45,7 @@ impl Drop for Process {
 pub struct Instance {
     pub label: Identifier,
     pub unit: usize,
-    pub generics: Actuals<Static>,
+    pub generics: Actuals<Fixed>,
     pub ports: Actuals<SignalPart>,
 }
 

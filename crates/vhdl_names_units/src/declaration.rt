@@ -3,19 +3,32 @@
 
 use crate::answers::{Fixed, Form};
 use drops::take_apart;
-use vhdl_names_rules::{IntegerType, Static};
+use vhdl_names_rules::{IntegerSubtype, Static, StaticRange, StaticTest};
 use vhdl_tree::{Identifier, Mode};
+
+/// What a generic is: an integer, a boolean, or of the nine values.
+pub enum GenericType {
+    Integers(IntegerSubtype),
+    Truths,
+    Values(Form),
+}
+
+impl Drop for GenericType {
+    fn drop(self) {
+        take_apart!(self: Integers(_) | Truths | Values(_));
+    }
+}
 
 /// Generics of one declaration.
 pub struct Generics {
     pub names: Vec<Identifier>,
-    pub integer_type: IntegerType,
-    pub default: Option<Static>,
+    pub generic_type: GenericType,
+    pub default: Option<Fixed>,
 }
 
 impl Drop for Generics {
     fn drop(self) {
-        take_apart!(self: { names, integer_type, default });
+        take_apart!(self: { names, generic_type, default });
     }
 }
 
@@ -46,13 +59,20 @@ impl Drop for Ports {
     }
 }
 
-/// A declaration of an architecture that declares objects.
+/// A declaration of an architecture or a process: of objects, or of a subtype with a range.
 pub enum Declaration {
-    /// Constants of a type of integers.
+    /// Constants of a type of integers. What is wrong with the value is told at its byte, or at
+    /// the names.
     Integers {
         names: Vec<Identifier>,
-        integer_type: IntegerType,
+        told_at: Option<usize>,
+        subtype: IntegerSubtype,
         value: Static,
+    },
+    /// Boolean constants.
+    Truths {
+        names: Vec<Identifier>,
+        value: StaticTest,
     },
     /// Any other constants.
     Constants {
@@ -61,11 +81,17 @@ pub enum Declaration {
         value: Fixed,
     },
     Signals(Objects),
+    /// Of a process alone.
+    Variables(Objects),
+    /// Subtypes with a range, and the byte at which their name starts.
+    VectorSubtype(usize, StaticRange),
+    IntegerSubtype(usize, IntegerSubtype),
 }
 
 impl Drop for Declaration {
     fn drop(self) {
-        take_apart!(self: Integers { names, integer_type, value } | Constants { names, form, value }
-            | Signals(_));
+        take_apart!(self: Integers { names, told_at, subtype, value } | Truths { names, value }
+            | Constants { names, form, value } | Signals(_) | Variables(_) | VectorSubtype(_, _)
+            | IntegerSubtype(_, _));
     }
 }

@@ -15,9 +15,9 @@ mod sequential;
 mod unit;
 
 pub use actuals::{Actual, Actuals};
-pub use answers::{Choice, Fixed, Form, Given, SignalName, Subtype, VariableName};
+pub use answers::{Choice, Fixed, Form, Given, SignalName, Subtype, VariableName, part_range};
 pub use concurrent::{Concurrent, Generate, Instance, Process, Scheme, Sensitivity};
-pub use declaration::{Declaration, Generics, Objects, Ports};
+pub use declaration::{Declaration, GenericType, Generics, Objects, Ports};
 pub use faults::{earlier, earlier_in};
 pub use labels::{copied, copied_label, ended, ends, is_text, label_ends};
 pub use sequential::{Alternative, Branch, Case, If, Loop, Statement};

@@ -1,5 +1,6 @@
 -- The entities of a file, unit by unit.
 use Rattle.std.specs.Prelude.{List, [], ◌∷◌, Option, Some, option_map}
+use Rattle.vhdl_lexer.specs.declared.language.Language.{Language}
 use Rattle.vhdl_tree.specs.Tree as t
 use Rattle.vhdl_tree.specs.Tree.{ContextItem, DesignUnit, LibraryUnit}
 use Rattle.vhdl_names_rules.specs.Rules.{◌>>=◌}
@@ -9,10 +10,10 @@ use Rattle.vhdl_names.specs.Views.{Keyed}
 use Rattle.vhdl_names.specs.steps.Outlines.{described_of}
 
 -- with the architectures of the file
-module _ (as' : List Keyed) where
+module _ (language : Language) (as' : List Keyed) where
   -- an entity, seen with its architecture's name
   abbrev pub viewed_by : List ContextItem × t.Entity → Option EntityView
-  viewed_by e = entity e.0 e.1 (option_map (λ a. a.1.name.text) (described_of e.1.name.text as'))
+  viewed_by e = entity language e.0 e.1 (option_map (λ a. a.1.name.text) (described_of e.1.name.text as'))
 
   abbrev pub with_entity : List EntityView → List ContextItem → t.Entity → Option (List EntityView)
   with_entity es items e = viewed_by (items, e) >>= λ v. Some (with_entities es (v ∷ []))

@@ -8,7 +8,7 @@ use Rattle.vhdl_names_rules.specs.units.Units as u
 use Rattle.vhdl_names_rules.specs.declared.fault.NameProblem.TheVariants.{Twice, WrongKind}
 use Rattle.vhdl_names_rules.specs.Rules.{◌>>=◌, ◌>>◌, rule}
 use Rattle.vhdl_names_rules.specs.Visibility.{Sight, are_distinct, label_ends, with_variables}
-use Rattle.vhdl_names_rules.specs.Declarations.{in_order, variables}
+use Rattle.vhdl_names_rules.specs.Declarations.{in_order, process_declaration}
 use Rattle.vhdl_names_rules.specs.Statements.{signal, statements, statement_labels}
 use Rattle.vhdl_names_rules.specs.Concurrent.{sensitivity, awaited, resumed_by, behind_wait, label_of}
 use Rattle.vhdl_names_declarations.specs.Entered.{entering_variables}
@@ -16,9 +16,9 @@ use Rattle.vhdl_names_declarations.specs.Entered.{entering_variables}
 abbrev pub place_of : Sight → t.Name → Option SignalPart
 place_of sight n = signal sight n >>= λ x. Some x.place
 
--- what is in sight behind the variables of a process, and these
-abbrev pub variables_in : Sight → List t.Variables → Option (Sight × List u.Object)
-variables_in = entering_variables (in_order with_variables variables)
+-- what is in sight behind the declarations of a process, and these
+abbrev pub declarations_in : Sight → List t.ProcessDeclaration → Option (Sight × List u.Declaration)
+declarations_in = entering_variables (in_order with_variables process_declaration)
 
 abbrev pub body : Sight → List t.Sequential → Option s.Statements
 body sight qs =
@@ -34,9 +34,9 @@ behind sight p xs = option_map (λ edge. behind_wait p.wait edge xs) (awaited si
 abbrev pub process : Sight → Option Ident → t.Process → Option u.Process
 process sight label p = do
   on ← sensitivity sight p.sensitivity (is_some p.wait)
-  w ← variables_in sight p.variables
+  w ← declarations_in sight p.declarations
   resumes ← resumed w.0 p on
   b ← body w.0 p.statements
   does ← behind w.0 p b
   rule WrongKind (label_ends label p.end_label)
-  Some (record { at = p.at; label = label_of label; variables = w.1; sensitivity = resumes; body = does })
+  Some (record { at = p.at; label = label_of label; declarations = w.1; sensitivity = resumes; body = does })

@@ -14,17 +14,22 @@ formal p = record { name = []; mode = p.mode; kind = p.kind }
 abbrev pub port_entry : Sight → PortType → Option Expr → Option (Option SignalPart)
 port_entry sight p e = if_any (port_actual sight (formal p)) e
 
-abbrev pub port_actuals : Sight → List PortType → List (Option Expr) → Option (List (Option SignalPart))
-port_actuals sight (p ∷ ps) (e ∷ es) = do
-  x ← port_entry sight p e
-  xs ← port_actuals sight ps es
+-- one thing for each formal, of its actual
+abbrev pub each_of : {F X : Type 0} → (F → Option Expr → Option X) → List F → List (Option Expr) → Option (List X)
+each_of one (f ∷ fs) (e ∷ es) = do
+  x ← one f e
+  xs ← each_of one fs es
   Some (x ∷ xs)
-port_actuals sight _ _ = Some []
+each_of one _ _ = Some []
+
+-- that of one formal, where there are both
+abbrev pub one_of : {F X : Type 0} → (F → Option Expr → Option X) → Option F → Option (Option Expr) → Option (Option X)
+one_of one (Some f) (Some e) = one f e >>= λ x. Some (Some x)
+one_of one _ _ = Some None
+
+abbrev pub port_actuals : Sight → List PortType → List (Option Expr) → Option (List (Option SignalPart))
+port_actuals sight ps es = each_of (port_entry sight) ps es
 
 -- the actual of one port, where there are both
-abbrev pub entry_of : Sight → Option PortType → Option (Option Expr) → Option (Option (Option SignalPart))
-entry_of sight (Some p) (Some e) = port_entry sight p e >>= λ x. Some (Some x)
-entry_of sight _ _ = Some None
-
 abbrev pub entry : Sight → List PortType → List (Option Expr) → ℕ → Option (Option (Option SignalPart))
-entry sight ps es i = entry_of sight (slice_get ps i) (slice_get es i)
+entry sight ps es i = one_of (port_entry sight) (slice_get ps i) (slice_get es i)

@@ -5,12 +5,12 @@ use Rattle.vhdl_tree.specs.Tree as t
 use Rattle.vhdl_tree.specs.Tree.{Ident, Association}
 use Rattle.vhdl_names_rules.specs.units.Units as u
 use Rattle.vhdl_names_rules.specs.declared.fault.NameProblem.TheVariants.{Undeclared, WrongKind}
-use Rattle.vhdl_names_rules.specs.Rules.{◌>>=◌, ◌>>◌, rule, each, if_any, all_of}
+use Rattle.vhdl_names_rules.specs.Rules.{◌>>=◌, ◌>>◌, rule, all_of}
 use Rattle.vhdl_names_rules.specs.Visibility.{Name, Sight, meaning}
-use Rattle.vhdl_names_rules.specs.Expressions.{static}
 use Rattle.vhdl_names_rules.specs.Instances.{associated, is_architecture, as_component}
 use Rattle.vhdl_names_instances.specs.Table.{Seen}
 use Rattle.vhdl_names_instances.specs.steps.Actuals.{port_actuals}
+use Rattle.vhdl_names_instances.specs.steps.Generics.{generic_actuals}
 
 -- the entity of a number, whose architecture may be named
 abbrev pub with_architecture : List Seen → Option Ident → ℕ → Option ℕ
@@ -33,7 +33,7 @@ instantiated names seens sight (t.component_unit word n) = meaning sight n.text 
 abbrev pub with_formals : Sight → Ident → ℕ → Seen → List Association → List Association → Option u.Instance
 with_formals sight label k e as' bs = do
   gs ← associated e.generics as'
-  generics ← each (if_any (static sight)) gs
+  generics ← generic_actuals sight e.generic_kinds gs
   ps ← associated e.ports bs
   ports ← port_actuals sight e.port_types ps
   Some (record { at = label.at; label = label.text; unit = k; generics = generics; ports = ports })

@@ -207,6 +207,7 @@ module _ (sight : Sight) (type : ObjectType) where
   alternative_same before (t.otherwise at ∷ []) l = refl
   alternative_same before (t.otherwise at ∷ d ∷ ds) l = each_same before (t.otherwise at ∷ d ∷ ds)
   alternative_same before (t.chosen x ∷ cs) l = each_same before (t.chosen x ∷ cs)
+  alternative_same before (t.chosen_range x d y ∷ cs) l = each_same before (t.chosen_range x d y ∷ cs)
 
   place_same : (before : List t.Choice) (lists : List (List t.Choice)) → told.in_place sight type (keys_of sight type before) lists ≡ broken.in_place sight type before lists
   place_same before [] = refl
@@ -234,6 +235,7 @@ module _ (sight : Sight) (type : ObjectType) where
   others_not keys (t.otherwise at ∷ []) h = absurd cc
   others_not keys (t.otherwise at ∷ d ∷ ds) h = refl
   others_not keys (t.chosen x ∷ cs) h = refl
+  others_not keys (t.chosen_range x d y ∷ cs) h = refl
 
   pub only_last : (keys : List Name) (lists : List (List t.Choice)) → IsKept (told.in_place sight type keys lists) → only_last_others lists ≡ true
   only_last keys [] h = refl
@@ -272,6 +274,7 @@ module _ (sight : Sight) (type : ObjectType) where
   alternative_taken keys l (t.otherwise at ∷ []) h = ap Some (sym (append-nil keys))
   alternative_taken keys l (t.otherwise at ∷ d ∷ ds) h = each_taken keys (t.otherwise at ∷ d ∷ ds) h
   alternative_taken keys l (t.chosen x ∷ cs) h = each_taken keys (t.chosen x ∷ cs) h
+  alternative_taken keys l (t.chosen_range x d y ∷ cs) h = each_taken keys (t.chosen_range x d y ∷ cs) h
 
   all_taken : (keys : List Name) (lists : List (List t.Choice)) → IsKept (told.in_place sight type keys lists)
       → in_turn one_name keys (keys_of sight type (flat_map (λ cs. cs) lists)) ≡ Some (with_lists sight type keys lists)

@@ -28,12 +28,8 @@ use Rattle.vhdl_names_units.proofs.Once as names
 use Rattle.vhdl_names_statements.specs.steps.Cases.{all_choices, choices_of, cover, covering, has_all}
 use Rattle.vhdl_names_statements.specs.steps.Told as told
 use Rattle.vhdl_names_statements.specs.steps.Told.{keys_of, with_lists, HasChoices}
-use Rattle.vhdl_names_statements.proofs.steps.Cases.{has_names}
+use Rattle.vhdl_names_statements.proofs.steps.Cases.{flat_each, has_names}
 use Rattle.vhdl_names_statements.proofs.steps.Choosing.{in_place_same, all_keys, only_last, distinct_keys}
-
-all_are : (all : List Chosen) → flat_map (λ cs. cs) (choices_of all) ≡ all_choices all
-all_are [] = refl
-all_are (a ∷ all) = ap (λ cs. a.choices ++ cs) (all_are all)
 
 -- of three conditions the last isn't met
 last_none : (a b : Bool) (o : Option (Unit {0})) → o ≡ None → (met a >> (met b >> o)) ≡ None
@@ -70,7 +66,7 @@ module _ (sight : Sight) (type : ObjectType) where
   -- alternatives that have the choices which stand there
   module _ (lists : List (List t.Choice)) (all : List Chosen) (have : each (are.choices sight type) lists ≡ Some (choices_of all)) where
     keys_are : keys_of sight type (flat_map (λ cs. cs) lists) ≡ map key_of (all_choices all)
-    keys_are = ap (map key_of) (flat lists (choices_of all) have ∙ all_are all)
+    keys_are = ap (map key_of) (flat lists (choices_of all) have ∙ flat_each all)
 
     names_are : (keys : List Name) → keys ≡ with_lists sight type [] lists → has_all type keys ≡ names_all type (all_choices all)
     names_are keys h = ap (has_all type) (h ∙ all_keys sight type lists ∙ keys_are) ∙ has_names type (all_choices all)
@@ -93,7 +89,7 @@ module _ (sight : Sight) (type : ObjectType) where
         go true true e f =
             let kept : IsKept (told.in_place sight type [] lists) =
             in_place_same sight type lists
-            ∙ in_place_kept sight type lists [] [] (choices_of all) refl have (ap are_distinct_choices (all_are all) ∙ sym (names.distinct_keys (all_choices all)) ∙ f) e in
+            ∙ in_place_kept sight type lists [] [] (choices_of all) refl have (ap are_distinct_choices (flat_each all) ∙ sym (names.distinct_keys (all_choices all)) ∙ f) e in
             let none : Option (NameProblem × ℕ) = None in
             let no : Some (p, at) ≡ none = sym h ∙ kept in
             cc
@@ -149,4 +145,4 @@ module _ (sight : Sight) (type : ObjectType) where
           (among_kept (broken.in_place sight type [] lists) b (sym (in_place_same sight type lists) ∙ kept) none)
           (told_given (λ css. unless NoOthers at (is_last_others lists || names_all type (flat_map (λ cs. cs) css))) (each (are.choices sight type) lists) (choices_of chosen) f have
           (told_same (unless NoOthers at (is_last_others lists || has_all type keys)) (unless NoOthers at (is_last_others lists || names_all type (flat_map (λ cs. cs) (choices_of chosen)))) f
-          (ap (λ x. unless NoOthers at (is_last_others lists || x)) (names_are lists chosen have keys k ∙ ap (names_all type) (sym (all_are chosen)))) h))
+          (ap (λ x. unless NoOthers at (is_last_others lists || x)) (names_are lists chosen have keys k ∙ ap (names_all type) (sym (flat_each chosen)))) h))

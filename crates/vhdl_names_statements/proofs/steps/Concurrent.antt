@@ -1,77 +1,30 @@
 -- The rules of concurrent assignments, in the order in which the code comes to their parts.
-use Rattle.std.proofs.Common.{◌≡◌, true, List, [], ◌∷◌, Option, Some, None, refl, ap, sym, subst, ◌∙◌}
+use Rattle.std.proofs.Common.{◌≡◌, true, false, List, [], ◌∷◌, Option, Some, None, refl, ap, sym, subst, ◌∙◌}
 use Rattle.std.specs.Prelude.{option_map}
 use Rattle.vhdl_tree.specs.Tree as t
 use Rattle.vhdl_tree.specs.Tree.{Ident}
 use Rattle.vhdl_names_rules.specs.declared.kind.ObjectType.{ObjectType}
-use Rattle.vhdl_names_rules.specs.units.Expressions.{Test, Value}
+use Rattle.vhdl_names_rules.specs.units.Expressions.{Value}
 use Rattle.vhdl_names_rules.specs.units.Statements as s
 use Rattle.vhdl_names_rules.specs.units.Units as u
-use Rattle.vhdl_names_rules.specs.Rules.{◌>>=◌, ◌>>◌, met, each, if_any}
+use Rattle.vhdl_names_rules.specs.Rules.{◌>>=◌, ◌>>◌, met, each}
 use Rattle.vhdl_names_rules.specs.Visibility.{Sight}
-use Rattle.vhdl_names_rules.specs.Expressions.{typed, condition, value_given}
+use Rattle.vhdl_names_rules.specs.Expressions.{typed}
 use Rattle.vhdl_names_rules.specs.Choices.{choices, covered, selector, arranged}
-use Rattle.vhdl_names_rules.specs.Statements.{SignalName, target}
+use Rattle.vhdl_names_rules.specs.Statements.{SignalName, Target, target, signal_target, alone, conditional}
+use Rattle.vhdl_names_rules.specs.Statements.{assignment as one}
 use Rattle.vhdl_names_rules.specs.Concurrent as rules
 use Rattle.vhdl_names_rules.specs.Concurrent.{assigning}
 use Rattle.vhdl_names_expressions.specs.Asked.{selected_by}
-use Rattle.vhdl_names_units.specs.views.Sequential.{Guarded, guarded_by, Chosen, chosen_by, statements_of, branches_of, last_of}
+use Rattle.vhdl_names_units.specs.views.Sequential.{Chosen, chosen_by, statements_of}
 use Rattle.vhdl_names_statements.specs.steps.Cases.{Divided, all_choices, cover, covering, but_last}
-use Rattle.vhdl_names_statements.specs.steps.Sequential.{assigned}
+use Rattle.vhdl_names_statements.specs.steps.Sequential as sequential
 use Rattle.vhdl_names_statements.specs.steps.Concurrent as steps
+use Rattle.vhdl_names_statements.proofs.steps.Conditional.{assigned_by, conditional_gives, by_signal}
 use Rattle.vhdl_names_statements.proofs.steps.Cases.{Pairs, all_there, one_pair, put_together, by_steps, same}
 use Rattle.vhdl_names_units.proofs.Lists.{bound, inner}
 
-module _ (sight : Sight) (n : t.Name) (x : SignalName) (found : target sight n ≡ Some x) where
-  assigned_by : (v : t.Value) → rules.assigned sight x v ≡ assigned sight n v
-  assigned_by v = ap (λ o. o >>= λ x. value_given sight x.type v >>= λ g. Some (s.assign x.place g)) (sym found)
-
-  last_by : (o : Option t.Value) → rules.last_branch sight x o ≡ (if_any (steps.alone sight n) o >>= λ last. Some (last_of last))
-  last_by None = refl
-  last_by (Some v) = ap (option_map (λ y. s.otherwise (rules.alone y))) (assigned_by v) ∙ go (assigned sight n v)
-    where
-      go : (o : Option s.Statement) → option_map (λ y. s.otherwise (rules.alone y)) o ≡ (((o >>= λ y. Some (y ∷ [])) >>= λ y. Some (Some y)) >>= λ last. Some (last_of last))
-      go None = refl
-      go (Some y) = refl
-
-  branches_by : (bs : List t.Branch) (o : Option t.Value) → rules.branches sight x bs o
-      ≡ (each (steps.waveform sight n) bs >>= λ gs. if_any (steps.alone sight n) o >>= λ last. Some (branches_of gs (last_of last)))
-  branches_by [] o = last_by o
-  branches_by (b ∷ bs) o =
-      ap (λ m. m >>= λ y. condition sight b.condition >>= λ c. rules.branches sight x bs o >>= λ rest. Some (s.branch c (rules.alone y) rest)) (assigned_by b.value)
-      ∙ go (assigned sight n b.value) (condition sight b.condition) (rules.branches sight x bs o) (each (steps.waveform sight n) bs) (if_any (steps.alone sight n) o) (branches_by bs o)
-    where
-      end : (y : s.Statement) (c : Test) (r : Option s.Branches) (e : Option (List Guarded)) (l : Option (Option (List s.Statement)))
-          → r ≡ (e >>= λ gs. l >>= λ last. Some (branches_of gs (last_of last)))
-          → (r >>= λ rest. Some (s.branch c (rules.alone y) rest)) ≡ ((e >>= λ gs. Some (guarded_by c (y ∷ []) ∷ gs)) >>= λ gs. l >>= λ last. Some (branches_of gs (last_of last)))
-      end y c r None l h = ap (λ r. r >>= λ rest. Some (s.branch c (rules.alone y) rest)) h
-      end y c r (Some gs) None h = ap (λ r. r >>= λ rest. Some (s.branch c (rules.alone y) rest)) h
-      end y c r (Some gs) (Some last) h = ap (λ r. r >>= λ rest. Some (s.branch c (rules.alone y) rest)) h
-
-      go : (a : Option s.Statement) (k : Option Test) (r : Option s.Branches) (e : Option (List Guarded)) (l : Option (Option (List s.Statement)))
-          → r ≡ (e >>= λ gs. l >>= λ last. Some (branches_of gs (last_of last)))
-          → (a >>= λ y. k >>= λ c. r >>= λ rest. Some (s.branch c (rules.alone y) rest))
-          ≡ ((((a >>= λ y. Some (y ∷ [])) >>= λ xs. k >>= λ c. Some (guarded_by c xs)) >>= λ g. e >>= λ gs. Some (g ∷ gs)) >>= λ gs. l >>= λ last. Some (branches_of gs (last_of last)))
-      go None k r e l h = refl
-      go (Some y) None r e l h = refl
-      go (Some y) (Some c) r e l h = end y c r e l h
-
-  chosen_by_all : (bs : List t.Branch) (o : Option t.Value) → option_map (s.if_of n.identifier.at) (rules.branches sight x bs o) ≡ steps.conditional sight n bs o
-  chosen_by_all bs o = ap (option_map (s.if_of n.identifier.at)) (branches_by bs o) ∙ go (each (steps.waveform sight n) bs) (if_any (steps.alone sight n) o)
-    where
-      go : (e : Option (List Guarded)) (l : Option (Option (List s.Statement))) → option_map (s.if_of n.identifier.at) (e >>= λ gs. l >>= λ last. Some (branches_of gs (last_of last)))
-          ≡ (e >>= λ gs. l >>= λ last. Some (s.if_of n.identifier.at (branches_of gs (last_of last))))
-      go None l = refl
-      go (Some gs) None = refl
-      go (Some gs) (Some last) = refl
-
-  pub body_by : (bs : List t.Branch) (o : Option t.Value) → rules.assignment_body sight n.identifier.at x bs o ≡ steps.body sight n bs o
-  body_by [] (Some v) = assigned_by v
-  body_by [] None = chosen_by_all [] None
-  body_by (b ∷ bs) o = chosen_by_all (b ∷ bs) o
-
-  -- ---- selected assignments
-
+module _ (sight : Sight) (n : t.Name) (x : Target) (found : signal_target sight n ≡ Some x) where
   swapped : {A B C : Type 0} (a : Option A) (b : Option B) (f : A → B → C) → (a >>= λ x. b >>= λ y. Some (f x y)) ≡ (b >>= λ y. a >>= λ x. Some (f x y))
   swapped None None f = refl
   swapped None (Some y) f = refl
@@ -79,48 +32,60 @@ module _ (sight : Sight) (n : t.Name) (x : SignalName) (found : target sight n �
   swapped (Some x) (Some y) f = refl
 
   pub pairs : (type : ObjectType) (ws : List t.Waveform)
-      → Pairs (each (choices sight type) (steps.choice_lists ws)) (each (λ (w : t.Waveform). option_map rules.alone (rules.assigned sight x w.value)) ws) (each (steps.chosen sight type n) ws)
+      → Pairs (each (choices sight type) (steps.choice_lists ws)) (each (λ (w : t.Waveform). option_map alone (one sight x w.value)) ws) (each (steps.chosen sight type n) ws)
   pairs type [] = all_there [] refl refl refl
   pairs type (w ∷ ws) =
       let f : Option (List (List s.Choice)) = each (choices sight type) (steps.choice_lists ws) in
-      let g : Option (List s.Statements) = each (λ (w : t.Waveform). option_map rules.alone (rules.assigned sight x w.value)) ws in
+      let g : Option (List s.Statements) = each (λ (w : t.Waveform). option_map alone (one sight x w.value)) ws in
       let h : Option (List Chosen) = each (steps.chosen sight type n) ws in
       let c = choices sight type w.choices in
-      let l = steps.alone sight n w.value in
-      let m = option_map rules.alone (rules.assigned sight x w.value) in
+      let l = sequential.alone sight false n w.value in
+      let m = option_map alone (one sight x w.value) in
       let P : Option Chosen → Type 0 = λ o. Pairs (c >>= λ y. f >>= λ ys. Some (y ∷ ys)) (m >>= λ y. g >>= λ ys. Some (y ∷ ys)) (o >>= λ y. h >>= λ ys. Some (y ∷ ys)) in
       subst P (sym (swapped l c (λ xs cs. chosen_by cs xs)))
-      (one_pair c l m (ap (option_map rules.alone) (assigned_by w.value) ∙ go (assigned sight n w.value)) f g h (pairs type ws))
+      (one_pair c l m (ap (option_map alone) (assigned_by sight false n x found w.value) ∙ go (sequential.assigned sight false n w.value)) f g h (pairs type ws))
     where
-      go : (o : Option s.Statement) → option_map rules.alone o ≡ option_map statements_of (o >>= λ y. Some (y ∷ []))
+      go : (o : Option s.Statement) → option_map alone o ≡ option_map statements_of (o >>= λ y. Some (y ∷ []))
       go None = refl
       go (Some y) = refl
 
 pub assignment_gives : (sight : Sight) (a : t.Assignment) → rules.assignment sight a ≡ steps.assignment sight a
 unfolding rules.assignment
-assignment_gives sight a = go (target sight a.target) refl
+assignment_gives sight a =
+    go (signal_target sight a.target) ∙ ap (λ m. m >>= λ y. Some (assigning a.target.identifier.at a.label y)) (conditional_gives sight false a.target a.branches a.otherwise)
   where
-    go : (o : Option SignalName) → target sight a.target ≡ o
-        → (o >>= λ x. rules.assignment_body sight a.target.identifier.at x a.branches a.otherwise >>= λ body. Some (assigning a.target.identifier.at a.label body))
-        ≡ (o >>= λ _. steps.body sight a.target a.branches a.otherwise >>= λ y. Some (assigning a.target.identifier.at a.label y))
-    go None e = refl
-    go (Some x) e = ap (λ m. m >>= λ y. Some (assigning a.target.identifier.at a.label y)) (body_by sight a.target x e a.branches a.otherwise)
+    go : (o : Option Target)
+        → (o >>= λ x. conditional sight x a.branches a.otherwise >>= λ body. Some (assigning a.target.identifier.at a.label body))
+        ≡ ((o >>= λ x. conditional sight x a.branches a.otherwise) >>= λ y. Some (assigning a.target.identifier.at a.label y))
+    go None = refl
+    go (Some x) = refl
+
+-- a target of signals is given where the signal is
+target_given : {B : Type 0} (sight : Sight) (n : t.Name) (o : Option B) → (signal_target sight n >>= λ _. o) ≡ (target sight n >>= λ _. o)
+target_given sight n o = go (target sight n)
+  where
+    go : (p : Option SignalName) → ((p >>= λ x. Some (by_signal x)) >>= λ _. o) ≡ (p >>= λ _. o)
+    go None = refl
+    go (Some x) = refl
 
 pub selected_gives : (sight : Sight) (label : Option Ident) (a : t.SelectedAssignment) → rules.selected sight label a ≡ steps.selected sight label a
 unfolding rules.selected
 selected_gives sight label a =
     inner (typed sight a.selector) selector rest
-    ∙ bound (selected_by sight a.selector) rest steps_rest (λ by. go by (target sight a.target) refl)
+    ∙ bound (selected_by sight a.selector) rest steps_rest (λ by. go by (signal_target sight a.target) refl ∙ target_given sight a.target (behind_target by))
     ∙ bound (selected_by sight a.selector) steps_rest by_parts (λ by. apart by (target sight a.target) (each (steps.chosen sight by.0 a.target) a.waveforms))
   where
     rest : ObjectType × Value → Option u.Concurrent
-    rest by = target sight a.target >>= λ x. covered sight by.0 (steps.choice_lists a.waveforms)
-        >>= λ cs. each (λ (w : t.Waveform). option_map rules.alone (rules.assigned sight x w.value)) a.waveforms
+    rest by = signal_target sight a.target >>= λ x. covered sight by.0 (steps.choice_lists a.waveforms)
+        >>= λ cs. each (λ (w : t.Waveform). option_map alone (one sight x w.value)) a.waveforms
         >>= λ bodies. arranged cs bodies >>= λ all. Some (assigning a.at label (s.case_of a.at by.1 all))
 
-    steps_rest : ObjectType × Value → Option u.Concurrent
-    steps_rest by = target sight a.target >>= λ _. each (steps.chosen sight by.0 a.target) a.waveforms
+    behind_target : ObjectType × Value → Option u.Concurrent
+    behind_target by = each (steps.chosen sight by.0 a.target) a.waveforms
         >>= λ all. cover by.0 (steps.choice_lists a.waveforms) (all_choices all) >>= λ _. but_last all >>= λ d. Some (assigning a.at label (s.case_of a.at by.1 (put_together d)))
+
+    steps_rest : ObjectType × Value → Option u.Concurrent
+    steps_rest by = target sight a.target >>= λ _. behind_target by
 
     by_parts : ObjectType × Value → Option u.Concurrent
     by_parts by = steps.parts sight by.0 a >>= λ d. Some (assigning a.at label (s.case_of a.at by.1 (put_together d)))
@@ -162,15 +127,15 @@ selected_gives sight label a =
         asked (Some u) None = refl
         asked (Some u) (Some d) = refl
 
-    go : (by : ObjectType × Value) (o : Option SignalName) → target sight a.target ≡ o
+    go : (by : ObjectType × Value) (o : Option Target) → signal_target sight a.target ≡ o
         → (o >>= λ x. covered sight by.0 (steps.choice_lists a.waveforms)
-        >>= λ cs. each (λ (w : t.Waveform). option_map rules.alone (rules.assigned sight x w.value)) a.waveforms
+        >>= λ cs. each (λ (w : t.Waveform). option_map alone (one sight x w.value)) a.waveforms
         >>= λ bodies. arranged cs bodies >>= λ all. Some (assigning a.at label (s.case_of a.at by.1 all)))
         ≡ (o >>= λ _. each (steps.chosen sight by.0 a.target) a.waveforms
         >>= λ all. cover by.0 (steps.choice_lists a.waveforms) (all_choices all) >>= λ _. but_last all >>= λ d. Some (assigning a.at label (s.case_of a.at by.1 (put_together d))))
     go by None e = refl
     go by (Some x) e =
-        outer_rules (covered sight by.0 (steps.choice_lists a.waveforms)) (each (λ (w : t.Waveform). option_map rules.alone (rules.assigned sight x w.value)) a.waveforms) by.1
+        outer_rules (covered sight by.0 (steps.choice_lists a.waveforms)) (each (λ (w : t.Waveform). option_map alone (one sight x w.value)) a.waveforms) by.1
         ∙ ap (option_map (assigning a.at label))
         (same sight a.at by.0 by.1 true (steps.choice_lists a.waveforms) _ _ _ (pairs sight a.target x e by.0 a.waveforms))
         ∙ outer_steps (each (steps.chosen sight by.0 a.target) a.waveforms) by

@@ -40,6 +40,7 @@ use Rattle.vhdl_names_statements.specs.steps.Concurrent as steps
 use Rattle.vhdl_names_statements.specs.steps.Told as told
 use Rattle.vhdl_names_statements.proofs.steps.Cases.{Pairs, all_there, no_choices, no_bodies, flat_each}
 use Rattle.vhdl_names_statements.proofs.steps.Cases as by_cases
+use Rattle.vhdl_names_statements.proofs.steps.Conditional.{by_signal}
 use Rattle.vhdl_names_statements.proofs.steps.Concurrent as by_waveforms
 use Rattle.vhdl_names_statements.proofs.steps.Told.{alternatives_kept, on_along}
 use Rattle.vhdl_names_statements.proofs.steps.Assigning.{waveforms_kept}
@@ -235,7 +236,7 @@ module _ (sight : Sight) (type : ObjectType) (a : t.SelectedAssignment) (x : Sig
   given_waveforms = each (steps.chosen sight type a.target) a.waveforms
 
   waveforms_there : (all : List Chosen) → given_waveforms ≡ Some all → each (are.choices sight type) lists ≡ Some (choices_of all)
-  waveforms_there all e = choices_there _ _ _ (by_waveforms.pairs sight a.target x found type a.waveforms) all e
+  waveforms_there all e = choices_there _ _ _ (by_waveforms.pairs sight a.target (by_signal x) (ap (λ (o : Option SignalName). o >>= λ x. Some (by_signal x)) found) type a.waveforms) all e
 
   -- the lists are those that stand there, the answer gives the waveforms, and they have these choices
   abbrev pub AreRead : List (List t.Choice) → Result (Vec Alternative Global) NameFault → Type 0

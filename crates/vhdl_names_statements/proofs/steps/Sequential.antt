@@ -1,6 +1,6 @@
 -- The rules of sequential statements, in the order in which the code comes to their parts.
 use Rattle.std.proofs.Common.{◌≡◌, ℕ, Bool, true, false, List, [], ◌∷◌, Option, Some, None, refl, ap, sym, ◌∙◌}
-use Rattle.std.specs.Prelude.{option_map}
+use Rattle.std.specs.Prelude.{if◌then◌else◌, option_map}
 use Rattle.vhdl_tree.specs.Tree as t
 use Rattle.vhdl_tree.specs.Tree.{Ident}
 use Rattle.vhdl_tree.specs.View as tree
@@ -12,10 +12,16 @@ use Rattle.vhdl_names_rules.specs.units.Statements as s
 use Rattle.vhdl_names_rules.specs.Rules.{◌>>=◌, ◌>>◌, met, each, if_any}
 use Rattle.vhdl_names_rules.specs.Visibility.{Sight, Declared, label_ends, within_loop}
 use Rattle.vhdl_names_rules.specs.Expressions.{static_range, condition}
-use Rattle.vhdl_names_rules.specs.Statements.{statement, statements, conditionals, otherwise}
+use Rattle.vhdl_names_rules.specs.Statements.{statement, statements, conditionals, otherwise, before}
 use Rattle.vhdl_names_units.specs.views.Sequential.{Guarded, guarded_by, statements_of, branches_of, last_of}
 use Rattle.vhdl_names_statements.specs.steps.Sequential as steps
-use Rattle.vhdl_names_statements.specs.steps.Sequential.{labelled, all_labelled, guarded}
+use Rattle.vhdl_names_statements.specs.steps.Sequential.{labelled, all_labelled, guarded, is_dropped}
+
+-- assert and report are dropped
+dropped : (x : t.Statement) (y : s.Statement) (ys : List s.Statement) → before x y (statements_of ys) ≡ statements_of (if is_dropped x then ys else y ∷ ys)
+dropped (t.asserted text) y ys = refl
+dropped (t.reported text) y ys = refl
+dropped x y ys = refl
 
 pub statements_each : (sight : Sight) (qs : List t.Sequential) → statements sight (t.statements_of qs) ≡ option_map statements_of (all_labelled sight qs)
 unfolding statements
@@ -23,10 +29,10 @@ statements_each sight [] = refl
 statements_each sight (q ∷ qs) = go (labelled sight q) (statements sight (t.statements_of qs)) (all_labelled sight qs) (statements_each sight qs)
   where
     go : (o : Option s.Statement) (m : Option s.Statements) (l : Option (List s.Statement)) → m ≡ option_map statements_of l
-        → (o >>= λ y. m >>= λ ys. Some (s.step y ys)) ≡ option_map statements_of (o >>= λ y. l >>= λ ys. Some (y ∷ ys))
+        → (o >>= λ y. m >>= λ ys. Some (before q.statement y ys)) ≡ option_map statements_of (o >>= λ y. l >>= λ ys. Some (if is_dropped q.statement then ys else y ∷ ys))
     go None m l h = refl
-    go (Some y) m None h = ap (λ m. m >>= λ ys. Some (s.step y ys)) h
-    go (Some y) m (Some ys) h = ap (λ m. m >>= λ ys. Some (s.step y ys)) h
+    go (Some y) m None h = ap (λ m. m >>= λ ys. Some (before q.statement y ys)) h
+    go (Some y) m (Some ys) h = ap (λ m. m >>= λ ys. Some (before q.statement y ys)) h ∙ ap Some (dropped q.statement y ys)
 
 conditionals_each : (sight : Sight) (last : s.Branches) (bs : List t.Conditional)
     → conditionals sight last (t.conditionals_of bs) ≡ option_map (λ gs. branches_of gs last) (each (guarded sight) bs)
@@ -64,7 +70,7 @@ pub if_is : (i : If) → tree.if_view i
 if_is i = ap tree.if_view (sym (roll-out-If i)) ∙ view_if (out-If i).at (out-If i).branches (out-If i).otherwise (out-If i).end_label
 
 pub for_is : (f : For) → tree.for_view f
-    ≡ t.for_of (out-For f).at (tree.ident_view (out-For f).parameter) (tree.range_view (out-For f).range) (t.statements_of (tree.sequentials_view (out-For f).statements))
+    ≡ t.for_of (out-For f).at (tree.ident_view (out-For f).parameter) (tree.discrete_range_view (out-For f).range) (t.statements_of (tree.sequentials_view (out-For f).statements))
     (tree.option_ident_view (out-For f).end_label)
 for_is f = ap tree.for_view (sym (roll-out-For f)) ∙ view_for (out-For f).at (out-For f).parameter (out-For f).range (out-For f).statements (out-For f).end_label
 
@@ -90,7 +96,7 @@ conditional_by sight label at bs o end =
     go true (Some last) None r h = ap (λ r. r >>= λ ys. Some (s.if_of at ys)) (h (last_of last))
     go true (Some last) (Some gs) r h = ap (λ r. r >>= λ ys. Some (s.if_of at ys)) (h (last_of last))
 
-loop_by : (sight : Sight) (label : Option Ident) (at : ℕ) (n : Ident) (r : t.Range) (qs : List t.Sequential) (end : Option Ident)
+loop_by : (sight : Sight) (label : Option Ident) (at : ℕ) (n : Ident) (r : t.DiscreteRange) (qs : List t.Sequential) (end : Option Ident)
     → statement sight label (t.for_of at n r (t.statements_of qs) end) ≡ steps.repetition sight label at n r qs end
 unfolding statement
 loop_by sight label at n r qs end =
@@ -114,11 +120,11 @@ if_gives sight label i =
     ∙ conditional_by sight label _ (tree.conditionals_view (out-If i).branches) (tree.option_sequentials_view (out-If i).otherwise) (tree.option_ident_view (out-If i).end_label)
 
 pub loop_gives : (sight : Sight) (label : Option Ident) (f : For) → statement sight label (tree.for_view f)
-    ≡ steps.repetition sight label (out-For f).at (tree.ident_view (out-For f).parameter) (tree.range_view (out-For f).range) (tree.sequentials_view (out-For f).statements)
+    ≡ steps.repetition sight label (out-For f).at (tree.ident_view (out-For f).parameter) (tree.discrete_range_view (out-For f).range) (tree.sequentials_view (out-For f).statements)
     (tree.option_ident_view (out-For f).end_label)
 loop_gives sight label f =
     ap (statement sight label) (for_is f)
-    ∙ loop_by sight label _ (tree.ident_view (out-For f).parameter) (tree.range_view (out-For f).range) (tree.sequentials_view (out-For f).statements) (tree.option_ident_view (out-For f).end_label)
+    ∙ loop_by sight label _ (tree.ident_view (out-For f).parameter) (tree.discrete_range_view (out-For f).range) (tree.sequentials_view (out-For f).statements) (tree.option_ident_view (out-For f).end_label)
 
 -- the sight is as before a loop, behind it
 pub left_loop : (outer : Sight) (d : Declared) (entered turned left : Sight) → Some (steps.in_loop outer d) ≡ Some entered → turned ≡ entered

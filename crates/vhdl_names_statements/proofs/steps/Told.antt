@@ -1,5 +1,5 @@
 -- What is told of the parts of statements is told of the whole.
-use Rattle.std.proofs.Common.{◌≡◌, ℕ, ◌+◌, ◌<◌, arith, List, [], ◌∷◌, ◌++◌, map, length, get_or, drop, Option, Some, None, Result, IfErr, refl, ap, sym, ◌∙◌}
+use Rattle.std.proofs.Common.{◌≡◌, ℕ, Bool, true, false, ◌+◌, ◌<◌, arith, List, [], ◌∷◌, ◌++◌, map, length, get_or, drop, Option, Some, None, Result, IfErr, refl, ap, sym, ◌∙◌}
 use Rattle.std.specs.Prelude.{IsErrAnd, option_map}
 use Rattle.vhdl_tree.specs.Tree as t
 use Rattle.vhdl_tree.specs.Tree.{Ident}
@@ -28,7 +28,7 @@ use Rattle.vhdl_names_rules.specs.problems.Covered.{covered, any_alternative}
 use Rattle.vhdl_names_rules.specs.problems.Statements as broken
 use Rattle.vhdl_names_rules.specs.problems.Statements.{end_label, by_selector}
 use Rattle.vhdl_names_rules.proofs.Telling.{IsKept, both_kept, behind_kept, told_same, told_left, told_right, told_given, told_on}
-use Rattle.vhdl_names_sight.proofs.Passing.{told_second}
+use Rattle.vhdl_names_rules.proofs.Passing.{told_second}
 use Rattle.vhdl_names_rules.proofs.kept.Keeping.{nothing_kept}
 use Rattle.vhdl_names_rules.proofs.kept.Expressions.{condition_kept, static_range_kept}
 use Rattle.vhdl_names_rules.proofs.kept.Choices.{choices_kept, selected_by_kept}
@@ -182,13 +182,18 @@ otherwise_kept sight (Some qs) y h = let c = comes (steps.all_labelled sight qs)
 
 -- ---- statements by their kinds
 
-pub signal_assigned : (sight : Sight) (label : Option Ident) (n : t.Name) (v : t.Value) → broken.assigned sight n v ≡ broken.statement sight label (t.assigned n v)
+pub assigned_told : (sight : Sight) (label : Option Ident) (n : t.Name) (v : t.Value) → told.assigned sight false n v ≡ broken.statement sight label (t.assigned n v)
 unfolding broken.statement
-signal_assigned sight label n v = refl
+assigned_told sight label n v = refl
 
-pub variable_assigned : (sight : Sight) (label : Option Ident) (n : t.Name) (v : t.Value) → broken.variable_assigned sight n v ≡ broken.statement sight label (t.variable_assigned n v)
+pub set_told : (sight : Sight) (label : Option Ident) (n : t.Name) (v : t.Value) → told.assigned sight true n v ≡ broken.statement sight label (t.variable_assigned n v)
 unfolding broken.statement
-variable_assigned sight label n v = refl
+set_told sight label n v = refl
+
+pub conditional_told : (sight : Sight) (label : Option Ident) (b : Bool) (n : t.Name) (bs : List t.Branch) (o : Option t.Value) →
+    broken.conditional sight b n bs o ≡ broken.statement sight label (t.assigned_when b n bs o)
+unfolding broken.statement
+conditional_told sight label b n bs o = refl
 
 pub otherwise_done : (sight : Sight) (qs : List t.Sequential) → broken.statements sight (t.statements_of qs) ≡ broken.otherwise sight (t.else_do (t.statements_of qs))
 unfolding broken.otherwise
@@ -229,7 +234,7 @@ module _ (sight : Sight) (label : Option Ident) (l : For) (f : NameFault) where
   for_label = end_label label (tree.option_ident_view (out-For l).end_label)
 
   abbrev for_range : Broken
-  for_range = static_range sight (tree.range_view (out-For l).range)
+  for_range = static_range sight (tree.discrete_range_view (out-For l).range)
 
   abbrev for_sight : Sight
   for_sight = within_loop sight (tree.ident_view (out-For l).parameter)
@@ -244,9 +249,9 @@ module _ (sight : Sight) (label : Option Ident) (l : For) (f : NameFault) where
   pub loop_range : Tells for_range f → Tells (broken.statement sight label (tree.for_view l)) f
   loop_range h = for_told (told_left for_range (for_turn ▸ for_label) f h)
 
-  module _ (r : Range) (given : are.static_range sight (tree.range_view (out-For l).range) ≡ Some r) where
+  module _ (r : Range) (given : are.static_range sight (tree.discrete_range_view (out-For l).range) ≡ Some r) where
     loop_behind : Tells (for_turn ▸ for_label) f → Tells (broken.statement sight label (tree.for_view l)) f
-    loop_behind h = for_told (told_right for_range (for_turn ▸ for_label) f (static_range_kept sight (tree.range_view (out-For l).range) r given) h)
+    loop_behind h = for_told (told_right for_range (for_turn ▸ for_label) f (static_range_kept sight (tree.discrete_range_view (out-For l).range) r given) h)
 
     pub loop_turn : Tells for_turn f → Tells (broken.statement sight label (tree.for_view l)) f
     loop_turn h = loop_behind (told_left for_turn for_label f h)

@@ -1,53 +1,29 @@
 -- Concurrent assignments in the order in which the code comes to their parts.
-use Rattle.std.specs.Prelude.{List, [], ◌∷◌, map, Option, Some, None}
+use Rattle.std.specs.Prelude.{false, List, map, Option, Some}
 use Rattle.vhdl_tree.specs.Tree as t
 use Rattle.vhdl_tree.specs.Tree.{Ident}
 use Rattle.vhdl_names_rules.specs.declared.kind.ObjectType.{ObjectType}
 use Rattle.vhdl_names_rules.specs.units.Statements as s
 use Rattle.vhdl_names_rules.specs.units.Units as u
-use Rattle.vhdl_names_rules.specs.Rules.{◌>>=◌, ◌>>◌, each, if_any}
+use Rattle.vhdl_names_rules.specs.Rules.{◌>>=◌, ◌>>◌, each}
 use Rattle.vhdl_names_rules.specs.Visibility.{Sight}
-use Rattle.vhdl_names_rules.specs.Expressions.{condition}
 use Rattle.vhdl_names_rules.specs.Choices.{choices}
 use Rattle.vhdl_names_rules.specs.Statements.{target}
 use Rattle.vhdl_names_rules.specs.Concurrent.{assigning}
 use Rattle.vhdl_names_expressions.specs.Asked.{selected_by}
-use Rattle.vhdl_names_units.specs.views.Sequential.{Guarded, guarded_by, Chosen, chosen_by, statements_of, branches_of, last_of, alternatives_of}
+use Rattle.vhdl_names_units.specs.views.Sequential.{Chosen, chosen_by, statements_of, alternatives_of}
 use Rattle.vhdl_names_statements.specs.steps.Cases.{Divided, covering, but_last}
-use Rattle.vhdl_names_statements.specs.steps.Sequential.{assigned}
-
--- an assignment alone
-abbrev pub alone : Sight → t.Name → t.Value → Option (List s.Statement)
-alone sight n v = assigned sight n v >>= λ y. Some (y ∷ [])
-
--- value when condition
-abbrev pub waveform : Sight → t.Name → t.Branch → Option Guarded
-waveform sight n b = do
-  xs ← alone sight n b.value
-  c ← condition sight b.condition
-  Some (guarded_by c xs)
-
-abbrev pub conditional : Sight → t.Name → List t.Branch → Option t.Value → Option s.Statement
-conditional sight n bs o = do
-  gs ← each (waveform sight n) bs
-  last ← if_any (alone sight n) o
-  Some (s.if_of n.identifier.at (branches_of gs (last_of last)))
-
-abbrev pub body : Sight → t.Name → List t.Branch → Option t.Value → Option s.Statement
-body sight n [] (Some v) = assigned sight n v
-body sight n [] None = conditional sight n [] None
-body sight n (b ∷ bs) o = conditional sight n (b ∷ bs) o
+use Rattle.vhdl_names_statements.specs.steps.Sequential.{alone, conditionally}
 
 abbrev pub assignment : Sight → t.Assignment → Option u.Concurrent
 assignment sight a = do
-  target sight a.target
-  y ← body sight a.target a.branches a.otherwise
+  y ← conditionally sight false a.target a.branches a.otherwise
   Some (assigning a.target.identifier.at a.label y)
 
 -- value when choices
 abbrev pub chosen : Sight → ObjectType → t.Name → t.Waveform → Option Chosen
 chosen sight type n w = do
-  xs ← alone sight n w.value
+  xs ← alone sight false n w.value
   cs ← choices sight type w.choices
   Some (chosen_by cs xs)
 

@@ -1,5 +1,5 @@
 -- Sequential statements in the order in which the code comes to their parts.
-use Rattle.std.specs.Prelude.{ℕ, List, ◌∷◌, Option, Some}
+use Rattle.std.specs.Prelude.{ℕ, Bool, true, false, if◌then◌else◌, List, [], ◌∷◌, Option, Some, option_map}
 use Rattle.vhdl_tree.specs.Tree as t
 use Rattle.vhdl_tree.specs.Tree.{Ident}
 use Rattle.vhdl_names_rules.specs.units.Statements as s
@@ -7,30 +7,69 @@ use Rattle.vhdl_names_rules.specs.declared.fault.NameProblem.TheVariants.{WrongK
 use Rattle.vhdl_names_rules.specs.Rules.{◌>>=◌, ◌>>◌, rule, each, if_any}
 use Rattle.vhdl_names_rules.specs.Visibility.{Sight, Declared, label_ends, within_loop}
 use Rattle.vhdl_names_rules.specs.Expressions.{static_range, condition, value_given}
-use Rattle.vhdl_names_rules.specs.Statements.{statement, target, variable}
+use Rattle.vhdl_names_rules.specs.Statements.{statement, target, variable, target_by}
 use Rattle.vhdl_names_units.specs.views.Sequential.{Guarded, guarded_by, statements_of, branches_of, last_of}
 
 -- ---- assignments
 
-abbrev pub assigned : Sight → t.Name → t.Value → Option s.Statement
-assigned sight n v = do
+abbrev pub assigned_signal : Sight → t.Name → t.Value → Option s.Statement
+assigned_signal sight n v = do
   x ← target sight n
-  g ← value_given sight x.type v
+  g ← value_given sight x.type x.range v
   Some (s.assign x.place g)
 
-abbrev pub set : Sight → t.Name → t.Value → Option s.Statement
-set sight n v = do
+abbrev pub assigned_variable : Sight → t.Name → t.Value → Option s.Statement
+assigned_variable sight n v = do
   x ← variable sight n
-  g ← value_given sight x.type v
+  g ← value_given sight x.type x.range v
   Some (s.set x.at x.number x.part g)
+
+abbrev pub assigned : Sight → (is_variable : Bool) → t.Name → t.Value → Option s.Statement
+assigned sight false n v = assigned_signal sight n v
+assigned sight true n v = assigned_variable sight n v
+
+-- an assignment alone
+abbrev pub alone : Sight → (is_variable : Bool) → t.Name → t.Value → Option (List s.Statement)
+alone sight is_variable n v = assigned sight is_variable n v >>= λ y. Some (y ∷ [])
+
+-- value when condition
+abbrev pub waveform : Sight → (is_variable : Bool) → t.Name → t.Branch → Option Guarded
+waveform sight is_variable n b = do
+  xs ← alone sight is_variable n b.value
+  c ← condition sight b.condition
+  Some (guarded_by c xs)
+
+abbrev pub is_target : Sight → (is_variable : Bool) → t.Name → Option (Unit {0})
+is_target sight is_variable n = option_map (λ x. tt) (target_by sight is_variable n)
+
+-- values under conditions, or where none holds
+abbrev pub branched : Sight → (is_variable : Bool) → t.Name → List t.Branch → Option t.Value → Option s.Statement
+branched sight is_variable n bs o = do
+  gs ← each (waveform sight is_variable n) bs
+  last ← if_any (alone sight is_variable n) o
+  Some (s.if_of n.identifier.at (branches_of gs (last_of last)))
+
+abbrev pub conditionally : Sight → (is_variable : Bool) → t.Name → List t.Branch → Option t.Value → Option s.Statement
+conditionally sight is_variable n [] (Some v) = assigned sight is_variable n v
+conditionally sight is_variable n bs o = is_target sight is_variable n >> branched sight is_variable n bs o
 
 -- ---- lists of statements
 
 abbrev pub labelled : Sight → t.Sequential → Option s.Statement
 labelled sight q = statement sight q.label q.statement
 
+-- assert and report are dropped
+abbrev pub is_dropped : t.Statement → Bool
+is_dropped (t.asserted text) = true
+is_dropped (t.reported text) = true
+is_dropped _ = false
+
 abbrev pub all_labelled : Sight → List t.Sequential → Option (List s.Statement)
-all_labelled sight = each (labelled sight)
+all_labelled sight [] = Some []
+all_labelled sight (q ∷ qs) = do
+  y ← labelled sight q
+  ys ← all_labelled sight qs
+  Some (if is_dropped q.statement then ys else y ∷ ys)
 
 -- ---- statements with statements in them
 
@@ -55,7 +94,7 @@ turn sight n body = all_labelled (within_loop sight n) body
 
 -- a loop that starts at this byte
 abbrev pub repetition : Sight → Option Ident → (at : ℕ) → Ident
-    → t.Range → List t.Sequential → Option Ident → Option s.Statement
+    → t.DiscreteRange → List t.Sequential → Option Ident → Option s.Statement
 repetition sight label at n r body end = do
   range ← static_range sight r
   found ← turn sight n body

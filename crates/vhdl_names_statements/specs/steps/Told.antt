@@ -1,5 +1,5 @@
 -- Which rules statements and assignments break, in the parts in which the code comes to them.
-use Rattle.std.specs.Prelude.{◌≡◌, ℕ, Bool, not, List, [], ◌∷◌, ◌++◌, map, filter_map, Option, Some, None, Vec}
+use Rattle.std.specs.Prelude.{◌≡◌, ℕ, Bool, true, false, not, List, [], ◌∷◌, ◌++◌, map, filter_map, Option, Some, None, Vec}
 use Rattle.std.specs.Global.{Global}
 use Rattle.vhdl_tree.specs.Tree as t
 use Rattle.vhdl_tree.specs.Tree.{Ident}
@@ -14,11 +14,24 @@ use Rattle.vhdl_names_rules.specs.problems.Expressions.{condition}
 use Rattle.vhdl_names_rules.specs.problems.Choices.{choice, choices}
 use Rattle.vhdl_names_rules.specs.problems.Covered.{is_empty, covered, any_alternative}
 use Rattle.vhdl_names_rules.specs.problems.Statements as broken
-use Rattle.vhdl_names_rules.specs.problems.Concurrent.{branch}
 use Rattle.vhdl_names_units.specs.declared.sequential.Alternative.{Alternative}
 use Rattle.vhdl_names_units.specs.views.Sequential.{alternatives_view}
 use Rattle.vhdl_names_units.specs.Once.{key_of}
 use Rattle.vhdl_names_statements.specs.steps.Cases as cases
+
+-- ---- assignments
+
+abbrev pub assigned : Sight → (is_variable : Bool) → t.Name → t.Value → Broken
+assigned sight false n v = broken.assigned sight n v
+assigned sight true n v = broken.variable_assigned sight n v
+
+-- value when condition
+abbrev pub waveform : Sight → (is_variable : Bool) → t.Name → t.Branch → Broken
+waveform sight is_variable n b = assigned sight is_variable n b.value ▸ condition sight b.condition
+
+-- values under conditions, or where none holds
+abbrev pub branched : Sight → (is_variable : Bool) → t.Name → List t.Branch → Option t.Value → Broken
+branched sight is_variable n bs o = any_of (waveform sight is_variable n) bs ▸ of_any (assigned sight is_variable n) o
 
 -- ---- statements with statements in them
 
@@ -81,8 +94,3 @@ in_place sight type keys (cs ∷ rest) =
 -- alternatives whose choices are those that stand there
 abbrev pub HasChoices : Sight → ObjectType → List (List t.Choice) → Vec Alternative Global → Type 0
 HasChoices sight type lists all = each (are.choices sight type) lists ≡ Some (cases.choices_of (alternatives_view all))
-
--- ---- concurrent assignments
-
-abbrev pub conditional : Sight → t.Name → List t.Branch → Option t.Value → Broken
-conditional sight n bs o = any_of (branch sight n) bs ▸ of_any (broken.assigned sight n) o

@@ -1,8 +1,9 @@
 -- Names, values, choices and subtype indications of the code.
-use Rattle.std.specs.Prelude.{List, map, Vec}
+use Rattle.std.specs.Prelude.{List, map, option_map, Vec}
 use Rattle.std.specs.Global.{Global}
-use Rattle.vhdl_names_rules.specs.views.Integers.{static_view, range_view}
-use Rattle.vhdl_names_rules.specs.views.Vectors.{vector_view, value_view, place_view, part_view}
+use Rattle.vhdl_names_rules.specs.views.Integers.{static_view, range_view, declared_range_view}
+use Rattle.vhdl_names_rules.specs.views.Vectors.{vector_view, value_view, place_view, part_view, elements_view}
+use Rattle.vhdl_names_rules.specs.views.Tests.{static_test_view}
 use Rattle.vhdl_names_rules.specs.declared.kind.ObjectType.{ObjectType}
 use Rattle.vhdl_names_rules.specs.declared.vector.Value.{Value}
 use Rattle.vhdl_names_rules.specs.units.Expressions as e
@@ -34,10 +35,21 @@ abbrev pub choices_view : Vec Choice Global → List st.Choice
 choices_view v = map choice_view v.items
 
 abbrev pub signal_name_view : SignalName → q.SignalName
-signal_name_view x = record { place = place_view x.place; mode = x.mode; type = x.object_type }
+signal_name_view x = record {
+  place = place_view x.place;
+  mode = x.mode;
+  type = x.object_type;
+  range = q.part_range (option_map declared_range_view x.declared) (part_view x.place.part);
+}
 
 abbrev pub variable_name_view : VariableName → q.VariableName
-variable_name_view x = record { at = x.at; number = x.number; part = part_view x.part; type = x.object_type }
+variable_name_view x = record {
+  at = x.at;
+  number = x.number;
+  part = part_view x.part;
+  type = x.object_type;
+  range = q.part_range (option_map declared_range_view x.declared) (part_view x.part);
+}
 
 abbrev pub form_view : Form → u.Form
 form_view f.Element = u.element
@@ -50,6 +62,10 @@ fixed_view (x.Position p) = u.Fixed.position p
 fixed_view (x.Constant k) = u.Fixed.constant k
 fixed_view (x.Encoded n size) = u.Fixed.encoded (static_view n) (static_view size)
 fixed_view (x.Filled y) = u.Fixed.filled y
+fixed_view (x.Given y) = u.Fixed.given (given_view y)
+fixed_view (x.Aggregate at es) = u.Fixed.aggregate at (elements_view es.items)
+fixed_view (x.Integer n) = u.Fixed.integer (static_view n)
+fixed_view (x.Truth t) = u.Fixed.truth (static_test_view t)
 
 abbrev pub subtype_view : Subtype → p.Subtype
 subtype_view x = record { type = x.object_type; form = form_view x.form; is_resolved = x.is_resolved }

@@ -3,12 +3,13 @@ use Rattle.std.specs.Prelude.{ℕ, List, [], ◌∷◌, map, option_map, Vec}
 use Rattle.std.specs.Global.{Global}
 use Rattle.vhdl_tree.specs.declared.expression.Identifier.{Identifier}
 use Rattle.vhdl_names_rules.specs.units.Units as u
-use Rattle.vhdl_names_rules.specs.views.Integers.{static_view, range_view}
+use Rattle.vhdl_names_rules.specs.views.Integers.{range_view}
 use Rattle.vhdl_names_rules.specs.views.Vectors.{place_view}
 use Rattle.vhdl_names_rules.specs.views.Tests.{static_test_view}
 use Rattle.vhdl_names_units.specs.views.Actuals.{each_actual}
 use Rattle.vhdl_names_units.specs.views.Sequential.{statements_of, statements_view}
-use Rattle.vhdl_names_units.specs.views.Declarations.{objects_view}
+use Rattle.vhdl_names_units.specs.views.Declarations.{declarations_view}
+use Rattle.vhdl_names_units.specs.views.Answers.{fixed_view}
 use Rattle.vhdl_names_units.specs.declared.concurrent.Sensitivity.{Sensitivity}
 use Rattle.vhdl_names_units.specs.declared.concurrent.Sensitivity.TheVariants as e
 use Rattle.vhdl_names_units.specs.declared.concurrent.Process.{Process}
@@ -31,7 +32,7 @@ abbrev pub process_view : Process → u.Process
 process_view p = record {
   at = p.at;
   label = option_map text_of p.label;
-  variables = objects_view p.variables;
+  declarations = declarations_view p.declarations;
   sensitivity = sensitivity_view p.sensitivity;
   body = statements_of (statements_view p.statements);
 }
@@ -41,7 +42,7 @@ instance_view i = record {
   at = i.label.at;
   label = i.label.text.items;
   unit = i.unit;
-  generics = map (option_map static_view) (each_actual i.generics);
+  generics = map (option_map fixed_view) (each_actual i.generics);
   ports = map (option_map place_view) (each_actual i.ports);
 }
 

@@ -17,7 +17,7 @@ returns-in_err-all-in-Some-clause-told c =
     let g = c.args.given.now in
     let items = map view.context_view c.args.items.now in
     let a = view.architecture_view c.args.tree.now in
-    let is = described_at g.entities.now.entries items a c.as_slice.result.now c.as_slice.ensures.value (names_view g.names.now) c.in-Some.place c.in-Some.entity.now c.in-Some.ensures.index c.in-Some.ensures.value in
+    let is = described_at g.language g.entities.now.entries items a c.as_slice.result.now c.as_slice.ensures.value (names_view g.names.now) c.in-Some.place c.in-Some.entity.now c.in-Some.ensures.index c.in-Some.ensures.value in
     passed_told _ c.in_err-all-in-Some.field-0.0 _ c.from_residual.result c.from_residual.ensures.1 (λ e p. p)
     (told_same _ _ c.in_err-all-in-Some.field-0.0 (sym is)
     (c.in_err-all-in-Some.ensures.told (broken.architecture (entities_view g.entities.now) (entity_view c.in-Some.entity.now) items a) c.architecture-read.ensures.told))
@@ -28,21 +28,21 @@ returns-in-None-clause-told c =
     let items = map view.context_view c.args.items.now in
     let a = view.architecture_view c.args.tree.now in
     found_same _ _ c.context.result
-    (sym (described_nowhere g.entities.now.entries items a c.as_slice.result.now c.as_slice.ensures.value (names_view g.names.now) c.in-None.ensures.index)) c.context.ensures
+    (sym (described_nowhere g.language g.entities.now.entries items a c.as_slice.result.now c.as_slice.ensures.value (names_view g.names.now) c.in-None.ensures.index)) c.context.ensures
 
 pub returns-in-None-clause-given : goal.returns-in-None-clause-given
 returns-in-None-clause-given c = λ hidden.
     let items = map view.context_view c.args.items.now in
     let a = view.architecture_view c.args.tree.now in
     ok_all c.context.result
-    (with_nowhere c.args.given.now.entities.now.entries items a c.as_slice.result.now c.as_slice.ensures.value (map (option_map architecture_view) c.args.all.now) c.in-None.ensures.index)
+    (with_nowhere c.args.given.now.language c.args.given.now.entities.now.entries items a c.as_slice.result.now c.as_slice.ensures.value (map (option_map architecture_view) c.args.all.now) c.in-None.ensures.index)
 
 pub returns-in_ok-all-in-Some-clause-told : goal.returns-in_ok-all-in-Some-clause-told
 returns-in_ok-all-in-Some-clause-told c =
     let g = c.args.given.now in
     let items = map view.context_view c.args.items.now in
     let a = view.architecture_view c.args.tree.now in
-    described_at g.entities.now.entries items a c.as_slice.result.now c.as_slice.ensures.value (names_view g.names.now) c.in-Some.place c.in-Some.entity.now c.in-Some.ensures.index c.in-Some.ensures.value
+    described_at g.language g.entities.now.entries items a c.as_slice.result.now c.as_slice.ensures.value (names_view g.names.now) c.in-Some.place c.in-Some.entity.now c.in-Some.ensures.index c.in-Some.ensures.value
     ∙ c.in_ok-all-in-Some.ensures.told (broken.architecture (entities_view g.entities.now) (entity_view c.in-Some.entity.now) items a) c.architecture-read.ensures.told
 
 pub returns-in_ok-all-in-Some-clause-given : goal.returns-in_ok-all-in-Some-clause-given
@@ -54,6 +54,6 @@ returns-in_ok-all-in-Some-clause-given c = λ hidden.
     let e = c.in-Some.entity.now in
     let os = map (option_map architecture_view) c.args.all.now in
     let o = rules.architecture (entities_view g.entities.now) (entity_view e) items a in
-    with_at g.entities.now.entries items a c.as_slice.result.now c.as_slice.ensures.value os k e c.in-Some.ensures.index c.in-Some.ensures.value
+    with_at g.language g.entities.now.entries items a c.as_slice.result.now c.as_slice.ensures.value os k e c.in-Some.ensures.index c.in-Some.ensures.value
     ∙ put_there os k o (option_map architecture_view c.in_ok-all-in-Some.field-0) (c.in_ok-all-in-Some.ensures.given hidden o c.architecture-read.ensures.given)
     ∙ ap Some (sym (map-set (option_map architecture_view) c.args.all.now k c.in_ok-all-in-Some.field-0))

@@ -14,7 +14,7 @@ returns-in-Architecture-clause-told c =
     let ns = names_view c.args.given.now.names.now in
     let es = entities_view c.args.given.now.entities.now in
     found_same _ _ c.add_architecture.result
-    (ap (λ l. described ns es (map view.context_view l, view.architecture_view c.in-Architecture.tree)) c.deref.ensures.value
-    ∙ alone_is (described ns es (view.contexts_view c.args.unit.now.context, view.architecture_view c.in-Architecture.tree))
-    ∙ sym (ap (λ u. any_of (described ns es) (architectures_of (record { context = view.contexts_view c.args.unit.now.context; unit = view.library_unit_view u } ∷ []))) c.in-Architecture.is))
+    (ap (λ l. described c.args.given.now.language ns es (map view.context_view l, view.architecture_view c.in-Architecture.tree)) c.deref.ensures.value
+    ∙ alone_is (described c.args.given.now.language ns es (view.contexts_view c.args.unit.now.context, view.architecture_view c.in-Architecture.tree))
+    ∙ sym (ap (λ u. any_of (described c.args.given.now.language ns es) (architectures_of (record { context = view.contexts_view c.args.unit.now.context; unit = view.library_unit_view u } ∷ []))) c.in-Architecture.is))
     c.add_architecture.ensures.told

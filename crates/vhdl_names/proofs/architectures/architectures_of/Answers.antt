@@ -19,7 +19,7 @@ pub returns-in_err-add_unit-clause-told : goal.returns-in_err-add_unit-clause-to
 returns-in_err-add_unit-clause-told c =
     let us = c.args.file.now.units.items in
     let here = at_lent us c.deref-unit-items.result.now c.loop-unit.unit-index c.unit-item.result c.deref-unit-items.ensures.value (omega arith) c.unit-item.is in
-    let b = described (names_view c.args.given.now.names.now) (entities_view c.args.given.now.entities.now) in
+    let b = described c.args.given.now.language (names_view c.args.given.now.names.now) (entities_view c.args.given.now.entities.now) in
     let whole = any_of b (architectures_of (view.units_view c.args.file.now.units)) in
     let f = c.in_err-add_unit.field-0.0 in
     passed_told whole f _ c.from_residual-in_err-add_unit.result c.from_residual-in_err-add_unit.ensures.1 (λ e p. p)
@@ -30,7 +30,7 @@ loop-unit-preserved c =
     let us = c.args.file.now.units.items in
     let here = at_lent us c.deref-unit-items.result.now c.loop-unit.unit-index c.unit-item.result c.deref-unit-items.ensures.value (omega arith) c.unit-item.is in
     let es = entities_view c.args.given.now.entities.now in
-    let b = described (names_view c.args.given.now.names.now) es in
+    let b = described c.args.given.now.language (names_view c.args.given.now.names.now) es in
     let w = with_items_is c.loop-unit.all c.add_unit.new.all (c.in_ok-add_unit.ensures.room ∙ c.deref_mut.ensures.len) in (
       ap length w ∙ c.in_ok-add_unit.ensures.room ∙ ap length c.deref_mut.ensures.value ∙ c.loop-unit.invariant.0,
       (
@@ -50,6 +50,6 @@ returns c =
     let past = none_left c.args.file.now.units.items c.loop-unit.unit-index (omega (arith, same)) in
     let es = entities_view c.args.given.now.entities.now in
     record {
-      told = c.loop-unit.invariant.1.0 ∙ ap (λ l. any_of (described (names_view c.args.given.now.names.now) es) (architectures_of l)) past;
+      told = c.loop-unit.invariant.1.0 ∙ ap (λ l. any_of (described c.args.given.now.language (names_view c.args.given.now.names.now) es) (architectures_of l)) past;
       given = λ h. c.loop-unit.invariant.1.1 h ∙ ap (in_turn (with_unit es) (options_view c.loop-unit.all)) past;
     }

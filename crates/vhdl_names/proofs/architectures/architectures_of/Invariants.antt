@@ -16,8 +16,8 @@ use Rattle.vhdl_names.proofs.architectures.architectures_of.Given as goal
 abbrev pub invariant-loop-unit : goal.invariant-loop-unit
 invariant-loop-unit l =
     (length l.all.items ≡ length (entities_view l.given.entities.now))
-    × ((any_of (described (names_view l.given.names.now) (entities_view l.given.entities.now)) (architectures_of (view.units_view l.file.units))
-    ≡ any_of (described (names_view l.given.names.now) (entities_view l.given.entities.now)) (architectures_of (left_at l.file.units.items l.unit-index)))
+    × ((any_of (described l.given.language (names_view l.given.names.now) (entities_view l.given.entities.now)) (architectures_of (view.units_view l.file.units))
+    ≡ any_of (described l.given.language (names_view l.given.names.now) (entities_view l.given.entities.now)) (architectures_of (left_at l.file.units.items l.unit-index)))
     × (((n : Name) → is_hidden l.given n ≡ false)
     → in_turn (with_unit (entities_view l.given.entities.now)) (replicate (length (entities_view l.given.entities.now)) None) (view.units_view l.file.units)
     ≡ in_turn (with_unit (entities_view l.given.entities.now)) (options_view l.all) (left_at l.file.units.items l.unit-index)))

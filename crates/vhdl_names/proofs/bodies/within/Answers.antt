@@ -13,9 +13,10 @@ use Rattle.vhdl_names_rules.specs.problems.Broken.{◌▸◌}
 use Rattle.vhdl_names_rules.specs.problems.Declarations.{in_order as in_turn, end_name}
 use Rattle.vhdl_names_rules.specs.problems.Files as broken
 use Rattle.vhdl_names_rules.proofs.Telling.{told_same, told_on}
+use Rattle.vhdl_names_rules.proofs.Passing.{told_by}
 use Rattle.vhdl_names.specs.steps.Architectures as steps
 use Rattle.vhdl_names.proofs.Parts.{declarations_told, at_body}
-use Rattle.vhdl_names.proofs.Finding.{passed_err, ok_along}
+use Rattle.vhdl_names.proofs.Finding.{ok_along}
 use Rattle.vhdl_names.proofs.bodies.within.Goals as goal
 
 pub declarations-requires : goal.declarations-requires
@@ -27,7 +28,7 @@ returns-in_err-declarations-clause-told c = λ e items h.
     let a = view.architecture_view c.args.tree.now in
     let s = c.args.sight.now in
     let f = c.in_err-declarations.field-0.0 in
-    passed_err (broken.architecture es e items a) f _ c.from_residual.result c.from_residual.ensures.1 (λ e p. p)
+    told_by (broken.architecture es e items a) f _ c.from_residual.result c.from_residual.ensures.1 (λ e p. p)
     (declarations_told es e items a f s h
     (told_same _ (in_turn with_declared (rules.declaration es) (broken.declaration es) s a.declarations) f
     (ap (λ l. in_turn with_declared (rules.declaration es) (broken.declaration es) s (map view.declaration_view l)) c.deref.ensures.value) c.in_err-declarations.ensures.told))

@@ -12,7 +12,7 @@ pub returns-in-Entity-clause-told : goal.returns-in-Entity-clause-told
 returns-in-Entity-clause-told c =
     let items = view.contexts_view c.args.unit.now.context in
     let e = view.entity_view c.in-Entity.tree in
-    told_on _ (any_of broken (entities_of (view.unit_view c.args.unit.now ∷ []))) c.add_viewed.result
-    (λ f w. told_same (any_of broken (entities_of (record { context = items; unit = t.LibraryUnit.entity e } ∷ []))) (any_of broken (entities_of (view.unit_view c.args.unit.now ∷ []))) f
-    (ap (λ u. any_of broken (entities_of (record { context = items; unit = view.library_unit_view u } ∷ []))) (sym c.in-Entity.is))
-    (told_left (entity items e) nothing f (told_same _ (entity items e) f (ap (λ l. entity (map view.context_view l) e) c.deref.ensures.value) w))) c.add_viewed.ensures.told
+    told_on _ (any_of (broken c.args.language) (entities_of (view.unit_view c.args.unit.now ∷ []))) c.add_viewed.result
+    (λ f w. told_same (any_of (broken c.args.language) (entities_of (record { context = items; unit = t.LibraryUnit.entity e } ∷ []))) (any_of (broken c.args.language) (entities_of (view.unit_view c.args.unit.now ∷ []))) f
+    (ap (λ u. any_of (broken c.args.language) (entities_of (record { context = items; unit = view.library_unit_view u } ∷ []))) (sym c.in-Entity.is))
+    (told_left (entity c.args.language items e) nothing f (told_same _ (entity c.args.language items e) f (ap (λ l. entity c.args.language (map view.context_view l) e) c.deref.ensures.value) w))) c.add_viewed.ensures.told

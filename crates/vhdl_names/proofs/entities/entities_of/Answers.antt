@@ -13,17 +13,17 @@ loop-unit-preserved c =
     let as' = architectures_view c.args.outline.now.architectures in
     let es = entities_view c.loop-unit.entities in
     let vs = entities_view c.add_unit.new.entities in
-    subst (λ t. Entered as' (view.units_view c.args.file.now.units) vs t (left_at us (c.loop-unit.unit-index + 1))) (sym c.first_of-told.ensures)
-    (entity_next us c.loop-unit.unit-index c.unit-item.result here.0 here.1 as' es c.loop-unit.told c.add_unit.result vs c.loop-unit.invariant c.add_unit.ensures.given c.add_unit.ensures.told c.add_unit.ensures.kept)
+    subst (λ t. Entered c.args.language as' (view.units_view c.args.file.now.units) vs t (left_at us (c.loop-unit.unit-index + 1))) (sym c.first_of-told.ensures)
+    (entity_next us c.loop-unit.unit-index c.unit-item.result here.0 here.1 c.args.language as' es c.loop-unit.told c.add_unit.result vs c.loop-unit.invariant c.add_unit.ensures.given c.add_unit.ensures.told c.add_unit.ensures.kept)
 
 pub returns : goal.returns
 returns c =
     let ds = view.units_view c.args.file.now.units in
     let as' = architectures_view c.args.outline.now.architectures in
     let es = entities_view c.loop-unit.entities in
-    let x = subst (Entered as' ds es c.loop-unit.told) (none_left c.args.file.now.units.items c.loop-unit.unit-index (omega arith)) c.loop-unit.invariant in
+    let x = subst (Entered c.args.language as' ds es c.loop-unit.told) (none_left c.args.file.now.units.items c.loop-unit.unit-index (omega arith)) c.loop-unit.invariant in
     record {
-      told = entities_found as' ds es c.loop-unit.told x;
-      all = entities_viewed as' ds es c.loop-unit.told x;
+      told = entities_found c.args.language as' ds es c.loop-unit.told x;
+      all = entities_viewed c.args.language as' ds es c.loop-unit.told x;
       given = λ n. sym (x.given n);
     }

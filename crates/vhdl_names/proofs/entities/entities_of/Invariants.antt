@@ -7,4 +7,4 @@ use Rattle.vhdl_names.proofs.entities.entities_of.Given as goal
 
 abbrev pub invariant-loop-unit : goal.invariant-loop-unit
 invariant-loop-unit l =
-    Entered (architectures_view l.outline.architectures) (view.units_view l.file.units) (entities_view l.entities) l.told (left_at l.file.units.items l.unit-index)
+    Entered l.language (architectures_view l.outline.architectures) (view.units_view l.file.units) (entities_view l.entities) l.told (left_at l.file.units.items l.unit-index)

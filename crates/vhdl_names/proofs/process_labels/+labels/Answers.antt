@@ -18,8 +18,7 @@ use Rattle.vhdl_names_statements.proofs.steps.Sequential.{if_is, for_is}
 use Rattle.vhdl_names.specs.steps.Labels as steps
 use Rattle.vhdl_names.proofs.Labelling.{if_labels, case_labels, loop_labels}
 use Rattle.vhdl_names.proofs.StandingTwice.{twice_before, twice_past, item_told, item_left, item_given, of_statement, of_statements, of_branch, of_branches, of_alternative, of_alternatives, statement_split, branch_split, alternative_split, statement_named, statements_listed, branches_listed}
-use Rattle.vhdl_names.proofs.Finding.{passed_err}
-use Rattle.vhdl_names_sight.proofs.Passing.{passed_on}
+use Rattle.vhdl_names_rules.proofs.Passing.{passed_on, told_by}
 use Rattle.vhdl_names.proofs.Turns.{none_next}
 use Rattle.vhdl_names.proofs.process_labels.+labels.Goals as goal
 
@@ -140,7 +139,7 @@ of_statements-returns-in_err-of_statement-clause-told m c =
     let lt : c.loop-item.item-index < length (c.args.list.now) = omega arith in
     let h : Tells (twice (names_view c.args.taken.now) (of_statements (map tree.sequential_view (c.args.list.now)))) c.in_err-of_statement.field-0.0 =
     item_told tree.sequential_view of_statement of_statements statement_split xs i x lt c.item-item.is old keys f c.loop-item.invariant.1 c.in_err-of_statement.ensures.told in
-    passed_err _ c.in_err-of_statement.field-0.0 _ c.from_residual.result c.from_residual.ensures.1 (λ e p. p) h
+    told_by _ c.in_err-of_statement.field-0.0 _ c.from_residual.result c.from_residual.ensures.1 (λ e p. p) h
 
 pub of_statements-loop-item-preserved : goal.of_statements-loop-item-preserved
 of_statements-loop-item-preserved m c =
@@ -167,7 +166,7 @@ of_branches-returns-in_err-of_statements-clause-told m c =
     let lt : c.loop-item.item-index < length (c.args.list.now) = omega arith in
     let h : Tells (twice (names_view c.args.taken.now) (of_branches (map tree.conditional_view (c.args.list.now)))) c.in_err-of_statements.field-0.0 =
     item_told tree.conditional_view of_branch of_branches branch_split xs i x lt c.item-item.is old keys f c.loop-item.invariant.1 (told_same _ _ f (ap (λ qs. twice keys (of_statements (map tree.sequential_view qs))) c.deref.ensures.value) c.in_err-of_statements.ensures.told) in
-    passed_err _ c.in_err-of_statements.field-0.0 _ c.from_residual.result c.from_residual.ensures.1 (λ e p. p) h
+    told_by _ c.in_err-of_statements.field-0.0 _ c.from_residual.result c.from_residual.ensures.1 (λ e p. p) h
 
 pub of_branches-loop-item-preserved : goal.of_branches-loop-item-preserved
 of_branches-loop-item-preserved m c =
@@ -195,7 +194,7 @@ of_case-returns-in_err-of_statements-clause-told m c =
     let is = c.item-item.is ∙ ap (λ ys. get_or ys i x) c.deref-item-items.ensures.value in
     let h : Tells (twice (names_view c.args.taken.now) (of_alternatives (map tree.alternative_view ((out-Case c.args.case.now).alternatives.items)))) c.in_err-of_statements.field-0.0 =
     item_told tree.alternative_view of_alternative of_alternatives alternative_split xs i x lt is old keys f c.loop-item.invariant.1 (told_same _ _ f (ap (λ qs. twice keys (of_statements (map tree.sequential_view qs))) c.deref.ensures.value) c.in_err-of_statements.ensures.told) in
-    passed_err _ c.in_err-of_statements.field-0.0 _ c.from_residual.result c.from_residual.ensures.1 (λ e p. p) h
+    told_by _ c.in_err-of_statements.field-0.0 _ c.from_residual.result c.from_residual.ensures.1 (λ e p. p) h
 
 pub of_case-loop-item-preserved : goal.of_case-loop-item-preserved
 of_case-loop-item-preserved m c =
@@ -222,7 +221,7 @@ of_if-returns-in_err-of_branches-clause-told m c =
     ++ broken.otherwise_labels (t.otherwise_of (tree.option_sequentials_view (out-If c.args.conditional.now).otherwise)))) c.in_err-of_branches.field-0.0 =
     twice_before old (of_branches bs) o f
     (told_same _ _ f (ap (λ xs. twice old (of_branches (map tree.conditional_view xs))) c.deref.ensures.value) c.in_err-of_branches.ensures.told) in
-    passed_err _ c.in_err-of_branches.field-0.0 _ c.from_residual.result c.from_residual.ensures.1 (λ e p. p) h
+    told_by _ c.in_err-of_branches.field-0.0 _ c.from_residual.result c.from_residual.ensures.1 (λ e p. p) h
 
 pub of_if-returns-in-Some-clause-told : goal.of_if-returns-in-Some-clause-told
 of_if-returns-in-Some-clause-told m c =

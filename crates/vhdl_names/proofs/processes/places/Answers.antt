@@ -14,8 +14,7 @@ use Rattle.vhdl_names.specs.AllPlaces.{all_places_view}
 use Rattle.vhdl_names.specs.steps.Processes.{place_of}
 use Rattle.vhdl_names_rules.proofs.Memory.{memory_gives, memory_told}
 use Rattle.vhdl_names_statements.proofs.steps.Told.{more_done, none_more}
-use Rattle.vhdl_names.proofs.Finding.{passed_err}
-use Rattle.vhdl_names_sight.proofs.Passing.{passed_on}
+use Rattle.vhdl_names_rules.proofs.Passing.{passed_on, told_by}
 use Rattle.vhdl_names.proofs.processes.places.Goals as goal
 
 pub returns-in_err-named-clause-told : goal.returns-in_err-named-clause-told
@@ -24,7 +23,7 @@ returns-in_err-named-clause-told c =
     let lt : c.loop-name.name-index < length c.args.names.now = omega arith in
     let h : Tells (any_of b (map name_view c.args.names.now)) c.in_err-named.field-0.0 =
     next_told name_view c.args.names.now c.loop-name.name-index c.name-item.result lt c.name-item.is b c.in_err-named.field-0.0 c.loop-name.invariant.1 c.in_err-named.ensures.told in
-    passed_err _ c.in_err-named.field-0.0 _ c.from_residual.result c.from_residual.ensures.1 (λ e p. p) h
+    told_by _ c.in_err-named.field-0.0 _ c.from_residual.result c.from_residual.ensures.1 (λ e p. p) h
 
 pub returns-in_err-named-clause-given : goal.returns-in_err-named-clause-given
 returns-in_err-named-clause-given c =

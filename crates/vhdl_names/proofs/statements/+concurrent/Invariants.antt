@@ -1,8 +1,7 @@
 use Rattle.std.proofs.Common.{◌≡◌, List, map, drop}
-use Rattle.vhdl_names_rules.specs.Rules.{each}
 use Rattle.vhdl_tree.specs.View as tree
 use Rattle.vhdl_names_units.specs.views.Concurrent.{concurrents_view}
-use Rattle.vhdl_names_units.specs.Lists.{in_turn, one_more}
+use Rattle.vhdl_names_expressions.proofs.Each.{behind}
 use Rattle.vhdl_names_units.specs.Once.{names_view}
 use Rattle.vhdl_names_rules.specs.Interfaces.{EntityView}
 use Rattle.vhdl_names_rules.specs.problems.Broken.{any_of}
@@ -16,8 +15,7 @@ use Rattle.vhdl_names.proofs.statements.+concurrent.Given as goal
 abbrev pub invariant-statements-loop-item : goal.invariant-statements-loop-item
 invariant-statements-loop-item l =
     (l.sight ≡ l.fn.sight)
-    × ((each (steps.concurrent (instance (names_view l.entities.names) (seens_view l.entities.formals)) l.fn.sight) (map tree.concurrent_view l.list)
-    ≡ in_turn (one_more (steps.concurrent (instance (names_view l.entities.names) (seens_view l.entities.formals)) l.fn.sight)) (concurrents_view l.all)
-    (map tree.concurrent_view (drop l.item-index l.list)))
+    × ((steps.all (instance (names_view l.entities.names) (seens_view l.entities.formals)) l.fn.sight (map tree.concurrent_view l.list)
+    ≡ behind (concurrents_view l.all) (steps.all (instance (names_view l.entities.names) (seens_view l.entities.formals)) l.fn.sight (map tree.concurrent_view (drop l.item-index l.list))))
     × ((es : List EntityView) → AreEntities l.entities es → any_of (broken.concurrent es l.fn.sight) (map tree.concurrent_view l.list)
     ≡ any_of (broken.concurrent es l.fn.sight) (map tree.concurrent_view (drop l.item-index l.list))))

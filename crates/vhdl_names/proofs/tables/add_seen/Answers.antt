@@ -2,7 +2,7 @@ use Rattle.vhdl_names_rules.proofs.Memory.{memory_gives}
 use Rattle.vhdl_names_interfaces.specs.Views.{named_view}
 use Rattle.vhdl_names.specs.steps.Tables.{table_view}
 use Rattle.vhdl_names.proofs.Finding.{some_none}
-use Rattle.vhdl_names_sight.proofs.Passing.{passed_on}
+use Rattle.vhdl_names_rules.proofs.Passing.{passed_on}
 use Rattle.vhdl_names.proofs.Tabling.{no_name}
 use Rattle.vhdl_names.proofs.tables.add_seen.Goals as goal
 

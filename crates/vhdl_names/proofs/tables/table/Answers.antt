@@ -3,7 +3,7 @@ use Rattle.std.specs.Prelude.{option_map}
 use Rattle.std.specs.Map.Iter.{deref_pair}
 use Rattle.vhdl_names_rules.specs.declared.fault.NameFault.TheVariants.{NoMemory}
 use Rattle.vhdl_names_interfaces.specs.Views.{entities_view, named_view}
-use Rattle.vhdl_names_sight.proofs.Passing.{passed_on}
+use Rattle.vhdl_names_rules.proofs.Passing.{passed_on}
 use Rattle.vhdl_names.specs.steps.Tables.{table_view, table_of, with_seen}
 use Rattle.vhdl_names.proofs.Tabling.{all_tabled, entries_apart, entry_view}
 use Rattle.vhdl_names.proofs.Walking.{fails, goes, ends}

@@ -1,12 +1,14 @@
+use Rattle.vhdl_names_rules.specs.Subtypes.{form_range}
 use Rattle.vhdl_names_rules.specs.problems.Broken.{◌▸◌}
 use Rattle.vhdl_names_rules.specs.problems.Declarations as broken
 use Rattle.vhdl_names_rules.specs.problems.Subtypes as subtypes_broken
-use Rattle.vhdl_names_rules.proofs.Telling.{told_left, told_right, told_lacking, lacking_kept}
+use Rattle.std.proofs.Common.{ap}
+use Rattle.vhdl_names_rules.proofs.Telling.{told_same, told_left, told_right, told_lacking, lacking_kept}
 use Rattle.vhdl_names_rules.specs.declared.fault.NameProblem.TheVariants.{LeftOut}
 use Rattle.vhdl_names_rules.specs.Declarations.{as_kind}
 use Rattle.vhdl_tree.specs.View as tree
 use Rattle.vhdl_names_units.specs.views.Answers.{subtype_view}
-use Rattle.vhdl_names_sight.proofs.Passing.{told_first}
+use Rattle.vhdl_names_rules.proofs.Passing.{told_first}
 use Rattle.vhdl_names_declarations.proofs.Breaking.{behind_subtype}
 use Rattle.vhdl_names_declarations.proofs.constants.other.Goals as goal
 
@@ -16,11 +18,12 @@ returns-in_err-subtype-clause-told c = told_first _ _ _ _ c.from_residual.result
 pub returns-in_err-kind-clause-told : goal.returns-in_err-kind-clause-told
 returns-in_err-kind-clause-told c =
     let d = tree.constants_view c.args.declaration.now in
-    behind_subtype c.args.sight.now d.subtype (λ y. broken.nine_valued d.subtype.mark y ▸ subtypes_broken.fixed_value c.args.sight.now y.type d.value) (subtype_view c.in_ok-subtype.subtype) _ _ c.from_residual-in_err-kind.result c.from_residual-in_err-kind.ensures.1 (λ e p. p) c.in_ok-subtype.ensures.given
+    behind_subtype c.args.sight.now d.subtype (λ y. broken.nine_valued d.subtype.mark y ▸ subtypes_broken.fixed_value c.args.sight.now y.type (form_range y.form) d.value) (subtype_view c.in_ok-subtype.subtype) _ _ c.from_residual-in_err-kind.result c.from_residual-in_err-kind.ensures.1 (λ e p. p) c.in_ok-subtype.ensures.given
     (told_left _ _ _ (told_lacking LeftOut d.subtype.mark.at (as_kind c.in_ok-subtype.subtype.object_type) _ c.in_err-kind.ensures.given c.in_err-kind.ensures.told))
 
 pub returns-in_err-value-clause-told : goal.returns-in_err-value-clause-told
 returns-in_err-value-clause-told c =
     let d = tree.constants_view c.args.declaration.now in
-    behind_subtype c.args.sight.now d.subtype (λ y. broken.nine_valued d.subtype.mark y ▸ subtypes_broken.fixed_value c.args.sight.now y.type d.value) (subtype_view c.in_ok-subtype.subtype) _ _ c.from_residual-in_err-value.result c.from_residual-in_err-value.ensures.1 (λ e p. p) c.in_ok-subtype.ensures.given
-    (told_right _ _ _ (lacking_kept LeftOut d.subtype.mark.at (as_kind c.in_ok-subtype.subtype.object_type) c.in_ok-kind.kind c.in_ok-kind.ensures.given) c.in_err-value.ensures.told)
+    behind_subtype c.args.sight.now d.subtype (λ y. broken.nine_valued d.subtype.mark y ▸ subtypes_broken.fixed_value c.args.sight.now y.type (form_range y.form) d.value) (subtype_view c.in_ok-subtype.subtype) _ _ c.from_residual-in_err-value.result c.from_residual-in_err-value.ensures.1 (λ e p. p) c.in_ok-subtype.ensures.given
+    (told_right _ _ _ (lacking_kept LeftOut d.subtype.mark.at (as_kind c.in_ok-subtype.subtype.object_type) c.in_ok-kind.kind c.in_ok-kind.ensures.given)
+    (told_same _ _ c.in_err-value.field-0.0 (ap (λ r. subtypes_broken.fixed_value c.args.sight.now c.in_ok-subtype.subtype.object_type r d.value) c.range-range.ensures) c.in_err-value.ensures.told))

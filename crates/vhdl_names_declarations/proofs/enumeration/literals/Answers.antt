@@ -11,7 +11,7 @@ use Rattle.vhdl_tree.specs.View.{ident_view}
 use Rattle.vhdl_names_sight.specs.Views.{region_view}
 use Rattle.vhdl_names_declarations.specs.Entered.{more}
 use Rattle.vhdl_names_declarations.proofs.Declaring.{next_literal, no_literals}
-use Rattle.vhdl_names_sight.proofs.Passing.{passed_on, told_by}
+use Rattle.vhdl_names_rules.proofs.Passing.{passed_on, told_by}
 use Rattle.vhdl_names_declarations.proofs.enumeration.literals.Goals as goal
 
 pub returns-in_err-declare-clause-given : goal.returns-in_err-declare-clause-given

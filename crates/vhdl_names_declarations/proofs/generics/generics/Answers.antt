@@ -12,7 +12,7 @@ use Rattle.vhdl_names_declarations.proofs.Breaking.{told_at, told_behind}
 use Rattle.vhdl_names_rules.proofs.kept.Declarations.{generic_kept}
 use Rattle.vhdl_names_declarations.proofs.Listed.{in_region, left, begins, fails, goes, ends, counts_after, place_after, all_more}
 use Rattle.vhdl_names_declarations.proofs.Regions.{names_apart}
-use Rattle.vhdl_names_sight.proofs.Passing.{passed_on, told_by}
+use Rattle.vhdl_names_rules.proofs.Passing.{passed_on, told_by}
 use Rattle.vhdl_names_declarations.proofs.generics.generics.Goals as goal
 
 pub loop-one-init : goal.loop-one-init

@@ -9,7 +9,7 @@ use Rattle.vhdl_names_rules.specs.problems.Broken.{Tells}
 use Rattle.vhdl_names_rules.specs.problems.Twice.{twice}
 use Rattle.vhdl_names_rules.specs.problems.Declarations.{standing_twice}
 use Rattle.vhdl_names_declarations.proofs.Labelling.{label_names_of, labels_in, distinct_none, distinct_some}
-use Rattle.vhdl_names_sight.proofs.Passing.{passed_on, told_by}
+use Rattle.vhdl_names_rules.proofs.Passing.{passed_on, told_by}
 use Rattle.vhdl_names_declarations.proofs.labels.labels_are_distinct.Goals as goal
 
 pub returns-in_err-declare_labels-clause-given : goal.returns-in_err-declare_labels-clause-given

@@ -1,67 +1,73 @@
-use Rattle.std.proofs.Common.{arith, ◌≡◌, ◌≢◌, ◌<◌, map, flat_map, length, None, ap, sym, ◌∙◌}
-use Rattle.vhdl_names_rules.specs.declared.fault.NameFault.TheVariants.{NoMemory}
-use Rattle.vhdl_names_rules.specs.Declarations.{in_order, variables}
-use Rattle.vhdl_names_rules.specs.Visibility.{with_variables}
-use Rattle.vhdl_tree.specs.View.{variables_view}
-use Rattle.vhdl_names_units.specs.views.Declarations.{object_view, objects_view}
-use Rattle.vhdl_names_declarations.specs.Entered.{entering_variables}
-use Rattle.vhdl_names_rules.specs.problems.Broken.{Tells}
-use Rattle.vhdl_names_rules.specs.problems.Declarations as broken
-use Rattle.vhdl_names_declarations.proofs.Breaking.{told_at, told_behind}
-use Rattle.vhdl_names_rules.proofs.kept.Declarations.{variables_kept}
-use Rattle.vhdl_names_declarations.proofs.Listed.{of_process, left_variables, begins_variables, fails_variables, goes_variables, ends_variables, counts_before_variables, place_within_variables, all_more, variables_size}
-use Rattle.vhdl_names_declarations.proofs.Regions.{names_apart}
-use Rattle.vhdl_names_sight.proofs.Passing.{passed_on, told_by}
+use Rattle.std.proofs.Common.{Bool, map, option_map, Option, ap, ◌∙◌, sym}
+use Rattle.std.proofs.lemmas.List.{length-map}
+use Rattle.vhdl_names_rules.specs.units.Units as u
+use Rattle.vhdl_names_rules.specs.units.Units.{Fixed}
+use Rattle.vhdl_names_rules.specs.Subtypes.{Subtype, form_direction, object}
+use Rattle.vhdl_names_rules.specs.Declarations.{is_global, for_each, within_variables}
+use Rattle.vhdl_names_rules.specs.Visibility as visibility
+use Rattle.vhdl_names_rules.specs.Visibility.{names_of, all_declared, with_variables}
+use Rattle.vhdl_tree.specs.declared.operator.Direction.{Direction}
+use Rattle.vhdl_tree.specs.View as tree
+use Rattle.vhdl_tree.specs.View.{ident_view}
+use Rattle.vhdl_names_sight.specs.Seen.{sight_view}
+use Rattle.vhdl_names_sight.specs.Views.{region_view, entry_view}
+use Rattle.vhdl_names_units.specs.views.Answers.{subtype_view, fixed_view}
+use Rattle.vhdl_names_declarations.specs.declared.class.ObjectClass.TheVariants as k
+use Rattle.vhdl_names_declarations.specs.declared.region.Settled.{Settled}
+use Rattle.vhdl_names_declarations.specs.Entered.{more}
+use Rattle.vhdl_names_declarations.specs.Porting.{Standing}
+use Rattle.vhdl_names_declarations.specs.Typed.{typed_object}
+use Rattle.vhdl_names_declarations.proofs.Classes.{variables_is, variable_standing, variables_of, map-map}
+use Rattle.vhdl_names_declarations.proofs.Turns.{refused, unknown, hidden, settled_whole, more_is, first_within}
+use Rattle.vhdl_names_declarations.proofs.Numbering.{small_in_process}
+use Rattle.vhdl_names_rules.proofs.Passing.{passed_on}
 use Rattle.vhdl_names_declarations.proofs.objects.variables.Goals as goal
+use Rattle.vhdl_names_rules.specs.problems.Declarations as broken
+use Rattle.vhdl_names_declarations.proofs.Breaking.{twice_first, hidden_behind}
 
-pub loop-one-init : goal.loop-one-init
-loop-one-init c = (
-  begins_variables variables variables_view c.args.sight.now c.args.all.now (rw (← c.sight.view_is) (names_apart c.sight.inside.variables.entries c.names_are_apart.ensures))
-      ∙ ap (λ l. left_variables variables variables_view c.args.sight.now (flat_map object_view l) c.args.all.now 0) (sym c.new-done.ensures.items),
-  rw (← c.sight.view_is) c.of-counts.ensures,
-  λ f h. h,
-)
+pub returns-in_err-hide-clause-given : goal.returns-in_err-hide-clause-given
+returns-in_err-hide-clause-given c = rw (← c.sight.view_is) (
+    let s = sight_view c.sight.inside in
+    let g = tree.variables_view c.args.declaration.now in
+    passed_on _ _ _ _ c.from_residual.result c.from_residual.ensures.1 (λ e p. p)
+    (λ n. variables_is s g c.args.counts (rw (← c.sight.view_is) at c.requires)
+    ∙ refused (λ s. s.variables) with_variables s c.args.counts (names_of g.names) (variable_standing s g) (variables_of g)
+    (ap (λ l. more s.variables (all_declared visibility.unfinished (names_of (map ident_view l)))) (sym c.deref.ensures.value) ∙ c.in_err-hide.ensures.given n) (typed_object (within_variables s g.names) g.subtype g.default)))
 
-pub returns-in_err-next-clause-given : goal.returns-in_err-next-clause-given
-returns-in_err-next-clause-given c =
-    let lt : c.loop-one.one-index < length c.args.all.now = omega arith in
-    let f : c.in_err-next.field-0.0 ≢ NoMemory → entering_variables (in_order with_variables variables) c.args.sight.now (map variables_view c.args.all.now) ≡ None =
-    λ n. c.loop-one.invariant.0
-    ∙ fails_variables variables variables_view c.loop-one.sight (objects_view c.loop-one.done) c.args.all.now c.loop-one.one-index c.one-item.result lt c.one-item.is (c.in_err-next.ensures.given n) in
-    passed_on _ _ c.in_err-next.field-0.0 _ c.from_residual.result c.from_residual.ensures.1 (λ e p. p) f
+pub returns-in_err-subtype-clause-given : goal.returns-in_err-subtype-clause-given
+returns-in_err-subtype-clause-given c = rw (← c.sight.view_is) (
+    let s = sight_view c.sight.inside in
+    let g = tree.variables_view c.args.declaration.now in
+    passed_on _ _ _ _ c.from_residual-in_err-subtype.result c.from_residual-in_err-subtype.ensures.1 (λ e p. p)
+    (λ n. variables_is s g c.args.counts (rw (← c.sight.view_is) at c.requires)
+    ∙ unknown (λ s. s.variables) with_variables s c.args.counts (names_of g.names) (variable_standing s g) (variables_of g) (typed_object (within_variables s g.names) g.subtype g.default) (ap (λ r. typed_object (record s { variables = r }) g.subtype g.default) (sym (more_is s.variables (all_declared visibility.unfinished (names_of g.names)) _ (hidden s.variables c.deref.result.now c.args.declaration.now.names.items c.deref.ensures.value _ c.in_ok-hide.ensures.given))) ∙ c.in_err-subtype.ensures.given n)))
 
-pub of-counts-requires-in-loop-one-clause-place : goal.of-counts-requires-in-loop-one-clause-place
-of-counts-requires-in-loop-one-clause-place c =
-    let h = place_within_variables variables c.loop-one.sight c.variables_of_one.new.sight (variables_view c.one-item.result) (object_view c.in_ok-next.next) c.in_ok-next.ensures.given in
-    let p = variables_size c.sight-in-loop-one.inside _ c.sight-in-loop-one.view_is in
-    let q = variables_size c.sight-in-loop-one-2.inside _ c.sight-in-loop-one-2.view_is in
-    omega (arith, h, p, q, c.len-first.ensures.len)
+pub settle-requires-clause-place : goal.settle-requires-clause-place
+settle-requires-clause-place c = first_within c.sight.inside.variables.entries c.hide.new.region.entries _ _ c.in_ok-hide.ensures.given c.len-first.ensures.len
 
-pub of-counts-requires-in-loop-one-clause-before : goal.of-counts-requires-in-loop-one-clause-before
-of-counts-requires-in-loop-one-clause-before c =
-    rw (← c.sight-in-loop-one-2.view_is) at
-    (counts_before_variables variables c.loop-one.counts c.loop-one.sight c.variables_of_one.new.sight (variables_view c.one-item.result) (object_view c.in_ok-next.next) c.len-first.result
-    c.in_ok-next.ensures.given (c.len-first.ensures.len ∙ sym (variables_size c.sight-in-loop-one.inside _ c.sight-in-loop-one.view_is)) c.loop-one.invariant.1)
-
-pub loop-one-preserved : goal.loop-one-preserved
-loop-one-preserved c =
-    let lt : c.loop-one.one-index < length c.args.all.now = omega arith in (
-      c.loop-one.invariant.0
-          ∙ goes_variables variables variables_view c.loop-one.sight c.variables_of_one.new.sight (objects_view c.loop-one.done) (object_view c.in_ok-next.next) (objects_view c.push.new.self)
-          c.args.all.now c.loop-one.one-index c.one-item.result lt c.one-item.is c.in_ok-next.ensures.given
-          (ap (flat_map object_view) c.in_ok-push.ensures.items ∙ all_more object_view c.loop-one.done.items c.in_ok-next.next),
-      rw (← c.sight-in-loop-one-2.view_is) c.of-counts-in-loop-one.ensures,
-      λ f h. c.loop-one.invariant.2 f
-          (told_behind of_process with_variables variables broken.variables variables_kept variables_view c.loop-one.sight c.variables_of_one.new.sight c.args.all.now c.loop-one.one-index c.one-item.result (object_view c.in_ok-next.next) f lt c.one-item.is c.in_ok-next.ensures.given h),
-    )
+pub settle-requires-clause-counts : goal.settle-requires-clause-counts
+settle-requires-clause-counts c = small_in_process c.args.counts c.sight.inside.region.entries c.sight.inside.variables.entries c.len-first.result c.region_is_small.ensures c.len-first.ensures.len (rw (← c.sight.view_is) at c.requires)
 
 pub returns-clause-given : goal.returns-clause-given
-returns-clause-given c =
-    c.loop-one.invariant.0 ∙ ends_variables variables variables_view c.loop-one.sight (objects_view c.loop-one.done) c.args.all.now c.loop-one.one-index (omega arith)
+returns-clause-given c = rw (← c.sight.view_is) (
+    let s = sight_view c.sight.inside in
+    let g = tree.variables_view c.args.declaration.now in
+    let hides = hidden s.variables c.deref.result.now c.args.declaration.now.names.items c.deref.ensures.value (region_view c.hide.new.region) c.in_ok-hide.ensures.given in
+    let is = more_is s.variables (all_declared visibility.unfinished (names_of g.names)) _ hides in
+    let x : Subtype × Option Fixed = (subtype_view c.in_ok-subtype.subtype, option_map fixed_view c.in_ok-subtype.default) in
+    let by : Option Direction → Bool → Standing = λ d b. record { meaning = λ n. visibility.variable n x.0.type; direction = d; is_global = b } in
+    let how : Settled = record { class = k.Variable c.in_ok-subtype.subtype.object_type; direction = c.direction.result; is_global = c.is_global.result } in
+    let stands = ap (λ d. by d c.is_global.result) c.direction.ensures ∙ ap (by (form_direction x.0.form)) (c.is_global.ensures ∙ ap (λ r. is_global (record s { variables = r }) g.subtype) is) in
+    variables_is s g c.args.counts (rw (← c.sight.view_is) at c.requires)
+    ∙ settled_whole (λ s. s.variables) (λ s r. record s { variables = r }) s c.args.counts (names_of g.names) (variable_standing s g) (variables_of g) (typed_object (within_variables s g.names) g.subtype g.default) x how _ _ _ _
+    stands (c.len-first.ensures.len ∙ sym (length-map c.sight.inside.variables.entries entry_view)) hides (ap (λ r. typed_object (record s { variables = r }) g.subtype g.default) (sym is) ∙ c.in_ok-subtype.ensures.given)
+    c.in_ok-settle.ensures
+    (sym (ap (map u.variable) (c.in_ok-objects.ensures ∙ ap (λ l. for_each (object x.0 x.1) (map ident_view l)) c.deref-2.ensures.value) ∙ map-map u.variable (object x.0 x.1) g.names)))
 
-pub returns-in_err-next-clause-told : goal.returns-in_err-next-clause-told
-returns-in_err-next-clause-told c =
-    let lt : c.loop-one.one-index < length c.args.all.now = omega arith in
-    let f : Tells (broken.in_order with_variables variables broken.variables c.args.sight.now (map variables_view c.args.all.now)) c.in_err-next.field-0.0 =
-    c.loop-one.invariant.2 c.in_err-next.field-0.0 (told_at of_process with_variables variables broken.variables variables_kept variables_view c.loop-one.sight c.args.all.now c.loop-one.one-index c.one-item.result c.in_err-next.field-0.0 lt c.one-item.is c.in_err-next.ensures.told) in
-    told_by _ c.in_err-next.field-0.0 _ c.from_residual.result c.from_residual.ensures.1 (λ e p. p) f
+pub returns-in_err-hide-clause-told : goal.returns-in_err-hide-clause-told
+returns-in_err-hide-clause-told c = rw (← c.sight.view_is) (twice_first _ _ _ _ _ c.from_residual.result _ c.from_residual.ensures.1 (λ e p. p) c.deref.ensures.value c.in_err-hide.ensures.told)
+
+pub returns-in_err-subtype-clause-told : goal.returns-in_err-subtype-clause-told
+returns-in_err-subtype-clause-told c = rw (← c.sight.view_is) (
+    hidden_behind _ _ c.args.declaration.now.names.items _ _ c.from_residual-in_err-subtype.result (region_view c.hide.new.region) (λ r. broken.object (record (sight_view c.sight.inside) { variables = r }) (tree.variables_view c.args.declaration.now).subtype (tree.variables_view c.args.declaration.now).default)
+    c.from_residual-in_err-subtype.ensures.1 (λ e p. p) c.deref.ensures.value c.in_ok-hide.ensures.given c.in_err-subtype.ensures.told)

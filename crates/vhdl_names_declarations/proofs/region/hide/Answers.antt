@@ -11,7 +11,7 @@ use Rattle.vhdl_names_declarations.proofs.Breaking.{name_told, name_behind}
 use Rattle.vhdl_names_sight.specs.Views.{region_view}
 use Rattle.vhdl_names_declarations.specs.Entered.{more}
 use Rattle.vhdl_names_declarations.proofs.Regions.{all_of_names, next_name, no_names}
-use Rattle.vhdl_names_sight.proofs.Passing.{passed_on, told_by}
+use Rattle.vhdl_names_rules.proofs.Passing.{passed_on, told_by}
 use Rattle.vhdl_names_declarations.proofs.region.hide.Goals as goal
 
 pub returns-in_err-declare-clause-given : goal.returns-in_err-declare-clause-given

@@ -2,7 +2,7 @@ use Rattle.vhdl_tree.specs.View.{view}
 use Rattle.vhdl_names_rules.specs.Expressions.{as_test}
 use Rattle.vhdl_names_rules.specs.views.Tests.{test_view}
 use Rattle.vhdl_names_rules.specs.views.Expressions.{typed_view}
-use Rattle.vhdl_names_sight.proofs.Passing.{told_first}
+use Rattle.vhdl_names_rules.proofs.Passing.{told_first}
 use Rattle.vhdl_names_expressions.proofs.Breaking.{asked_of}
 use Rattle.vhdl_names_expressions.proofs.asked.condition.Goals as goal
 

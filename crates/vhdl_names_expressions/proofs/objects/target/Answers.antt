@@ -13,7 +13,7 @@ use Rattle.vhdl_names_rules.specs.problems.Statements as broken
 use Rattle.vhdl_names_rules.proofs.Telling.{told_right, told_given}
 use Rattle.vhdl_names_rules.proofs.kept.Statements.{signal_kept}
 use Rattle.vhdl_names_expressions.proofs.Breaking.{told_fault}
-use Rattle.vhdl_names_sight.proofs.Passing.{told_first}
+use Rattle.vhdl_names_rules.proofs.Passing.{told_first}
 use Rattle.vhdl_names_expressions.proofs.objects.target.Goals as goal
 
 pub returns-in_err-target-clause-told : goal.returns-in_err-target-clause-told

@@ -4,10 +4,10 @@ use Rattle.vhdl_names_rules.specs.declared.fault.NameProblem.TheVariants.{TypeMi
 use Rattle.vhdl_names_rules.specs.problems.Broken.{Tells, refused}
 use Rattle.vhdl_names_rules.specs.problems.Places.{start}
 use Rattle.vhdl_names_rules.specs.problems.Instances.{port_actual}
+use Rattle.vhdl_names_rules.proofs.Passing.{told_by}
 use Rattle.vhdl_names_units.specs.views.Answers.{signal_name_view}
 use Rattle.vhdl_names_instances.specs.steps.Actuals.{formal}
 use Rattle.vhdl_names_instances.proofs.Actual.{no_name_told, no_signal_told, other_kind_told, not_joined_told}
-use Rattle.vhdl_names_instances.proofs.Told.{passed_told}
 use Rattle.vhdl_names_instances.proofs.actuals.port_actual.Goals as goal
 
 pub returns-in-None-clause-told : goal.returns-in-None-clause-told
@@ -20,7 +20,7 @@ returns-in_err-actual-in-Some-clause-told c =
     let f : Tells (port_actual c.args.sight.now (formal c.args.port) (view c.args.e.now)) c.in_err-actual-in-Some.field-0.0 =
     no_signal_told c.args.sight.now (formal c.args.port) (view c.args.e.now) c.in_err-actual-in-Some.field-0.0 (name_view c.in-Some.name.now) (sym c.in-Some.ensures)
     c.in_err-actual-in-Some.ensures.told in
-    passed_told _ c.in_err-actual-in-Some.field-0.0 _ c.from_residual.result c.from_residual.ensures.1 (λ e p. p) f
+    told_by _ c.in_err-actual-in-Some.field-0.0 _ c.from_residual.result c.from_residual.ensures.1 (λ e p. p) f
 
 pub returns-then-not-is_kind-clause-told : goal.returns-then-not-is_kind-clause-told
 returns-then-not-is_kind-clause-told c =

@@ -7,8 +7,8 @@ use Rattle.vhdl_names_units.specs.views.Actuals.{each_actual}
 use Rattle.vhdl_names_expressions.proofs.Each.{behind, none_behind}
 use Rattle.vhdl_names_instances.specs.Views.{actual_view, places_view}
 use Rattle.vhdl_names_instances.specs.steps.Actuals as steps
-use Rattle.vhdl_names_instances.proofs.Actual.{port_fails, port_goes, actuals_end}
-use Rattle.vhdl_names_expressions.proofs.Typing.{passed_on}
+use Rattle.vhdl_names_instances.proofs.Actual.{entry_fails, entry_goes, actuals_end}
+use Rattle.vhdl_names_rules.proofs.Passing.{passed_on}
 use Rattle.vhdl_names_instances.proofs.actuals.port_actuals.Goals as goal
 
 pub returns-in_err-entry : goal.returns-in_err-entry
@@ -16,14 +16,14 @@ returns-in_err-entry c =
     let s = c.args.sight.now in
     let es = map actual_view c.args.actuals.now in
     let f : c.in_err-entry.field-0.0 ≢ NoMemory → steps.port_actuals s c.args.ports.now es ≡ None =
-    λ n. port_fails s _ _ c.args.ports.now es c.loop-index.index c.loop-index.invariant.rest (c.in_err-entry.ensures n) in
+    λ n. entry_fails (steps.port_entry s) _ _ c.args.ports.now es c.loop-index.index c.loop-index.invariant.rest (c.in_err-entry.ensures n) in
     passed_on _ _ c.in_err-entry.field-0.0 _ c.from_residual.result c.from_residual.ensures.1 (λ e p. p) f
 
 pub returns-in-None : goal.returns-in-None
 returns-in-None c =
     let s = c.args.sight.now in
     let es = map actual_view c.args.actuals.now in
-    actuals_end s _ _ c.args.ports.now es c.loop-index.index c.loop-index.invariant.rest
+    actuals_end (steps.port_entry s) _ _ c.args.ports.now es c.loop-index.index c.loop-index.invariant.rest
     (c.in_ok-entry.ensures ∙ ap (λ o. Some (option_map (option_map place_view) o)) c.in-None.is)
 
 pub loop-index-init : goal.loop-index-init
@@ -43,7 +43,7 @@ loop-index-preserved c =
     let before = each_actual c.loop-index.all in
     let e : suc c.loop-index.index ≡ c.loop-index.index + 1 = omega arith in
     record {
-      rest = port_goes s _ _ ps es c.loop-index.index c.loop-index.invariant.rest x
+      rest = entry_goes (steps.port_entry s) _ _ ps es c.loop-index.index c.loop-index.invariant.rest x
           (c.in_ok-entry.ensures ∙ ap (λ o. Some (option_map (option_map place_view) o)) c.in-Some.is)
           ∙ ap (λ j. behind (map (option_map place_view) before ++ x ∷ []) (steps.port_actuals s (drop j ps) (drop j es))) e
           ∙ ap (λ ys. behind ys (steps.port_actuals s (drop (c.loop-index.index + 1) ps) (drop (c.loop-index.index + 1) es)))

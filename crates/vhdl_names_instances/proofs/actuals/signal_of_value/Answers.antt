@@ -5,9 +5,10 @@ use Rattle.vhdl_names_rules.specs.Statements.{signal}
 use Rattle.vhdl_names_rules.specs.problems.Broken.{Tells, ◌▸◌, refused}
 use Rattle.vhdl_names_rules.specs.problems.Statements.{named}
 use Rattle.vhdl_names_rules.specs.views.Expressions.{typed_suffix_view}
+use Rattle.vhdl_names_rules.proofs.Passing.{told_by}
 use Rattle.vhdl_names_units.specs.views.Answers.{signal_name_view}
 use Rattle.vhdl_names_instances.proofs.Actual.{value_is_no_signal, suffix_told, value_told}
-use Rattle.vhdl_names_instances.proofs.Told.{passed_told, refused_gives}
+use Rattle.vhdl_names_instances.proofs.Told.{refused_gives}
 use Rattle.vhdl_names_instances.proofs.actuals.signal_of_value.Goals as goal
 
 pub returns-in_err-typed_suffix-clause-given : goal.returns-in_err-typed_suffix-clause-given
@@ -20,7 +21,7 @@ pub returns-in_err-typed_suffix-clause-told : goal.returns-in_err-typed_suffix-c
 returns-in_err-typed_suffix-clause-told c = λ h.
     let s = c.args.sight.now in
     let n = name_view c.args.name.now in
-    passed_told (named s n ▸ refused LeftOut n.identifier.at) c.in_err-typed_suffix.field-0.0 _ c.from_residual.result c.from_residual.ensures.1 (λ e p. p)
+    told_by (named s n ▸ refused LeftOut n.identifier.at) c.in_err-typed_suffix.field-0.0 _ c.from_residual.result c.from_residual.ensures.1 (λ e p. p)
     (suffix_told s n c.in_err-typed_suffix.field-0.0 h c.in_err-typed_suffix.ensures.told)
 
 pub returns-clause-given : goal.returns-clause-given

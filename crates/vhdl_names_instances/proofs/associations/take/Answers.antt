@@ -8,9 +8,9 @@ use Rattle.vhdl_names_units.specs.Once.{names_view}
 use Rattle.vhdl_names_rules.specs.problems.Broken.{Tells, refused, unless}
 use Rattle.vhdl_names_rules.specs.problems.Places.{association_place}
 use Rattle.vhdl_names_rules.proofs.Telling.{told_on}
+use Rattle.vhdl_names_rules.proofs.Passing.{told_by}
 use Rattle.vhdl_names_instances.specs.Breaking.{one_association}
 use Rattle.vhdl_names_instances.proofs.Taking.{behind_told, no_formal_told, unknown_told, twice_told}
-use Rattle.vhdl_names_instances.proofs.Told.{passed_told}
 use Rattle.vhdl_names_instances.proofs.associations.take.Goals as goal
 
 pub returns-in_err-name-clause-told : goal.returns-in_err-name-clause-told
@@ -19,7 +19,7 @@ returns-in_err-name-clause-told c =
     let ts = names_view c.args.taken.now in
     let a = association_view c.args.association.now in
     let p : (not c.args.is_behind_named || is_named a) ≡ true = first_of (search rules, grind (arith, common_steps)) in
-    passed_told (one_association fs c.args.index c.args.is_behind_named ts a) c.in_err-name.field-0.0 _ c.from_residual.result c.from_residual.ensures.1 (λ e p. p)
+    told_by (one_association fs c.args.index c.args.is_behind_named ts a) c.in_err-name.field-0.0 _ c.from_residual.result c.from_residual.ensures.1 (λ e p. p)
     (no_formal_told fs c.args.index c.args.is_behind_named ts a c.in_err-name.field-0.0 p c.in_err-name.ensures.told)
 
 pub returns-then-not-is_named-clause-told : goal.returns-then-not-is_named-clause-told

@@ -5,7 +5,7 @@ use Rattle.vhdl_names_rules.specs.declared.fault.NameFault.TheVariants.{NoMemory
 use Rattle.vhdl_names_units.specs.Once.{names_view}
 use Rattle.vhdl_names_instances.specs.steps.Associations.{taking}
 use Rattle.vhdl_names_instances.proofs.Taking.{refused_taking, taking_here}
-use Rattle.vhdl_names_expressions.proofs.Typing.{passed_on}
+use Rattle.vhdl_names_rules.proofs.Passing.{passed_on}
 use Rattle.vhdl_names_instances.proofs.associations.take_all.Goals as goal
 
 pub returns-in_err-take : goal.returns-in_err-take

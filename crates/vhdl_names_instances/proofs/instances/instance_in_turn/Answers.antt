@@ -1,10 +1,10 @@
 use Rattle.std.proofs.Common.{refl, sym, subst}
 use Rattle.vhdl_names_rules.specs.declared.fault.NameProblem.TheVariants.{Undeclared}
 use Rattle.vhdl_names_rules.specs.problems.Broken.{Tells, refused}
-use Rattle.vhdl_names_instances.proofs.Told.{passed_told}
 use Rattle.vhdl_names_instances.proofs.Instanced.{unit_told, unseen_told, maps_told, of_each}
 use Rattle.vhdl_tree.specs.View as tree
 use Rattle.vhdl_names_rules.proofs.Along.{gives_along}
+use Rattle.vhdl_names_rules.proofs.Passing.{told_by}
 use Rattle.vhdl_names_units.specs.views.Concurrent.{instance_view}
 use Rattle.vhdl_names_units.specs.Once.{names_view}
 use Rattle.vhdl_names_instances.specs.Table.{seen_view, seens_view}
@@ -21,7 +21,7 @@ returns-in-Some-clause-given c =
 
 pub returns-in_err-unit-clause-told : goal.returns-in_err-unit-clause-told
 returns-in_err-unit-clause-told c = λ es are.
-    passed_told _ _ _ c.from_residual.result c.from_residual.ensures.1 (λ e p. p)
+    told_by _ _ _ c.from_residual.result c.from_residual.ensures.1 (λ e p. p)
     (unit_told c.args.entities.now es are c.args.sight.now (tree.ident_view c.args.label.now) (tree.instance_view c.args.instance.now) c.in_err-unit.field-0.0 (c.in_err-unit.ensures.told es are))
 
 pub returns-in-None-clause-told : goal.returns-in-None-clause-told

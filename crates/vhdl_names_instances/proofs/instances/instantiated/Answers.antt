@@ -9,11 +9,12 @@ use Rattle.vhdl_names_rules.specs.problems.Instances as broken
 use Rattle.vhdl_names_rules.proofs.Telling.{told_left, told_right, told_given, told_on}
 use Rattle.vhdl_names_rules.proofs.kept.Expressions.{meaning_kept}
 use Rattle.vhdl_names_instances.specs.Breaking as breaking
-use Rattle.vhdl_names_instances.proofs.Told.{told_along, passed_told}
+use Rattle.vhdl_names_instances.proofs.Told.{told_along}
 use Rattle.vhdl_names_instances.proofs.Instanced.{entity_of_told}
 use Rattle.vhdl_tree.specs.View as tree
 use Rattle.vhdl_names_sight.specs.Views.{meaning_view}
 use Rattle.vhdl_names_rules.proofs.Along.{gives_along}
+use Rattle.vhdl_names_rules.proofs.Passing.{told_by}
 use Rattle.vhdl_names_units.specs.Once.{names_view}
 use Rattle.vhdl_names_instances.specs.Table.{seens_view}
 use Rattle.vhdl_names_instances.specs.steps.Instances as steps
@@ -42,7 +43,7 @@ returns-in_err-meaning-in-Component-clause-told c = λ es are.
     let s = c.args.sight.now in
     let n = tree.ident_view c.in-Component.name in
     let fault = c.in_err-meaning-in-Component.field-0.0 in
-    passed_told (broken.instantiated es s (tree.instantiated_view c.args.unit.now)) fault _ c.from_residual.result c.from_residual.ensures.1 (λ e p. p)
+    told_by (broken.instantiated es s (tree.instantiated_view c.args.unit.now)) fault _ c.from_residual.result c.from_residual.ensures.1 (λ e p. p)
     (told_along (λ u. broken.instantiated es s (tree.instantiated_view u)) _ c.args.unit.now (sym c.in-Component.is) fault
     (told_left (meaning s n) (where_given (visibility.meaning s n.text) (λ d. lacking WrongKind n.at (as_component d))) fault c.in_err-meaning-in-Component.ensures.told))
 

@@ -1,7 +1,8 @@
 use Rattle.std.proofs.Common.{arith, ◌<◌, ◌≤◌, length, refl, subst}
 use Rattle.vhdl_tree.specs.View.{view}
-use Rattle.vhdl_names_instances.proofs.Porting.{of_ports, within, port_told, ports_go, fits_go, fits_end}
-use Rattle.vhdl_names_instances.proofs.Told.{passed_told}
+use Rattle.vhdl_names_rules.proofs.Passing.{told_by}
+use Rattle.vhdl_names_instances.proofs.Sorted.{ports}
+use Rattle.vhdl_names_instances.proofs.Porting.{of_those, within, one_told, those_go, fits_go, fits_end}
 use Rattle.vhdl_names_instances.proofs.maps.named_ports.Goals as goal
 
 pub loop-index-init : goal.loop-index-init
@@ -15,9 +16,9 @@ returns-in_err-one_port-clause-told c = λ all h k.
     let i = c.loop-index.index in
     let fault = c.in_err-one_port.field-0.0 in
     let before : c.loop-index.index < length c.args.formals.now.ports.keys = omega arith in
-    let lt = subst (λ m. i < m) (within all c.args.formals.now.ports.keys h) before in
-    passed_told (of_ports s n e all) fault _ c.from_residual.result c.from_residual.ensures.1 (λ e p. p)
-    (port_told s n e all i lt (of_ports s n e all) (c.loop-index.invariant all h k).0 fault (c.in_err-one_port.ensures.told all h k))
+    let lt = subst (λ m. i < m) (within (ports s) all c.args.formals.now.ports.keys h) before in
+    told_by (of_those (ports s) n e all) fault _ c.from_residual.result c.from_residual.ensures.1 (λ e p. p)
+    (one_told (ports s) n e all i lt (of_those (ports s) n e all) (c.loop-index.invariant all h k).0 fault (c.in_err-one_port.ensures.told all h k))
 
 pub loop-index-preserved : goal.loop-index-preserved
 loop-index-preserved c = λ all h k.
@@ -26,14 +27,15 @@ loop-index-preserved c = λ all h k.
     let e = view c.args.e.now in
     let i = c.loop-index.index in
     let before : c.loop-index.index < length c.args.formals.now.ports.keys = omega arith in
-    let lt = subst (λ m. i < m) (within all c.args.formals.now.ports.keys h) before in (
-      ports_go s n e all i lt _ (c.loop-index.invariant all h k).0 (c.in_ok-one_port.ensures.fits all h k),
-      fits_go s n e all i lt _ (c.loop-index.invariant all h k).1 (c.in_ok-one_port.ensures.fits all h k),
+    let lt = subst (λ m. i < m) (within (ports s) all c.args.formals.now.ports.keys h) before in (
+      those_go (ports s) n e all i lt _ (c.loop-index.invariant all h k).0 (c.in_ok-one_port.ensures.fits all h k),
+      fits_go (ports s) n e all i lt _ (c.loop-index.invariant all h k).1 (c.in_ok-one_port.ensures.fits all h k),
     )
 
 pub returns-clause-fits : goal.returns-clause-fits
 returns-clause-fits c = λ all h k.
+    let s = c.args.sight.now in
     let i = c.loop-index.index in
     let behind : length c.args.formals.now.ports.keys ≤ c.loop-index.index = omega arith in
-    let le = subst (λ m. m ≤ i) (within all c.args.formals.now.ports.keys h) behind in
-    fits_end c.args.sight.now c.args.name.now (view c.args.e.now) all i _ le (c.loop-index.invariant all h k).1
+    let le = subst (λ m. m ≤ i) (within (ports s) all c.args.formals.now.ports.keys h) behind in
+    fits_end (ports s) c.args.name.now (view c.args.e.now) all i _ le (c.loop-index.invariant all h k).1

@@ -6,11 +6,12 @@ use Rattle.vhdl_names_rules.specs.Instances.{Formal}
 use Rattle.vhdl_names_units.specs.Once.{names_view}
 use Rattle.vhdl_names_rules.specs.problems.Broken.{Broken, any_of}
 use Rattle.vhdl_names_rules.specs.problems.Instances.{associations, port_actual, ports_named, port_map}
+use Rattle.vhdl_names_rules.proofs.Passing.{told_by}
 use Rattle.vhdl_names_instances.specs.Table.{items}
 use Rattle.vhdl_names_instances.specs.steps.Maps.{fits, reading}
-use Rattle.vhdl_names_instances.proofs.Porting.{port_keeps, ports_given}
+use Rattle.vhdl_names_instances.proofs.Sorted.{ports}
+use Rattle.vhdl_names_instances.proofs.Porting.{all_keep, formals_given}
 use Rattle.vhdl_names_instances.proofs.Reading.{told_here, broken_here, reading_here, reading_end}
-use Rattle.vhdl_names_instances.proofs.Told.{passed_told}
 use Rattle.vhdl_names_instances.proofs.maps.port_map.Goals as goal
 
 pub loop-index-init : goal.loop-index-init
@@ -29,7 +30,7 @@ returns-in_err-read_port-clause-told c = λ all h k.
     let whole = port_map s all (map association_view c.args.list.now) in
     let fault = c.in_err-read_port.field-0.0 in
     let lt : c.loop-index.index < length c.args.list.now = omega arith in
-    passed_told whole fault _ c.from_residual.result c.from_residual.ensures.1 (λ e p. p)
+    told_by whole fault _ c.from_residual.result c.from_residual.ensures.1 (λ e p. p)
     (told_here fs actual c.args.list.now c.loop-index.index c.index-list-index.result lt c.index-list-index.is c.loop-index.is_behind_named (names_view c.loop-index.taken) whole
     (c.loop-index.invariant all h k).0 fault (c.in_err-read_port.ensures.told all h k))
 
@@ -43,9 +44,9 @@ loop-index-preserved c = λ all h k.
     let ts = names_view c.loop-index.taken in
     let ts' = names_view c.read_port.new.taken in
     let lt : c.loop-index.index < length c.args.list.now = omega arith in (
-      broken_here fs actual (fits s all) (λ n e. port_keeps s n e all) cs i c.index-list-index.result lt c.index-list-index.is c.loop-index.is_behind_named ts _
+      broken_here fs actual (fits s all) (λ n e. all_keep (ports s) n e all) cs i c.index-list-index.result lt c.index-list-index.is c.loop-index.is_behind_named ts _
           (c.loop-index.invariant all h k).0 c.is_named-is_behind_named.result c.is_named-is_behind_named.ensures ts' (c.in_ok-read_port.ensures.read all h k),
-      reading_here fs actual (fits s all) (λ n e. port_keeps s n e all) cs i c.index-list-index.result lt c.index-list-index.is c.loop-index.is_behind_named ts _
+      reading_here fs actual (fits s all) (λ n e. all_keep (ports s) n e all) cs i c.index-list-index.result lt c.index-list-index.is c.loop-index.is_behind_named ts _
           (c.loop-index.invariant all h k).1 c.is_named-is_behind_named.result c.is_named-is_behind_named.ensures ts' (c.in_ok-read_port.ensures.read all h k),
     )
 
@@ -54,5 +55,5 @@ returns-clause-given c = λ all h k.
     let s = c.args.sight.now in
     let ts = names_view c.loop-index.taken in
     let le : length c.args.list.now ≤ c.loop-index.index = omega arith in
-    ports_given s all (map association_view c.args.list.now) ts
+    formals_given (ports s) all (map association_view c.args.list.now) ts
     (reading_end (map (λ (f : Formal). f.name) all) (fits s all) c.args.list.now c.loop-index.index c.loop-index.is_behind_named ts _ le (c.loop-index.invariant all h k).1)

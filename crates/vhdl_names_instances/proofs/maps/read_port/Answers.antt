@@ -8,11 +8,12 @@ use Rattle.vhdl_names_units.specs.Once.{names_view}
 use Rattle.vhdl_names_rules.specs.problems.Broken.{Broken, any_of, of_any}
 use Rattle.vhdl_names_rules.specs.problems.Instances.{association, port_actual, ports_named}
 use Rattle.vhdl_names_rules.proofs.Telling.{told_on}
+use Rattle.vhdl_names_rules.proofs.Passing.{told_by}
 use Rattle.vhdl_names_instances.specs.Breaking.{one_association}
 use Rattle.vhdl_names_instances.specs.steps.Associations.{formal_at, one_taken}
 use Rattle.vhdl_names_instances.specs.steps.Maps.{fits, holds_if_any}
 use Rattle.vhdl_names_instances.proofs.Reading.{is_read, formal_told, actual_told, one_read_is}
-use Rattle.vhdl_names_instances.proofs.Told.{told_along, passed_told, only_memory, ok_on}
+use Rattle.vhdl_names_instances.proofs.Told.{told_along, only_memory, ok_on}
 use Rattle.vhdl_names_instances.proofs.maps.read_port.Goals as goal
 
 pub returns-in_err-take-clause-told : goal.returns-in_err-take-clause-told
@@ -22,7 +23,7 @@ returns-in_err-take-clause-told c = λ all h k.
     let a = association_view c.args.association.now in
     let actual : Name → Expr → Broken = λ n e. any_of (λ f. port_actual c.args.sight.now f e) (ports_named all n) in
     let fault = c.in_err-take.field-0.0 in
-    passed_told (association fs actual (drop c.args.index fs) c.args.is_behind_named ts a) fault _ c.from_residual.result c.from_residual.ensures.1 (λ e p. p)
+    told_by (association fs actual (drop c.args.index fs) c.args.is_behind_named ts a) fault _ c.from_residual.result c.from_residual.ensures.1 (λ e p. p)
     (formal_told fs actual c.args.index c.args.is_behind_named ts a fault
     (told_along (λ fs. one_association fs c.args.index c.args.is_behind_named ts a) _ fs h fault c.in_err-take.ensures.told))
 
@@ -34,7 +35,7 @@ returns-in_err-name-in-Some-clause-told c = λ all h k.
     let actual : Name → Expr → Broken = λ n e. any_of (λ f. port_actual c.args.sight.now f e) (ports_named all n) in
     let fault = c.in_err-name-in-Some.field-0.0 in
     let r = is_read (names_view c.args.formals.now.ports) c.args.index c.args.is_behind_named ts a (names_view c.take.new.taken) c.in_ok-take.ensures.given in
-    passed_told (association fs actual (drop c.args.index fs) c.args.is_behind_named ts a) fault _ c.from_residual-in_err-name-in-Some.result
+    told_by (association fs actual (drop c.args.index fs) c.args.is_behind_named ts a) fault _ c.from_residual-in_err-name-in-Some.result
     c.from_residual-in_err-name-in-Some.ensures.1 (λ e p. p)
     (only_memory (association fs actual (drop c.args.index fs) c.args.is_behind_named ts a) r.1.name fault (λ n. sym r.1.formal ∙ c.in_err-name-in-Some.ensures.given n))
 

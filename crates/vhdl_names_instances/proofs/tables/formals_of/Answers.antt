@@ -6,7 +6,7 @@ use Rattle.vhdl_names_units.specs.Lists.{in_turn}
 use Rattle.vhdl_names_instances.specs.Table.{seen_view}
 use Rattle.vhdl_names_instances.specs.steps.Tables as steps
 use Rattle.vhdl_names_instances.proofs.Tabling.{declared_fails, declared_goes}
-use Rattle.vhdl_names_expressions.proofs.Typing.{passed_on}
+use Rattle.vhdl_names_rules.proofs.Passing.{passed_on}
 use Rattle.vhdl_names_instances.proofs.tables.formals_of.Goals as goal
 
 pub returns-in_err-add_declared_at : goal.returns-in_err-add_declared_at

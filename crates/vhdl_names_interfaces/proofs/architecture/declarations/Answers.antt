@@ -6,8 +6,8 @@ use Rattle.vhdl_names_rules.specs.Visibility.{with_declared}
 use Rattle.vhdl_tree.specs.View as tree
 use Rattle.vhdl_names_units.specs.views.Declarations.{declaration_view, declarations_view}
 use Rattle.vhdl_names_interfaces.specs.Views.{entities_view}
-use Rattle.vhdl_names_interfaces.specs.Components.{analysed_view}
 use Rattle.vhdl_names_declarations.specs.Entered.{entering}
+use Rattle.vhdl_names_declarations.specs.Subtyping.{analysed_view}
 use Rattle.vhdl_names_rules.specs.problems.Broken.{Tells}
 use Rattle.vhdl_names_rules.specs.problems.Declarations as declarations_broken
 use Rattle.vhdl_names_rules.specs.problems.Files as broken
@@ -15,7 +15,7 @@ use Rattle.vhdl_names_declarations.proofs.Breaking.{told_at, told_behind}
 use Rattle.vhdl_names_rules.proofs.kept.Architectures.{declaration_kept}
 use Rattle.vhdl_names_declarations.proofs.Listed.{in_region, left, begins, fails, goes, ends, counts_after, place_after}
 use Rattle.vhdl_names_declarations.proofs.Regions.{names_apart}
-use Rattle.vhdl_names_sight.proofs.Passing.{passed_on, told_by}
+use Rattle.vhdl_names_rules.proofs.Passing.{passed_on, told_by}
 use Rattle.vhdl_names_interfaces.proofs.architecture.declarations.Goals as goal
 
 pub loop-one-init : goal.loop-one-init

@@ -7,7 +7,7 @@ use Rattle.vhdl_names_rules.specs.problems.Interfaces as broken
 use Rattle.vhdl_names_rules.proofs.Telling.{told_on}
 use Rattle.vhdl_names_sight.specs.Seen.{sight_view}
 use Rattle.vhdl_names_interfaces.specs.Views.{entities_view, named_view}
-use Rattle.vhdl_names_sight.proofs.Passing.{passed_on, told_by, told_first}
+use Rattle.vhdl_names_rules.proofs.Passing.{passed_on, told_by, told_first}
 use Rattle.vhdl_names_interfaces.proofs.Standing.{none_new, none_named, none_same, none_within, none_closed}
 use Rattle.vhdl_names_interfaces.proofs.Telling.{named_twice, no_entity, other_entity, own_region, other_end, named_last}
 use Rattle.vhdl_names_interfaces.proofs.components.component.Goals as goal

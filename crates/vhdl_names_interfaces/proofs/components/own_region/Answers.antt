@@ -1,4 +1,4 @@
-use Rattle.std.proofs.Common.{◌≡◌, [], map, ap, sym, subst, ◌∙◌}
+use Rattle.std.proofs.Common.{[], map, ap, sym, subst, ◌∙◌}
 use Rattle.vhdl_tree.specs.View.{component_view}
 use Rattle.vhdl_names_rules.specs.Rules.{◌>>=◌}
 use Rattle.vhdl_names_rules.specs.Visibility.{Sight}
@@ -7,7 +7,7 @@ use Rattle.vhdl_names_rules.specs.problems.Broken.{Tells}
 use Rattle.vhdl_names_rules.specs.problems.Interfaces as broken
 use Rattle.vhdl_names_sight.specs.Seen.{sight_view}
 use Rattle.vhdl_names_sight.specs.Views.{region_view, entry_view}
-use Rattle.vhdl_names_sight.proofs.Passing.{passed_on, told_by}
+use Rattle.vhdl_names_rules.proofs.Passing.{passed_on, told_by}
 use Rattle.vhdl_names_interfaces.proofs.Standing.{there, swapped_is, swapped_inner, swapped_back}
 use Rattle.vhdl_names_interfaces.proofs.components.own_region.Goals as goal
 

@@ -4,7 +4,7 @@ use Rattle.vhdl_names_rules.specs.problems.Broken.{Tells}
 use Rattle.vhdl_names_rules.specs.problems.Declarations as broken
 use Rattle.vhdl_names_interfaces.specs.Views.{entity_view}
 use Rattle.vhdl_names_interfaces.proofs.Interfacing.{told_nothing}
-use Rattle.vhdl_names_sight.proofs.Passing.{told_by}
+use Rattle.vhdl_names_rules.proofs.Passing.{told_by}
 use Rattle.vhdl_names_interfaces.proofs.sights.architecture_sight.Goals as goal
 
 pub returns-in_err-region-clause-told : goal.returns-in_err-region-clause-told

@@ -1,60 +1,60 @@
+use Rattle.std.proofs.Common.{◌≡◌, Some, ap, sym, ◌∙◌}
 use Rattle.vhdl_names_rules.specs.views.Expressions.{typed_view}
-use Rattle.vhdl_names_rules.proofs.Telling.{told_of}
+use Rattle.vhdl_names_rules.proofs.Along.{gives_along}
+use Rattle.vhdl_names_rules.proofs.Passing.{passed_on, told_by}
+use Rattle.vhdl_names_rules.proofs.Telling.{told_left, told_right, told_same, told_on}
+use Rattle.vhdl_names_operators.specs.Resolving.{kind_of, resolved, operand_breaks}
+use Rattle.vhdl_names_operators.proofs.Arranging.{gives_none}
+use Rattle.vhdl_names_operators.proofs.Resolving.{left_kept, right_kept, resolved_kept, both_resolved, same_lacking}
 use Rattle.vhdl_names_operators.proofs.operators.operated.Goals as goal
 
-pub returns-in-And : goal.returns-in-And
-returns-in-And c = rw c.in-And.is (record { given = c.logical.ensures.given; told = told_of typed_view _ c.args.at _ _ c.logical.ensures.given c.logical.ensures.told })
+pub returns-in_err-first-clause-given : goal.returns-in_err-first-clause-given
+returns-in_err-first-clause-given c =
+    let f = c.in_err-first.field-0.0 in
+    let x = typed_view c.args.left in
+    let y = typed_view c.args.right in
+    let told = told_same _ _ f (ap (λ k. operand_breaks c.args.operator k x) c.kind_of-other.ensures) c.in_err-first.ensures.told in
+    passed_on typed_view _ f _ c.from_residual.result c.from_residual.ensures.1 (λ e p. p)
+    (λ n. gives_none (operand_breaks c.args.operator (kind_of y) x) f _ (left_kept c.args.numbers c.args.at c.args.operator x y) told n)
 
-pub returns-in-Or : goal.returns-in-Or
-returns-in-Or c = rw c.in-Or.is (record { given = c.logical-in-Or.ensures.given; told = told_of typed_view _ c.args.at _ _ c.logical-in-Or.ensures.given c.logical-in-Or.ensures.told })
+pub returns-in_err-first-clause-told : goal.returns-in_err-first-clause-told
+returns-in_err-first-clause-told c =
+    let f = c.in_err-first.field-0.0 in
+    told_by _ f _ c.from_residual.result c.from_residual.ensures.1 (λ e p. p)
+    (told_left _ _ f (told_same _ _ f (ap (λ k. operand_breaks c.args.operator k (typed_view c.args.left)) c.kind_of-other.ensures) c.in_err-first.ensures.told))
 
-pub returns-in-Xor : goal.returns-in-Xor
-returns-in-Xor c = rw c.in-Xor.is (record { given = c.logical-in-Xor.ensures.given; told = told_of typed_view _ c.args.at _ _ c.logical-in-Xor.ensures.given c.logical-in-Xor.ensures.told })
+pub returns-in_err-second-clause-given : goal.returns-in_err-second-clause-given
+returns-in_err-second-clause-given c =
+    let f = c.in_err-second.field-0.0 in
+    let x = typed_view c.args.left in
+    let y = typed_view c.args.right in
+    let told = told_same _ _ f (ap (λ k. operand_breaks c.args.operator k y) c.kind_of-own.ensures) c.in_err-second.ensures.told in
+    passed_on typed_view _ f _ c.from_residual-in_err-second.result c.from_residual-in_err-second.ensures.1 (λ e p. p)
+    (λ n. gives_none (operand_breaks c.args.operator (kind_of x) y) f _ (right_kept c.args.numbers c.args.at c.args.operator x y) told n)
 
-pub returns-in-Xnor : goal.returns-in-Xnor
-returns-in-Xnor c = rw c.in-Xnor.is (record { given = c.logical-in-Xnor.ensures.given; told = told_of typed_view _ c.args.at _ _ c.logical-in-Xnor.ensures.given c.logical-in-Xnor.ensures.told })
+pub returns-in_err-second-clause-told : goal.returns-in_err-second-clause-told
+returns-in_err-second-clause-told c =
+    let f = c.in_err-second.field-0.0 in
+    let x = typed_view c.args.left in
+    let y = typed_view c.args.right in
+    let first : resolved c.args.operator (kind_of y) x ≡ Some (typed_view c.in_ok-first.first) = ap (λ k. resolved c.args.operator k x) (sym c.kind_of-other.ensures) ∙ c.in_ok-first.ensures.given in
+    told_by _ f _ c.from_residual-in_err-second.result c.from_residual-in_err-second.ensures.1 (λ e p. p)
+    (told_right _ _ f (resolved_kept c.args.operator (kind_of y) x _ first)
+    (told_left _ _ f (told_same _ _ f (ap (λ k. operand_breaks c.args.operator k y) c.kind_of-own.ensures) c.in_err-second.ensures.told)))
 
-pub returns-in-Nand : goal.returns-in-Nand
-returns-in-Nand c = rw c.in-Nand.is (record { given = c.logical-in-Nand.ensures.given; told = told_of typed_view _ c.args.at _ _ c.logical-in-Nand.ensures.given c.logical-in-Nand.ensures.told })
-
-pub returns-in-Nor : goal.returns-in-Nor
-returns-in-Nor c = rw c.in-Nor.is (record { given = c.logical-in-Nor.ensures.given; told = told_of typed_view _ c.args.at _ _ c.logical-in-Nor.ensures.given c.logical-in-Nor.ensures.told })
-
-pub returns-in-Equal : goal.returns-in-Equal
-returns-in-Equal c = rw c.in-Equal.is (record { given = c.equality.ensures.given; told = told_of typed_view _ c.args.at _ _ c.equality.ensures.given c.equality.ensures.told })
-
-pub returns-in-NotEqual : goal.returns-in-NotEqual
-returns-in-NotEqual c = rw c.in-NotEqual.is (record { given = c.equality-in-NotEqual.ensures.given; told = told_of typed_view _ c.args.at _ _ c.equality-in-NotEqual.ensures.given c.equality-in-NotEqual.ensures.told })
-
-pub returns-in-Less : goal.returns-in-Less
-returns-in-Less c = rw c.in-Less.is (record { given = c.ordering.ensures.given; told = told_of typed_view _ c.args.at _ _ c.ordering.ensures.given c.ordering.ensures.told })
-
-pub returns-in-LessEqual : goal.returns-in-LessEqual
-returns-in-LessEqual c = rw c.in-LessEqual.is (record { given = c.ordering-in-LessEqual.ensures.given; told = told_of typed_view _ c.args.at _ _ c.ordering-in-LessEqual.ensures.given c.ordering-in-LessEqual.ensures.told })
-
-pub returns-in-Greater : goal.returns-in-Greater
-returns-in-Greater c = rw c.in-Greater.is (record { given = c.ordering-in-Greater.ensures.given; told = told_of typed_view _ c.args.at _ _ c.ordering-in-Greater.ensures.given c.ordering-in-Greater.ensures.told })
-
-pub returns-in-GreaterEqual : goal.returns-in-GreaterEqual
-returns-in-GreaterEqual c = rw c.in-GreaterEqual.is (record { given = c.ordering-in-GreaterEqual.ensures.given; told = told_of typed_view _ c.args.at _ _ c.ordering-in-GreaterEqual.ensures.given c.ordering-in-GreaterEqual.ensures.told })
-
-pub returns-in-Add : goal.returns-in-Add
-returns-in-Add c = rw c.in-Add.is (record { given = c.arithmetic.ensures.given; told = told_of typed_view _ c.args.at _ _ c.arithmetic.ensures.given c.arithmetic.ensures.told })
-
-pub returns-in-Subtract : goal.returns-in-Subtract
-returns-in-Subtract c = rw c.in-Subtract.is (record { given = c.arithmetic-in-Subtract.ensures.given; told = told_of typed_view _ c.args.at _ _ c.arithmetic-in-Subtract.ensures.given c.arithmetic-in-Subtract.ensures.told })
-
-pub returns-in-Concatenate : goal.returns-in-Concatenate
-returns-in-Concatenate c = rw c.in-Concatenate.is (record { given = c.concatenated.ensures.given; told = told_of typed_view _ c.args.at _ _ c.concatenated.ensures.given c.concatenated.ensures.told })
-
-pub returns-in-Multiply : goal.returns-in-Multiply
-returns-in-Multiply c = rw c.in-Multiply.is (record { given = c.arithmetic-in-Multiply.ensures.given; told = told_of typed_view _ c.args.at _ _ c.arithmetic-in-Multiply.ensures.given c.arithmetic-in-Multiply.ensures.told })
-
-pub returns-in-Divide : goal.returns-in-Divide
-returns-in-Divide c = rw c.in-Divide.is (record { given = c.integral.ensures.given; told = told_of typed_view _ c.args.at _ _ c.integral.ensures.given c.integral.ensures.told })
-
-pub returns-in-Modulo : goal.returns-in-Modulo
-returns-in-Modulo c = rw c.in-Modulo.is (record { given = c.integral-in-Modulo.ensures.given; told = told_of typed_view _ c.args.at _ _ c.integral-in-Modulo.ensures.given c.integral-in-Modulo.ensures.told })
-
-pub returns-in-Remainder : goal.returns-in-Remainder
-returns-in-Remainder c = rw c.in-Remainder.is (record { given = c.integral-in-Remainder.ensures.given; told = told_of typed_view _ c.args.at _ _ c.integral-in-Remainder.ensures.given c.integral-in-Remainder.ensures.told })
+pub returns : goal.returns
+returns c =
+    let q = c.args.operator in
+    let x = typed_view c.args.left in
+    let y = typed_view c.args.right in
+    let first : resolved c.args.operator (kind_of y) x ≡ Some (typed_view c.in_ok-first.first) = ap (λ k. resolved c.args.operator k x) (sym c.kind_of-other.ensures) ∙ c.in_ok-first.ensures.given in
+    let second : resolved c.args.operator (kind_of x) y ≡ Some (typed_view c.in_ok-second.second) = ap (λ k. resolved c.args.operator k y) (sym c.kind_of-own.ensures) ∙ c.in_ok-second.ensures.given in
+    let same = both_resolved c.args.numbers c.args.at q x y (typed_view c.in_ok-first.first) (typed_view c.in_ok-second.second) first second in
+    record {
+      given = gives_along typed_view _ _ _ same.operated c.applied.ensures.given;
+      told =
+          told_on _ _ c.applied.result
+          (λ f t. told_right _ _ f (resolved_kept q (kind_of y) x _ first) (told_right _ _ f (resolved_kept q (kind_of x) y _ second)
+          (told_same _ _ f (same_lacking c.args.numbers c.args.at q x y (typed_view c.in_ok-first.first) (typed_view c.in_ok-second.second) same) t)))
+          c.applied.ensures.told;
+    }

@@ -1,7 +1,7 @@
 use Rattle.std.proofs.Common.{sym, ap, ◌∙◌}
 use Rattle.vhdl_names_rules.specs.units.Statements as s
 use Rattle.vhdl_names_rules.specs.views.Tests.{test_view}
-use Rattle.vhdl_names_rules.specs.Concurrent.{alone}
+use Rattle.vhdl_names_rules.specs.Statements.{alone}
 use Rattle.vhdl_names_rules.specs.Edges.{conditions, gated, at_edge}
 use Rattle.vhdl_names_rules.specs.Registers as rules
 use Rattle.vhdl_names_rules.specs.declared.test.Test.{Test}

@@ -2,7 +2,7 @@ use Rattle.std.proofs.Common.{◌&&◌, Bool, sym, ap, ◌∙◌, arith}
 use Rattle.vhdl_names_rules.specs.Edges.{same_operator, same_index}
 use Rattle.vhdl_names_rules.specs.views.Integers.{static_view}
 use Rattle.vhdl_names_registers.specs.Spines.{last_of, prefix_view, last_view}
-use Rattle.vhdl_names_registers.proofs.Indices.{by_last, last_differ, lasts_differ, size_by_last, and_before, no_operand, chain_has_last, number_differs, generic_differs, constant_differs, parameter_differs, negated_differs, other_differs}
+use Rattle.vhdl_names_registers.proofs.Indices.{by_last, last_differ, lasts_differ, size_by_last, and_before, no_operand, chain_has_last, number_differs, generic_differs, constant_differs, parameter_differs, negated_differs, absolute_differs, bound_differs, other_differs}
 use Rattle.vhdl_names_registers.proofs.same.+same.Goals as goal
 
 pub same_index-returns-then-not-same_operator : goal.same_index-returns-then-not-same_operator
@@ -86,5 +86,18 @@ same_whole-returns-in_default-5 t c =
 
 pub same_whole-returns-in_default-6 : goal.same_whole-returns-in_default-6
 same_whole-returns-in_default-6 t c =
+    let y = c.args.right.now in
+    sym (ap (λ x. same_index (static_view x) (static_view y)) c.in_default.is-0
+    ∙ absolute_differs c.in_default.field-0-0 (static_view c.in_default.field-1-0.value) y c.requires.right c.in_default.not-Absolute-1)
+
+pub same_whole-returns-in_default-7 : goal.same_whole-returns-in_default-7
+same_whole-returns-in_default-7 t c =
+    let y = c.args.right.now in
+    sym (ap (λ x. same_index (static_view x) (static_view y)) c.in_default.is-0
+    ∙ bound_differs c.in_default.field-0-0 c.in_default.field-1-0 y c.requires.right c.in_default.not-Bound-1)
+
+pub same_whole-returns-in_default-8 : goal.same_whole-returns-in_default-8
+same_whole-returns-in_default-8 t c =
     let d = c.in_default in
-    sym (other_differs c.args.left.now (static_view c.args.right.now) c.requires.left d.not-Number-0 d.not-Generic-0 d.not-Constant-0 d.not-GenerateParameter-0 d.not-Negated-0)
+    sym (other_differs c.args.left.now (static_view c.args.right.now) c.requires.left d.not-Number-0 d.not-Generic-0 d.not-Constant-0 d.not-GenerateParameter-0 d.not-Negated-0
+    d.not-Absolute-0 d.not-Bound-0)

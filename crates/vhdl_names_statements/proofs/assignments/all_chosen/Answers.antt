@@ -6,7 +6,7 @@ use Rattle.vhdl_names_units.specs.views.Sequential as views
 use Rattle.vhdl_names_rules.specs.problems.Concurrent as broken
 use Rattle.vhdl_names_statements.specs.steps.Concurrent as steps
 use Rattle.vhdl_names_units.proofs.Behind.{next_told, next_left}
-use Rattle.vhdl_names_sight.proofs.Passing.{passed_on, told_by}
+use Rattle.vhdl_names_rules.proofs.Passing.{passed_on, told_by}
 use Rattle.vhdl_names_statements.proofs.steps.Told.{more_done, none_more}
 use Rattle.vhdl_names_statements.proofs.steps.Turns.{none_done, all_done}
 use Rattle.vhdl_names_statements.proofs.steps.Assigning.{waveform_kept}

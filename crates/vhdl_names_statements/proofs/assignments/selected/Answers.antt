@@ -4,7 +4,7 @@ use Rattle.vhdl_names_rules.specs.problems.Broken.{Tells}
 use Rattle.vhdl_names_rules.specs.problems.Concurrent.{selected, waveforms}
 use Rattle.vhdl_names_rules.proofs.Telling.{told_same}
 use Rattle.vhdl_names_statements.proofs.steps.Told.{selector_given}
-use Rattle.vhdl_names_sight.proofs.Passing.{told_by, told_first}
+use Rattle.vhdl_names_rules.proofs.Passing.{told_by, told_first}
 use Rattle.vhdl_names_statements.proofs.assignments.selected.Goals as goal
 
 pub returns-in_err-by-clause-told : goal.returns-in_err-by-clause-told

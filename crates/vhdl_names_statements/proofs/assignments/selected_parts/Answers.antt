@@ -12,7 +12,7 @@ use Rattle.vhdl_names_statements.specs.steps.Concurrent as steps
 use Rattle.vhdl_names_statements.proofs.steps.Told.{on_along}
 use Rattle.vhdl_names_statements.proofs.steps.Assigning.{waveforms_kept}
 use Rattle.vhdl_names_statements.proofs.steps.Covering.{on_given, are_read, selected_by, selected_cover, selected_none}
-use Rattle.vhdl_names_sight.proofs.Passing.{passed_on, told_by, told_first}
+use Rattle.vhdl_names_rules.proofs.Passing.{passed_on, told_by, told_first}
 use Rattle.vhdl_names_statements.proofs.assignments.selected_parts.Goals as goal
 
 pub returns-in_err-target-clause-told : goal.returns-in_err-target-clause-told

@@ -5,7 +5,7 @@ use Rattle.vhdl_names_rules.specs.problems.Broken.{Tells}
 use Rattle.vhdl_names_units.specs.Once.{names_view}
 use Rattle.vhdl_names_statements.specs.steps.Told as told
 use Rattle.vhdl_names_statements.proofs.steps.Choosing.{next_told, next_left, next_added}
-use Rattle.vhdl_names_sight.proofs.Passing.{told_by}
+use Rattle.vhdl_names_rules.proofs.Passing.{told_by}
 use Rattle.vhdl_names_statements.proofs.choices.add_each.Goals as goal
 
 pub returns-in_err-add_written-clause-told : goal.returns-in_err-add_written-clause-told

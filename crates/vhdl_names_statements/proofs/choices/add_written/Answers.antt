@@ -8,7 +8,7 @@ use Rattle.vhdl_names_rules.specs.problems.Places.{choice_place}
 use Rattle.vhdl_names_units.specs.Once.{names_view}
 use Rattle.vhdl_names_statements.specs.steps.Told as told
 use Rattle.vhdl_names_statements.proofs.steps.Choosing.{once_refused, answer_told, answer_kept, answer_added}
-use Rattle.vhdl_names_sight.proofs.Passing.{told_by}
+use Rattle.vhdl_names_rules.proofs.Passing.{told_by}
 use Rattle.vhdl_names_statements.proofs.choices.add_written.Goals as goal
 
 pub returns-in_err-analysed-clause-told : goal.returns-in_err-analysed-clause-told

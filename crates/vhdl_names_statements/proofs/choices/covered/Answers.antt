@@ -7,7 +7,7 @@ use Rattle.vhdl_names_units.specs.Once.{names_view}
 use Rattle.vhdl_names_statements.specs.steps.Cases as steps
 use Rattle.vhdl_names_statements.specs.steps.Told as told
 use Rattle.vhdl_names_statements.proofs.steps.Completing.{of_err, of_ok, gives_ok, refused_given, incomplete_given, covered_given, told_among, told_other, told_incomplete}
-use Rattle.vhdl_names_sight.proofs.Passing.{passed_on, told_by}
+use Rattle.vhdl_names_rules.proofs.Passing.{passed_on, told_by}
 use Rattle.vhdl_names_statements.proofs.choices.covered.Goals as goal
 
 pub returns-in-Err-clause-given : goal.returns-in-Err-clause-given

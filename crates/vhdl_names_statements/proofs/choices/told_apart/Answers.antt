@@ -5,7 +5,7 @@ use Rattle.vhdl_names_units.specs.Once.{names_view}
 use Rattle.vhdl_names_statements.specs.steps.Cases as steps
 use Rattle.vhdl_names_statements.specs.steps.Told as told
 use Rattle.vhdl_names_statements.proofs.steps.Choosing.{list_told, list_left, list_added, last_is}
-use Rattle.vhdl_names_sight.proofs.Passing.{told_by}
+use Rattle.vhdl_names_rules.proofs.Passing.{told_by}
 use Rattle.vhdl_names_statements.proofs.choices.told_apart.Goals as goal
 
 pub returns-in_err-add_list-clause-told : goal.returns-in_err-add_list-clause-told

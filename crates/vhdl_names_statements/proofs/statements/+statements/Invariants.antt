@@ -7,14 +7,15 @@ use Rattle.vhdl_names_units.specs.Lists.{in_turn, one_more}
 use Rattle.vhdl_names_statements.specs.steps.Cases as cases
 use Rattle.vhdl_names_statements.specs.steps.Sequential as steps
 use Rattle.vhdl_names_statements.specs.steps.Told as told
+use Rattle.vhdl_names_statements.proofs.steps.Labelling.{behind}
 use Rattle.vhdl_names_statements.proofs.statements.+statements.Given as goal
 
 -- what is left, on what is done, gives the whole, and what it breaks first, the whole breaks first
 abbrev pub invariant-statements-loop-item : goal.invariant-statements-loop-item
 invariant-statements-loop-item l =
     (l.sight ≡ l.fn.sight)
-    × (each (steps.labelled l.fn.sight) (map tree.sequential_view l.list)
-    ≡ in_turn (one_more (steps.labelled l.fn.sight)) (views.statements_view l.all) (map tree.sequential_view (drop l.item-index l.list)))
+    × (steps.all_labelled l.fn.sight (map tree.sequential_view l.list)
+    ≡ behind (views.statements_view l.all) (steps.all_labelled l.fn.sight (map tree.sequential_view (drop l.item-index l.list))))
     × (any_of (told.labelled l.fn.sight) (map tree.sequential_view l.list) ≡ any_of (told.labelled l.fn.sight) (map tree.sequential_view (drop l.item-index l.list)))
 
 abbrev pub invariant-branches-loop-item : goal.invariant-branches-loop-item

@@ -1,0 +1,32 @@
+use Rattle.vhdl_names_rules.specs.problems.Broken.{◌▸◌, of_any}
+use Rattle.vhdl_names_rules.specs.problems.Declarations as broken
+use Rattle.std.proofs.Common.{ap, sym, ◌∙◌}
+use Rattle.vhdl_names_rules.specs.problems.Subtypes as subtypes_broken
+use Rattle.vhdl_names_rules.proofs.Telling.{told_same, told_left, told_right, told_lacking, lacking_kept}
+use Rattle.vhdl_names_rules.specs.declared.fault.NameProblem.TheVariants.{LeftOut}
+use Rattle.vhdl_names_rules.specs.Declarations.{as_kind}
+use Rattle.vhdl_tree.specs.Tree as t
+use Rattle.vhdl_tree.specs.View as tree
+use Rattle.vhdl_names_units.specs.views.Answers.{subtype_view}
+use Rattle.vhdl_names_rules.proofs.Passing.{told_first}
+use Rattle.vhdl_names_declarations.proofs.Breaking.{behind_subtype}
+use Rattle.vhdl_names_declarations.proofs.generics.others.Goals as goal
+
+pub returns-in_err-subtype-clause-told : goal.returns-in_err-subtype-clause-told
+returns-in_err-subtype-clause-told c = told_first _ _ _ _ c.from_residual.result c.from_residual.ensures.1 (λ e p. p) c.in_err-subtype.ensures.told
+
+pub returns-in_err-kind-clause-told : goal.returns-in_err-kind-clause-told
+returns-in_err-kind-clause-told c =
+    let d = tree.generic_view c.args.generic.now in
+    behind_subtype c.args.sight.now d.subtype (λ y. broken.nine_valued d.subtype.mark y ▸ of_any (λ e. broken.value_of c.args.sight.now y (t.single e)) d.default) (subtype_view c.in_ok-subtype.subtype) _ _ c.from_residual-in_err-kind.result c.from_residual-in_err-kind.ensures.1 (λ e p. p) c.in_ok-subtype.ensures.given
+    (told_left _ _ _ (told_lacking LeftOut d.subtype.mark.at (as_kind c.in_ok-subtype.subtype.object_type) _ c.in_err-kind.ensures.given c.in_err-kind.ensures.told))
+
+pub returns-in_err-fixed_expression-in-Some-clause-told : goal.returns-in_err-fixed_expression-in-Some-clause-told
+returns-in_err-fixed_expression-in-Some-clause-told c =
+    let d = tree.generic_view c.args.generic.now in
+    behind_subtype c.args.sight.now d.subtype (λ y. broken.nine_valued d.subtype.mark y ▸ of_any (λ e. broken.value_of c.args.sight.now y (t.single e)) d.default) (subtype_view c.in_ok-subtype.subtype) _ _ c.from_residual-in_err-fixed_expression-in-Some.result c.from_residual-in_err-fixed_expression-in-Some.ensures.1 (λ e p. p) c.in_ok-subtype.ensures.given
+    (told_right _ _ _ (lacking_kept LeftOut d.subtype.mark.at (as_kind c.in_ok-subtype.subtype.object_type) c.in_ok-kind.kind c.in_ok-kind.ensures.given)
+    (told_same _ _ c.in_err-fixed_expression-in-Some.field-0.0
+    (ap (λ r. subtypes_broken.fixed_value c.args.sight.now c.in_ok-subtype.subtype.object_type r (t.single (tree.view c.in-Some.e))) c.range.ensures
+    ∙ sym (ap (λ o. of_any (λ e. broken.value_of c.args.sight.now (subtype_view c.in_ok-subtype.subtype) (t.single e)) (tree.option_expr_view o)) c.in-Some.is))
+    c.in_err-fixed_expression-in-Some.ensures.told))

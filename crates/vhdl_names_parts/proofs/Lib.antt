@@ -1,0 +1,3 @@
+pub mod Meant
+pub mod Ranging
+pub mod Locals

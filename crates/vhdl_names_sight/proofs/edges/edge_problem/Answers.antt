@@ -1,6 +1,0 @@
-use Rattle.std.proofs.Common.{sym}
-use Rattle.vhdl_names_sight.proofs.Meant.{other_edge}
-use Rattle.vhdl_names_sight.proofs.edges.edge_problem.Goals as goal
-
-pub returns-in_default : goal.returns-in_default
-returns-in_default c = sym (other_edge c.args.vector.now c.in_default.not-Variable c.in_default.not-Constant)

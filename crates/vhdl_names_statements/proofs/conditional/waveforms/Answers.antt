@@ -1,0 +1,41 @@
+use Rattle.std.proofs.Common.{arith, ◌<◌, ◌∷◌, [], length, map, refl, ap, ◌∙◌}
+use Rattle.std.proofs.lemmas.List.{map-append}
+use Rattle.vhdl_tree.specs.View as tree
+use Rattle.vhdl_names_rules.proofs.Memory.{memory_gives, memory_told}
+use Rattle.vhdl_names_units.specs.views.Sequential as views
+use Rattle.vhdl_names_statements.specs.steps.Told as told
+use Rattle.vhdl_names_statements.specs.steps.Sequential as steps
+use Rattle.vhdl_names_units.proofs.Behind.{next_told, next_left}
+use Rattle.vhdl_names_rules.proofs.Passing.{passed_on, told_by}
+use Rattle.vhdl_names_statements.proofs.steps.Told.{more_done, none_more}
+use Rattle.vhdl_names_statements.proofs.steps.Turns.{none_done, all_done}
+use Rattle.vhdl_names_statements.proofs.steps.Assigning.{branch_kept}
+use Rattle.vhdl_names_statements.proofs.conditional.waveforms.Goals as goal
+
+pub returns-in_err-next : goal.returns-in_err-next
+returns-in_err-next c =
+    let lt : c.loop-item.item-index < length c.args.list.now = omega arith in
+    record {
+      given = passed_on _ _ _ _ c.from_residual.result c.from_residual.ensures.1 (λ e p. p) (λ n. none_more tree.branch_view c.args.list.now c.loop-item.item-index c.item-item.result lt c.item-item.is (steps.waveform c.args.sight.now c.args.is_variable (tree.name_view c.args.target.now)) (views.branches_view c.loop-item.all) _ c.loop-item.invariant.0 (c.in_err-next.ensures.given n));
+      told = told_by _ _ _ c.from_residual.result c.from_residual.ensures.1 (λ e p. p) (next_told tree.branch_view c.args.list.now c.loop-item.item-index c.item-item.result lt c.item-item.is (told.waveform c.args.sight.now c.args.is_variable (tree.name_view c.args.target.now)) _ c.loop-item.invariant.1 c.in_err-next.ensures.told);
+    }
+
+pub returns-in_err-push : goal.returns-in_err-push
+returns-in_err-push c = record { given = memory_gives _ _ _ c.from_residual-in_err-push.result c.from_residual-in_err-push.ensures.1 (λ e p. p); told = memory_told _ _ c.from_residual-in_err-push.result c.from_residual-in_err-push.ensures.1 (λ e p. p) }
+
+pub loop-item-preserved : goal.loop-item-preserved
+loop-item-preserved c =
+    let lt : c.loop-item.item-index < length c.args.list.now = omega arith in (
+      more_done tree.branch_view c.args.list.now c.loop-item.item-index c.item-item.result lt c.item-item.is (steps.waveform c.args.sight.now c.args.is_variable (tree.name_view c.args.target.now)) (views.branches_view c.loop-item.all) _ (views.branch_view c.in_ok-next.next) _ c.loop-item.invariant.0
+          c.in_ok-next.ensures.given
+          (ap (map views.branch_view) c.in_ok-push.ensures.items ∙ map-append views.branch_view c.loop-item.all.items (c.in_ok-next.next ∷ [])),
+      next_left tree.branch_view c.args.list.now c.loop-item.item-index c.item-item.result lt c.item-item.is (told.waveform c.args.sight.now c.args.is_variable (tree.name_view c.args.target.now)) c.loop-item.invariant.1 (branch_kept c.args.sight.now c.args.is_variable (tree.name_view c.args.target.now) (tree.branch_view c.item-item.result) _ c.in_ok-next.ensures.given),
+    )
+
+pub loop-item-init : goal.loop-item-init
+loop-item-init c =
+    (none_done tree.branch_view c.args.list.now (steps.waveform c.args.sight.now c.args.is_variable (tree.name_view c.args.target.now)) _ (ap (map views.branch_view) c.new-all.ensures.items), refl)
+
+pub returns-clause-given : goal.returns-clause-given
+returns-clause-given c =
+    all_done tree.branch_view c.args.list.now (steps.waveform c.args.sight.now c.args.is_variable (tree.name_view c.args.target.now)) _ c.loop-item.item-index c.loop-item-test.false c.loop-item.invariant.0

@@ -1,0 +1,151 @@
+-- Values of constants and defaults: names with their identifier first, and calls by their two arguments.
+use Rattle.std.proofs.Common.{◌≡◌, ℕ, Bool, true, false, List, [], ◌∷◌, map, Option, Some, None, refl, sym, ap, ◌∙◌}
+use Rattle.std.specs.Prelude.{option_map, is_none}
+use Rattle.std.specs.Option.{option_or}
+use Rattle.vhdl_tree.specs.Tree as t
+use Rattle.vhdl_tree.specs.View.{view}
+use Rattle.vhdl_tree.specs.declared.expression.Expr.{Expr}
+use Rattle.vhdl_tree.specs.declared.expression.Expr.TheVariants as x
+use Rattle.vhdl_names_rules.specs.declared.kind.Function.TheVariants.{ToUnsigned}
+use Rattle.vhdl_names_rules.specs.declared.kind.ElementKind.TheVariants.{Unsigned}
+use Rattle.vhdl_names_rules.specs.declared.kind.ObjectType.{ObjectType}
+use Rattle.vhdl_names_rules.specs.declared.kind.ObjectType.TheVariants.{Elements, Enumeration}
+use Rattle.vhdl_names_rules.specs.units.Expressions as u
+use Rattle.vhdl_names_rules.specs.units.Units.{Fixed}
+use Rattle.vhdl_names_rules.specs.Rules.{◌>>=◌, ◌>>◌, met, wider}
+use Rattle.vhdl_names_rules.specs.Visibility as visibility
+use Rattle.vhdl_names_rules.specs.Visibility.{Sight, Declared, declaration}
+use Rattle.vhdl_names_rules.specs.Names.{Suffix, arguments, range}
+use Rattle.vhdl_names_rules.specs.Operators as o
+use Rattle.vhdl_names_rules.specs.Operators.{integer, elements, enumerated, truth, interval, composite}
+use Rattle.vhdl_names_rules.specs.Expressions.{typed, typed_each, typed_suffix, as_integer, is_one_name, suffix_of, value_given}
+use Rattle.vhdl_names_rules.specs.Subtypes as r
+use Rattle.vhdl_names_rules.specs.declared.typed.Typed.{Typed}
+use Rattle.vhdl_names_parts.specs.Steps.{two}
+use Rattle.vhdl_names_rules.specs.views.Expressions.{typed_view}
+use Rattle.vhdl_names_parts.proofs.Meant.{both_views, two_map}
+use Rattle.vhdl_names_expressions.specs.Asked.{unattributed}
+use Rattle.vhdl_names_rules.specs.Instances.{as_name}
+use Rattle.vhdl_names_expressions.specs.Chosen.{as_character}
+use Rattle.vhdl_names_values.specs.Fixing.{encoded_fixed, suffixed_value, filled_with, known_given}
+use Rattle.vhdl_names_expressions.proofs.Asking.{both}
+use Rattle.vhdl_names_expressions.proofs.Choosing.{no_literal, chain_is_no_character}
+
+-- ---- to_unsigned
+
+encode_two : (xs : List o.Typed) → r.encoded_value (Elements Unsigned) (visibility.function ToUnsigned) xs ≡ encoded_fixed (two xs)
+encode_two (integer s ∷ integer t ∷ []) = refl
+encode_two (integer s ∷ elements k y ∷ []) = refl
+encode_two (integer s ∷ enumerated e n y ∷ []) = refl
+encode_two (integer s ∷ truth y ∷ []) = refl
+encode_two (integer s ∷ interval y ∷ []) = refl
+encode_two (integer s ∷ composite p y ∷ []) = refl
+encode_two (elements j x ∷ y ∷ []) = refl
+encode_two (enumerated d m x ∷ y ∷ []) = refl
+encode_two (truth x ∷ y ∷ []) = refl
+encode_two (interval x ∷ y ∷ []) = refl
+encode_two (composite p x ∷ y ∷ []) = refl
+encode_two xs = refl
+
+pub encoding_two : (xs : List Typed) →
+    r.encoded_value (Elements Unsigned) (visibility.function ToUnsigned) (map typed_view xs) ≡ encoded_fixed (option_map both_views (two xs))
+encoding_two xs = encode_two (map typed_view xs) ∙ ap encoded_fixed (two_map xs)
+
+-- ---- names
+
+-- a name is no literal
+name_unvalued : (type : ObjectType) (n : t.Ident) (y : t.Suffix) (a : Option t.Attribute) → r.literal_value type (t.named n y a) ≡ None
+name_unvalued (Elements k) n y a = ap (option_map Fixed.literal) (no_literal k (t.named n y a) refl)
+name_unvalued (Enumeration e count) n y a = refl
+
+broken : {A B C : Type 0} (p : Option A) (q : Option B) (f : A → B → Option C) → (p >>= λ d. (q >>= λ s. (met false >> f d s))) ≡ None
+broken None q f = refl
+broken (Some d) None f = refl
+broken (Some d) (Some s) f = refl
+
+unencoded : (type : ObjectType) (m : visibility.Meaning) (x : u.Range) → r.encoded_value type m (interval x ∷ []) ≡ None
+unencoded (Elements Unsigned) (visibility.function ToUnsigned) x = refl
+unencoded type m x = refl
+
+-- the identifier first, and the attribute last
+fixed_named : (sight : Sight) (type : ObjectType) (n : t.Ident) (y : t.Suffix) (a : Option t.Attribute) →
+    r.fixed sight type (t.named n y a)
+    ≡ (declaration sight n.text >>= λ d. (typed_suffix sight y >>= λ s. (met (is_none a) >> suffixed_value type d.meaning s)))
+unfolding typed_suffix
+fixed_named sight type n t.plain None = go (declaration sight n.text)
+  where
+    go : (p : Option Declared) → (option_map (λ d. d.meaning) p >>= r.named_value type) ≡ (p >>= λ d. r.named_value type d.meaning)
+    go None = refl
+    go (Some d) = refl
+fixed_named sight type n (t.arguments es) None = go (declaration sight n.text) (typed_each sight es)
+  where
+    go : (p : Option Declared) (q : Option (List o.Typed)) →
+        (option_map (λ d. d.meaning) p >>= λ m. (q >>= λ xs. r.encoded_value type m xs))
+        ≡ (p >>= λ d. (option_map (suffix_of (is_one_name es)) q >>= λ s. (met true >> suffixed_value type d.meaning s)))
+    go None q = refl
+    go (Some d) None = refl
+    go (Some d) (Some (interval x ∷ [])) = unencoded type d.meaning x
+    go (Some d) (Some xs) = refl
+fixed_named sight type n (t.sliced d w e) None = name_unvalued type n (t.sliced d w e) None ∙ sym (go (declaration sight n.text) (typed sight d))
+  where
+    last : (p : Declared) (l : u.Static) (q : Option o.Typed) →
+        ((q >>= λ y. (as_integer y >>= λ r. Some (range (record { left = l; direction = w; right = r })))) >>= λ s. (met true >> suffixed_value type p.meaning s)) ≡ None
+    last p l None = refl
+    last p l (Some y) = end (as_integer y)
+      where
+        end : (q : Option u.Static) → ((q >>= λ r. Some (range (record { left = l; direction = w; right = r }))) >>= λ s. (met true >> suffixed_value type p.meaning s)) ≡ None
+        end None = refl
+        end (Some r) = refl
+
+    next : (p : Declared) (q : Option u.Static) →
+        ((q >>= λ l. (typed sight e >>= λ y. (as_integer y >>= λ r. Some (range (record { left = l; direction = w; right = r }))))) >>= λ s. (met true >> suffixed_value type p.meaning s)) ≡ None
+    next p None = refl
+    next p (Some l) = last p l (typed sight e)
+
+    go : (p : Option Declared) (q : Option o.Typed) →
+        (p >>= λ d. ((q >>= λ x. (as_integer x >>= λ l. (typed sight e >>= λ y. (as_integer y >>= λ r. Some (range (record { left = l; direction = w; right = r })))))) >>= λ s. (met true >> suffixed_value type d.meaning s))) ≡ None
+    go None q = refl
+    go (Some p) None = refl
+    go (Some p) (Some x) = next p (as_integer x)
+fixed_named sight type n t.plain (Some a) = name_unvalued type n t.plain (Some a) ∙ sym (broken (declaration sight n.text) (typed_suffix sight t.plain) (λ d. suffixed_value type d.meaning))
+fixed_named sight type n (t.arguments es) (Some a) = name_unvalued type n (t.arguments es) (Some a) ∙ sym (broken (declaration sight n.text) (typed_suffix sight (t.arguments es)) (λ d. suffixed_value type d.meaning))
+fixed_named sight type n (t.sliced d w e) (Some a) = name_unvalued type n (t.sliced d w e) (Some a) ∙ sym (broken (declaration sight n.text) (typed_suffix sight (t.sliced d w e)) (λ d. suffixed_value type d.meaning))
+
+pub name_fixed : (sight : Sight) (type : ObjectType) (n : t.Name) →
+    r.fixed sight type (t.named n.identifier n.suffix n.attribute) ≡ (unattributed sight n >>= λ m. suffixed_value type m.0.meaning m.1)
+name_fixed sight type n =
+    fixed_named sight type n.identifier n.suffix n.attribute
+    ∙ together (declaration sight n.identifier.text) (typed_suffix sight n.suffix) (is_none n.attribute)
+  where
+    together : (p : Option Declared) (q : Option Suffix) (b : Bool) →
+        (p >>= λ d. (q >>= λ s. (met b >> suffixed_value type d.meaning s))) ≡ ((p >>= λ d. (q >>= λ s. (met b >> Some (both d s)))) >>= λ m. suffixed_value type m.0.meaning m.1)
+    together (Some d) (Some s) true = refl
+    together p q b = refl
+
+-- what is no name has the value of a literal
+pub fixed_literal : (sight : Sight) (type : ObjectType) (e : t.Expr) → None ≡ as_name e → r.fixed sight type e ≡ r.literal_value type e
+fixed_literal sight type (t.named n y a) h = cc
+fixed_literal sight type e h = refl
+
+-- ---- values
+
+pub fixed_single : (sight : Sight) (type : ObjectType) (x : Option u.Range) (e : t.Expr) →
+    r.fixed_value sight type x (t.single e) ≡ option_or (r.fixed sight type e) (wider sight.language (value_given sight type x (t.single e) >>= known_given))
+unfolding r.fixed_value
+fixed_single sight type x e = refl
+
+-- what is no character, chains of operators among it
+pub no_character : (e : Expr) → ((at code : ℕ) → e ≡ x.Character at code → ⊥) → None ≡ as_character (view e)
+no_character (x.Character at code) other = absurd (other at code refl)
+no_character (x.Chain' p chain) other = chain_is_no_character chain
+no_character e other = refl
+
+pub filled_as : (type : ObjectType) (e : t.Expr) → r.filled_value type e ≡ filled_with type (as_character e)
+filled_as (Elements k) (t.character at s) = refl
+filled_as (Enumeration k m) (t.character at s) = refl
+filled_as type e = refl
+
+pub fixed_others : (sight : Sight) (type : ObjectType) (x : Option u.Range) (at : ℕ) (e : t.Expr) →
+    r.fixed_value sight type x (t.others at e) ≡ option_or (filled_with type (as_character e)) (wider sight.language (value_given sight type x (t.others at e) >>= known_given))
+unfolding r.fixed_value
+fixed_others sight type x at e = ap (λ o. option_or o (wider sight.language (value_given sight type x (t.others at e) >>= known_given))) (filled_as type e)

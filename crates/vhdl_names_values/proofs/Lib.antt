@@ -1,0 +1,6 @@
+pub mod Fixing
+pub mod Knowing
+pub mod Marks
+pub mod BreakingChoices
+pub mod BreakingValues
+pub mod Further

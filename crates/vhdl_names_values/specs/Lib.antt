@@ -1,0 +1,4 @@
+pub mod Fixing
+pub mod Constraining
+pub mod Knowing
+pub mod Marking
