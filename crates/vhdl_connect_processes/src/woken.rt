@@ -9,7 +9,7 @@ ghost use Rattle.vhdl_expand_tree.specs.Views.{sensitivity_view};
 ghost use Rattle.vhdl_connect_processes.specs.Woken.{IsInOrder};
 
 use crate::connection::Connection;
-use rtl_body_facts::sort_once;
+use rtl_body_facts::order_once;
 use smallvec::SmallVec;
 use std::alloc::{AllocError, Global};
 use vhdl_expand_tree::Sensitivity;
@@ -36,7 +36,8 @@ fn short(alloc: Global, numbers: &[usize]) -> Result<SmallVec<usize, 2>, AllocEr
     Ok(copied)
 }
 
-/// The nets of elements, rising, each once. It takes the memory of the list.
+/// The nets of elements, rising, each once. It takes the memory of their list, and at most as much
+/// again to put it in order.
 fn nets_in_order(
     connection: &Connection,
     elements: &[usize],
@@ -44,13 +45,13 @@ fn nets_in_order(
     ensures { IfOk result (λ v. IsInOrder (map (slice_index connection.now.nets.now) elements.now) v.items) }
 {
     let mut found = nets_of(connection, elements)?;
-    sort_once(&mut found);
+    order_once(connection.alloc, &mut found)?;
     short(connection.alloc, &found)
 }
 
 /// The nets that a process is sensitive to, rising, each once, where its body reads these nets:
 /// those of a list's names, of all names that it reads, or those that it reads. It takes the memory
-/// of the list, and time to sort it.
+/// of the list, at most as much again to put it in order, and time to do so.
 pub fn wakes(
     connection: &Connection,
     sensitivity: &Sensitivity,

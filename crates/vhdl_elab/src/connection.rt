@@ -7,7 +7,7 @@ ghost use Rattle.vhdl_expand_tree.specs.Views.{design_view};
 ghost use Rattle.vhdl_elab_rules.specs.Elaboration.{netlist_of};
 ghost use Rattle.vhdl_elab_rules.specs.Limits.{counts, is_within_limits};
 ghost use Rattle.vhdl_elab_rules.specs.Numbering.{numbered_design};
-ghost use Rattle.vhdl_expand_bodies.specs.Results.{Expands};
+ghost use Rattle.vhdl_expand_operands.specs.Results.{Expands};
 ghost use Rattle.vhdl_elab_rules.specs.Shown.{as_shown, net_shown};
 ghost use Rattle.vhdl_elab.specs.Ready.{InstanceIsReady};
 ghost use Rattle.vhdl_elab.specs.Wired.{NetsAreThere};

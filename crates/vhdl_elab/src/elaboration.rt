@@ -9,7 +9,7 @@ ghost use Rattle.vhdl_names_rules.specs.units.Bytes.{units_bytes};
 ghost use Rattle.vhdl_names_rules.specs.sound.Units.{are_sound};
 ghost use Rattle.vhdl_names_rules.specs.sound.Named.{are_named};
 ghost use Rattle.vhdl_names_units.specs.views.Units.{units_view};
-ghost use Rattle.vhdl_expand_bodies.specs.Results.{Charges};
+ghost use Rattle.vhdl_expand_operands.specs.Results.{Charges};
 ghost use Rattle.vhdl_elab_rules.specs.Elaboration.{elaborated_net};
 ghost use Rattle.vhdl_elab_rules.specs.Refused.{MayRefuse};
 ghost use Rattle.vhdl_elab_rules.specs.Shown.{as_shown, net_shown};

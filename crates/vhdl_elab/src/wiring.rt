@@ -3,7 +3,7 @@
 ghost use Rattle.std.specs.Prelude.{◌≡◌, All, length, IfOk};
 ghost use Rattle.rtl_net.specs.Elaborated.{ReadsOfBody};
 ghost use Rattle.rtl_net.specs.Parts.{assembled, IdleAreThere};
-ghost use Rattle.vhdl_expand_bodies.specs.Results.{Expands};
+ghost use Rattle.vhdl_expand_operands.specs.Results.{Expands};
 ghost use Rattle.vhdl_elab_rules.specs.Numbering.{Numbered};
 ghost use Rattle.vhdl_elab_rules.specs.Shown.{as_shown, net_shown};
 ghost use Rattle.vhdl_elab.specs.Made.{IsMade};

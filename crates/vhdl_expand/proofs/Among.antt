@@ -8,7 +8,7 @@ use Rattle.vhdl_names_units.specs.declared.sequential.Statement.{Statement}
 use Rattle.vhdl_names_units.specs.views.Sequential.{Guarded, Chosen, statement_view, statements_of, branches_of, last_of, alternatives_of, option_statements_view}
 use Rattle.vhdl_expand_rules.specs.declared.fault.ElabFault.{ElabFault}
 use Rattle.vhdl_expand_rules.specs.Elab.{Elab}
-use Rattle.vhdl_expand_bodies.specs.Results.{Charges}
+use Rattle.vhdl_expand_operands.specs.Results.{Charges}
 use Rattle.vhdl_expand_tree.proofs.Alike.{tells_among}
 use Rattle.vhdl_expand.specs.Unrolled.{guarded_bytes, chosen_bytes}
 

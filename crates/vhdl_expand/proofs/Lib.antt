@@ -1,12 +1,3 @@
-pub mod Walks
-pub mod Names
-pub mod Given
-pub mod Stepping
-pub mod Growing
-pub mod Elsewhere
-pub mod ObjectSteps
-pub mod ConstantSteps
-pub mod Associating
 pub mod OwnNets
 pub mod Among
 pub mod Telling
@@ -15,10 +6,8 @@ pub mod Stopping
 pub mod Spending
 pub mod Paying
 pub mod Sums
-pub mod Declaring
 pub mod Measured
 pub mod Made
-pub mod Room
 pub mod Counted
 pub mod Making
 pub mod Statements

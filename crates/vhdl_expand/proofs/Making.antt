@@ -8,7 +8,7 @@ use Rattle.vhdl_expand_rules.specs.Elab.{Elab, ◌>>=◌, ◌>>◌, unless, MayT
 use Rattle.vhdl_expand_rules.specs.Tree.{Parts, no_parts, followed_by}
 use Rattle.vhdl_expand_rules.proofs.Steps.{given, ok}
 use Rattle.vhdl_expand_rules.proofs.Chains.{bind-assoc, err_first}
-use Rattle.vhdl_expand_bodies.specs.Results.{Charges}
+use Rattle.vhdl_expand_operands.specs.Results.{Charges}
 use Rattle.vhdl_elab_rules.specs.Limits.{Counts, is_within}
 use Rattle.vhdl_expand_tree.specs.Costs.{no_costs, plus, less, turns, spent, charged, parts_costs}
 use Rattle.vhdl_expand_tree.proofs.Alike.{Alike, wrong, alike_same, alike_trans, alike_then, both_refused, tells, tells_same, tells_first}

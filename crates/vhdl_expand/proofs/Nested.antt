@@ -27,7 +27,7 @@ use Rattle.vhdl_expand_tree.proofs.Charging.{each_number, left_with, charged_mad
 use Rattle.vhdl_expand.specs.Limits.{within_limits}
 use Rattle.vhdl_expand.specs.Making as made
 use Rattle.vhdl_expand.specs.Making.{Made, Progress, and_then, made_costs, made_process, made_instance, adding, together, nothing_yet}
-use Rattle.vhdl_expand.specs.Associations.{associated}
+use Rattle.vhdl_expand_declarations.specs.Associations.{associated}
 use Rattle.vhdl_expand.proofs.Making.{progress, one_added, charged_first, first_added}
 
 -- ---- what an instance costs
@@ -228,19 +228,19 @@ module _ (units : Units) (n : ℕ) (at : Spot) (x : u.Instance) where
 
   pub no_unit : slice_get units x.unit ≡ None → expanded_here ≡ Err (NoTop, x.at)
   unfolding definition.instance
-  no_unit h = ap (λ (o : Option Entity). item_or NoTop x.at o >>= λ unit. interface at.site.integers x.generics unit >>= λ d. associations at.site x.at unit.ports x.ports d.objects >>= λ os. instance_of units n x.at unit (record d { objects = os })) h
+  no_unit h = ap (λ (o : Option Entity). item_or NoTop x.at o >>= λ unit. interface at.site x.generics unit >>= λ d. associations at.site x.at unit.ports x.ports d.objects >>= λ os. instance_of units n x.at unit (record d { objects = os })) h
 
-  pub no_interface : {told : Told} → (unit : Entity) → slice_get units x.unit ≡ Some unit → interface at.site.integers x.generics unit ≡ Err told → expanded_here ≡ Err told
+  pub no_interface : {told : Told} → (unit : Entity) → slice_get units x.unit ≡ Some unit → interface at.site x.generics unit ≡ Err told → expanded_here ≡ Err told
   unfolding definition.instance
   no_interface unit h k =
-      ap (λ (o : Option Entity). item_or NoTop x.at o >>= λ unit. interface at.site.integers x.generics unit >>= λ d. associations at.site x.at unit.ports x.ports d.objects >>= λ os. instance_of units n x.at unit (record d { objects = os })) h
-      ∙ err_first (interface at.site.integers x.generics unit) _ k
+      ap (λ (o : Option Entity). item_or NoTop x.at o >>= λ unit. interface at.site x.generics unit >>= λ d. associations at.site x.at unit.ports x.ports d.objects >>= λ os. instance_of units n x.at unit (record d { objects = os })) h
+      ∙ err_first (interface at.site x.generics unit) _ k
 
-  with-interface : (unit : Entity) (d : InstanceObjects) → slice_get units x.unit ≡ Some unit → interface at.site.integers x.generics unit ≡ Ok d
+  with-interface : (unit : Entity) (d : InstanceObjects) → slice_get units x.unit ≡ Some unit → interface at.site x.generics unit ≡ Ok d
       → expanded_here ≡ (associated at.site x.at unit.ports x.ports d >>= λ e. instance_of units n x.at unit e)
   unfolding definition.instance
   with-interface unit d h k =
-      ap (λ (o : Option Entity). item_or NoTop x.at o >>= λ unit. interface at.site.integers x.generics unit >>= λ d. associations at.site x.at unit.ports x.ports d.objects >>= λ os. instance_of units n x.at unit (record d { objects = os })) h
+      ap (λ (o : Option Entity). item_or NoTop x.at o >>= λ unit. interface at.site x.generics unit >>= λ d. associations at.site x.at unit.ports x.ports d.objects >>= λ os. instance_of units n x.at unit (record d { objects = os })) h
       ∙ ap (λ (r : Elab InstanceObjects). r >>= λ d. associations at.site x.at unit.ports x.ports d.objects >>= λ os. instance_of units n x.at unit (record d { objects = os })) k
       ∙ go (associations at.site x.at unit.ports x.ports d.objects)
     where
@@ -248,11 +248,11 @@ module _ (units : Units) (n : ℕ) (at : Spot) (x : u.Instance) where
       go (Ok os) = refl
       go (Err told) = refl
 
-  pub no_associations : {told : Told} → (unit : Entity) (d : InstanceObjects) → slice_get units x.unit ≡ Some unit → interface at.site.integers x.generics unit ≡ Ok d
+  pub no_associations : {told : Told} → (unit : Entity) (d : InstanceObjects) → slice_get units x.unit ≡ Some unit → interface at.site x.generics unit ≡ Ok d
       → associated at.site x.at unit.ports x.ports d ≡ Err told → expanded_here ≡ Err told
   no_associations unit d h k j = with-interface unit d h k ∙ err_first (associated at.site x.at unit.ports x.ports d) _ j
 
-  pub instance_here : (unit : Entity) (d e : InstanceObjects) → slice_get units x.unit ≡ Some unit → interface at.site.integers x.generics unit ≡ Ok d
+  pub instance_here : (unit : Entity) (d e : InstanceObjects) → slice_get units x.unit ≡ Some unit → interface at.site x.generics unit ≡ Ok d
       → associated at.site x.at unit.ports x.ports d ≡ Ok e → expanded_here ≡ instance_of units n x.at unit e
   instance_here unit d e h k j = with-interface unit d h k ∙ ap (λ (r : Elab InstanceObjects). r >>= λ e. instance_of units n x.at unit e) j
 

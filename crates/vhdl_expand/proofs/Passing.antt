@@ -4,7 +4,7 @@ use Rattle.std.specs.Prelude.{◌≢◌, IsErrAnd}
 use Rattle.vhdl_expand_rules.specs.Elab.{Elab, fault_told, MayTell}
 use Rattle.vhdl_expand_rules.specs.declared.fault.ElabFault.{ElabFault}
 use Rattle.vhdl_expand_rules.specs.declared.fault.ElabFault.TheVariants.{NoMemory}
-use Rattle.vhdl_expand_bodies.specs.Results.{Charges}
+use Rattle.vhdl_expand_operands.specs.Results.{Charges}
 
 -- by a call that charges budgets
 pub passed_told : {bytes : List ℕ} {X Y : Type 0} (view : X → Y) (given : Elab Y) (fault : ElabFault) (P : ElabFault → Type 0) (r : Result X ElabFault) → IsErrAnd r P

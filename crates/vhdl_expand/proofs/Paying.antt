@@ -1,16 +1,19 @@
--- Costs that are paid one after another, and those of lists and of turns.
-use Rattle.std.proofs.Common.{◌≡◌, ℕ, ◌+◌, ◌<◌, ◌≤◌, List, [], ◌∷◌, length, map, get_or, drop, Result, Ok, Err, refl, sym, ap, ◌∙◌, subst}
+-- Costs that are paid one after another, and those of lists, of turns and of variables.
+use Rattle.std.proofs.Common.{◌≡◌, ℕ, ◌+◌, ◌<◌, ◌≤◌, List, [], ◌∷◌, length, map, get_or, drop, Result, Ok, Err, refl, sym, ap, ◌∙◌}
 use Rattle.std.specs.Prelude.{ℤ}
+use Rattle.std.proofs.lemmas.List.Sums.{sum_by-cons}
 use Rattle.vhdl_tree.specs.declared.operator.Direction.{Direction}
 use Rattle.vhdl_expand_rules.specs.declared.fault.ElabFault.{ElabFault}
 use Rattle.vhdl_expand_rules.specs.Elab.{Elab, ◌>>=◌, MayTell, Told}
 use Rattle.vhdl_expand_rules.specs.Integers.{numbers_from}
 use Rattle.vhdl_expand_rules.specs.Parameters.{parameter}
+use Rattle.vhdl_expand_rules.specs.Tree as t
 use Rattle.vhdl_expand_rules.proofs.Parameters.{next-turn, no-turn}
 use Rattle.vhdl_expand_rules.proofs.Items.{next_left}
-use Rattle.vhdl_expand_bodies.specs.Results.{Expands, Charges}
+use Rattle.vhdl_expand_rules.proofs.Steps.{given}
+use Rattle.vhdl_expand_operands.specs.Results.{Charges}
 use Rattle.vhdl_elab_rules.specs.Limits.{Counts}
-use Rattle.vhdl_expand_tree.specs.Costs.{spent}
+use Rattle.vhdl_expand_tree.specs.Costs.{spent, variable_elements, variables_costs}
 use Rattle.vhdl_expand_tree.proofs.Alike.{Alike, wrong, alike_same, alike_trans, both_refused, tells_first}
 use Rattle.vhdl_expand_tree.proofs.Charging.{spent-plus, spent-none, spent_told}
 use Rattle.vhdl_expand_rules.specs.declared.fault.ElabProblem.TheVariants.{TooMany}
@@ -19,9 +22,6 @@ use Rattle.vhdl_expand.specs.Unrolled.{both, together, paid}
 pub charges_alike : (bytes : List ℕ) {X Y : Type 0} (view : X → Y) (p q : Elab Y) (r : Result X ElabFault) → Alike p q → Charges bytes view q r → Charges bytes view p r
 charges_alike bytes view p q (Ok x) a h = a.gives (view x) h
 charges_alike bytes view p q (Err fault) a h = λ n. a.stops _ _ (h n)
-
-pub expands_same : {X Y : Type 0} (view : X → Y) (p q : Elab Y) (r : Result X ElabFault) → p ≡ q → Expands view q r → Expands view p r
-expands_same {X} {Y} view p q r e h = subst (λ (a : Elab Y). Expands view a r) (sym e) h
 
 -- ---- one after another
 
@@ -75,3 +75,13 @@ module _ (f : ℤ → Elab Counts) (direction : Direction) (x : ℤ) (count : �
 
   pub turns_end : (total : Elab Counts) (n : Counts) (k : ℕ) → count ≤ k → Alike total (paid n (together f (drop k (numbers_from direction x count)))) → total ≡ Ok n
   turns_end total n k h so_far = so_far.gives n (ap (λ js. paid n (together f js)) (no-turn direction x count k h) ∙ spent-none 0 n)
+
+-- ---- costs of variables
+
+abbrev pub elements_costs : t.Variable → Elab Counts
+elements_costs v = Ok (variable_elements (length v.starts))
+
+pub variables_together : (vs : List t.Variable) → together elements_costs vs ≡ Ok (variables_costs vs)
+variables_together [] = refl
+variables_together (v ∷ vs) =
+    ap (both (elements_costs v)) (variables_together vs) ∙ ap (λ (n : ℕ). given (variable_elements n)) (sym (sum_by-cons (λ n. n) (length v.starts) (map (λ (w : t.Variable). length w.starts) vs)))

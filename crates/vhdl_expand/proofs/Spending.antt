@@ -7,7 +7,7 @@ use Rattle.vhdl_expand_rules.specs.declared.fault.ElabProblem.TheVariants.{TooMa
 use Rattle.vhdl_expand_rules.specs.Elab.{Told, Elab, ◌>>=◌, ◌>>◌, unless, fault_told, MayTell}
 use Rattle.vhdl_expand_rules.specs.views.Integers.{Makes}
 use Rattle.vhdl_expand_rules.proofs.Steps.{given}
-use Rattle.vhdl_expand_bodies.specs.Results.{Charges}
+use Rattle.vhdl_expand_operands.specs.Results.{Charges}
 use Rattle.vhdl_elab_rules.specs.Limits.{Counts, is_within}
 use Rattle.vhdl_expand_tree.specs.Costs.{less, spent}
 use Rattle.vhdl_expand_tree.proofs.Alike.{Alike, alike_same, both_refused, tells_spent}

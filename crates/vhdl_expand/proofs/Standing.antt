@@ -2,63 +2,65 @@
 use Rattle.std.proofs.Common.{◌≡◌, ◌<◌, ℕ, zero, suc, List, [], ◌∷◌, ◌++◌, length, map, get_or, Option, Some, Ok, All, sym, subst, arith}
 use Rattle.std.specs.Prelude.{slice_get, flat_map, Contains}
 use Rattle.std.proofs.lemmas.Option.{same_Some}
-use Rattle.std.proofs.lemmas.List.Elements.{All-nil, All-cons, All-head, All-tail, All-append, All-map}
+use Rattle.std.proofs.lemmas.List.Elements.{All-nil, All-cons, All-head, All-tail, All-append, All-map, All-weaker}
+use Rattle.vhdl_names_rules.specs.units.Expressions.{SignalPart}
 use Rattle.vhdl_names_rules.specs.units.Units as u
-use Rattle.vhdl_names_rules.specs.units.Units.{Units, Entity, Architecture, Declaration}
-use Rattle.vhdl_names_rules.specs.units.Bytes.{if_any_bytes, static_bytes, range_bytes, static_test_bytes, place_bytes, statements_bytes, object_bytes, sensitivity_bytes, process_bytes, instance_bytes, declaration_bytes, concurrent_bytes, concurrents_bytes, architecture_bytes, entity_bytes, units_bytes}
+use Rattle.vhdl_names_rules.specs.units.Units.{Units, Entity, Architecture, Declaration, Fixed, Port}
+use Rattle.vhdl_names_rules.specs.units.Bytes.{if_any_bytes, range_bytes, static_test_bytes, place_bytes, fixed_bytes, statements_bytes, sensitivity_bytes, process_bytes, instance_bytes, declaration_bytes, concurrent_bytes, concurrents_bytes, architecture_bytes, entity_bytes, units_bytes}
 use Rattle.vhdl_names_rules.specs.views.Integers.{range_view}
 use Rattle.vhdl_names_rules.specs.views.Tests.{static_test_view}
 use Rattle.vhdl_names_units.specs.declared.concurrent.Concurrent.{Concurrent}
 use Rattle.vhdl_names_units.specs.declared.concurrent.Scheme.{Scheme}
 use Rattle.vhdl_names_units.specs.declared.concurrent.Scheme.TheVariants as k
 use Rattle.vhdl_names_units.specs.views.Concurrent as views
-use Rattle.vhdl_expand_rules.specs.Elab.{each}
-use Rattle.vhdl_expand_rules.specs.Site.{Site, no_integers}
+use Rattle.vhdl_expand_rules.specs.declared.fault.ElabProblem.TheVariants.{TooDeep}
+use Rattle.vhdl_expand_rules.specs.Elab.{Told}
+use Rattle.vhdl_expand_rules.specs.Site.{Site, no_site}
 use Rattle.vhdl_expand_rules.specs.Tops.{Top, actuals_of, top_interface}
 use Rattle.vhdl_expand_rules.specs.Statements.{statements}
 use Rattle.vhdl_expand_rules.specs.Tree.{Object}
-use Rattle.vhdl_expand_rules.specs.Declarations.{InstanceObjects, variable, interface, declarations, associations}
+use Rattle.vhdl_expand_rules.specs.Declarations.{InstanceObjects, ProcessVariables, interface, declarations, process_declarations, associations}
 use Rattle.vhdl_expand_rules.proofs.Steps.{ok, bound}
-use Rattle.vhdl_expand_rules.proofs.Tells.{tells_none, tells_then, tells_each, all_flat}
+use Rattle.vhdl_expand_rules.proofs.Tells.{At, tells_none, tells_then, all_flat}
 use Rattle.vhdl_expand_rules.proofs.laws.Made.{interface_made}
 use Rattle.vhdl_expand_rules.proofs.laws.Targets.{all_left, all_right}
-use Rattle.vhdl_expand_rules.proofs.laws.told.Declarations.{MayStand, EntityStands, entity_stands, interface_tells, top_interface_tells, declarations_tell, variable_tells, associations_tell}
+use Rattle.vhdl_expand_rules.proofs.laws.told.Declarations.{MayStand, EntityStands, entity_stands, interface_tells, top_interface_tells, declarations_tell, process_declarations_tell, associations_tell}
 use Rattle.vhdl_expand_rules.proofs.laws.told.Statements.{statements_tells}
 use Rattle.vhdl_elab_rules.proofs.laws.Standing.{interface_stands, associations_stand, declarations_stand}
-use Rattle.vhdl_expand.specs.Associations.{associated}
+use Rattle.vhdl_expand_declarations.specs.Associations.{associated}
 use Rattle.vhdl_expand.specs.Walks.{IsAmong}
 use Rattle.vhdl_expand.proofs.Among.{Among, among_left, among_right, among_all, all_among, first_among, under, beside}
-use Rattle.vhdl_expand.proofs.Telling.{Places, tells_places}
+use Rattle.vhdl_expand.proofs.Telling.{IsPlaced, Places, tells_places, anywhere, all_anywhere, each_anywhere}
 
 -- ---- a process
 
 module _ (p : u.Process) where
-  abbrev variables-list : List ℕ
-  variables-list = flat_map object_bytes p.variables
+  abbrev declarations-list : List ℕ
+  declarations-list = flat_map declaration_bytes p.declarations
 
   abbrev body-list : List ℕ
   body-list = sensitivity_bytes p.sensitivity ++ statements_bytes p.body
 
   pub process_starts : Contains (process_bytes p) p.at
-  process_starts = first_among p.at (variables-list ++ body-list)
-
-  pub start_among : Among (p.at ∷ []) (process_bytes p)
-  start_among = among_left (p.at ∷ []) (variables-list ++ body-list)
+  process_starts = first_among p.at (declarations-list ++ body-list)
 
   pub body_among : Among (p.at ∷ statements_bytes p.body) (process_bytes p)
-  body_among = under p.at (statements_bytes p.body) (variables-list ++ body-list) (λ at c.
-      among_right variables-list body-list at (among_right (sensitivity_bytes p.sensitivity) (statements_bytes p.body) at c))
+  body_among = under p.at (statements_bytes p.body) (declarations-list ++ body-list) (λ at c.
+      among_right declarations-list body-list at (among_right (sensitivity_bytes p.sensitivity) (statements_bytes p.body) at c))
 
-  pub variables_place : (here : Site) → Places (process_bytes p) (each (variable here) p.variables)
-  variables_place here =
-      let P : ℕ → Type 0 = Contains (process_bytes p) in
-      let there : All P variables-list = all_among variables-list (process_bytes p) (λ at c. among_right (p.at ∷ []) (variables-list ++ body-list) at (among_left variables-list body-list at c)) in
-      tells_places (process_bytes p) _ (tells_each P (λ o. All P (object_bytes o)) (variable here) p.variables (λ o h. variable_tells P here o h) (all_flat P object_bytes p.variables there))
+  pub declared_places : (d : ProcessVariables) → Places (process_bytes p) (process_declarations d p.declarations)
+  declared_places d =
+      let P : Told → Type 0 = IsPlaced (process_bytes p) in
+      tells_places (process_bytes p) _ (process_declarations_tell P p.declarations d (each_anywhere (process_bytes p) declaration_bytes p.declarations))
 
+  -- loops tell their turns
   pub body_places : (here : Site) → Places (process_bytes p) (statements here p.body)
   body_places here =
-      let P : ℕ → Type 0 = Contains (process_bytes p) in
-      tells_places (process_bytes p) _ (statements_tells P p.body here (All-tail P p.at (statements_bytes p.body) (all_among (p.at ∷ statements_bytes p.body) (process_bytes p) body_among)))
+      let P : Told → Type 0 = λ told. Contains (process_bytes p) told.1 in
+      let there : All (Contains (process_bytes p)) (statements_bytes p.body) =
+      All-tail (Contains (process_bytes p)) p.at (statements_bytes p.body) (all_among (p.at ∷ statements_bytes p.body) (process_bytes p) body_among) in
+      let told = statements_tells P (λ at h. h TooDeep tt) p.body here (All-weaker (Contains (process_bytes p)) (At P) (λ at h problem own. h) (statements_bytes p.body) there) in
+      record { placed = λ other e too. told.told_at other e }
 
 -- ---- concurrent statements
 
@@ -95,6 +97,9 @@ unit_stands units unit bytes among whole =
 
 -- ---- the body of an instance
 
+pub declarations_place : (bytes : List ℕ) (xs : List Declaration) (d : InstanceObjects) → Places bytes (declarations d xs)
+declarations_place bytes xs d = tells_places bytes _ (declarations_tell (IsPlaced bytes) xs d (each_anywhere bytes declaration_bytes xs))
+
 module _ (units : Units) (unit : Entity) (bytes : List ℕ) (among : IsAmong units unit) (whole : Among (units_bytes units) bytes) (a : Architecture) (there : unit.architecture ≡ Some a) where
   abbrev declared-list : List ℕ
   declared-list = flat_map declaration_bytes a.declarations
@@ -104,9 +109,6 @@ module _ (units : Units) (unit : Entity) (bytes : List ℕ) (among : IsAmong uni
 
   declarations-there : All (λ (x : Declaration). All (Contains bytes) (declaration_bytes x)) a.declarations
   declarations-there = all_flat (Contains bytes) declaration_bytes a.declarations (all_left (Contains bytes) declared-list (concurrents_bytes a.statements) architecture-stands)
-
-  pub declarations_place : (d : InstanceObjects) → Places bytes (declarations d a.declarations)
-  declarations_place d = tells_places bytes _ (declarations_tell (Contains bytes) a.declarations d declarations-there)
 
   pub nets_among : (d e : InstanceObjects) → All (λ (o : Object). Contains bytes o.at) d.objects → declarations d a.declarations ≡ Ok e → Among (map (λ (o : Object). o.at) e.objects) bytes
   nets_among d e h k =
@@ -153,50 +155,38 @@ objects_there units at os =
 
 -- ---- an instance in an instance
 
+pub interface_places : (bytes : List ℕ) (above : Site) (actuals : List (Option Fixed)) (unit : Entity) → Places bytes (interface above actuals unit)
+interface_places bytes above actuals unit =
+    tells_places bytes _
+    (interface_tells (IsPlaced bytes) above actuals unit (each_anywhere bytes (if_any_bytes fixed_bytes) actuals) (entity_stands (At (IsPlaced bytes)) unit (all_anywhere bytes (entity_bytes unit))))
+
+pub associated_places : (bytes : List ℕ) (above : Site) (at : ℕ) (ps : List Port) (actuals : List (Option SignalPart)) (d : InstanceObjects) → Places bytes (associated above at ps actuals d)
+associated_places bytes above at ps actuals d =
+    tells_places bytes _
+    (tells_then (IsPlaced bytes) (associations above at ps actuals d.objects) _
+    (associations_tell (IsPlaced bytes) above at ps actuals d.objects (anywhere bytes at) (each_anywhere bytes (if_any_bytes place_bytes) actuals))
+    (λ os. tells_none (IsPlaced bytes) _))
+
 module _ (units : Units) (here : Site) (x : u.Instance) (unit : Entity) (found : slice_get units x.unit ≡ Some unit) where
   abbrev pub written_list : List ℕ
   written_list = instance_bytes x ++ units_bytes units
 
-  abbrev generics-list : List ℕ
-  generics-list = flat_map (if_any_bytes static_bytes) x.generics
-
-  abbrev ports-list : List ℕ
-  ports-list = flat_map (if_any_bytes place_bytes) x.ports
-
   units-behind : Among (units_bytes units) written_list
   units-behind = among_right (instance_bytes x) (units_bytes units)
 
-  written-there : All (Contains written_list) (x.at ∷ (generics-list ++ ports-list))
-  written-there = all_among (instance_bytes x) written_list (among_left (instance_bytes x) (units_bytes units))
-
   label-there : Contains written_list x.at
-  label-there = All-head (Contains written_list) x.at (generics-list ++ ports-list) written-there
-
-  maps-there : All (Contains written_list) (generics-list ++ ports-list)
-  maps-there = All-tail (Contains written_list) x.at (generics-list ++ ports-list) written-there
+  label-there =
+      let maps : List ℕ = flat_map (if_any_bytes fixed_bytes) x.generics ++ flat_map (if_any_bytes place_bytes) x.ports in
+      among_left (instance_bytes x) (units_bytes units) x.at (first_among x.at maps)
 
   stands : EntityStands (Contains written_list) unit
   stands = unit_stands units unit written_list (x.unit, found) units-behind
 
-  pub interface_places : Places written_list (interface here.integers x.generics unit)
-  interface_places =
-      tells_places written_list _
-      (interface_tells (Contains written_list) here.integers x.generics unit
-      (all_flat (Contains written_list) (if_any_bytes static_bytes) x.generics (all_left (Contains written_list) generics-list ports-list maps-there)) stands)
-
-  pub associated_places : (d : InstanceObjects) → Places written_list (associated here x.at unit.ports x.ports d)
-  associated_places d =
-      tells_places written_list _
-      (tells_then (Contains written_list) (associations here x.at unit.ports x.ports d.objects) _
-      (associations_tell (Contains written_list) here x.at unit.ports x.ports d.objects label-there
-      (all_flat (Contains written_list) (if_any_bytes place_bytes) x.ports (all_right (Contains written_list) generics-list ports-list maps-there)))
-      (λ os. tells_none (Contains written_list) _))
-
-  pub joined_among : (d e : InstanceObjects) → interface here.integers x.generics unit ≡ Ok d → associated here x.at unit.ports x.ports d ≡ Ok e → Among (instance_list units x.at e.objects) written_list
+  pub joined_among : (d e : InstanceObjects) → interface here x.generics unit ≡ Ok d → associated here x.at unit.ports x.ports d ≡ Ok e → Among (instance_list units x.at e.objects) written_list
   joined_among d e known joined =
       let os = bound (associations here x.at unit.ports x.ports d.objects) _ e joined in
       let all : All (λ (o : Object). Contains written_list o.at) os.x =
-      associations_stand (Contains written_list) here x.at unit.ports x.ports d.objects os.x (interface_stands (Contains written_list) here.integers x.generics unit d stands known) os.gave in
+      associations_stand (Contains written_list) here x.at unit.ports x.ports d.objects os.x (interface_stands (Contains written_list) here x.generics unit d stands known) os.gave in
       instance_among units x.at e.objects written_list label-there
       (subst (λ (y : InstanceObjects). All (λ (o : Object). Contains written_list o.at) y.objects) (ok (record d { objects = os.x }) e os.then_gave) all) units-behind
 
@@ -207,9 +197,11 @@ module _ (units : Units) (top : Top) (unit : Entity) (among : IsAmong units unit
   top-stands = unit_stands units unit (units_bytes units) among (λ at c. c)
 
   pub top_places : Places (units_bytes units) (top_interface top unit)
-  top_places = tells_places (units_bytes units) _ (top_interface_tells (Contains (units_bytes units)) top unit top-stands)
+  top_places =
+      tells_places (units_bytes units) _
+      (top_interface_tells (IsPlaced (units_bytes units)) top unit (entity_stands (At (IsPlaced (units_bytes units))) unit (all_anywhere (units_bytes units) (entity_bytes unit))))
 
   pub top_among : (d : InstanceObjects) → top_interface top unit ≡ Ok d → Among (instance_list units unit.at d.objects) (units_bytes units)
   top_among d known =
       instance_among units unit.at d.objects (units_bytes units) top-stands.at
-      (interface_stands (Contains (units_bytes units)) no_integers (actuals_of top.generics unit.generics) unit d top-stands (interface_made top unit d known)) (λ at c. c)
+      (interface_stands (Contains (units_bytes units)) no_site (actuals_of top.generics unit.generics) unit d top-stands (interface_made top unit d known)) (λ at c. c)

@@ -19,16 +19,16 @@ use Rattle.vhdl_expand_rules.specs.Declarations.{InstanceObjects, interface, dec
 use Rattle.vhdl_expand_rules.specs.Expansion.{Spot, instance_of}
 use Rattle.vhdl_elab_rules.specs.Limits.{Counts}
 use Rattle.vhdl_elab_rules.specs.Numbering.{own_sizes}
-use Rattle.vhdl_expand_bodies.proofs.Places.{there}
+use Rattle.vhdl_expand_operands.proofs.Several.{there}
 use Rattle.vhdl_expand_tree.specs.declared.tree.Object.{Object}
 use Rattle.vhdl_expand_tree.specs.Costs.{an_instance, nets, spent, charged, instance_costs}
 use Rattle.vhdl_expand_tree.specs.Views.{object_view}
 use Rattle.vhdl_expand_tree.proofs.Alike.{tells, tells_same, tells_among}
-use Rattle.vhdl_expand.specs.declared.declared.InstanceObjects as code
-use Rattle.vhdl_expand.specs.Associations.{associated}
+use Rattle.vhdl_expand_declarations.specs.declared.declared.InstanceObjects as code
+use Rattle.vhdl_expand_declarations.specs.Associations.{associated}
 use Rattle.vhdl_expand.specs.Making as made
 use Rattle.vhdl_expand.specs.Making.{Progress, adding, nothing_yet}
-use Rattle.vhdl_expand.specs.Views.{declared_view}
+use Rattle.vhdl_expand_declarations.specs.Views.{declared_view}
 use Rattle.vhdl_expand.specs.Walks.{IsAmong}
 use Rattle.vhdl_expand.proofs.Among.{same_among, then_among}
 use Rattle.vhdl_expand.proofs.Nested.{outermost, too_deep, no_architecture, no_instance_left, no_declarations, no_nets_left, not_inside, not_expanded, no_interface, no_associations, instance_here, instance_refused}
@@ -62,7 +62,7 @@ module _ (units : Units) (levels at : ℕ) (unit : Entity) (d : InstanceObjects)
     module _ (among : IsAmong units unit) (a : Architecture) (found : unit.architecture ≡ Some a) where
       pub declared_told : {told : Told} → declarations d a.declarations ≡ Err told → MayTell bytes whole told
       declared_told {told} h =
-          leveled (tells ((declarations_place units unit bytes among (units_among units at d.objects) a found d).placed told h) (no_declarations units n at unit d before a found h))
+          leveled (tells ((declarations_place bytes a.declarations d).placed told h) (no_declarations units n at unit d before a found h))
 
       module _ (e : code.InstanceObjects) (known : declarations d a.declarations ≡ Ok (declared_view e)) (first : Counts) (started : spent at before an_instance ≡ Ok first) where
         pub nets_told : {told : Told} → (os : List Object) → os ≡ e.objects.items → MayTell (map (λ (o : Object). o.at) os) (spent 0 first (nets (own_sizes (map object_view os)))) told → MayTell bytes whole told
@@ -96,14 +96,14 @@ module _ (units : Units) (levels : ℕ) (at : Spot) (x : u.Instance) (so_far : P
   abbrev written-bytes : List ℕ
   written-bytes = instance_bytes x ++ units_bytes units
 
-  pub interface_told : {told : Told} → interface at.site.integers x.generics unit ≡ Err told → MayTell written-bytes written told
+  pub interface_told : {told : Told} → interface at.site x.generics unit ≡ Err told → MayTell written-bytes written told
   interface_told {told} h =
-      tells ((interface_places units at.site x unit found).placed told h) (not_expanded (at.prefix ++ x.label) so_far _ (no_interface units levels at x unit found h))
+      tells ((interface_places written-bytes at.site x.generics unit).placed told h) (not_expanded (at.prefix ++ x.label) so_far _ (no_interface units levels at x unit found h))
 
-  module _ (d : InstanceObjects) (known : interface at.site.integers x.generics unit ≡ Ok d) where
+  module _ (d : InstanceObjects) (known : interface at.site x.generics unit ≡ Ok d) where
     pub associated_told : {told : Told} → associated at.site x.at unit.ports x.ports d ≡ Err told → MayTell written-bytes written told
     associated_told {told} h =
-        tells ((associated_places units at.site x unit found d).placed told h) (not_expanded (at.prefix ++ x.label) so_far _ (no_associations units levels at x unit d found known h))
+        tells ((associated_places written-bytes at.site x.at unit.ports x.ports d).placed told h) (not_expanded (at.prefix ++ x.label) so_far _ (no_associations units levels at x unit d found known h))
 
     pub inner_told : {told : Told} → (f : InstanceObjects) → associated at.site x.at unit.ports x.ports d ≡ Ok f
         → MayTell (instance_list units x.at f.objects) (charged so_far.left instance_costs (instance_of units levels x.at unit f)) told → MayTell written-bytes written told

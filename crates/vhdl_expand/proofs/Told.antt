@@ -16,9 +16,6 @@ use Rattle.vhdl_expand_tree.proofs.Alike.{tells}
 pub told_at : {bytes : List ℕ} {A : Type 0} {given : Elab A} {fault : ElabFault} {problem : ElabProblem} {at : ℕ} → fault ≡ At problem at → MayTell bytes given (problem, at) → MayTell bytes given (fault_told fault)
 told_at {bytes = bytes} {A = A} {given = given} e t = let P : Told → Type 0 = λ q. MayTell bytes given q in subst P (sym (ap (λ (f : ElabFault). fault_told f) e)) t
 
-pub same_at : {A : Type 0} {given : Elab A} {fault : ElabFault} {problem : ElabProblem} {at : ℕ} → fault ≡ At problem at → given ≡ Err (problem, at) → given ≡ Err (fault_told fault)
-same_at {A = A} {given = given} e h = let P : Told → Type 0 = λ q. given ≡ Err q in subst P (sym (ap (λ (f : ElabFault). fault_told f) e)) h
-
 -- a problem that no budget has
 pub other_told : {A : Type 0} {bytes : List ℕ} {given : Elab A} (problem : ElabProblem) (at : ℕ) → problem ≢ TooMany → given ≡ Err (problem, at) → MayTell bytes given (problem, at)
 other_told problem at other e = tells (λ too. absurd (other too)) e

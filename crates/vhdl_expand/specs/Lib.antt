@@ -1,13 +1,7 @@
-pub mod Stepwise
-pub mod Generics
-pub mod Views
-pub mod Objects
-pub mod Constants
-pub mod Associations
 pub mod Unrolled
 pub mod Turning
 pub mod Processes
-pub mod Variables
+pub mod Doings
 pub mod Laws
 pub mod Limits
 pub mod Making

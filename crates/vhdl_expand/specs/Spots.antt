@@ -1,7 +1,7 @@
 -- What contracts see of where concurrent statements stand.
 use Rattle.std.specs.Prelude.{ℕ, ℤ, List}
 use Rattle.vhdl_expand_rules.specs.Expansion as definition
-use Rattle.vhdl_expand.specs.Views.{declared_view, within_generates}
+use Rattle.vhdl_expand_declarations.specs.Views.{declared_view, within_generates}
 use Rattle.vhdl_expand.specs.declared.spot.Spot.{Spot}
 
 -- within generates whose parameters have these values, and whose labels are these

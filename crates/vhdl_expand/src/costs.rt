@@ -7,7 +7,7 @@
 ghost use Rattle.std.specs.Prelude.{◌≡◌, ◌++◌, [], ◌∷◌, flat_map, map, Ok};
 ghost use Rattle.vhdl_names_rules.specs.views.Integers.{range_view};
 ghost use Rattle.vhdl_expand_rules.specs.views.Integers.{integers_view};
-ghost use Rattle.vhdl_expand_bodies.specs.Results.{Expands, Charges};
+ghost use Rattle.vhdl_expand_operands.specs.Results.{Expands, Charges};
 ghost use Rattle.vhdl_names_rules.specs.units.Statements as units;
 ghost use Rattle.vhdl_names_rules.specs.units.Bytes.{statement_bytes, statements_bytes, branches_bytes, alternatives_bytes};
 ghost use Rattle.vhdl_names_units.specs.declared.sequential.Case.{out-Case};
@@ -219,18 +219,8 @@ fn of_turn(
 {
     let mut loops = integers.loops.to_vec(alloc)?;
     loops.push(parameter)?;
-    let inner = Integers {
-        generics: integers.generics,
-        constants: integers.constants,
-        generates: integers.generates,
-        loops: &loops,
-    };
+    let inner = (&*integers).within(&loops);
     let taken = of_statements(alloc, &inner, &repeated.statements, repeated.at, budget);
-    let Integers {
-        generics: _,
-        constants: _,
-        generates: _,
-        loops: _,
-    } = inner;
+    inner.end();
     taken
 }

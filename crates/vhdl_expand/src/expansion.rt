@@ -10,17 +10,16 @@ ghost use Rattle.vhdl_expand_rules.specs.Elab.{fault_told};
 ghost use Rattle.vhdl_expand_rules.specs.Expansion.{expanded_design};
 ghost use Rattle.vhdl_expand_rules.specs.Tops.{top_interface};
 ghost use Rattle.vhdl_expand_rules.specs.views.Tops.{top_view};
-ghost use Rattle.vhdl_expand_bodies.specs.Results.{Expands, Charges};
+ghost use Rattle.vhdl_expand_operands.specs.Results.{Expands, Charges};
 ghost use Rattle.vhdl_expand_tree.specs.Views.{design_view};
 ghost use Rattle.vhdl_expand.specs.Limits.{within_limits};
-ghost use Rattle.vhdl_expand.specs.Views.{declared_view};
+ghost use Rattle.vhdl_expand_declarations.specs.Views.{declared_view};
 
-use crate::declarative::interface_with;
-use crate::declared::InstanceObjects;
 use crate::settings::{are_generics, lent, set_actuals};
 use crate::walk::Walk;
 use std::alloc::Global;
-use vhdl_expand_rules::{ElabFault, ElabProblem, Integers, Top};
+use vhdl_expand_declarations::{InstanceObjects, interface_with};
+use vhdl_expand_rules::{ElabFault, ElabProblem, Top};
 use vhdl_expand_tree::{Budget, Design};
 use vhdl_names_units::{Entity, Units};
 
@@ -50,19 +49,10 @@ fn outermost(alloc: Global, top: Top<'_>, unit: &Entity) -> Result<InstanceObjec
     }
     let set = set_actuals(alloc, top.generics, &unit.generics)?;
     let actuals = lent(alloc, &set)?;
-    let none = Integers {
-        generics: &[],
-        constants: &[],
-        generates: &[],
-        loops: &[],
-    };
-    let declared = interface_with(alloc, &none, &actuals, unit);
-    let Integers {
-        generics: _,
-        constants: _,
-        generates: _,
-        loops: _,
-    } = none;
+    let nothing = InstanceObjects::new(alloc);
+    let above = nothing.site(&[]);
+    let declared = interface_with(alloc, &above, &actuals, unit);
+    above.end();
     declared
 }
 

@@ -1,13 +1,14 @@
-//! The nets that an instance has of its own (IEEE 1076-2008, 6.5.6.3).
+//! The nets that an instance has of its own (IEEE 1076-2008, 6.5.6.3), and the elements of a
+//! process's variables.
 
-ghost use Rattle.std.specs.Prelude.{◌≡◌, map};
+ghost use Rattle.std.specs.Prelude.{◌≡◌, [], ◌∷◌, map};
 ghost use Rattle.vhdl_elab_rules.specs.Numbering.{own_size, own_sizes};
-ghost use Rattle.vhdl_expand_bodies.specs.Results.{Charges};
-ghost use Rattle.vhdl_expand_tree.specs.Costs.{nets, spent};
-ghost use Rattle.vhdl_expand_tree.specs.Views.{budget_view, object_view};
+ghost use Rattle.vhdl_expand_operands.specs.Results.{Charges};
+ghost use Rattle.vhdl_expand_tree.specs.Costs.{nets, spent, variables_costs};
+ghost use Rattle.vhdl_expand_tree.specs.Views.{budget_view, object_view, variable_view};
 
 use vhdl_expand_rules::ElabFault;
-use vhdl_expand_tree::{Budget, Object};
+use vhdl_expand_tree::{Budget, Object, Variable};
 
 /// How many elements of an object aren't those of an actual.
 fn own_elements(object: &Object) -> usize
@@ -27,6 +28,22 @@ pub fn charge_own_nets(objects: &[Object], budget: &mut Budget) -> Result<(), El
 {
     for object in objects {
         budget.charge_nets(own_elements(object), object.at)?;
+    }
+    Ok(())
+}
+
+/// Takes the elements of variables from the budget; a fault is TooMany, at this byte, where fewer
+/// are left.
+pub(crate) fn charge_variables(
+    variables: &[Variable],
+    at: usize,
+    budget: &mut Budget,
+) -> Result<(), ElabFault>
+    ensures { Charges (at ∷ []) (λ _. budget_view budget.new)
+        (spent at (budget_view budget.old) (variables_costs (map variable_view variables.now))) result }
+{
+    for variable in variables {
+        budget.charge_variables(variable.starts.len(), at)?;
     }
     Ok(())
 }

@@ -1,7 +1,7 @@
 //! What is made of an instance so far.
 
 ghost use Rattle.std.specs.Prelude.{[], ◌∷◌, Ok};
-ghost use Rattle.vhdl_expand_bodies.specs.Results.{Charges};
+ghost use Rattle.vhdl_expand_operands.specs.Results.{Charges};
 ghost use Rattle.vhdl_expand.specs.Making.{TurnsFit, progress_view, adding, made_turns};
 
 use vhdl_expand_rules::ElabFault;

@@ -4,20 +4,24 @@ ghost use Rattle.std.specs.Prelude.{◌≡◌, ◌++◌, flat_map, map, option_m
 ghost use Rattle.std.specs.List.{list_all};
 ghost use Rattle.vhdl_names_rules.specs.units.Units as u;
 ghost use Rattle.vhdl_names_rules.specs.views.Integers.{static_view};
+ghost use Rattle.vhdl_names_units.specs.views.Answers.{fixed_view};
 ghost use Rattle.vhdl_names_units.specs.views.Declarations.{generics_view};
 ghost use Rattle.vhdl_expand_rules.specs.Tops as definition;
 ghost use Rattle.vhdl_expand_rules.specs.views.Tops.{setting_view};
-ghost use Rattle.vhdl_expand.specs.Generics.{actuals_view};
+ghost use Rattle.vhdl_expand_declarations.specs.Generics.{actuals_view};
 
 use std::alloc::{AllocError, Global};
 use vhdl_expand_rules::{Setting, set_actual};
 use vhdl_names_rules::Static;
-use vhdl_names_units::Generics;
+use vhdl_names_units::{Fixed, GenericType, Generics};
 
 /// Whether a setting is of a generic of this declaration.
 fn is_of(declaration: &Generics, setting: &Setting) -> bool
     ensures { result ≡ definition.is_generic (generics_view declaration.now) (setting_view setting.now) }
 {
+    let GenericType::Integers(_) = &declaration.generic_type else {
+        return false;
+    };
     for name in &declaration.names {
         if setting.sets(&name.text) {
             return true;
@@ -52,21 +56,31 @@ pub(crate) fn are_generics(declarations: &[Generics], settings: &[Setting]) -> b
     true
 }
 
+/// An integer as an actual, if there is one.
+fn as_fixed(value: Option<Static>) -> Option<Fixed>
+    ensures { option_map fixed_view result ≡ option_map (λ s. u.Fixed.integer (static_view s)) value }
+{
+    match value {
+        None => None,
+        Some(value) => Some(Fixed::Integer(value)),
+    }
+}
+
 /// Puts the actuals of the generics of one declaration behind others. It takes the memory of the
 /// list.
 fn add_actuals(
     alloc: Global,
     settings: &[Setting],
     declaration: &Generics,
-    actuals: &mut Vec<Option<Static>>,
+    actuals: &mut Vec<Option<Fixed>>,
 ) -> Result<(), AllocError>
-    ensures { OnOk result (map (option_map static_view) actuals.new.items ≡
-        map (option_map static_view) actuals.old.items ++ map (λ (g : u.Generic).
+    ensures { OnOk result (map (option_map fixed_view) actuals.new.items ≡
+        map (option_map fixed_view) actuals.old.items ++ map (λ (g : u.Generic).
         definition.set_actual (map setting_view settings.now) g.name g.at) (generics_view declaration.now)) }
 {
     for name in &declaration.names {
         let actual = set_actual(alloc, settings, &name.text, name.at)?;
-        actuals.push(actual)?;
+        actuals.push(as_fixed(actual))?;
     }
     Ok(())
 }
@@ -77,8 +91,8 @@ pub(crate) fn set_actuals(
     alloc: Global,
     settings: &[Setting],
     declarations: &[Generics],
-) -> Result<Vec<Option<Static>>, AllocError>
-    ensures { IfOk result (λ actuals. map (option_map static_view) actuals.items ≡
+) -> Result<Vec<Option<Fixed>>, AllocError>
+    ensures { IfOk result (λ actuals. map (option_map fixed_view) actuals.items ≡
         definition.actuals_of (map setting_view settings.now) (flat_map generics_view declarations.now)) }
 {
     let mut actuals = Vec::new(alloc);
@@ -94,9 +108,9 @@ pub(crate) fn set_actuals(
 /// Actuals that are lent. It takes the memory of a list.
 pub(crate) fn lent(
     alloc: Global,
-    actuals: &[Option<Static>],
-) -> Result<Vec<Option<&Static>>, AllocError>
-    ensures { IfOk result (λ list. actuals_view list.items ≡ map (option_map static_view) actuals.now) }
+    actuals: &[Option<Fixed>],
+) -> Result<Vec<Option<&Fixed>>, AllocError>
+    ensures { IfOk result (λ list. actuals_view list.items ≡ map (option_map fixed_view) actuals.now) }
 {
     let mut list = Vec::new(alloc);
     for actual in actuals {

@@ -12,20 +12,18 @@ ghost use Rattle.vhdl_expand_rules.specs.Expansion as definition;
 ghost use Rattle.vhdl_expand_rules.specs.Integers as integers;
 ghost use Rattle.vhdl_expand_rules.specs.views.Decisions.{turns_view};
 ghost use Rattle.vhdl_expand_rules.specs.views.Integers.{Computes, Makes};
-ghost use Rattle.vhdl_expand_bodies.specs.Results.{Charges, Expands};
+ghost use Rattle.vhdl_expand_operands.specs.Results.{Charges, Expands};
 ghost use Rattle.vhdl_expand_bodies.specs.Sites.{IsSite, site_view};
 ghost use Rattle.vhdl_expand_tree.specs.Costs.{charged, process_costs};
 ghost use Rattle.vhdl_expand_tree.specs.Views.{budget_view, process_view};
-ghost use Rattle.vhdl_expand.specs.Associations.{associated};
+ghost use Rattle.vhdl_expand_declarations.specs.Associations.{associated};
 ghost use Rattle.vhdl_expand.specs.Spots.{spot_view, within};
-ghost use Rattle.vhdl_expand.specs.Views.{declared_view};
+ghost use Rattle.vhdl_expand_declarations.specs.Views.{declared_view};
 
-use crate::actuals::associations;
-use crate::declarative::interface;
-use crate::declared::InstanceObjects;
 use crate::processes::process;
 use std::alloc::Global;
 use vhdl_expand_bodies::Site;
+use vhdl_expand_declarations::{InstanceObjects, associations, interface};
 use vhdl_expand_rules::{ElabFault, Turns};
 use vhdl_expand_tree::{Budget, Process};
 use vhdl_names_rules::{StaticRange, StaticTest};
@@ -99,10 +97,14 @@ impl Spot<'_> {
             (charged (budget_view left.old) process_costs
             (definition.process (spot_view self.now) (analysed.process_view written.now))) result }
     {
-        let site = self.site();
-        let made = process(alloc, &site, self.prefix, written, left);
-        site.end();
-        made
+        process(
+            alloc,
+            self.declared,
+            self.generates,
+            self.prefix,
+            written,
+            left,
+        )
     }
 
     /// What is known of an instance that stands here, as `interface` makes it.
@@ -114,11 +116,11 @@ impl Spot<'_> {
         unit: &Entity,
     ) -> Result<InstanceObjects, ElabFault>
         ensures { Expands declared_view
-            (declarations.interface (spot_view self.now).site.integers (analysed.instance_view written.now).generics
+            (declarations.interface (spot_view self.now).site (analysed.instance_view written.now).generics
             (entity_view unit.now)) result }
     {
         let site = self.site();
-        let declared = interface(alloc, &site.integers, &written.generics, unit);
+        let declared = interface(alloc, &site, &written.generics, unit);
         site.end();
         declared
     }

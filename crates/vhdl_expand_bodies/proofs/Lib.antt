@@ -6,4 +6,4 @@ pub mod Assigned
 pub mod Sequences
 pub mod Parts
 pub mod Placing
-pub mod Passing
+pub mod Elements

@@ -32,7 +32,7 @@ use Rattle.vhdl_expand_rules.specs.Statements as definition
 use Rattle.vhdl_expand_rules.specs.Statements.{choice, one}
 use Rattle.vhdl_expand_rules.proofs.Steps.{given}
 use Rattle.vhdl_expand_rules.proofs.Chains.{err_first}
-use Rattle.vhdl_expand_bodies.specs.Results.{Expands, Adds}
+use Rattle.vhdl_expand_operands.specs.Results.{Expands, Adds}
 use Rattle.vhdl_expand_bodies.specs.Statements.{branch_view, branches_view, alternative_view, alternatives_view, otherwise_view}
 use Rattle.vhdl_expand_bodies.specs.steps.Assignments.{assign, set}
 use Rattle.vhdl_expand_bodies.specs.steps.Statements as steps

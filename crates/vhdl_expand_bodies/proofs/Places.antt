@@ -1,10 +1,12 @@
 -- The places of a part lie within what it is a part of.
-use Rattle.std.proofs.Common.{◌≡◌, ℕ, zero, suc, ◌+◌, ◌-◌, ◌^◌, ◌<◌, ◌≤◌, List, [], ◌∷◌, length, get_or, map, take, drop, drop-cons, add-one, Ok, refl, sym, ap, ◌∙◌, arith}
-use Rattle.std.specs.Prelude.{nat_le, slice_get, slice_index_or, Some, option_map}
+use Rattle.std.proofs.Common.{◌≡◌, ℕ, zero, suc, ◌+◌, ◌-◌, ◌^◌, ◌<◌, ◌≤◌, List, [], ◌∷◌, length, map, take, drop, drop-cons, add-one, Ok, refl, sym, ap, ◌∙◌, arith}
+use Rattle.std.specs.Borrow.{Bor}
+use Rattle.std.specs.Prelude.{nat_le, slice_get, slice_index_or, Option, None, Some, option_map}
+use Rattle.std.specs.Slice.{IsItemAt}
 use Rattle.std.specs.List.{range_with_len}
 use Rattle.std.proofs.lemmas.Bool.{leb-true}
 use Rattle.std.proofs.lemmas.List.FromFn.{length-range_with_len, get_or-range_with_len}
-use Rattle.std.proofs.lemmas.Option.{same_Some, slice_get-map, slice_get-get_or}
+use Rattle.std.proofs.lemmas.Option.{same_Some, slice_get-map, slice_get_past}
 use Rattle.vhdl_values.specs.declared.scalar.Nine.{Nine}
 use Rattle.vhdl_values.specs.declared.scalar.Nine.TheVariants.{X}
 use Rattle.rtl_model.specs.bodies.Fits.{IsWidth}
@@ -19,6 +21,7 @@ use Rattle.vhdl_expand_rules.specs.Site.{Site, Constant, elements_count, part_el
 use Rattle.vhdl_expand_rules.proofs.Steps.{given, ok, bound, kept}
 use Rattle.vhdl_expand_rules.proofs.laws.Names.{count-cons}
 use Rattle.vhdl_expand_rules.proofs.laws.Places.{Within, place_below, slice_within}
+use Rattle.vhdl_expand_operands.proofs.Several.{there}
 use Rattle.vhdl_expand_bodies.specs.declared.site.Placed.{Placed}
 use Rattle.vhdl_expand_bodies.specs.Sites.{IsSitePlaced, placed_kind}
 
@@ -144,9 +147,10 @@ size_fits here at s n h =
 pub elements-length : (f len : ℕ) (ns : List ℕ) → given (range_with_len f len) ≡ Ok ns → length ns ≡ len
 elements-length f len ns h = ap length (sym (ok (range_with_len f len) ns h)) ∙ length-range_with_len f len
 
--- an element that was looked up
-pub there : {X : Type 0} (xs : List X) (k : ℕ) (x : X) → k < length xs → x ≡ get_or xs k x → slice_get xs k ≡ Some x
-there xs k x h e = slice_get-get_or xs k x h ∙ ap Some (sym e)
+-- what is lent, as contracts see it
+pub seen_item : {X Y : Type 0} (v : X → Y) (xs : List X) (k : ℕ) (r : Option (Bor X)) → IsItemAt xs k r → option_map (λ (b : Bor X). v b.now) r ≡ slice_get (map v xs) k
+seen_item v xs k None h = sym (slice_get-map v xs k ∙ ap (option_map v) (slice_get_past xs k h.3))
+seen_item v xs k (Some b) h = sym (slice_get-map v xs k ∙ ap (option_map v) (there xs k b.now h.3.0 (h.3.1 b.now)))
 
 -- ---- one element
 

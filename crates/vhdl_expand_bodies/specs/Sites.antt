@@ -1,5 +1,5 @@
 -- What contracts see of a site.
-use Rattle.std.specs.Prelude.{◌≡◌, ℕ, ℤ, ◌+◌, ◌^◌, ◌<◌, List, map, take, slice_get, Some}
+use Rattle.std.specs.Prelude.{◌≡◌, ℕ, ℤ, ◌+◌, ◌^◌, ◌<◌, List, ◌++◌, map, take, slice_get, Some}
 use Rattle.rtl_model.specs.bodies.Fits.{IsWidth}
 use Rattle.vhdl_expand_rules.specs.declared.kind.Run.{Run}
 use Rattle.vhdl_expand_rules.specs.Kinds as kinds
@@ -21,7 +21,7 @@ constant_view c = record { kind = kind_view c.kind; values = c.values }
 abbrev pub site_view : Site → definition.Site
 site_view s = record {
   integers = integers_view s.integers;
-  constants = map constant_view s.constants.now;
+  constants = map constant_view s.constants.now ++ map constant_view s.own_constants.now;
   ports = map placed_kind s.ports.now;
   signals = map placed_kind s.signals.now;
   variables = map placed_kind s.variables.now;

@@ -2,18 +2,19 @@
 //! statement is run or not.
 
 ghost use Rattle.std.specs.Prelude.{length};
-ghost use Rattle.rtl_net.specs.Bodies.{choice_view, statement_view, value_view};
+ghost use Rattle.rtl_net.specs.Bodies.{choice_view, statement_view};
 ghost use Rattle.vhdl_names_rules.specs.views.Vectors.{part_view, place_view};
 ghost use Rattle.vhdl_expand_rules.specs.Statements as definition;
-ghost use Rattle.vhdl_expand_bodies.specs.Results.{Expands};
+ghost use Rattle.vhdl_expand_operands.specs.Results.{Expands};
+ghost use Rattle.vhdl_expand_operands.specs.Selecteds.{selected_view};
 ghost use Rattle.vhdl_expand_bodies.specs.Sites.{IsSite, site_view};
 ghost use Rattle.vhdl_expand_bodies.specs.steps.Assignments as steps;
 ghost use Rattle.vhdl_names_units.specs.views.Answers as analysed;
 
-use crate::operand::Width;
 use crate::site::{Site, elements};
 use rtl_net::{Choice, Expr, Statement, Value};
 use std::alloc::Global;
+use vhdl_expand_operands::{Selected, Width};
 use vhdl_expand_rules::{ElabFault, ElabProblem};
 use vhdl_names_rules::{Part, SignalPart};
 use vhdl_names_units as analysed;
@@ -39,39 +40,38 @@ pub(crate) fn choice(len: Width, choice: &analysed::Choice, at: usize) -> Result
 }
 
 impl Site<'_> {
-    /// What is assigned to so many elements; a fault is StaticError, Length, Index or TooWide.
+    /// What is given to so many elements; a fault is StaticError, Length, Index or TooWide.
     #[tactic(auto, unfolding(vhdl_expand_rules::specs::Statements::value_given))]
-    fn assigned(
+    pub fn given(
         &self,
         alloc: Global,
-        len: u32,
+        width: Width,
         given: &Given,
         at: usize,
-    ) -> Result<Value, ElabFault>
+    ) -> Result<Selected, ElabFault>
         requires { IsSite self.now }
-        ensures { Expands value_view (definition.value_given (site_view self.now) at len
+        ensures { Expands selected_view (definition.value_given (site_view self.now) at width.len
             (analysed.given_view given.now)) result }
     {
         match given {
             Given::Single(value) => {
                 let selected = self.expanded_value(alloc, value, at)?;
                 let found = selected.width.len;
-                let needed = len as usize;
+                let needed = width.len;
                 if found != needed {
                     drop(selected);
                     return Err(ElabProblem::Length { found, needed }.at(at));
                 }
-                Ok(selected.value)
+                Ok(selected)
             }
             Given::Filled(element) => {
-                let operand = self.expanded(alloc, element)?;
-                let found = operand.width.len;
-                if found != 1 {
-                    drop(operand);
-                    return Err(ElabProblem::Length { found, needed: 1 }.at(at));
-                }
-                let element = Box::new(alloc, operand.expr)?;
-                Ok(Value::Elements(Expr::Filled { len, element }))
+                let element = self.one_element(alloc, element, at)?;
+                let len = width.len as u32;
+                let element = Box::new(alloc, element.operand.expr)?;
+                Ok(Selected {
+                    value: Value::Elements(Expr::Filled { len, element }),
+                    width,
+                })
             }
         }
     }
@@ -89,9 +89,12 @@ impl Site<'_> {
             (steps.assign (site_view self.now) (place_view target.now) (analysed.given_view value.now)) result }
     {
         let run = self.signal_elements(target.signal, &target.part, target.at)?;
-        let value = self.assigned(alloc, run.len as u32, value, target.at)?;
+        let selected = self.given(alloc, Width { len: run.len }, value, target.at)?;
         let places = elements(run);
-        Ok(Statement::Assign { places, value })
+        Ok(Statement::Assign {
+            places,
+            value: selected.value,
+        })
     }
 
     /// An assignment to a variable; a fault is StaticError, Length, Index or TooWide.
@@ -108,8 +111,11 @@ impl Site<'_> {
             (steps.set (site_view self.now) at variable (part_view part.now) (analysed.given_view value.now)) result }
     {
         let run = self.variable_elements(variable, part, at)?;
-        let value = self.assigned(alloc, run.len as u32, value, at)?;
+        let selected = self.given(alloc, Width { len: run.len }, value, at)?;
         let elements = elements(run);
-        Ok(Statement::Set { elements, value })
+        Ok(Statement::Set {
+            elements,
+            value: selected.value,
+        })
     }
 }

@@ -9,16 +9,16 @@ ghost use Rattle.vhdl_names_rules.specs.views.Integers.{static_view};
 ghost use Rattle.vhdl_names_rules.specs.views.Tests as analysed;
 ghost use Rattle.vhdl_names_rules.specs.views.Vectors.{place_view, value_view, vector_view};
 ghost use Rattle.vhdl_expand_rules.specs.Expressions as definition;
-ghost use Rattle.vhdl_expand_bodies.specs.Results.{Expands};
+ghost use Rattle.vhdl_expand_operands.specs.Results.{Expands};
 ghost use Rattle.vhdl_expand_bodies.specs.Sites.{IsSite, site_view};
 ghost use Rattle.vhdl_expand_bodies.specs.Characters.{named_view, character_view, chain_view};
 ghost use Rattle.vhdl_expand_bodies.specs.steps.Chains.{chained};
 ghost use Rattle.vhdl_expand_bodies.specs.steps.Tests as steps;
 
-use crate::both::both;
 use crate::site::{Site, element, elements};
 use rtl_net::{Expr, Test, TestLink};
 use std::alloc::{AllocError, Global};
+use vhdl_expand_operands::both;
 use vhdl_expand_rules::ElabFault;
 use vhdl_names_rules as analysed;
 use vhdl_names_rules::{SignalPart, Static, TestStart, Value, Vector};
@@ -54,7 +54,9 @@ fn name_in(vector: &Vector) -> Option<&SignalPart>
         | Vector::Chain(_, _)
         | Vector::IntegerWith(_, _, _, _)
         | Vector::Encoded(_, _, _)
-        | Vector::Counted(_, _, _, _) => None,
+        | Vector::Counted(_, _, _, _)
+        | Vector::Aggregate(_, _, _)
+        | Vector::Sized(_, _, _) => None,
     }
 }
 
@@ -90,7 +92,9 @@ fn character_in(vector: &Vector) -> Option<Character>
         | Vector::Chain(_, _)
         | Vector::IntegerWith(_, _, _, _)
         | Vector::Encoded(_, _, _)
-        | Vector::Counted(_, _, _, _) => None,
+        | Vector::Counted(_, _, _, _)
+        | Vector::Aggregate(_, _, _)
+        | Vector::Sized(_, _, _) => None,
     }
 }
 

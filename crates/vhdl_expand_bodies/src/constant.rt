@@ -16,3 +16,15 @@ pub struct Constant {
     ghost as_long: { length values ≡ size (kind_view kind) },
     ghost is_vector: { IsWidth (size (kind_view kind)) },
 }
+
+impl Constant {
+    /// The same once more.
+    pub fn copied(&self) -> Constant
+        ensures { result ≡ self.now }
+    {
+        Constant {
+            kind: self.kind,
+            values: self.values,
+        }
+    }
+}

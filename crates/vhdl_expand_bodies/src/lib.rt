@@ -6,13 +6,11 @@
 //! the instances are connected.
 #![tactic(auto)]
 
+mod aggregates;
 mod assignments;
-mod both;
 mod conditions;
 mod constant;
 mod layout;
-mod operand;
-mod selected;
 mod site;
 mod statements;
 mod values;
@@ -20,6 +18,4 @@ mod vectors;
 
 pub use constant::Constant;
 pub use layout::Layout;
-pub use operand::{Operand, Width};
-pub use selected::Selected;
 pub use site::{Placed, Site};

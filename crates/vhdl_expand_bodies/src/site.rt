@@ -1,15 +1,15 @@
 //! What is known where a body stands, and the elements that its names mean (IEEE 1076-2008, 8.1 to
 //! 8.5).
 
-ghost use Rattle.std.specs.Prelude.{◌≡◌, ℕ, ◌+◌, ◌^◌, ◌<◌, map, IfOk, Ok};
+ghost use Rattle.std.specs.Prelude.{◌≡◌, ℕ, ◌+◌, ◌^◌, ◌<◌, [], map, option_map, slice_get, IfOk, Ok};
 ghost use Rattle.rtl_net.specs.Indices.{numbers};
 ghost use Rattle.vhdl_names_rules.specs.views.Vectors.{part_view, signal_view};
 ghost use Rattle.vhdl_expand_rules.specs.Site as definition;
 ghost use Rattle.vhdl_expand_rules.specs.Site.{elements_count, the_element};
 ghost use Rattle.vhdl_expand_rules.specs.views.Integers.{integers_view};
 ghost use Rattle.vhdl_expand_rules.specs.views.Kinds.{run_view};
-ghost use Rattle.vhdl_expand_bodies.specs.Results.{Expands};
-ghost use Rattle.vhdl_expand_bodies.specs.Sites.{ArePlaced, IsSite, IsShort, placed_kind, site_view, with_loops};
+ghost use Rattle.vhdl_expand_operands.specs.Results.{Expands};
+ghost use Rattle.vhdl_expand_bodies.specs.Sites.{ArePlaced, IsSite, IsShort, constant_view, placed_kind, site_view, with_loops};
 
 use crate::constant::Constant;
 use rtl_net::Indices;
@@ -28,6 +28,8 @@ pub struct Placed {
 pub struct Site<'a> {
     pub integers: Integers<'a>,
     pub constants: &'a [Constant],
+    /// Of the process, numbered behind those of its instance.
+    pub own_constants: &'a [Constant],
     pub ports: &'a [Placed],
     /// How many elements the ports have together.
     pub port_elements: u32,
@@ -117,6 +119,16 @@ impl Site<'_> {
         self.part_elements(0, self.variables, number, part, at)
     }
 
+    /// The constant of this number.
+    pub fn constant(&self, number: usize) -> Option<&Constant>
+        ensures { option_map (λ c. constant_view c.now) result ≡ slice_get (site_view self.now).constants number }
+    {
+        match number.checked_sub(self.constants.len()) {
+            None => self.constants.get(number),
+            Some(number) => self.own_constants.get(number),
+        }
+    }
+
     /// The values of a part of a constant; a fault is StaticError or Index.
     #[tactic(auto, unfolding(vhdl_expand_rules::specs::Site::constant_values))]
     pub(crate) fn constant_values(
@@ -128,7 +140,7 @@ impl Site<'_> {
         ensures { Expands (λ values. values)
             (definition.constant_values (site_view self.now) at number (part_view part.now)) result }
     {
-        let Some(constant) = self.constants.get(number) else {
+        let Some(constant) = self.constant(number) else {
             return Err(ElabProblem::Index.at(at));
         };
         let places = self.integers.places(constant.kind, part, at)?;
@@ -142,13 +154,9 @@ impl Site<'_> {
         ensures loops { site_view result ≡ with_loops (site_view self.now) loops.now }
     {
         Site {
-            integers: Integers {
-                generics: self.integers.generics,
-                constants: self.integers.constants,
-                generates: self.integers.generates,
-                loops,
-            },
+            integers: self.integers.within(loops),
             constants: self.constants,
+            own_constants: self.own_constants,
             ports: self.ports,
             port_elements: self.port_elements,
             signals: self.signals,
@@ -161,16 +169,12 @@ impl Site<'_> {
         let Site {
             integers,
             constants: _,
+            own_constants: _,
             ports: _,
             port_elements: _,
             signals: _,
             variables: _,
         } = self;
-        let Integers {
-            generics: _,
-            constants: _,
-            generates: _,
-            loops: _,
-        } = integers;
+        integers.end();
     }
 }

@@ -6,14 +6,13 @@ ghost use Rattle.vhdl_names_rules.specs.views.Vectors as analysed;
 ghost use Rattle.vhdl_names_rules.specs.views.Vectors.{part_view, signal_view};
 ghost use Rattle.vhdl_expand_rules.specs.Expressions as definition;
 ghost use Rattle.vhdl_expand_rules.specs.Site.{signal_elements, the_element};
-ghost use Rattle.vhdl_expand_bodies.specs.Results.{Expands};
-ghost use Rattle.vhdl_expand_bodies.specs.Selecteds.{selected_view};
+ghost use Rattle.vhdl_expand_operands.specs.Results.{Expands};
+ghost use Rattle.vhdl_expand_operands.specs.Selecteds.{selected_view};
 ghost use Rattle.vhdl_expand_bodies.specs.Sites.{IsSite, site_view};
 
-use crate::operand::Width;
-use crate::selected::Selected;
 use crate::site::{Site, element};
 use std::alloc::Global;
+use vhdl_expand_operands::{Selected, Width};
 use vhdl_expand_rules::ElabFault;
 use vhdl_names_rules::{Part, Signal, Value};
 

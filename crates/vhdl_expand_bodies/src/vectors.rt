@@ -1,21 +1,23 @@
 //! Elements and vectors of the nine values, expanded (IEEE 1076-2008, clause 9; numeric_std).
 
-ghost use Rattle.vhdl_names_rules.specs.views.Integers.{static_view};
+ghost use Rattle.std.specs.Prelude.{◌≡◌, option_map};
+ghost use Rattle.vhdl_names_rules.specs.views.Integers.{option_range_view, range_view, static_view};
 ghost use Rattle.vhdl_names_rules.specs.views.Vectors.{part_view, place_view, vector_view};
 ghost use Rattle.vhdl_expand_rules.specs.Expressions as definition;
-ghost use Rattle.vhdl_expand_bodies.specs.Results.{Expands};
+ghost use Rattle.vhdl_expand_operands.specs.Results.{Expands};
 ghost use Rattle.vhdl_expand_bodies.specs.Sites.{IsSite, site_view};
 ghost use Rattle.vhdl_expand_bodies.specs.steps.Chains.{chained};
 ghost use Rattle.vhdl_expand_bodies.specs.steps.Vectors as steps;
-ghost use Rattle.vhdl_expand_bodies.specs.Operands.{operand_view, chain_view};
+ghost use Rattle.vhdl_expand_operands.specs.Operands.{operand_view, chain_view};
 
-use crate::both::both;
-use crate::operand::{Chain, Operand, Width, numeric, operator};
 use crate::site::{Site, elements};
 use rtl_net::Expr;
 use std::alloc::Global;
+use vhdl_expand_operands::{Chain, Operand, Width, both, numeric, operator};
 use vhdl_expand_rules::{ElabFault, ElabProblem};
-use vhdl_names_rules::{Numeric, Part, SignalPart, Static, Vector, VectorLink, VectorStart};
+use vhdl_names_rules::{
+    Numeric, Part, SignalPart, Static, StaticRange, Vector, VectorLink, VectorStart,
+};
 use vhdl_values::{Counted, Nine, Vec9};
 
 /// A string or bit string; a fault is Index or TooWide.
@@ -29,6 +31,16 @@ fn literal(values: &[Nine], at: usize) -> Result<Operand, ElabFault>
         return Err(ElabProblem::TooWide.at(at));
     }
     Ok(Operand::constant(Vec9::of(values)))
+}
+
+/// The range of what an aggregate is given to, if it has one.
+fn lent_range(range: &Option<Box<StaticRange>>) -> Option<&StaticRange>
+    ensures { option_map (λ r. range_view r.now) result ≡ option_range_view range.now }
+{
+    match range {
+        Some(range) => Some(range),
+        None => None,
+    }
 }
 
 impl Site<'_> {
@@ -66,6 +78,10 @@ impl Site<'_> {
             Vector::Counted(at, operator, operand, count) => {
                 self.by_count(alloc, *operator, operand, count, *at)
             }
+            Vector::Aggregate(at, range, elements) => {
+                self.aggregate(alloc, lent_range(range), elements, *at)
+            }
+            Vector::Sized(at, range, operand) => self.sized(alloc, range, operand, *at),
         }
     }
 

@@ -19,10 +19,6 @@ pub codes_step : (xs : List Nine) (now : List ℕ) (k : ℕ) (x : Nine) → map 
 codes_step xs now k x so_far h =
     so_far ∙ ap (λ ys. now ++ map code_of ys) (next xs k x h) ∙ sym (append_assoc now (code_of x ∷ []) (map code_of (drop (k + 1) xs)))
 
-pub codes_filled : (n : ℕ) (x : Nine) → map code_of (replicate n x) ≡ replicate n (code_of x)
-codes_filled zero x = refl
-codes_filled (suc n) x = ap (λ cs. code_of x ∷ cs) (codes_filled n x)
-
 more-suc : {A : Type 0} (n : ℕ) (x : A) → replicate (suc n) x ≡ replicate n x ++ x ∷ []
 more-suc zero x = refl
 more-suc (suc n) x = ap (λ ys. x ∷ ys) (more-suc n x)

@@ -5,5 +5,5 @@ pub mod Rising
 pub mod Prefixed
 pub mod Told
 pub mod Codes
-pub mod Turns
 pub mod Gathering
+pub mod Fixing

@@ -21,7 +21,7 @@ use Rattle.vhdl_expand_rules.proofs.laws.Names.{count-cons, was_found}
 use Rattle.vhdl_expand_rules.proofs.laws.Prefixes.{places_below}
 use Rattle.vhdl_expand_rules.proofs.laws.Targets.{all_concatenated}
 use Rattle.vhdl_expand_rules.proofs.Items.{next_left, none_left}
-use Rattle.vhdl_expand_bodies.proofs.Sequences.{behind}
+use Rattle.vhdl_expand_operands.proofs.Several.{behind}
 use Rattle.vhdl_expand_processes.specs.Driven.{drives_of}
 use Rattle.vhdl_expand_processes.proofs.Rising.{sorted_in_order}
 

@@ -1,9 +1,11 @@
 -- The names that values and conditions read are those of their parts, one after another.
-use Rattle.std.proofs.Common.{◌≡◌, List, [], ◌∷◌, ◌++◌, Vec, Box, Global, refl, sym, ap, ◌∙◌}
+use Rattle.std.proofs.Common.{◌≡◌, true, false, List, [], ◌∷◌, ◌++◌, Vec, Box, Global, refl, sym, ap, ◌∙◌}
 use Rattle.std.specs.Prelude.{flat_map}
 use Rattle.std.proofs.lemmas.List.{append_assoc, append-nil}
 use Rattle.vhdl_names_rules.specs.declared.vector.Vector.{Vector}
 use Rattle.vhdl_names_rules.specs.declared.vector.Vector.TheVariants as v
+use Rattle.vhdl_names_rules.specs.declared.vector.VectorElement.{VectorElement}
+use Rattle.vhdl_names_rules.specs.declared.vector.VectorElement.TheVariants as el
 use Rattle.vhdl_names_rules.specs.declared.vector.VectorLink.{VectorLink}
 use Rattle.vhdl_names_rules.specs.declared.vector.VectorLink.TheVariants as l
 use Rattle.vhdl_names_rules.specs.declared.vector.VectorStart.{VectorStart}
@@ -11,18 +13,19 @@ use Rattle.vhdl_names_rules.specs.declared.test.Test.{Test}
 use Rattle.vhdl_names_rules.specs.declared.test.Test.TheVariants as c
 use Rattle.vhdl_names_rules.specs.declared.test.TestLink.{TestLink}
 use Rattle.vhdl_names_rules.specs.declared.test.TestStart.{TestStart}
-use Rattle.vhdl_names_rules.specs.views.Vectors.{vector_view, linked, vector_chained}
+use Rattle.vhdl_names_rules.specs.views.Vectors.{vector_view, elements_view, linked, vector_chained}
 use Rattle.vhdl_names_rules.specs.views.Vectors as vectors
 use Rattle.vhdl_names_rules.specs.views.Tests.{test_view, test_chained}
 use Rattle.vhdl_names_rules.specs.views.Tests as tests
 use Rattle.vhdl_names_rules.proofs.rows.Vectors as vector_rows
 use Rattle.vhdl_names_rules.proofs.rows.Tests as test_rows
 use Rattle.vhdl_names_rules.specs.units.Expressions as u
-use Rattle.vhdl_expand_rules.specs.Prefixes.{vector_names, test_names}
+use Rattle.vhdl_expand_rules.specs.Prefixes.{vector_names, elements_names, test_names}
+use Rattle.vhdl_expand_bodies.proofs.Elements.{is_last}
 use Rattle.vhdl_expand_processes.proofs.Gathering.{adds_along}
 use Rattle.vhdl_expand_processes.specs.declared.name.Gathered.{Gathered}
 use Rattle.vhdl_expand_processes.specs.Adding.{Adds}
-use Rattle.vhdl_expand_processes.specs.Names.{link_names, test_link_names}
+use Rattle.vhdl_expand_processes.specs.Names.{element_names, link_names, test_link_names}
 
 -- ---- chains of operators
 
@@ -51,6 +54,18 @@ test-chained left (x ∷ xs) =
 pub test_chain_names : (start : Box TestStart Global) (links : Vec TestLink Global)
     → test_names (test_view (c.Chain start links)) ≡ (test_names (test_view start.value.first) ++ test_link_names start.value.link) ++ flat_map test_link_names links.items
 test_chain_names start links = ap test_names (test_rows.view_chain start links) ∙ test-chained (tests.start_view start.value) links.items
+
+-- ---- elements of an aggregate
+
+pub elements_more : (x : VectorElement) (xs : List VectorElement) → is_last x ≡ false → elements_names (elements_view (x ∷ xs)) ≡ element_names x ++ elements_names (elements_view xs)
+elements_more (el.Next x) xs h = refl
+elements_more (el.Chosen is x) xs h = refl
+elements_more (el.Others x) xs h = absurd cc
+
+pub elements_last : (x : VectorElement) (xs : List VectorElement) → is_last x ≡ true → elements_names (elements_view (x ∷ xs)) ≡ element_names x
+elements_last (el.Next x) xs h = absurd cc
+elements_last (el.Chosen is x) xs h = absurd cc
+elements_last (el.Others x) xs h = refl
 
 -- ---- what the walk puts behind others
 

@@ -1,5 +1,7 @@
 -- The names that parts of values and conditions read, where the parts stand in lists.
 use Rattle.std.specs.Prelude.{List, []}
+use Rattle.vhdl_names_rules.specs.declared.vector.VectorElement.{VectorElement}
+use Rattle.vhdl_names_rules.specs.declared.vector.VectorElement.TheVariants as el
 use Rattle.vhdl_names_rules.specs.declared.vector.VectorLink.{VectorLink}
 use Rattle.vhdl_names_rules.specs.declared.vector.VectorLink.TheVariants as l
 use Rattle.vhdl_names_rules.specs.declared.test.TestLink.{TestLink}
@@ -7,6 +9,12 @@ use Rattle.vhdl_names_rules.specs.units.Expressions as u
 use Rattle.vhdl_names_rules.specs.views.Vectors.{vector_view}
 use Rattle.vhdl_names_rules.specs.views.Tests.{test_view}
 use Rattle.vhdl_expand_rules.specs.Prefixes as definition
+
+-- an element of an aggregate
+abbrev pub element_names : VectorElement → List u.SignalPart
+element_names (el.Next x) = definition.vector_names (vector_view x)
+element_names (el.Chosen is x) = definition.vector_names (vector_view x)
+element_names (el.Others x) = definition.vector_names (vector_view x)
 
 -- a further operand of a chain
 abbrev pub link_names : VectorLink → List u.SignalPart

@@ -1,7 +1,6 @@
 -- What elements start with.
-use Rattle.std.specs.Prelude.{ℕ, List, map, Ok}
+use Rattle.std.specs.Prelude.{ℕ, List}
 use Rattle.vhdl_values.specs.declared.scalar.Nine.{Nine}
-use Rattle.vhdl_values.specs.Scalar.{code_of}
 use Rattle.vhdl_values.specs.Numbers.{digits_of}
 use Rattle.vhdl_names_rules.specs.units.Expressions.{Static}
 use Rattle.vhdl_expand_rules.specs.Declarations.{as_long_as}
@@ -9,12 +8,6 @@ use Rattle.vhdl_expand_rules.specs.Elab.{Elab, ◌>>=◌}
 use Rattle.vhdl_expand_rules.specs.Integers.{natural}
 use Rattle.vhdl_expand_rules.specs.Kinds.{size_of}
 use Rattle.vhdl_expand_rules.specs.Site.{Site}
-
--- the codes of these values
-abbrev pub codes_of : Elab (List Nine) → Elab (List ℕ)
-codes_of given = do
-  vs ← given
-  Ok (map code_of vs)
 
 -- a number's digits, of this size, which has to be as long
 abbrev pub encoded_as : Site → (at : ℕ) → (len : ℕ) → Static → Static → Elab (List Nine)

@@ -7,7 +7,7 @@ ghost use Rattle.vhdl_names_rules.specs.views.Vectors.{place_view};
 ghost use Rattle.vhdl_expand_rules.specs.Prefixes as definition;
 ghost use Rattle.vhdl_expand_rules.specs.Site.{place_elements};
 ghost use Rattle.vhdl_expand_rules.specs.views.Kinds.{run_view};
-ghost use Rattle.vhdl_expand_bodies.specs.Results.{Expands};
+ghost use Rattle.vhdl_expand_operands.specs.Results.{Expands};
 ghost use Rattle.vhdl_expand_bodies.specs.Sites.{IsShort, IsSite, site_view};
 ghost use Rattle.vhdl_names_units.specs.views.Sequential.{statement_view, statements_of};
 ghost use Rattle.vhdl_expand_processes.specs.Driven.{IsRising, drives_of, read_by};
@@ -15,7 +15,7 @@ ghost use Rattle.vhdl_expand_processes.specs.Named.{name_view};
 
 use crate::bodies::{names_in, targets_of};
 use crate::name::Name;
-use rtl_body_facts::sort_once;
+use rtl_body_facts::order_once;
 use std::alloc::{AllocError, Global};
 use vhdl_expand_bodies::Site;
 use vhdl_expand_rules::{ElabFault, Run, is_static_part};
@@ -99,8 +99,8 @@ pub fn read_elements(
 }
 
 /// The elements that statements drive, which are those of the longest static prefixes of their
-/// targets, in order and each once; a fault is StaticError or Index. It takes the memory of the
-/// list, and time by the elements of the targets, sorted.
+/// targets, in order and each once; a fault is StaticError or Index. It takes the memory of a list
+/// of all elements of the targets, at most as much again to put it in order, and time to do so.
 pub fn drives(alloc: Global, site: &Site, list: &[Statement]) -> Result<Vec<usize>, ElabFault>
     requires { IsSite site.now }
     ensures given { Expands (λ v. v.items)
@@ -109,6 +109,6 @@ pub fn drives(alloc: Global, site: &Site, list: &[Statement]) -> Result<Vec<usiz
 {
     let names = targets_of(alloc, list)?;
     let mut elements = prefixes(alloc, site, &names)?;
-    sort_once(&mut elements);
+    order_once(alloc, &mut elements)?;
     Ok(elements)
 }

@@ -4,6 +4,7 @@
 
 mod bodies;
 mod elements;
+mod fixed_values;
 mod name;
 mod names;
 mod reads;
@@ -11,6 +12,7 @@ mod variables;
 
 pub use bodies::{names_in, targets_of};
 pub use elements::{drives, listed, read_elements};
+pub use fixed_values::{as_long, fixed};
 pub use name::Name;
 pub use reads::read_of;
-pub use variables::{kind, one_for, starts};
+pub use variables::{kind, starts};

@@ -3,13 +3,15 @@
 ghost use Rattle.std.specs.Prelude.{◌++◌, flat_map};
 ghost use Rattle.vhdl_expand_rules.specs.Prefixes as definition;
 ghost use Rattle.vhdl_names_rules.specs.views.Tests.{test_view};
-ghost use Rattle.vhdl_names_rules.specs.views.Vectors.{value_view, vector_view};
+ghost use Rattle.vhdl_names_rules.specs.views.Vectors.{elements_view, value_view, vector_view};
 ghost use Rattle.vhdl_names_units.specs.views.Answers.{given_view};
 ghost use Rattle.vhdl_expand_processes.specs.Adding.{Adds};
-ghost use Rattle.vhdl_expand_processes.specs.Names.{link_names, test_link_names};
+ghost use Rattle.vhdl_expand_processes.specs.Names.{element_names, link_names, test_link_names};
 
 use crate::name::Gathered;
-use vhdl_names_rules::{Test, TestLink, TestStart, Value, Vector, VectorLink, VectorStart};
+use vhdl_names_rules::{
+    Test, TestLink, TestStart, Value, Vector, VectorElement, VectorLink, VectorStart,
+};
 use vhdl_names_units::Given;
 
 /// Puts the names in a vector behind others.
@@ -32,6 +34,33 @@ fn of_vector<'a>(vector: &'a Vector, found: &mut Gathered<'a>)
         }
         Vector::IntegerWith(_, _, _, operand) => of_vector(operand, found),
         Vector::Counted(_, _, operand, _) => of_vector(operand, found),
+        Vector::Aggregate(_, _, elements) => of_elements(elements, found),
+        Vector::Sized(_, _, operand) => of_vector(operand, found),
+    }
+}
+
+/// Puts the names in an element of an aggregate behind others.
+#[cycle(vectors)]
+fn of_element<'a>(element: &'a VectorElement, found: &mut Gathered<'a>)
+    ensures { Adds found.old found.new (element_names element.now) }
+{
+    match element {
+        VectorElement::Next(value) => of_vector(value, found),
+        VectorElement::Chosen(_, value) => of_vector(value, found),
+        VectorElement::Others(value) => of_vector(value, found),
+    }
+}
+
+/// Puts the names in the elements of an aggregate behind others.
+#[cycle(vectors)]
+fn of_elements<'a>(list: &'a [VectorElement], found: &mut Gathered<'a>)
+    ensures { Adds found.old found.new (definition.elements_names (elements_view list.now)) }
+{
+    for item in list {
+        of_element(item, found);
+        if let VectorElement::Others(_) = item {
+            return;
+        }
     }
 }
 

@@ -10,7 +10,7 @@ ghost use Rattle.rtl_net.specs.Bodies.{statements_of};
 ghost use Rattle.rtl_net.specs.Indices.{numbers};
 ghost use Rattle.rtl_net.specs.Visits.{leaf_view};
 
-use rtl_body_facts::sort_once;
+use rtl_body_facts::order_once;
 use rtl_net::{Indices, Leaf, Statement, Visit, walk_body};
 use std::alloc::{AllocError, Global};
 
@@ -33,7 +33,7 @@ impl Visit for Reads {
 }
 
 /// What a body reads, rising. It takes the memory of a list of all nets or elements that the body's
-/// names have, and time to sort it.
+/// names have, at most as much again to put it in order, and time to do so.
 pub fn read_of(alloc: Global, body: &[Statement]) -> Result<Vec<usize>, AllocError>
     ensures rise { IfOk result (λ v. IsStrictlyIncreasing v.items) }
     ensures all { IfOk result (λ v. (n : ℕ)
@@ -48,7 +48,7 @@ pub fn read_of(alloc: Global, body: &[Statement]) -> Result<Vec<usize>, AllocErr
         return Err(AllocError);
     }
     let mut found = reads.found;
-    sort_once(&mut found);
+    order_once(alloc, &mut found)?;
     Ok(found)
 }
 

@@ -1,8 +1,8 @@
 -- The value of a chain of operators on static integers.
 use Rattle.std.proofs.Common.{◌≡◌, ℕ, Bool, true, false, if◌then◌else◌, List, [], ◌∷◌, Result, Ok, Err, Box, Vec, Global, refl, sym, ap, ◌∙◌, subst, ℤ}
-use Rattle.std.specs.Prelude.{◌==◌, ◌+ℤ◌, ◌-ℤ◌, ◌*ℤ◌, nat_abs, int_div, int_rem, IsErrAnd}
+use Rattle.std.specs.Prelude.{◌==◌, ◌+ℤ◌, ◌-ℤ◌, ◌*ℤ◌, nat_abs, int_div, int_rem, pos, negsuc, IsErrAnd}
 use Rattle.vhdl_names_rules.specs.declared.operator.Arithmetic.{Arithmetic}
-use Rattle.vhdl_names_rules.specs.declared.operator.Arithmetic.TheVariants.{Add, Subtract, Multiply, Divide, Modulo, Remainder}
+use Rattle.vhdl_names_rules.specs.declared.operator.Arithmetic.TheVariants.{Add, Subtract, Multiply, Divide, Modulo, Remainder, Power}
 use Rattle.vhdl_names_rules.specs.declared.integer.Static.TheVariants as s
 use Rattle.vhdl_names_rules.specs.declared.integer.Static.{Static}
 use Rattle.vhdl_names_rules.specs.declared.integer.StaticLink.{StaticLink}
@@ -13,7 +13,7 @@ use Rattle.vhdl_names_rules.proofs.rows.Integers.{view_chain}
 use Rattle.vhdl_expand_rules.specs.declared.fault.ElabFault.{ElabFault}
 use Rattle.vhdl_expand_rules.specs.declared.fault.ElabProblem.TheVariants.{StaticError}
 use Rattle.vhdl_expand_rules.specs.Elab.{Elab, ◌>>=◌, Told, fault_told, refused}
-use Rattle.vhdl_expand_rules.specs.Integers.{Integers, checked_integer, modulus, integer_operation, integer}
+use Rattle.vhdl_expand_rules.specs.Integers.{Integers, checked_integer, modulus, power, powered, integer_operation, integer}
 use Rattle.vhdl_expand_rules.specs.views.Integers.{Computes, all_operated}
 
 pub computes_along : (given given' : Elab ℤ) (r : Result ℤ ElabFault) → given ≡ given' → Computes given' r → Computes given r
@@ -88,7 +88,8 @@ chain-err here at e start links st p h j given =
     ∙ ap (λ (a : StaticStart). integer here at (static_chained (start_view a) links.items)) (sym j)))
     (chained-same_err here (start_view st) p links.items (start_always here st (Err p) given) at)
 
--- what holds of each checked integer, and of what is refused of a division by 0, holds of each operation
+-- what holds of each checked integer, and of what is refused of a division by 0 or of a negative exponent, holds of each
+-- operation
 pub each_operation : (P : Elab ℤ → Type 0) (at : ℕ) → ((x : ℤ) → P (checked_integer at x)) → P (refused StaticError at) → (op : Arithmetic) (x y : ℤ) → P (integer_operation at op x y)
 each_operation P at checked none op x y = operated op
   where
@@ -96,7 +97,12 @@ each_operation P at checked none op x y = operated op
     chosen true z = none
     chosen false z = checked z
 
+    raised : (n : ℤ) → P (powered at x n)
+    raised (pos n) = checked (power x n)
+    raised (negsuc n) = none
+
     operated : (op : Arithmetic) → P (integer_operation at op x y)
+    operated Power = raised y
     operated Divide = chosen (nat_abs y == 0) (int_div x y)
     operated Modulo = chosen (nat_abs y == 0) (modulus x y)
     operated Remainder = chosen (nat_abs y == 0) (int_rem x y)

@@ -3,6 +3,8 @@ pub mod Items
 pub mod Options
 pub mod Chains
 pub mod Modulus
+pub mod Powers
+pub mod Behind
 pub mod Parameters
 pub mod Decided
 pub mod StaticChains

@@ -1,6 +1,7 @@
 pub mod Lengths
 pub mod Places
 pub mod Names
+pub mod Aggregates
 pub mod Vectors
 pub mod Tests
 pub mod Made
@@ -10,6 +11,7 @@ pub mod Statements
 pub mod Prefixes
 pub mod Targets
 pub mod Driven
+pub mod Interfaces
 pub mod Declared
 pub mod Processes
 pub mod Trees

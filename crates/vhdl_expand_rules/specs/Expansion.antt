@@ -15,7 +15,7 @@ use Rattle.vhdl_expand_rules.specs.Tree.{Sensitivity, listed, every, as_read, Va
 use Rattle.vhdl_expand_rules.specs.Tree as t
 use Rattle.vhdl_expand_rules.specs.Statements.{statements, added, statements_turns}
 use Rattle.vhdl_expand_rules.specs.Prefixes.{targets, names, names_elements, prefixes_elements, in_order}
-use Rattle.vhdl_expand_rules.specs.Declarations.{InstanceObjects, interface, declarations, variable, associations}
+use Rattle.vhdl_expand_rules.specs.Declarations.{InstanceObjects, interface, declarations, no_variables, process_declarations, associations}
 use Rattle.vhdl_expand_rules.specs.Tops.{Top, top_interface}
 
 -- ---- where a concurrent statement stands
@@ -49,9 +49,6 @@ sensitivity here u.every body = do
   Ok (every es)
 sensitivity here u.as_read body = Ok as_read
 
-abbrev pub with_variables : Site → List Variable → Site
-with_variables here vs = record here { variables = map (λ (v : Variable). v.kind) vs }
-
 -- of its variables, the elements that it drives, its sensitivity, its turns and its body
 abbrev pub made_process : Spot → u.Process → List Variable → List ℕ → Sensitivity → ℕ → Stmts → t.Process
 made_process here p vs ds on n body = record {
@@ -67,12 +64,12 @@ made_process here p vs ds on n body = record {
 
 unfoldable pub process : Spot → u.Process → Elab t.Process
 process here p = do
-  vs ← each (variable here.site) p.variables
-  ds ← prefixes_elements here.site (targets p.body)
-  on ← sensitivity here.site p.sensitivity p.body
-  n ← statements_turns here.site p.body
-  body ← statements (with_variables here.site vs) p.body
-  Ok (made_process here p vs ds on n body)
+  d ← process_declarations (no_variables here.site) p.declarations
+  ds ← prefixes_elements d.site (targets p.body)
+  on ← sensitivity d.site p.sensitivity p.body
+  n ← statements_turns d.site p.body
+  body ← statements d.site p.body
+  Ok (made_process here p d.variables ds on n body)
 
 -- ---- concurrent statements
 
@@ -88,7 +85,7 @@ module _ (units : Units) (instance_of : (at : ℕ) → Entity → InstanceObject
   unfoldable pub instance : Spot → u.Instance → Elab Instance
   instance here x = do
     unit ← item_or NoTop x.at (slice_get units x.unit)
-    d ← interface here.site.integers x.generics unit
+    d ← interface here.site x.generics unit
     os ← associations here.site x.at unit.ports x.ports d.objects
     instance_of x.at unit (record d { objects = os })
 

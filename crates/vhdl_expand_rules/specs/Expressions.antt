@@ -1,6 +1,6 @@
 -- Expanded expressions: names are elements, lengths are computed, and a number beside a vector is a constant
 -- (IEEE 1076-2008, clause 9; numeric_std).
-use Rattle.std.specs.Prelude.{ℕ, ◌+◌, Bool, true, false, nat_le, List, [], ◌∷◌, length, Ok}
+use Rattle.std.specs.Prelude.{ℕ, ◌+◌, Bool, true, false, nat_le, List, [], ◌∷◌, ◌++◌, length, Option, ℤ, Ok}
 use Rattle.vhdl_values.specs.declared.scalar.Nine.{Nine}
 use Rattle.vhdl_values.specs.declared.scalar.Nine.TheVariants.{One, Zero}
 use Rattle.vhdl_values.specs.declared.kinds.Cmp.{Cmp}
@@ -14,13 +14,14 @@ use Rattle.vhdl_names_rules.specs.declared.operator.Numeric.TheVariants.{Add, Su
 use Rattle.vhdl_names_rules.specs.declared.operator.VectorOperator.{VectorOperator}
 use Rattle.vhdl_names_rules.specs.declared.operator.VectorOperator.TheVariants as v
 use Rattle.vhdl_names_rules.specs.units.Expressions as u
-use Rattle.vhdl_names_rules.specs.units.Expressions.{SignalPart, Vector, Value, Test}
+use Rattle.vhdl_names_rules.specs.units.Expressions.{SignalPart, Vector, Elements, Value, Test}
 use Rattle.rtl_model.specs.bodies.Body as bodies
 use Rattle.rtl_model.specs.bodies.Fits.{width}
 use Rattle.vhdl_expand_rules.specs.declared.fault.ElabProblem.TheVariants.{TooWide}
 use Rattle.vhdl_expand_rules.specs.Elab.{Elab, ◌>>=◌, ◌>>◌, same_length, unless}
 use Rattle.vhdl_expand_rules.specs.Integers.{natural, decision}
-use Rattle.vhdl_expand_rules.specs.Kinds.{as_size, size_of, count_of}
+use Rattle.vhdl_expand_rules.specs.Kinds.{as_size, size_of, count_of, declared_bounds, bounds_size}
+use Rattle.vhdl_expand_rules.specs.Aggregates.{Placed, next, chosen, others, given_indexes, chosen_indexes, composed}
 use Rattle.vhdl_expand_rules.specs.Site.{Site, place_elements, signal_elements, variable_elements, constant_values, the_element}
 
 -- ---- vectors
@@ -48,45 +49,74 @@ operator (v.Logical op) = bodies.logical op
 operator v.Concatenate = bodies.joined
 operator (v.Arithmetic op) = numeric op
 
-unfoldable pub vector : Site → Vector → Elab bodies.Expr
-vector here (u.of_signal p) = do
-  es ← place_elements here p
-  Ok (bodies.signal es)
-vector here (u.of_variable at k part) = do
-  es ← variable_elements here at k part
-  Ok (bodies.variable es)
-vector here (u.of_constant at k part) = do
-  vs ← constant_values here at k part
-  Ok (bodies.constant vs)
-vector here (u.character x) = Ok (bodies.constant (x ∷ []))
-vector here (u.enclosed_character x) = Ok (bodies.constant (x ∷ []))
-vector here (u.Vector.literal at xs) = do
-  as_size at (length xs)
-  Ok (bodies.constant xs)
-vector here (u.Vector.inverse x) = do
-  e ← vector here x
-  Ok (bodies.inverse e)
-vector here (u.Vector.binary at op x y) = do
-  d ← vector here x
-  e ← vector here y
-  operation_on at (operator op) d e
--- a natural number stands for its last digits, as many as the vector beside it has
-vector here (u.with_integer at op x s) = do
-  e ← vector here x
-  n ← natural here.integers at s
-  operation_on at (numeric op) e (bodies.constant (digits_of (width e) n))
-vector here (u.integer_with at op s x) = do
-  n ← natural here.integers at s
-  e ← vector here x
-  operation_on at (numeric op) (bodies.constant (digits_of (width e) n)) e
-vector here (u.Vector.encoded at s t) = do
-  n ← natural here.integers at s
-  len ← size_of here.integers at t
-  Ok (bodies.constant (digits_of len n))
-vector here (u.counted at op x s) = do
-  e ← vector here x
-  n ← count_of op here.integers at s
-  Ok (bodies.counted op n e)
+unfoldable mutual
+  pub vector : Site → Vector → Elab bodies.Expr
+  vector here (u.of_signal p) = do
+    es ← place_elements here p
+    Ok (bodies.signal es)
+  vector here (u.of_variable at k part) = do
+    es ← variable_elements here at k part
+    Ok (bodies.variable es)
+  vector here (u.of_constant at k part) = do
+    vs ← constant_values here at k part
+    Ok (bodies.constant vs)
+  vector here (u.character x) = Ok (bodies.constant (x ∷ []))
+  vector here (u.enclosed_character x) = Ok (bodies.constant (x ∷ []))
+  vector here (u.Vector.literal at xs) = do
+    as_size at (length xs)
+    Ok (bodies.constant xs)
+  vector here (u.Vector.inverse x) = do
+    e ← vector here x
+    Ok (bodies.inverse e)
+  vector here (u.Vector.binary at op x y) = do
+    d ← vector here x
+    e ← vector here y
+    operation_on at (operator op) d e
+  -- a natural number stands for its last digits, as many as the vector beside it has
+  vector here (u.with_integer at op x s) = do
+    e ← vector here x
+    n ← natural here.integers at s
+    operation_on at (numeric op) e (bodies.constant (digits_of (width e) n))
+  vector here (u.integer_with at op s x) = do
+    n ← natural here.integers at s
+    e ← vector here x
+    operation_on at (numeric op) (bodies.constant (digits_of (width e) n)) e
+  vector here (u.Vector.encoded at s t) = do
+    n ← natural here.integers at s
+    len ← size_of here.integers at t
+    Ok (bodies.constant (digits_of len n))
+  vector here (u.counted at op x s) = do
+    e ← vector here x
+    n ← count_of op here.integers at s
+    Ok (bodies.counted op n e)
+  vector here (u.aggregate at r es) = do
+    all ← given_indexes here.integers at r
+    xs ← elements here at all [] es
+    composed at all xs
+  vector here (u.sized at r x) = do
+    e ← vector here x
+    b ← declared_bounds here.integers at r
+    same_length at (width e) (bounds_size b)
+    Ok e
+
+  -- of an aggregate that starts here, where these indexes are taken: each with its choices before its value, which is
+  -- one element
+  pub elements : Site → (at : ℕ) → Option (List ℤ) → (taken : List ℤ) → Elements → Elab (List Placed)
+  elements here at all taken u.no_elements = Ok []
+  elements here at all taken (u.next x es) = do
+    e ← vector here x
+    rest ← elements here at all taken es
+    Ok (next e ∷ rest)
+  elements here at all taken (u.chosen cs x es) = do
+    is ← chosen_indexes here.integers all taken cs
+    e ← vector here x
+    same_length at (width e) 1
+    rest ← elements here at all (taken ++ is) es
+    Ok (chosen is e ∷ rest)
+  elements here at all taken (u.Elements.others x) = do
+    e ← vector here x
+    same_length at (width e) 1
+    Ok (others e ∷ [])
 
 -- ---- values
 

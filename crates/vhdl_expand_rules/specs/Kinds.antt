@@ -1,6 +1,6 @@
 -- What is declared: one element, a vector within its bounds, or a value of an enumeration; and the parts of it that
 -- indexed names and slices mean (IEEE 1076-2008, 5.3.2, 8.4, 8.5).
-use Rattle.std.specs.Prelude.{ℕ, Bool, true, false, not, ◌&&◌, nat_le, if◌then◌else◌, List, [], ◌∷◌, ℤ, pos, ◌-ℤ◌, int_le, nat_abs, Ok}
+use Rattle.std.specs.Prelude.{ℕ, Bool, not, ◌&&◌, nat_le, if◌then◌else◌, List, [], ◌∷◌, Option, Some, None, ℤ, pos, ◌-ℤ◌, int_le, nat_abs, Ok}
 use Rattle.std.specs.List.{range_with_len}
 use Rattle.vhdl_values.specs.declared.kinds.Counted.{Counted}
 use Rattle.vhdl_values.specs.declared.kinds.Counted.TheVariants.{Resize, ShiftLeft, ShiftRight}
@@ -14,7 +14,7 @@ use Rattle.rtl_model.specs.bodies.Types.{ElementType}
 use Rattle.rtl_model.specs.bodies.Types as types
 use Rattle.vhdl_expand_rules.specs.declared.fault.ElabProblem.TheVariants.{Index, TooWide}
 use Rattle.vhdl_expand_rules.specs.Elab.{Elab, ◌>>=◌, ◌>>◌, refused, unless}
-use Rattle.vhdl_expand_rules.specs.Integers.{Integers, integer, natural, as_natural, is_null, extent}
+use Rattle.vhdl_expand_rules.specs.Integers.{IntegerRange, Integers, integer, natural, as_natural, is_null, extent, is_same_direction}
 
 -- the bounds of a vector, as they are declared
 pub record Bounds : Type 0 where
@@ -26,6 +26,17 @@ pub data ObjectKind : Type 0 where
   one : ObjectKind
   vector : Bounds → ObjectKind
   enumeration : (count : ℕ) → ObjectKind
+
+-- the range that a vector has
+abbrev pub ranges_of : ObjectKind → List IntegerRange
+ranges_of (vector b) = record { left = pos b.left; direction = b.direction; right = pos b.right } ∷ []
+ranges_of _ = []
+
+-- as it stands in text
+abbrev pub written_range : ObjectKind → Option Range
+written_range (vector b) =
+    Some (record { left = u.number b.left; direction = b.direction; right = u.number b.right })
+written_range _ = None
 
 -- how many elements it has
 abbrev pub bounds_size : Bounds → ℕ
@@ -91,11 +102,6 @@ is_within b i = range b.direction
 -- the place of an index, counted from the left
 abbrev pub place_of : Bounds → (at : ℕ) → ℤ → Elab ℕ
 place_of b at i = if is_within b i then Ok (nat_abs (i -ℤ pos b.left)) else refused Index at
-
-abbrev pub is_same_direction : Direction → Direction → Bool
-is_same_direction To To = true
-is_same_direction Downto Downto = true
-is_same_direction _ _ = false
 
 -- a slice has the direction of the declaration, has an element, and lies within the bounds
 abbrev pub slice_places : Bounds → (at : ℕ) → Direction → (left right : ℤ) → Elab (List ℕ)

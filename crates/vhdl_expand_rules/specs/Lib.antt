@@ -3,6 +3,7 @@ pub mod Integers
 pub mod Parameters
 pub mod Kinds
 pub mod Site
+pub mod Aggregates
 pub mod Expressions
 pub mod Tree
 pub mod Bytes

@@ -4,7 +4,7 @@
 use Rattle.std.specs.Prelude.{ℕ, Bool, true, ◌&&◌, ◌==◌, if◌then◌else◌, List, [], ◌∷◌, ◌++◌, filter, Ok}
 use Rattle.std.specs.List.{list_any, range_with_len}
 use Rattle.vhdl_names_rules.specs.units.Expressions as u
-use Rattle.vhdl_names_rules.specs.units.Expressions.{Part, SignalPart, Vector, Value, Test}
+use Rattle.vhdl_names_rules.specs.units.Expressions.{Part, SignalPart, Vector, Elements, Value, Test}
 use Rattle.vhdl_names_rules.specs.units.Statements as s
 use Rattle.vhdl_names_rules.specs.Names.{is_static}
 use Rattle.vhdl_expand_rules.specs.declared.prefix.Sought.{Sought}
@@ -25,14 +25,23 @@ prefix p = if is_static_part p.part then p else record p { part = u.whole }
 
 -- ---- the signals that a text names: those that it reads, or those that it assigns
 
-abbrev pub vector_names : Vector → List SignalPart
-vector_names (u.of_signal p) = p ∷ []
-vector_names (u.Vector.inverse x) = vector_names x
-vector_names (u.Vector.binary at op x y) = vector_names x ++ vector_names y
-vector_names (u.with_integer at op x n) = vector_names x
-vector_names (u.integer_with at op n x) = vector_names x
-vector_names (u.counted at op x n) = vector_names x
-vector_names _ = []
+abbrev mutual
+  pub vector_names : Vector → List SignalPart
+  vector_names (u.of_signal p) = p ∷ []
+  vector_names (u.Vector.inverse x) = vector_names x
+  vector_names (u.Vector.binary at op x y) = vector_names x ++ vector_names y
+  vector_names (u.with_integer at op x n) = vector_names x
+  vector_names (u.integer_with at op n x) = vector_names x
+  vector_names (u.counted at op x n) = vector_names x
+  vector_names (u.aggregate at r es) = elements_names es
+  vector_names (u.sized at r x) = vector_names x
+  vector_names _ = []
+
+  pub elements_names : Elements → List SignalPart
+  elements_names u.no_elements = []
+  elements_names (u.next x es) = vector_names x ++ elements_names es
+  elements_names (u.chosen cs x es) = vector_names x ++ elements_names es
+  elements_names (u.Elements.others x) = vector_names x
 
 -- The whole of a signal of an enumeration, whose byte the units don't have: it is there in units that names have
 -- passed, so that nothing is told at it.

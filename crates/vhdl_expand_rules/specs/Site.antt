@@ -8,7 +8,7 @@ use Rattle.vhdl_names_rules.specs.units.Expressions as u
 use Rattle.vhdl_names_rules.specs.units.Expressions.{Signal, Part, SignalPart}
 use Rattle.vhdl_expand_rules.specs.declared.fault.ElabProblem.TheVariants.{Index}
 use Rattle.vhdl_expand_rules.specs.Elab.{Elab, ◌>>=◌, item_or}
-use Rattle.vhdl_expand_rules.specs.Integers.{Integers}
+use Rattle.vhdl_expand_rules.specs.Integers.{IntegerRange, Integers}
 use Rattle.vhdl_expand_rules.specs.Kinds.{ObjectKind, size, places}
 
 -- a constant that is no integer
@@ -26,10 +26,14 @@ pub record Site : Type 0 where
 
 -- nothing is declared, as above the top
 abbrev pub no_integers : Integers
-no_integers = record { generics = []; constants = []; generates = []; loops = [] }
+no_integers = record { generics = []; constants = []; generates = []; loops = []; ranges = [] }
 
 abbrev pub no_site : Site
 no_site = record { integers = no_integers; constants = []; ports = []; signals = []; variables = [] }
+
+-- with more ranges that are declared
+abbrev pub with_ranges : Site → List IntegerRange → Site
+with_ranges here rs = record here { integers = record here.integers { ranges = here.integers.ranges ++ rs } }
 
 -- within a turn of a generate, and of a loop
 abbrev pub in_generate : Site → ℤ → Site

@@ -2,5 +2,6 @@
 pub mod Integers
 pub mod Decisions
 pub mod Kinds
+pub mod Numbers
 pub mod Prefixes
 pub mod Tops

@@ -73,6 +73,10 @@ impl Integers<'_> {
         ensures { Computes (definition.decision (integers_view self.now) (static_test_view test.now)) result }
     {
         match test {
+            StaticTest::Known(at, position) => {
+                let x = self.integer(position, *at)?;
+                Ok(0 < x)
+            }
             StaticTest::Compared(relation, sign, left, right) => {
                 let x = self.integer(left, *sign)?;
                 let y = self.integer(right, *sign)?;

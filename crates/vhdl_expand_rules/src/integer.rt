@@ -4,23 +4,29 @@ ghost use Rattle.std.specs.Prelude.{◌≡◌, ◌+ℤ◌, pos, Ok};
 ghost use Rattle.vhdl_names_rules.specs.views.Integers.{static_view, start_view};
 ghost use Rattle.vhdl_names_rules.specs.declared.operator.Arithmetic.TheVariants.{Modulo, Remainder};
 ghost use Rattle.vhdl_expand_rules.specs.Integers as definition;
-ghost use Rattle.vhdl_expand_rules.specs.views.Integers.{integers_view, Computes, in_range, with_sign, all_operated};
+ghost use Rattle.vhdl_expand_rules.specs.views.Integers.{integers_view, range_view, Computes, Makes, in_range, with_sign, all_operated};
 
 use crate::fault::{ElabFault, ElabProblem};
+use crate::range::{IntegerRange, known_range};
 use vhdl_lexer::MAX_INTEGER;
-use vhdl_names_rules::{Arithmetic, IntegerType, Static, StaticLink, StaticStart};
+use vhdl_names_rules::{Arithmetic, Static, StaticLink, StaticStart};
 
 /// The integers that are known where an expression stands: of generics and constants by their
-/// numbers, and of the parameters of the generates and loops round it, the outermost first.
+/// numbers, and of the parameters of the generates and loops round it, the outermost first. What a
+/// process declares is numbered behind what its instance does.
 pub struct Integers<'a> {
     pub generics: &'a [i32],
     pub constants: &'a [i32],
+    pub own_constants: &'a [i32],
     pub generates: &'a [i32],
     pub loops: &'a [i32],
+    /// The declared ranges by their numbers.
+    pub ranges: &'a [IntegerRange],
+    pub own_ranges: &'a [IntegerRange],
 }
 
 /// A value that has to lie in the range of static integers.
-fn checked(x: i32, at: usize) -> Result<i32, ElabFault>
+pub fn checked(x: i32, at: usize) -> Result<i32, ElabFault>
     ensures { Computes (definition.checked_integer at x) result }
 {
     if x.unsigned_abs() <= MAX_INTEGER {
@@ -117,6 +123,16 @@ fn modulus(left: i32, right: i32, at: usize) -> Result<i32, ElabFault>
     Ok(modulus)
 }
 
+/// `base ** exponent`, whose exponent is natural.
+fn power(base: i32, exponent: i32, at: usize) -> Result<i32, ElabFault>
+    ensures { Computes (definition.powered at base exponent) result }
+{
+    match u32::try_from(exponent) {
+        Ok(n) => within(base.checked_pow(n), at),
+        Err(_) => Err(ElabProblem::StaticError.at(at)),
+    }
+}
+
 /// An operator's result. `at` is the byte at which the operator starts.
 fn operated(operator: Arithmetic, left: i32, right: i32, at: usize) -> Result<i32, ElabFault>
     ensures { Computes (definition.integer_operation at operator left right) result }
@@ -128,6 +144,57 @@ fn operated(operator: Arithmetic, left: i32, right: i32, at: usize) -> Result<i3
         Arithmetic::Divide => within(left.checked_div(right), at),
         Arithmetic::Modulo => modulus(left, right, at),
         Arithmetic::Remainder => remainder(left, right, at),
+        Arithmetic::Power => power(left, right, at),
+    }
+}
+
+impl Integers<'_> {
+    /// These within loops whose parameters have these values.
+    pub fn within<'b>(&'b self, loops: &'b [i32]) -> Integers<'b>
+        ensures { integers_view result ≡ record (integers_view self.now) { loops = loops.now } }
+    {
+        Integers {
+            generics: self.generics,
+            constants: self.constants,
+            own_constants: self.own_constants,
+            generates: self.generates,
+            loops,
+            ranges: self.ranges,
+            own_ranges: self.own_ranges,
+        }
+    }
+
+    /// Lets them go.
+    pub fn end(self) {
+        let Integers {
+            generics: _,
+            constants: _,
+            own_constants: _,
+            generates: _,
+            loops: _,
+            ranges: _,
+            own_ranges: _,
+        } = self;
+    }
+
+    /// The constant of this number.
+    fn constant(&self, number: usize, at: usize) -> Result<i32, ElabFault>
+        ensures { Computes (definition.known_integer at (integers_view self.now).constants number) result }
+    {
+        match number.checked_sub(self.constants.len()) {
+            None => known(self.constants, number, at),
+            Some(number) => known(self.own_constants, number, at),
+        }
+    }
+
+    /// The declared range of this number.
+    pub(crate) fn range(&self, number: usize, at: usize) -> Result<IntegerRange, ElabFault>
+        ensures { Makes range_view (definition.known_range at (integers_view self.now).ranges number) result }
+    {
+        match number.checked_sub(self.ranges.len()) {
+            None => known_range(self.ranges, number, at),
+            Some(number) => known_range(self.own_ranges, number, at),
+        }
     }
 }
 
@@ -142,12 +209,34 @@ impl Integers<'_> {
         match value {
             Static::Number(n) => literal(*n, at),
             Static::Generic(number) => known(self.generics, *number, at),
-            Static::Constant(number) => known(self.constants, *number, at),
+            Static::Constant(number) => self.constant(*number, at),
             Static::GenerateParameter(number) => known(self.generates, *number, at),
             Static::LoopParameter(number) => known(self.loops, *number, at),
             Static::Negated(sign, operand) => {
                 let x = self.integer(operand, *sign)?;
                 within(x.checked_neg(), *sign)
+            }
+            Static::Absolute(sign, operand) => {
+                let x = self.integer(operand, *sign)?;
+                within(x.checked_abs(), *sign)
+            }
+            Static::Bound(bound, number) => {
+                let range = self.range(*number, at)?;
+                range.bound(*bound, at)
+            }
+            Static::SliceBound {
+                at,
+                bound,
+                range,
+                left,
+                direction,
+                right,
+            } => {
+                let whole = self.range(*range, *at)?;
+                let left = self.integer(left, *at)?;
+                let right = self.integer(right, *at)?;
+                let slice = IntegerRange::new(left, *direction, right);
+                whole.sliced_bound(slice, *bound, *at)
             }
             Static::Chain(start, links) => {
                 let first = self.started(start)?;
@@ -163,24 +252,6 @@ impl Integers<'_> {
     {
         let x = self.integer(value, at)?;
         as_natural(x, at)
-    }
-
-    /// The value of a generic or constant of a type of integers; a fault is StaticError or
-    /// GenericRange.
-    #[tactic(auto, unfolding(crate::specs::Integers::integer_of))]
-    pub fn integer_of(&self, of: IntegerType, value: &Static, at: usize) -> Result<i32, ElabFault>
-        ensures { Computes (definition.integer_of of (integers_view self.now) at (static_view value.now)) result }
-    {
-        let x = self.integer(value, at)?;
-        let fits = match of {
-            IntegerType::Integer => true,
-            IntegerType::Natural => 0 <= x,
-            IntegerType::Positive => 0 < x,
-        };
-        if !fits {
-            return Err(ElabProblem::GenericRange.at(at));
-        }
-        Ok(x)
     }
 
     /// The value of the first operator of a chain.

@@ -1,27 +1,23 @@
 //! What is declared, and the parts of it that names mean (IEEE 1076-2008, 5.3.2, 8.4, 8.5).
 
-ghost use Rattle.std.specs.Prelude.{◌≡◌};
-ghost use Rattle.vhdl_names_rules.specs.views.Integers.{static_view, range_view};
+ghost use Rattle.std.specs.Prelude.{◌≡◌, [], ◌∷◌, option_map};
+ghost use Rattle.vhdl_names_rules.specs.views.Integers as names;
+ghost use Rattle.vhdl_names_rules.specs.views.Integers.{static_view};
 ghost use Rattle.vhdl_names_rules.specs.units.Expressions as units;
 ghost use Rattle.vhdl_names_rules.specs.views.Vectors.{part_view};
+ghost use Rattle.vhdl_expand_rules.specs.Integers.{is_same_direction};
 ghost use Rattle.vhdl_expand_rules.specs.Kinds as definition;
-ghost use Rattle.vhdl_expand_rules.specs.views.Integers.{integers_view, Computes, Makes};
+ghost use Rattle.vhdl_expand_rules.specs.views.Integers.{integers_view, range_view, if_any, Computes, Makes};
 ghost use Rattle.vhdl_expand_rules.specs.views.Kinds.{bounds_view, kind_view, run_view};
 
+use crate::bounds::Bounds;
 use crate::decision::{extent, is_null};
 use crate::fault::{ElabFault, ElabProblem};
 use crate::integer::{Integers, as_natural};
+use crate::range::IntegerRange;
 use vhdl_names_rules::{Part, Static, StaticRange};
 use vhdl_tree::Direction;
 use vhdl_values::Counted;
-
-/// The bounds of a vector, as they are declared.
-#[derive(Clone, Copy)]
-pub struct Bounds {
-    pub left: u32,
-    pub direction: Direction,
-    pub right: u32,
-}
 
 /// One element, a vector, or a value of an enumeration of so many literals.
 #[derive(Clone, Copy)]
@@ -39,6 +35,17 @@ pub struct Run {
 }
 
 impl Bounds {
+    /// Their range.
+    fn range(self) -> IntegerRange
+        ensures { definition.ranges_of (definition.vector (bounds_view self)) ≡ range_view result ∷ [] }
+    {
+        IntegerRange {
+            left: self.left as i32,
+            direction: self.direction,
+            right: self.right as i32,
+        }
+    }
+
     /// How many elements lie within the bounds.
     pub fn size(self) -> usize
         ensures { result ≡ definition.bounds_size (bounds_view self) }
@@ -104,11 +111,35 @@ impl ObjectKind {
             ObjectKind::Vector(bounds) => bounds.size(),
         }
     }
+
+    /// The range of a vector.
+    pub fn range(self) -> Option<IntegerRange>
+        ensures { definition.ranges_of (kind_view self) ≡ if_any (option_map range_view result) }
+    {
+        match self {
+            ObjectKind::Vector(bounds) => Some(bounds.range()),
+            ObjectKind::One | ObjectKind::Enumeration(_) => None,
+        }
+    }
+
+    /// The same as it stands in text.
+    pub fn written_range(self) -> Option<StaticRange>
+        ensures { option_map names.range_view result ≡ definition.written_range (kind_view self) }
+    {
+        match self {
+            ObjectKind::Vector(bounds) => Some(StaticRange {
+                left: Static::Number(bounds.left),
+                direction: bounds.direction,
+                right: Static::Number(bounds.right),
+            }),
+            ObjectKind::One | ObjectKind::Enumeration(_) => None,
+        }
+    }
 }
 
 /// Whether both are one direction.
-fn is_same(left: Direction, right: Direction) -> bool
-    ensures { result ≡ definition.is_same_direction left right }
+pub fn is_same(left: Direction, right: Direction) -> bool
+    ensures { result ≡ is_same_direction left right }
 {
     match left {
         Direction::To => match right {
@@ -140,8 +171,8 @@ impl Integers<'_> {
     /// TooWide.
     #[tactic(auto, unfolding(crate::specs::Kinds::declared_bounds))]
     pub fn declared_bounds(&self, range: &StaticRange, at: usize) -> Result<Bounds, ElabFault>
-        ensures { Makes bounds_view (definition.declared_bounds (integers_view self.now) at (range_view range.now))
-            result }
+        ensures { Makes bounds_view
+            (definition.declared_bounds (integers_view self.now) at (names.range_view range.now)) result }
     {
         let left = self.integer(&range.left, at)?;
         let right = self.integer(&range.right, at)?;
@@ -218,7 +249,7 @@ impl Integers<'_> {
     #[tactic(auto, unfolding(crate::specs::Kinds::places))]
     fn slice_of(&self, bounds: Bounds, range: &StaticRange, at: usize) -> Result<Run, ElabFault>
         ensures { Makes run_view (definition.places (integers_view self.now) at (definition.vector (bounds_view bounds))
-            (units.slice (range_view range.now))) result }
+            (units.slice (names.range_view range.now))) result }
     {
         let left = self.integer(&range.left, at)?;
         let right = self.integer(&range.right, at)?;

@@ -28,8 +28,10 @@ pub fn is_static(value: &Static) -> bool
         Static::Number(_)
         | Static::Generic(_)
         | Static::Constant(_)
-        | Static::GenerateParameter(_) => true,
-        Static::Negated(_, operand) => is_static(operand),
+        | Static::GenerateParameter(_)
+        | Static::Bound(_, _) => true,
+        Static::Negated(_, operand) | Static::Absolute(_, operand) => is_static(operand),
+        Static::SliceBound { left, right, .. } => is_static(left) && is_static(right),
         Static::Chain(start, links) => {
             if !is_start_static(start) {
                 return false;

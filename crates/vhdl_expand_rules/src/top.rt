@@ -1,6 +1,7 @@
 //! The top of a design, and values that are set for its generics (IEEE 1076-2008, 14.2, 14.3.3).
 
 ghost use Rattle.std.specs.Prelude.{◌≡◌, find, map, option_map, IfOk};
+ghost use Rattle.vhdl_names_rules.specs.units.Units as units;
 ghost use Rattle.vhdl_names_rules.specs.views.Integers.{static_view};
 ghost use Rattle.vhdl_expand_rules.specs.Tops as definition;
 ghost use Rattle.vhdl_expand_rules.specs.views.Tops.{setting_view};
@@ -63,7 +64,7 @@ pub fn set_actual(
     name: &[u8],
     at: usize,
 ) -> Result<Option<Static>, AllocError>
-    ensures { IfOk result (λ actual. option_map static_view actual ≡
+    ensures { IfOk result (λ actual. option_map (λ s. units.Fixed.integer (static_view s)) actual ≡
         definition.set_actual (map setting_view settings.now) name.now at) }
 {
     match value_of(settings, name) {

@@ -121,7 +121,7 @@ own_ports asked net h =
 
 -- ---- why it has none
 
-pub no_units : (language : Language) (file : File) (fault : NameFault) → (fault ≢ names.NoMemory → units_in language file ≡ None) → Tells (breaks.file file) fault → HasNameFault language file (of_name fault)
+pub no_units : (language : Language) (file : File) (fault : NameFault) → (fault ≢ names.NoMemory → units_in language file ≡ None) → Tells (breaks.file language file) fault → HasNameFault language file (of_name fault)
 no_units language file (names.At problem at) none broken = (none (λ e. absurd cc), broken)
 no_units language file names.NoMemory none broken = tt
 
@@ -137,7 +137,7 @@ untyped_refuses asked file (Elab fault) read h = absurd h
 pub untyped_lies : (language : Language) (source : List ℕ) (file : File) (fault : SourceFault) → IsFileOf language source file → HasNameFault language file fault → LiesIn (length source) fault
 untyped_lies language source file (Name (names.At problem at)) read h =
     let inside : at < length source
-    = subst (λ b. IfSome b (λ at_fault. at_fault.1 < length source)) h.1 (faults_lie_in_the_text source read.tokens file read.cut read.spelled (files_are_wide language file read.well_formed)) in
+    = subst (λ b. IfSome b (λ at_fault. at_fault.1 < length source)) h.1 (faults_lie_in_the_text language source read.tokens file read.cut read.spelled (files_are_wide language file read.well_formed)) in
     omega (arith, inside)
 untyped_lies language source file (Name names.NoMemory) read h = absurd h
 untyped_lies language source file NoMemory read h = tt
@@ -152,11 +152,11 @@ no_net language units top elab.NoMemory h = tt
 -- where registers are written anew, no byte is another one
 in_text : (language : Language) (source : List ℕ) (file : File) (units : u.Units) → IsFileOf language source file → units_in language file ≡ Some units
     → All (λ at. at < length source) (units_bytes units)
-in_text Profile source file units read typed = units_lie_in_the_text source read.tokens file units read.cut read.spelled typed
+in_text Profile source file units read typed = units_lie_in_the_text Profile source read.tokens file units read.cut read.spelled typed
 in_text Wide source file units read typed =
-    let m = mapped units_written (units_of file) units typed in
+    let m = mapped units_written (units_of Wide file) units typed in
     subst (λ (x : u.Units). All (λ at. at < length source) (units_bytes x)) m.is
-    (written_stand (λ at. at < length source) m.value (units_lie_in_the_text source read.tokens file m.value read.cut read.spelled m.from))
+    (written_stand (λ at. at < length source) m.value (units_lie_in_the_text Wide source read.tokens file m.value read.cut read.spelled m.from))
 
 -- a byte of the units is one of the source, and 0 is one or its end
 in_source : (size : ℕ) (bytes : List ℕ) (at : ℕ) → All (λ b. b < size) bytes → Contains (0 ∷ bytes) at → at ≤ size

@@ -26,7 +26,7 @@ use Rattle.vhdl_front_rules.specs.declared.fault.SourceFault.TheVariants.{Name, 
 abbrev pub HasNameFault : Language → File → SourceFault → Type 0
 HasNameFault language file (Name names.NoMemory) = ⊥
 HasNameFault language file (Name (names.At problem at)) =
-    (units_in language file ≡ None) × (breaks.file file ≡ Some (problem, at))
+    (units_in language file ≡ None) × (breaks.file language file ≡ Some (problem, at))
 HasNameFault language file NoMemory = Unit {0}
 HasNameFault language file _ = ⊥
 

@@ -29,7 +29,7 @@ pub record HasNoUnits (language : Language) (source : List ℕ) (problem : NameP
   pub file : File
   pub read : IsFileOf language source file
   pub ill_typed : units_in language file ≡ None
-  pub broken : breaks.file file ≡ Some (problem, at)
+  pub broken : breaks.file language file ≡ Some (problem, at)
 
 -- The units have a design, but its kept variables have no room.
 pub record IsOverfull (language : Language) (units : Units) (top : Top) (told : Told) : Type 0 where

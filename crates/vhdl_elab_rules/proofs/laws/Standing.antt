@@ -3,13 +3,12 @@ use Rattle.std.proofs.Common.{◌≡◌, ℕ, ◌+◌, Bool, true, false, cond, 
 use Rattle.std.specs.Prelude.{find, flat_map, is_some, length, Contains}
 use Rattle.std.specs.List.{AllZip, range_with_len}
 use Rattle.std.proofs.lemmas.List.Elements.{All-append, All-cons, All-nil, All-head, All-tail, All-weaker, All-contains_itself, Contains-append_right}
-use Rattle.vhdl_names_rules.specs.units.Expressions.{Static, SignalPart}
+use Rattle.vhdl_names_rules.specs.units.Expressions.{SignalPart}
 use Rattle.vhdl_names_rules.specs.units.Units as u
-use Rattle.vhdl_names_rules.specs.units.Units.{Port, Declaration, Entity, Units, Architecture}
+use Rattle.vhdl_names_rules.specs.units.Units.{Fixed, Port, Declaration, Entity, Units, Architecture}
 use Rattle.vhdl_names_rules.specs.units.Bytes.{if_any_bytes, form_bytes, fixed_bytes, port_bytes, declaration_bytes, concurrents_bytes, architecture_bytes, entity_bytes, units_bytes}
 use Rattle.vhdl_expand_rules.specs.declared.fault.ElabProblem.TheVariants.{TooMany, TwoUnresolved, ReadOfShared, Unassociated}
-use Rattle.vhdl_expand_rules.specs.Elab.{unless, same_length}
-use Rattle.vhdl_expand_rules.specs.Integers.{Integers}
+use Rattle.vhdl_expand_rules.specs.Elab.{Told, unless, same_length}
 use Rattle.vhdl_expand_rules.specs.Kinds.{size}
 use Rattle.vhdl_expand_rules.specs.Site.{Site, place_elements}
 use Rattle.vhdl_expand_rules.specs.Tree.{Role, internal, Object, Instance, Parts, no_parts, inner, EachInstance, EachInner}
@@ -20,7 +19,7 @@ use Rattle.vhdl_expand_rules.specs.Tops.{Top}
 use Rattle.vhdl_expand_rules.proofs.Steps.{ok, bound}
 use Rattle.vhdl_expand_rules.proofs.Items.{all_of_zip}
 use Rattle.vhdl_expand_rules.proofs.laws.Expanded.{object_made, OfObjects, interface_holds, with_signals, OfSignal, declarations_add, OfInstances, design_holds}
-use Rattle.vhdl_expand_rules.proofs.Tells.{Tells, tells_none, tells_then, tells_with, tells_unless, all_flat}
+use Rattle.vhdl_expand_rules.proofs.Tells.{Tells, tells_none, tells_then, tells_with, tells_unless, tells_within, all_flat}
 use Rattle.vhdl_expand_rules.proofs.laws.Targets.{all_left}
 use Rattle.vhdl_expand_rules.proofs.laws.told.Declarations.{MayStand, EntityStands, entity_stands}
 use Rattle.vhdl_expand_rules.proofs.laws.told.Designs.{designs_are_told}
@@ -29,6 +28,10 @@ use Rattle.vhdl_elab_rules.specs.Wiring.{Element, element_of, elements_from, ele
 use Rattle.vhdl_elab_rules.specs.Limits.{elements, declared_at, first_at, is_two_unresolved, has_two_unresolved, is_read_of_shared, has_read_of_shared, counts, is_within_limits}
 use Rattle.vhdl_elab_rules.specs.Elaboration.{net_of, resolves, shares_unread, netlist_of, elaborated_net}
 use Rattle.vhdl_elab_rules.specs.laws.Bytes.{EachRefusalStandsInUnits}
+
+-- told at such a byte
+abbrev IsAt : (ℕ → Type 0) → Told → Type 0
+IsAt P told = P told.1
 
 module _ (P : ℕ → Type 0) where
   -- ---- objects
@@ -67,7 +70,7 @@ module _ (P : ℕ → Type 0) where
   ports-stand : (unit : Entity) (os : List Object) → AllZip PortStands unit.ports os → All Stands os
   ports-stand unit os h = all_of_zip PortStands Stands (λ p o s. s) unit.ports os h
 
-  pub interface_stands : (above : Integers) (actuals : List (Option Static)) (unit : Entity) (d : InstanceObjects) → EntityStands P unit → interface above actuals unit ≡ Ok d → All Stands d.objects
+  pub interface_stands : (above : Site) (actuals : List (Option Fixed)) (unit : Entity) (d : InstanceObjects) → EntityStands P unit → interface above actuals unit ≡ Ok d → All Stands d.objects
   interface_stands above actuals unit d k g = ports-stand unit d.objects (interface_holds IsThere PortStands Stands objects above actuals unit d (ports-there unit k) g)
 
   association-stands : (above : Site) (at : ℕ) (p : Port) (actual : Option SignalPart) (o x : Object) → Stands o → association above at p actual o ≡ Ok x → Stands x
@@ -164,17 +167,18 @@ module _ (P : ℕ → Type 0) where
 
   -- ---- netlists
 
-  netlist-tells : P 0 → (design : Design) → InstanceStands design.top → Tells P (netlist_of design)
+  netlist-tells : P 0 → (design : Design) → InstanceStands design.top → Tells (IsAt P) (netlist_of design)
   unfolding netlist_of numbered_design
   netlist-tells nought design h =
       let d : Numbered = numbered_design design in
       let all : All ElementStands (elements d) = all-elements d.instances (numbered-stands design.top above_top design.name nothing_numbered h (All-nil PlacedStands)) in
-      tells_then P (unless TooMany 0 (is_within_limits (counts d))) _ (tells_unless P TooMany 0 (is_within_limits (counts d)) nought) (λ limits.
-      tells_then P (resolves d) _
-      (tells_unless P TwoUnresolved (first_at is_two_unresolved (elements d)) (not (has_two_unresolved d)) (first-stands nought is_two_unresolved (elements d) all)) (λ two.
-      tells_then P (shares_unread d) _
-      (tells_unless P ReadOfShared (first_at (is_read_of_shared (flat_net d)) (elements d)) (not (has_read_of_shared d (flat_net d)))
-      (first-stands nought (is_read_of_shared (flat_net d)) (elements d) all)) (λ shared. tells_none P (net_of d))))
+      tells_then (IsAt P) (unless TooMany 0 (is_within_limits (counts d))) _ (tells_within (IsAt P) 0 (is_within_limits (counts d)) nought) (λ limits.
+      tells_then (IsAt P) (resolves d) _
+      (tells_unless (IsAt P) TwoUnresolved tt (first_at is_two_unresolved (elements d)) (not (has_two_unresolved d))
+      (λ problem own. first-stands nought is_two_unresolved (elements d) all)) (λ two.
+      tells_then (IsAt P) (shares_unread d) _
+      (tells_unless (IsAt P) ReadOfShared tt (first_at (is_read_of_shared (flat_net d)) (elements d)) (not (has_read_of_shared d (flat_net d)))
+      (λ problem own. first-stands nought (is_read_of_shared (flat_net d)) (elements d) all)) (λ shared. tells_none (IsAt P) (net_of d))))
 
 nought-in : (bytes : List ℕ) → Contains (0 ∷ bytes) 0
 nought-in bytes = All-head (Contains (0 ∷ bytes)) 0 bytes (All-contains_itself (0 ∷ bytes))
@@ -182,11 +186,11 @@ nought-in bytes = All-head (Contains (0 ∷ bytes)) 0 bytes (All-contains_itself
 bytes-in : (bytes : List ℕ) → All (Contains (0 ∷ bytes)) bytes
 bytes-in bytes = All-tail (Contains (0 ∷ bytes)) 0 bytes (All-contains_itself (0 ∷ bytes))
 
-net-tells : (units : Units) (top : Top) → Tells (Contains (0 ∷ units_bytes units)) (elaborated_net units top)
+net-tells : (units : Units) (top : Top) → Tells (IsAt (Contains (0 ∷ units_bytes units))) (elaborated_net units top)
 unfolding elaborated_net
 net-tells units top =
     let bytes : List ℕ = units_bytes units in
-    tells_with (Contains (0 ∷ bytes)) (expanded_design units top) _ (record { told_at = designs_are_told units top }) (λ design is.
+    tells_with (IsAt (Contains (0 ∷ bytes))) (expanded_design units top) _ (record { told_at = designs_are_told units top }) (λ design is.
     netlist-tells (Contains (0 ∷ bytes)) (nought-in bytes) design (design-stands (Contains (0 ∷ bytes)) units top design (bytes-in bytes) is))
 
 pub refusals-stand : EachRefusalStandsInUnits

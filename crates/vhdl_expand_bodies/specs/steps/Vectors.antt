@@ -1,20 +1,23 @@
 -- Parts of expressions, as the code comes to them.
-use Rattle.std.specs.Prelude.{ℕ, List, length, Ok}
+use Rattle.std.specs.Prelude.{ℕ, List, ◌++◌, length, map, Option, ℤ, Ok}
 use Rattle.vhdl_values.specs.declared.scalar.Nine.{Nine}
 use Rattle.vhdl_values.specs.declared.kinds.Counted.{Counted}
 use Rattle.vhdl_values.specs.Numbers.{digits_of}
 use Rattle.vhdl_names_rules.specs.declared.operator.Numeric.{Numeric}
+use Rattle.vhdl_names_rules.specs.declared.vector.VectorElement.{VectorElement}
+use Rattle.vhdl_names_rules.specs.declared.vector.VectorElement.TheVariants as v
 use Rattle.vhdl_names_rules.specs.declared.vector.VectorLink.{VectorLink}
 use Rattle.vhdl_names_rules.specs.declared.vector.VectorLink.TheVariants as l
 use Rattle.vhdl_names_rules.specs.declared.vector.VectorStart.{VectorStart}
-use Rattle.vhdl_names_rules.specs.views.Integers.{static_view}
+use Rattle.vhdl_names_rules.specs.views.Integers.{static_view, index_view}
 use Rattle.vhdl_names_rules.specs.views.Vectors.{vector_view}
-use Rattle.vhdl_names_rules.specs.units.Expressions.{Static, Part, SignalPart, Vector}
+use Rattle.vhdl_names_rules.specs.units.Expressions.{Static, Range, Part, SignalPart, Vector}
 use Rattle.rtl_model.specs.bodies.Body as bodies
 use Rattle.rtl_model.specs.bodies.Fits.{width}
-use Rattle.vhdl_expand_rules.specs.Elab.{Elab, ◌>>=◌, ◌>>◌}
+use Rattle.vhdl_expand_rules.specs.Elab.{Elab, ◌>>=◌, ◌>>◌, same_length}
 use Rattle.vhdl_expand_rules.specs.Integers.{natural}
-use Rattle.vhdl_expand_rules.specs.Kinds.{as_size, size_of, count_of}
+use Rattle.vhdl_expand_rules.specs.Kinds.{as_size, size_of, count_of, declared_bounds, bounds_size}
+use Rattle.vhdl_expand_rules.specs.Aggregates.{Placed, next, chosen, others, chosen_indexes}
 use Rattle.vhdl_expand_rules.specs.Site.{Site, place_elements, variable_elements}
 use Rattle.vhdl_expand_rules.specs.Expressions.{operation_on, operator, numeric, vector}
 
@@ -51,6 +54,34 @@ module _ (here : Site) where
     n ← natural here.integers at s
     e ← vector here x
     operation_on at (numeric op) (bodies.constant (digits_of (width e) n)) e
+
+  -- one element, of an aggregate that starts here
+  abbrev pub one_element : (at : ℕ) → Vector → Elab bodies.Expr
+  one_element at x = do
+    e ← vector here x
+    same_length at (width e) 1
+    Ok e
+
+  -- an element of an aggregate that starts here, and which indexes are taken behind it
+  abbrev pub placed : (at : ℕ) → Option (List ℤ) → (taken : List ℤ) → VectorElement → Elab (Placed × List ℤ)
+  placed at all taken (v.Next x) = do
+    e ← vector here (vector_view x)
+    Ok (next e, taken)
+  placed at all taken (v.Chosen cs x) = do
+    is ← chosen_indexes here.integers all taken (map index_view cs.items)
+    e ← one_element at (vector_view x)
+    Ok (chosen is e, taken ++ is)
+  placed at all taken (v.Others x) = do
+    e ← one_element at (vector_view x)
+    Ok (others e, taken)
+
+  -- as long as a range
+  abbrev pub sized : (at : ℕ) → Range → Vector → Elab bodies.Expr
+  sized at r x = do
+    e ← vector here x
+    b ← declared_bounds here.integers at r
+    same_length at (width e) (bounds_size b)
+    Ok e
 
   -- an operator with its right operand, after an expression
   abbrev pub linked : bodies.Expr → VectorLink → Elab bodies.Expr

@@ -1,137 +1,34 @@
--- Declarations of sound units become sound objects, and ports are soundly joined.
-use Rattle.std.proofs.Common.{◌≡◌, ℕ, ◌<◌, true, false, not, ◌&&◌, ◌||◌, List, [], ◌∷◌, ◌++◌, length, map, Option, Some, None, Ok, All, refl, sym, ap, ◌∙◌, subst, append_assoc, append-nil}
-use Rattle.std.specs.Prelude.{is_some}
-use Rattle.std.specs.List.{AllZip, list_all}
+-- Ports of sound units are soundly joined, and their declarations become sound objects.
+use Rattle.std.proofs.Common.{◌≡◌, ℕ, Bool, true, false, not, ◌||◌, List, [], ◌∷◌, ◌++◌, length, Option, Some, None, Ok, All, refl, sym, ap, ◌∙◌, subst, append_assoc}
+use Rattle.std.specs.Prelude.{⊤, is_some}
+use Rattle.std.specs.List.{AllZip, list_any}
 use Rattle.std.proofs.lemmas.Bool.{and_parts}
 use Rattle.std.proofs.lemmas.List.{map-append}
-use Rattle.std.proofs.lemmas.List.Elements.{All-cons, All-nil, All-append, All-head, All-tail}
+use Rattle.std.proofs.lemmas.List.Elements.{All-cons, All-nil, All-append}
 use Rattle.vhdl_tree.specs.declared.declaration.Mode.{Mode}
 use Rattle.vhdl_tree.specs.declared.declaration.Mode.TheVariants.{In, Out}
-use Rattle.rtl_model.specs.bodies.Types.{ElementType, nine_valued, limit_of, HasType}
-use Rattle.vhdl_names_rules.specs.units.Expressions.{Static, SignalPart}
+use Rattle.rtl_model.specs.bodies.Types.{ElementType, HasType}
+use Rattle.vhdl_names_rules.specs.units.Expressions.{SignalPart}
 use Rattle.vhdl_names_rules.specs.units.Units as u
-use Rattle.vhdl_names_rules.specs.units.Units.{Form, Port, Declaration, Entity}
-use Rattle.vhdl_names_rules.specs.sound.Expressions.{Inside, shape_of, place_shape, fits_shape, port_form}
+use Rattle.vhdl_names_rules.specs.units.Units.{Port, Declaration}
+use Rattle.vhdl_names_rules.specs.sound.Expressions.{Inside, shape_of, place_shape, fits_shape}
 use Rattle.vhdl_names_rules.specs.sound.Statements.{is_driven}
-use Rattle.vhdl_names_rules.specs.sound.Units.{form_fits, fixed_fits, default_fits, may_be_resolved, object_fits, objects_fit, port_fits, declaration_fits, with_declaration, declarations_fit, with_declarations, may_join, actual_fits, actuals_fit}
+use Rattle.vhdl_names_rules.specs.sound.Units.{form_fits, fixed_fits, is_variable, declaration_fits, with_declaration, declarations_fit, with_declarations, may_join, actual_fits, actuals_fit}
 use Rattle.vhdl_expand_rules.specs.declared.fault.ElabProblem.TheVariants.{Unassociated}
-use Rattle.vhdl_expand_rules.specs.Elab.{unless, same_length}
-use Rattle.vhdl_expand_rules.specs.Integers.{Integers, integer_of}
+use Rattle.vhdl_expand_rules.specs.Elab.{◌>>=◌, unless, same_length}
+use Rattle.vhdl_expand_rules.specs.Integers.{Integers, integer_of, numbers_of, decision}
 use Rattle.vhdl_expand_rules.specs.Kinds.{ObjectKind, size, element_type, kind_of}
-use Rattle.vhdl_expand_rules.specs.Site.{Site, no_integers, no_site, place_elements}
-use Rattle.vhdl_expand_rules.specs.Tree.{Role, internal, Object}
-use Rattle.vhdl_expand_rules.specs.Declarations.{generics, fixed_values, starts, object, role_of, InstanceObjects, with_port, with_signal, ports, interface, declaration, declarations, is_input, association, associations}
-use Rattle.vhdl_expand_rules.specs.laws.Sites.{IsOf, IsConstant, IsSite, scope_at}
+use Rattle.vhdl_expand_rules.specs.Site.{Site, place_elements}
+use Rattle.vhdl_expand_rules.specs.Tree.{internal, Object}
+use Rattle.vhdl_expand_rules.specs.Declarations.{fixed_values, object, role_of, InstanceObjects, with_signal, declared, declaration, declarations, is_input, association, associations}
+use Rattle.vhdl_expand_rules.specs.laws.Sites.{IsOf, IsSite, scope_at}
 use Rattle.vhdl_expand_rules.specs.laws.Trees.{object_kinds, object_types, MayBeDriven, is_port, ObjectIsSound}
-use Rattle.vhdl_expand_rules.proofs.Steps.{ok, bound}
-use Rattle.vhdl_expand_rules.proofs.laws.Kinds.{kind_is_of, is_kind, elements_kind, resolved_kind, starts_below}
+use Rattle.vhdl_expand_rules.proofs.Steps.{given, ok, bound}
+use Rattle.vhdl_expand_rules.proofs.laws.Kinds.{kind_is_of}
 use Rattle.vhdl_expand_rules.proofs.laws.Names.{zip_push, each-name-fits, whole}
 use Rattle.vhdl_expand_rules.proofs.laws.Tests.{has_shape}
 use Rattle.vhdl_expand_rules.proofs.laws.Driven.{IsDeclared, site-types, driven_elements}
-
--- ---- one object
-
--- as it is declared, with no actual
-pub record Plain (role : Role) (o : u.Object) (x : Object) : Type 0 where
-  pub kind : IsOf o.form x.kind
-  pub role_is : x.role ≡ role
-  pub starts : All (λ v. v < limit_of (element_type x.kind)) x.starts
-  pub resolved : x.is_resolved ≡ true → element_type x.kind ≡ nine_valued
-  pub none : x.actual ≡ None
-
-object-plain : (i : Inside) (here : Site) (role : Role) (o : u.Object) (x : Object) → object_fits i o ≡ true → object here role o ≡ Ok x → Plain role o x
-unfolding object
-object-plain i here role o x h e =
-    let both = and_parts (form_fits i o.form && may_be_resolved o.form o.is_resolved) (default_fits i (shape_of o.form) o.default) h in
-    let first = and_parts (form_fits i o.form) (may_be_resolved o.form o.is_resolved) both.0 in
-    let k = bound (kind_of here.integers o.at o.form) _ x e in
-    let vs = bound (starts here o.at k.x o.default) _ x k.then_gave in
-    let of = kind_is_of i here.integers o.at o.form k.x first.0 k.gave in
-    subst (Plain role o) (ok _ x vs.then_gave) (record {
-      kind = of;
-      role_is = refl;
-      starts = starts_below i here o.at o.form k.x o.default vs.x of both.1 vs.gave;
-      resolved = λ r. resolved_kind o.form k.x o.is_resolved of first.1 r;
-      none = refl;
-    })
-
-plain-sound : (above : List Object) (role : Role) (o : u.Object) (x : Object) → Plain role o x → (is_port role ≡ true → element_type x.kind ≡ nine_valued) → ObjectIsSound above x
-plain-sound above role o x p nine = record {
-  kind = is_kind o.form x.kind p.kind;
-  starts = p.starts;
-  ports_are_nine = λ h. nine (ap is_port (sym p.role_is) ∙ h);
-  resolved_are_nine = p.resolved;
-  signals_have_none = λ h. p.none;
-  actual = λ es e. absurd (let n = p.none in cc);
-  driven = λ es e r. absurd (let n = p.none in cc);
-}
-
--- ---- ports
-
-pub record PortObject (p : Port) (o : Object) : Type 0 where
-  pub plain : Plain (role_of p.mode) p.object o
-  pub nine : element_type o.kind ≡ nine_valued
-
-pub record Interface (i : Inside) (done : List Port) (d : InstanceObjects) : Type 0 where
-  pub site : IsSite (record i { ports = done }) d.site
-  pub kinds : object_kinds d.objects ≡ d.site.ports
-  pub no_signals : d.site.signals ≡ []
-  pub objects : AllZip PortObject done d.objects
-
-abbrev PortFits : Inside → Port → Type 0
-PortFits i p = (object_fits i p.object ≡ true) × (port_fits p ≡ true)
-
-port-object : (i : Inside) (here : Site) (p : Port) (o : Object) → PortFits i p → object here (role_of p.mode) p.object ≡ Ok o → PortObject p o
-port-object i here p o h e =
-    let w = object-plain i here (role_of p.mode) p.object o h.0 e in
-    record { plain = w; nine = elements_kind p.object.form o.kind w.kind h.1 }
-
-port-added : (i : Inside) (done : List Port) (d : InstanceObjects) (p : Port) (o : Object) → Interface i done d → PortObject p o → Interface i (done ++ p ∷ []) (with_port d o)
-port-added i done d p o h w = record {
-  site = record {
-    constants = h.site.constants;
-    ports = subst (λ (fs : List Form). AllZip IsOf fs (d.site.ports ++ o.kind ∷ [])) (sym (map-append port_form done (p ∷ [])))
-        (zip_push IsOf (map port_form done) d.site.ports (port_form p) o.kind h.site.ports w.plain.kind);
-    signals = h.site.signals;
-    variables = h.site.variables;
-  };
-  kinds = map-append (λ (x : Object). x.kind) d.objects (o ∷ []) ∙ ap (λ (ks : List ObjectKind). ks ++ o.kind ∷ []) h.kinds;
-  no_signals = h.no_signals;
-  objects = zip_push PortObject done d.objects p o h.objects w;
-}
-
-ports-stand : (ps : List Port) (i : Inside) (done : List Port) (d e : InstanceObjects) → Interface i done d → All (PortFits i) ps → ports d ps ≡ Ok e → Interface i (done ++ ps) e
-unfolding ports
-ports-stand [] i done d e h fit k = subst (λ (xs : List Port). Interface i xs e) (sym (append-nil done)) (subst (Interface i done) (ok d e k) h)
-ports-stand (p ∷ ps) i done d e h fit k =
-    let o = bound (object d.site (role_of p.mode) p.object) _ e k in
-    let w = port-object i d.site p o.x (All-head (PortFits i) p ps fit) o.gave in
-    subst (λ (xs : List Port). Interface i xs e) (append_assoc done (p ∷ []) ps)
-    (ports-stand ps i (done ++ p ∷ []) (with_port d o.x) e (port-added i done d p o.x h w) (All-tail (PortFits i) p ps fit) o.then_gave)
-
-port-fits : (i : Inside) (ps : List Port) → objects_fit i (map (λ (p : Port). p.object) ps) ≡ true → list_all port_fits ps ≡ true → All (PortFits i) ps
-port-fits i [] h e = All-nil (PortFits i)
-port-fits i (p ∷ ps) h e =
-    let a = and_parts (object_fits i p.object) (objects_fit i (map (λ (q : Port). q.object) ps)) h in
-    let b = and_parts (port_fits p) (list_all port_fits ps) e in
-    All-cons (PortFits i) p ps (a.0, b.0) (port-fits i ps a.1 b.1)
-
-pub interface-stands : (i : Inside) (above : Integers) (actuals : List (Option Static)) (unit : Entity) (d : InstanceObjects) → i.constants ≡ [] → i.signals ≡ [] → i.variables ≡ []
-    → objects_fit i (map (λ (p : Port). p.object) unit.ports) ≡ true → list_all port_fits unit.ports ≡ true → interface above actuals unit ≡ Ok d → Interface i unit.ports d
-unfolding interface
-interface-stands i above actuals unit d no_constants no_signals no_variables h e k =
-    let js = bound (generics above no_integers actuals unit.generics) _ d k in
-    ports-stand unit.ports i [] (record { site = record no_site { integers = js.x }; objects = [] }) d (record {
-      site = record {
-        constants = subst (λ (fs : List Form). AllZip IsConstant fs []) (sym no_constants) tt;
-        ports = tt;
-        signals = subst (λ (fs : List Form). AllZip IsOf fs []) (sym no_signals) tt;
-        variables = subst (λ (fs : List Form). AllZip IsOf fs []) (sym no_variables) tt;
-      };
-      kinds = refl;
-      no_signals = refl;
-      objects = tt;
-    }) (port-fits i unit.ports h e) js.then_gave
+use Rattle.vhdl_expand_rules.proofs.laws.Interfaces.{PortObject, constant-site, object-plain, plain-sound}
 
 -- ---- associations
 
@@ -217,51 +114,90 @@ pub record Stands (i : Inside) (d : InstanceObjects) (ps : List Object) : Type 0
   pub objects : d.objects ≡ ps ++ signals
   pub declared : IsDeclared i d.site ps signals
   pub sound : All (λ (o : Object). (above : List Object) → ObjectIsSound above o) signals
+  -- no variable is declared outside of processes
+  pub alone : i.variables ≡ []
 
 abbrev pub Anywhere : Object → Type 0
 Anywhere o = (above : List Object) → ObjectIsSound above o
 
-declaration-stands : (x : Declaration) (i : Inside) (d e : InstanceObjects) (ps : List Object) → declaration_fits i x ≡ true → Stands i d ps → declaration d x ≡ Ok e → Stands (with_declaration i x) e ps
-unfolding declaration
-declaration-stands (u.integer at type s) i d e ps fit h k =
-    let j = bound (integer_of type d.site.integers at s) _ e k in
-    let w = h.declared in
-    subst (λ (y : InstanceObjects). Stands (with_declaration i (u.integer at type s)) y ps) (ok _ e j.then_gave) (record {
-      signals = h.signals;
-      objects = h.objects;
-      declared = record {
-        site = record { constants = w.site.constants; ports = w.site.ports; signals = w.site.signals; variables = w.site.variables };
-        ports = w.ports;
-        signals = w.signals;
-        roles = w.roles;
-        internals = w.internals;
-      };
-      sound = h.sound;
-    })
-declaration-stands (u.Declaration.constant at form f) i d e ps fit h k =
-    let c = bound (kind_of d.site.integers at form) _ e k in
-    let vs = bound (fixed_values d.site at (size c.x) f) _ e c.then_gave in
+-- what is no object
+abbrev pub IsPlain : Declaration → Type 0
+IsPlain (u.Declaration.signal o) = ⊥
+IsPlain (u.Declaration.variable o) = ⊥
+IsPlain _ = ⊤
+
+pub record DeclaredSite (j : Inside) (here e : Site) : Type 0 where
+  pub site : IsSite j e
+  pub ports : e.ports ≡ here.ports
+  pub signals : e.signals ≡ here.signals
+  pub variables : e.variables ≡ here.variables
+
+-- with more integers and ranges
+more-known : (j : Inside) (here : Site) (known : Integers) → IsSite j here → DeclaredSite j here (record here { integers = known })
+more-known j here known h = record {
+  site = record { constants = h.constants; ports = h.ports; signals = h.signals; variables = h.variables };
+  ports = refl;
+  signals = refl;
+  variables = refl;
+}
+
+-- where no more is said to be declared than integers and ranges
+fewer : (i : Inside) (here : Site) (m n : ℕ) → IsSite i here → IsSite (record i { integers = m; ranges = n }) here
+fewer i here m n h = record { constants = h.constants; ports = h.ports; signals = h.signals; variables = h.variables }
+
+pub declared-site : (x : Declaration) (i : Inside) (here e : Site) → IsPlain x → declaration_fits i x ≡ true → IsSite i here → declared here x ≡ Ok e → DeclaredSite (with_declaration i x) here e
+unfolding declared
+declared-site (u.Declaration.integer at type s) i here e plain fit h k =
+    let x = bound (integer_of type here.integers at s) _ e k in
+    subst (DeclaredSite (with_declaration i (u.Declaration.integer at type s)) here) (ok _ e x.then_gave) (more-known _ here _ (fewer i here _ _ h))
+declared-site (u.Declaration.truth at t) i here e plain fit h k =
+    let b = bound (decision here.integers t) _ e k in
+    subst (DeclaredSite (with_declaration i (u.Declaration.truth at t)) here) (ok _ e b.then_gave) (more-known _ here _ (fewer i here _ _ h))
+declared-site (u.Declaration.constant at form f) i here e plain fit h k =
     let both = and_parts (form_fits i form) (fixed_fits i (shape_of form) f) fit in
-    let of = kind_is_of i d.site.integers at form c.x both.0 c.gave in
+    let kind = bound (kind_of here.integers at form) _ e k in
+    let vs = bound (fixed_values here at (size kind.x) f) _ e kind.then_gave in
+    let of = kind_is_of i here.integers at form kind.x both.0 kind.gave in
+    subst (DeclaredSite (with_declaration i (u.Declaration.constant at form f)) here) (ok _ e vs.then_gave)
+    (record { site = constant-site i here form (record { kind = kind.x; values = vs.x }) h of; ports = refl; signals = refl; variables = refl })
+declared-site (u.vector_subtype at r) i here e plain fit h k =
+    let kind = bound (kind_of here.integers at (u.vector r)) _ e k in
+    subst (DeclaredSite (with_declaration i (u.vector_subtype at r)) here) (ok _ e kind.then_gave) (more-known _ here _ (fewer i here _ _ h))
+declared-site (u.integer_subtype at s) i here e plain fit h k =
+    let numbers = bound (numbers_of here.integers at s) _ e k in
+    subst (DeclaredSite (with_declaration i (u.integer_subtype at s)) here) (ok _ e numbers.then_gave) (more-known _ here _ (fewer i here _ _ h))
+declared-site _ i here e plain fit h k = absurd plain
+
+pub plain-objects : (x : Declaration) (i : Inside) → IsPlain x → ((with_declaration i x).ports ≡ i.ports) × ((with_declaration i x).variables ≡ i.variables)
+plain-objects (u.Declaration.signal o) i plain = absurd plain
+plain-objects (u.Declaration.variable o) i plain = absurd plain
+plain-objects _ i plain = (refl, refl)
+
+plain-stands : (x : Declaration) (i : Inside) (d e : InstanceObjects) (ps : List Object) → IsPlain x → declaration_fits i x ≡ true → Stands i d ps
+    → (declared d.site x >>= λ here. given (record d { site = here })) ≡ Ok e → Stands (with_declaration i x) e ps
+plain-stands x i d e ps plain fit h k =
+    let here = bound (declared d.site x) _ e k in
     let w = h.declared in
-    subst (λ (y : InstanceObjects). Stands (with_declaration i (u.Declaration.constant at form f)) y ps) (ok _ e vs.then_gave) (record {
+    let s = declared-site x i d.site here.x plain fit w.site here.gave in
+    let same = plain-objects x i plain in
+    subst (λ (y : InstanceObjects). Stands (with_declaration i x) y ps) (ok _ e here.then_gave) (record {
       signals = h.signals;
       objects = h.objects;
       declared = record {
-        site = record {
-          constants = zip_push IsConstant i.constants d.site.constants form (record { kind = c.x; values = vs.x }) w.site.constants of;
-          ports = w.site.ports;
-          signals = w.site.signals;
-          variables = w.site.variables;
-        };
-        ports = w.ports;
-        signals = w.signals;
-        roles = w.roles;
+        site = s.site;
+        ports = w.ports ∙ sym s.ports;
+        signals = w.signals ∙ sym s.signals;
+        roles = subst (λ (fs : List Port). AllZip (λ (p : Port) (o : Object). o.role ≡ role_of p.mode) fs ps) (sym same.0) w.roles;
         internals = w.internals;
       };
       sound = h.sound;
+      alone = same.1 ∙ h.alone;
     })
-declaration-stands (u.Declaration.signal o) i d e ps fit h k =
+
+declaration-stands : (x : Declaration) (i : Inside) (d e : InstanceObjects) (ps : List Object) → is_variable x ≡ false → declaration_fits i x ≡ true → Stands i d ps → declaration d x ≡ Ok e
+    → Stands (with_declaration i x) e ps
+unfolding declaration
+declaration-stands (u.Declaration.signal o) i d e ps none fit h k =
     let x = bound (object d.site internal o) _ e k in
     let plain = object-plain i d.site internal o x.x fit x.gave in
     let w = h.declared in
@@ -283,13 +219,25 @@ declaration-stands (u.Declaration.signal o) i d e ps fit h k =
       };
       sound = All-append Anywhere h.signals (x.x ∷ []) h.sound
           (All-cons Anywhere x.x [] (λ above. plain-sound above internal o x.x plain (λ r. absurd cc)) (All-nil Anywhere));
+      alone = h.alone;
     })
+declaration-stands (u.Declaration.variable o) i d e ps none fit h k = absurd cc
+declaration-stands x i d e ps none fit h k = plain-stands x i d e ps tt fit h k
 
-pub declarations-stand : (xs : List Declaration) (i : Inside) (d e : InstanceObjects) (ps : List Object) → declarations_fit i xs ≡ true → Stands i d ps → declarations d xs ≡ Ok e
-    → Stands (with_declarations i xs) e ps
+-- none of them is such
+pub none_such : (p : Declaration → Bool) (x : Declaration) (xs : List Declaration) → not (list_any p (x ∷ xs)) ≡ true → (p x ≡ false) × (not (list_any p xs) ≡ true)
+none_such p x xs h = by (p x) (list_any p xs) h
+  where
+    by : (a b : Bool) → not (a || b) ≡ true → (a ≡ false) × (not b ≡ true)
+    by true b h = absurd cc
+    by false b h = (refl, h)
+
+pub declarations-stand : (xs : List Declaration) (i : Inside) (d e : InstanceObjects) (ps : List Object) → not (list_any is_variable xs) ≡ true → declarations_fit i xs ≡ true → Stands i d ps
+    → declarations d xs ≡ Ok e → Stands (with_declarations i xs) e ps
 unfolding declarations
-declarations-stand [] i d e ps fit h k = subst (λ (y : InstanceObjects). Stands i y ps) (ok d e k) h
-declarations-stand (x ∷ xs) i d e ps fit h k =
+declarations-stand [] i d e ps none fit h k = subst (λ (y : InstanceObjects). Stands i y ps) (ok d e k) h
+declarations-stand (x ∷ xs) i d e ps none fit h k =
     let both = and_parts (declaration_fits i x) (declarations_fit (with_declaration i x) xs) fit in
+    let no = none_such is_variable x xs none in
     let y = bound (declaration d x) _ e k in
-    declarations-stand xs (with_declaration i x) y.x e ps both.1 (declaration-stands x i d y.x ps both.0 h y.gave) y.then_gave
+    declarations-stand xs (with_declaration i x) y.x e ps no.1 both.1 (declaration-stands x i d y.x ps no.0 both.0 h y.gave) y.then_gave

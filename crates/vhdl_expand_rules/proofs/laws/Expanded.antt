@@ -1,25 +1,24 @@
 -- What expansion keeps: of the objects of an instance, in its declarations and associations; and of parts, over concurrent statements.
-use Rattle.std.proofs.Common.{◌≡◌, ℕ, zero, suc, ◌+◌, Bool, true, false, cond, not, ◌||◌, ◌==◌, List, [], ◌∷◌, ◌++◌, length, map, Option, Some, None, Ok, All, refl, sym, ap, ◌∙◌, subst, append_assoc, append-nil}
+use Rattle.std.proofs.Common.{◌≡◌, ℕ, zero, suc, Bool, true, false, cond, not, ◌||◌, ◌==◌, List, [], ◌∷◌, ◌++◌, length, map, Option, Some, None, Ok, All, refl, sym, ap, ◌∙◌, subst, append_assoc, append-nil}
 use Rattle.std.specs.Prelude.{⊤, ℤ, is_some, bytes_eq}
 use Rattle.std.specs.Char.{to_ascii_lowercase}
 use Rattle.std.specs.List.{AllZip}
 use Rattle.std.proofs.lemmas.Bool.{eqb-true}
 use Rattle.std.proofs.lemmas.List.Elements.{All-append, All-cons, All-nil, All-head, All-tail}
-use Rattle.vhdl_names_rules.specs.units.Expressions.{Range, Static, StaticTest, SignalPart}
+use Rattle.vhdl_names_rules.specs.units.Expressions.{Range, StaticTest, SignalPart}
 use Rattle.vhdl_names_rules.specs.units.Units as u
-use Rattle.vhdl_names_rules.specs.units.Units.{Port, Declaration, Architecture, Entity, Units}
+use Rattle.vhdl_names_rules.specs.units.Units.{Fixed, Port, Declaration, Architecture, Entity, Units}
 use Rattle.vhdl_expand_rules.specs.declared.fault.ElabProblem.TheVariants.{Length, Unassociated}
-use Rattle.vhdl_expand_rules.specs.Elab.{Elab, unless, each, same_length}
-use Rattle.vhdl_expand_rules.specs.Integers.{Integers, integer_of, decision, turns}
+use Rattle.vhdl_expand_rules.specs.Elab.{Elab, ◌>>=◌, unless, each, same_length}
+use Rattle.vhdl_expand_rules.specs.Integers.{decision, turns}
 use Rattle.vhdl_expand_rules.specs.Kinds.{ObjectKind, size, kind_of}
-use Rattle.vhdl_expand_rules.specs.Site.{Site, no_integers, no_site, place_elements}
+use Rattle.vhdl_expand_rules.specs.Site.{Site, no_site, place_elements}
 use Rattle.vhdl_expand_rules.specs.Tops.{Top}
 use Rattle.vhdl_expand_rules.specs.Tree.{Role, internal, Object, Instance, Parts, no_parts, inner, followed_by, EachInstance, EachInner}
 use Rattle.vhdl_expand_rules.specs.Tree as t
-use Rattle.vhdl_expand_rules.specs.Declarations.{first_of, rest_of, generics, fixed_values, starts, object, role_of, InstanceObjects, with_port, with_signal, ports, interface, declaration, declarations, is_input, association, associations}
-use Rattle.vhdl_expand_rules.specs.Statements.{statements}
+use Rattle.vhdl_expand_rules.specs.Declarations.{first_of, rest_of, generics, starts, object, role_of, InstanceObjects, with_port, with_signal, ports, interface, declared, declaration, declarations, is_input, association, associations}
 use Rattle.vhdl_expand_rules.specs.Expansion.{Spot, in_turn, in_branch, process, joined_parts, instance, concurrent, concurrents, instance_of, entity_named, Design, expanded_design}
-use Rattle.vhdl_expand_rules.proofs.Steps.{ok, bound, kept, each-all}
+use Rattle.vhdl_expand_rules.proofs.Steps.{given, ok, bound, kept, each-all}
 use Rattle.vhdl_expand_rules.proofs.Items.{all_any, all_get, all_found}
 use Rattle.vhdl_expand_rules.proofs.laws.Names.{zip_push}
 use Rattle.vhdl_expand_rules.proofs.laws.Made.{instance_made, instance_built, design_made}
@@ -88,11 +87,11 @@ module _ (S : u.Object → Type 0) (R : Port → Object → Type 0) (P : Object 
       subst (λ (fs : List Port). AllZip R fs e.objects) (append_assoc before (p ∷ []) ps)
       (ports-hold (before ++ p ∷ []) ps (with_port d o.x) e (zip_push R before d.objects p o.x h fits) (All-tail (λ (q : Port). S q.object) p ps s) o.then_gave)
 
-  pub interface_holds : (above : Integers) (actuals : List (Option Static)) (unit : Entity) (d : InstanceObjects) → All (λ (p : Port). S p.object) unit.ports → interface above actuals unit ≡ Ok d → AllZip R unit.ports d.objects
+  pub interface_holds : (above : Site) (actuals : List (Option Fixed)) (unit : Entity) (d : InstanceObjects) → All (λ (p : Port). S p.object) unit.ports → interface above actuals unit ≡ Ok d → AllZip R unit.ports d.objects
   unfolding interface
   interface_holds above actuals unit d s h =
-      let i = bound (generics above no_integers actuals unit.generics) _ d h in
-      ports-hold [] unit.ports (record { site = record no_site { integers = i.x }; objects = [] }) d tt s i.then_gave
+      let here = bound (generics above no_site actuals unit.generics) _ d h in
+      ports-hold [] unit.ports (record { site = here.x; objects = [] }) d tt s here.then_gave
 
   association-holds : (above : Site) (at : ℕ) (p : Port) (actual : Option SignalPart) (o x : Object) → R p o → association above at p actual o ≡ Ok x → R p x
   unfolding association
@@ -115,17 +114,17 @@ module _ (S : u.Object → Type 0) (R : Port → Object → Type 0) (P : Object 
       (association-holds above at p (first_of actuals) o y.x h.0 y.gave, associations_hold above at ps (rest_of actuals) os ys.x h.1 ys.gave)
   associations_hold above at _ actuals _ xs h k = elim h [ ]
 
+  -- a constant or a subtype
+  plain-adds : (x : Declaration) (d e : InstanceObjects) → (declared d.site x >>= λ here. given (record d { site = here })) ≡ Ok e → WithSignals P d.objects e.objects
+  plain-adds x d e k = let here = bound (declared d.site x) _ e k in no-signals P _ e (ok _ e here.then_gave)
+
   declaration-adds : (x : Declaration) (d e : InstanceObjects) → OfSignal S x → declaration d x ≡ Ok e → WithSignals P d.objects e.objects
   unfolding declaration
-  declaration-adds (u.integer at type s) d e w k =
-      let x = bound (integer_of type d.site.integers at s) _ e k in no-signals P _ e (ok _ e x.then_gave)
-  declaration-adds (u.Declaration.constant at form f) d e w k =
-      let x = bound (kind_of d.site.integers at form) _ e k in
-      let vs = bound (fixed_values d.site at (size x.x) f) _ e x.then_gave in no-signals P _ e (ok _ e vs.then_gave)
   declaration-adds (u.Declaration.signal o) d e w k =
       let x = bound (object d.site internal o) _ e k in
       subst (λ (y : InstanceObjects). WithSignals P d.objects y.objects) (ok (with_signal d x.x) e x.then_gave)
       (record { signals = x.x ∷ []; are = refl; hold = All-cons P x.x [] (of.of_signal d.site o x.x w x.gave) (All-nil P) })
+  declaration-adds x d e w k = plain-adds x d e k
 
   pub declarations_add : (xs : List Declaration) (d e : InstanceObjects) → All (OfSignal S) xs → declarations d xs ≡ Ok e → WithSignals P d.objects e.objects
   unfolding declarations
@@ -241,7 +240,7 @@ module _ (Known : Entity → Type 0) (S : u.Object → Type 0) (R : Port → Obj
         of_parts = concurrents_hold units (instance_of units levels) One Many Holds of.parts (λ here x j s g.
             let n = instance_made units (instance_of units levels) here x j g in
             let there : Known n.unit = all_get Known units x.unit n.unit known n.there in
-            let declared = interface_holds S R P of.objects here.site.integers x.generics n.unit n.declared (of.of_unit n.unit there) n.declares in
+            let declared = interface_holds S R P of.objects here.site x.generics n.unit n.declared (of.of_unit n.unit there) n.declares in
             let joined = associations_hold S R P of.objects here.site x.at n.unit.ports x.ports n.declared.objects n.objects declared n.joins in
             of.of_instance here x n.unit j s (instance-fills levels x.at n.unit (record n.declared { objects = n.objects }) j there joined n.gave)) m.architecture.statements spot m.parts both.1 m.gave;
       }
@@ -250,7 +249,7 @@ module _ (Known : Entity → Type 0) (S : u.Object → Type 0) (R : Port → Obj
   design_filled top design h =
       let m = design_made units top design h in
       let there : Known m.unit = all_found Known (λ (x : Entity). bytes_eq x.name (map to_ascii_lowercase top.name)) units m.unit known m.there in
-      let declared = interface_holds S R P of.objects no_integers m.actuals m.unit m.declared (of.of_unit m.unit there) m.declares in
+      let declared = interface_holds S R P of.objects no_site m.actuals m.unit m.declared (of.of_unit m.unit there) m.declares in
       record { unit = m.unit; known = there; there = m.there; tree = m.tree; filled = instance-fills 32 m.unit.at m.unit m.declared m.tree there declared m.gave; is = m.is }
 
 -- ---- trees where this holds of the objects of each instance

@@ -1,5 +1,5 @@
 -- Kinds are of their forms, and what objects start with is of their types.
-use Rattle.std.proofs.Common.{◌≡◌, ℕ, ◌+◌, ◌<◌, ◌≤◌, Bool, true, false, cond, not, List, [], ◌∷◌, map, replicate, Option, Some, None, Ok, All, refl, ap, subst, arith}
+use Rattle.std.proofs.Common.{◌≡◌, ℕ, ◌+◌, ◌<◌, ◌≤◌, Bool, true, false, cond, not, List, [], ◌∷◌, map, replicate, Option, Some, None, Ok, All, refl, sym, ap, subst, arith}
 use Rattle.std.specs.Prelude.{ℤ, pos, negsuc, ◌-ℤ◌, nat_abs, nat_le, nat_lt}
 use Rattle.std.proofs.lemmas.Bool.{leb-true, ltb-true, and_parts}
 use Rattle.std.proofs.lemmas.List.Elements.{All-cons, All-nil, All-replicate}
@@ -8,18 +8,24 @@ use Rattle.vhdl_values.specs.declared.scalar.Nine.{Nine}
 use Rattle.vhdl_values.specs.Scalar.{code_of}
 use Rattle.vhdl_values.proofs.Codes.{code_of_below}
 use Rattle.rtl_model.specs.bodies.Types.{nine_valued, limit_of}
-use Rattle.rtl_model.specs.bodies.Fits.{IsWidth}
-use Rattle.vhdl_names_rules.specs.units.Expressions.{Range}
+use Rattle.rtl_model.specs.bodies.Body as bodies
+use Rattle.rtl_model.specs.bodies.Fits.{IsWidth, width, value_width}
+use Rattle.vhdl_names_rules.specs.units.Expressions as expressions
+use Rattle.vhdl_names_rules.specs.units.Expressions.{Range, Value}
+use Rattle.vhdl_names_rules.specs.units.Statements.{Given, single, filled}
 use Rattle.vhdl_names_rules.specs.units.Units as u
 use Rattle.vhdl_names_rules.specs.units.Units.{Form, Fixed}
-use Rattle.vhdl_names_rules.specs.sound.Expressions.{Inside, shape_of, is_elements}
-use Rattle.vhdl_names_rules.specs.sound.Units.{form_fits, fixed_fits, default_fits, may_be_resolved}
+use Rattle.vhdl_names_rules.specs.sound.Expressions.{Inside, state, shape_of, is_elements, value_fits}
+use Rattle.vhdl_names_rules.specs.sound.Statements.{given_fits}
+use Rattle.vhdl_names_rules.specs.sound.Units.{form_fits, without_objects, fixed_fits, default_fits, may_be_resolved}
 use Rattle.vhdl_expand_rules.specs.declared.fault.ElabProblem.TheVariants.{Index, TooWide}
-use Rattle.vhdl_expand_rules.specs.Elab.{unless}
+use Rattle.vhdl_expand_rules.specs.Elab.{unless, same_length}
 use Rattle.vhdl_expand_rules.specs.Integers.{Integers, integer, as_natural, is_null, extent}
 use Rattle.vhdl_expand_rules.specs.Kinds.{Bounds, ObjectKind, one, vector, enumeration, bounds_size, size, element_type, declared_bounds, kind_of}
-use Rattle.vhdl_expand_rules.specs.Site.{Site}
-use Rattle.vhdl_expand_rules.specs.Declarations.{fixed_values, given_starts, starts}
+use Rattle.vhdl_expand_rules.specs.Site.{Site, signal_elements, variable_elements, the_element}
+use Rattle.vhdl_expand_rules.specs.Expressions as expanded
+use Rattle.vhdl_expand_rules.specs.Statements.{value_given}
+use Rattle.vhdl_expand_rules.specs.Declarations.{position_of_value, fixed_values, given_starts, starts}
 use Rattle.vhdl_expand_rules.specs.laws.Sites.{IsOf}
 use Rattle.vhdl_expand_rules.specs.laws.Trees.{IsKind}
 use Rattle.vhdl_expand_rules.proofs.Steps.{ok, bound, kept}
@@ -106,6 +112,32 @@ some-value : (k : ObjectKind) → IsKind k → 0 < limit_of (element_type k)
 some-value (enumeration n) h = h.0
 some-value _ h = omega arith
 
+value-below : (i : Inside) (here : Site) (at m : ℕ) (x : Value) (v : bodies.Value) (vs : List ℕ) → value_fits i (state m) x ≡ true → expanded.value here at x ≡ Ok v → position_of_value at v ≡ Ok vs → All (λ n. n < m) vs
+unfolding expanded.value
+value-below i here at m (expressions.Value.position p) v vs fit h k =
+    let is : position_of_value at (bodies.position p) ≡ Ok vs = subst (λ (y : bodies.Value). position_of_value at y ≡ Ok vs) (sym (ok (bodies.position p) v h)) k in
+    subst (All (λ n. n < m)) (ok (p ∷ []) vs is) (All-cons (λ n. n < m) p [] (ltb-true p m fit) (All-nil (λ n. n < m)))
+value-below i here at m (expressions.Value.elements x) v vs fit h k =
+    let e = bound (expanded.vector here x) _ v h in
+    absurd (let is = subst (λ (y : bodies.Value). position_of_value at y ≡ Ok vs) (sym (ok (bodies.elements e.x) v e.then_gave)) k in cc)
+value-below i here at m (expressions.state_of s) v vs fit h k =
+    let e = bound (the_element at (signal_elements here at s expressions.whole)) _ v h in
+    absurd (let is = subst (λ (y : bodies.Value). position_of_value at y ≡ Ok vs) (sym (ok (bodies.position_of e.x) v e.then_gave)) k in cc)
+value-below i here at m (expressions.state_of_variable n) v vs fit h k =
+    let e = bound (the_element at (variable_elements here at n expressions.whole)) _ v h in
+    absurd (let is = subst (λ (y : bodies.Value). position_of_value at y ≡ Ok vs) (sym (ok (bodies.position_in e.x) v e.then_gave)) k in cc)
+
+position-below : (i : Inside) (here : Site) (at m : ℕ) (g : Given) (v : bodies.Value) (vs : List ℕ) → given_fits i (state m) g ≡ true → value_given here at 1 g ≡ Ok v → position_of_value at v ≡ Ok vs → All (λ n. n < m) vs
+unfolding value_given
+position-below i here at m (single x) v vs fit h k =
+    let e = bound (expanded.value here at x) _ v h in
+    let l = bound (same_length at (value_width e.x) 1) _ v e.then_gave in
+    value-below i here at m x e.x vs fit e.gave (subst (λ (y : bodies.Value). position_of_value at y ≡ Ok vs) (sym (ok e.x v l.then_gave)) k)
+position-below i here at m (filled x) v vs fit h k =
+    let e = bound (expanded.vector here x) _ v h in
+    let l = bound (same_length at (width e.x) 1) _ v e.then_gave in
+    absurd (let is = subst (λ (y : bodies.Value). position_of_value at y ≡ Ok vs) (sym (ok (bodies.elements (bodies.filled 1 e.x)) v l.then_gave)) k in cc)
+
 given-below : (i : Inside) (here : Site) (at : ℕ) (f : Form) (k : ObjectKind) (x : Fixed) (vs : List ℕ) → IsOf f k → fixed_fits i (shape_of f) x ≡ true → given_starts here at k x ≡ Ok vs → Below k vs
 given-below i here at f one x vs h e g =
     let xs = bound (fixed_values here at 1 x) _ vs g in
@@ -116,6 +148,9 @@ given-below i here at f (vector b) x vs h e g =
 given-below i here at (u.enumeration m) (enumeration n) (u.Fixed.position p) vs h e g =
     let p-below : p < n = subst (λ k. p < k) h.0 (ltb-true p m e) in
     subst (Below (enumeration n)) (ok (p ∷ []) vs g) (All-cons (λ v. v < n) p [] p-below (All-nil (λ v. v < n)))
+given-below i here at (u.enumeration m) (enumeration n) (u.Fixed.given y) vs h e g =
+    let v = bound (value_given here at 1 y) _ vs g in
+    subst (λ k. All (λ p. p < k) vs) h.0 (position-below (without_objects i) here at m y v.x vs e v.gave v.then_gave)
 given-below i here at u.element (enumeration n) x vs h e g = elim h [ ]
 given-below i here at (u.vector r) (enumeration n) x vs h e g = elim h [ ]
 given-below i here at _ _ _ vs h e g = absurd cc

@@ -9,15 +9,15 @@ use Rattle.vhdl_names_rules.specs.units.Expressions.{Range, StaticTest}
 use Rattle.vhdl_names_rules.specs.units.Units as u
 use Rattle.vhdl_names_rules.specs.units.Units.{Units, Port, Declaration, Architecture, Entity}
 use Rattle.vhdl_names_rules.specs.sound.Named.{has_text, label_is_named, objects_are_named, declaration_is_named, concurrent_is_named, concurrents_are_named, architecture_is_named, entity_is_named, are_named}
-use Rattle.vhdl_expand_rules.specs.Elab.{each}
+use Rattle.vhdl_expand_rules.specs.Elab.{◌>>=◌}
 use Rattle.vhdl_expand_rules.specs.Kinds.{kind_of}
 use Rattle.vhdl_expand_rules.specs.Site.{Site}
-use Rattle.vhdl_expand_rules.specs.Declarations.{starts, object, role_of, variable}
+use Rattle.vhdl_expand_rules.specs.Declarations.{starts, object, role_of, declared, variable, ProcessVariables, no_variables, process_declaration, process_declarations}
 use Rattle.vhdl_expand_rules.specs.Tree.{Role, internal, Object, Variable, Instance, Parts, no_parts, inner, followed_by}
 use Rattle.vhdl_expand_rules.specs.Tree as t
 use Rattle.vhdl_expand_rules.specs.Expansion.{Spot, process, Design}
 use Rattle.vhdl_expand_rules.specs.laws.Labels.{ProcessIsNamed, InstanceIsNamed, PartsAreNamed, EachTreeIsNamed}
-use Rattle.vhdl_expand_rules.proofs.Steps.{ok, bound}
+use Rattle.vhdl_expand_rules.proofs.Steps.{given, ok, bound}
 use Rattle.vhdl_expand_rules.proofs.Items.{all_pass, all_of_zip}
 use Rattle.vhdl_expand_rules.proofs.laws.Made.{process_made}
 use Rattle.vhdl_expand_rules.proofs.laws.Expanded.{object_made, OfObjects, OfSignal, OfParts, Filled, OfUnits, design_filled}
@@ -60,27 +60,48 @@ declared-named _ h = tt
 abbrev HasVariableName : Variable → Type 0
 HasVariableName v = v.name ≢ []
 
-variables-named : (here : Site) (os : List u.Object) (vs : List Variable) → objects_are_named os ≡ true → each (variable here) os ≡ Ok vs → All HasVariableName vs
+variable-named : (here : Site) (o : u.Object) (v : Variable) → IsNamed o → variable here o ≡ Ok v → HasVariableName v
 unfolding variable
-variables-named here [] vs n h = subst (All HasVariableName) (ok [] vs h) (All-nil HasVariableName)
-variables-named here (o ∷ os) vs n h =
-    let both = and_parts (has_text o.name) (objects_are_named os) n in
-    let v = bound (variable here o) _ vs h in
-    let rest = bound (each (variable here) os) _ vs v.then_gave in
-    let k = bound (kind_of here.integers o.at o.form) _ v.x v.gave in
-    let ss = bound (starts here o.at k.x o.default) _ v.x k.then_gave in
-    subst (All HasVariableName) (ok (v.x ∷ rest.x) vs rest.then_gave)
-    (All-cons HasVariableName v.x rest.x (subst HasVariableName (ok _ v.x ss.then_gave) (some_text o.name both.0)) (variables-named here os rest.x both.1 rest.gave))
+variable-named here o v n h =
+    let k = bound (kind_of here.integers o.at o.form) _ v h in
+    let ss = bound (starts here o.at k.x o.default) _ v k.then_gave in
+    subst HasVariableName (ok _ v ss.then_gave) (some_text o.name n)
+
+abbrev AreNamed : ProcessVariables → Type 0
+AreNamed d = All HasVariableName d.variables
+
+-- a constant or a subtype
+plain-named : (x : Declaration) (d e : ProcessVariables) → AreNamed d → (declared d.site x >>= λ here. given (record d { site = here })) ≡ Ok e → AreNamed e
+plain-named x d e h k = let here = bound (declared d.site x) _ e k in subst AreNamed (ok _ e here.then_gave) h
+
+process-declared : (x : Declaration) (d e : ProcessVariables) → declaration_is_named x ≡ true → AreNamed d → process_declaration d x ≡ Ok e → AreNamed e
+unfolding process_declaration
+process-declared (u.Declaration.variable o) d e n h k =
+    let v = bound (variable d.site o) _ e k in
+    subst AreNamed (ok _ e v.then_gave)
+    (All-append HasVariableName d.variables (v.x ∷ []) h (All-cons HasVariableName v.x [] (variable-named d.site o v.x n v.gave) (All-nil HasVariableName)))
+process-declared x d e n h k = plain-named x d e h k
+
+variables-named : (xs : List Declaration) (d e : ProcessVariables) → list_all declaration_is_named xs ≡ true → AreNamed d → process_declarations d xs ≡ Ok e → AreNamed e
+unfolding process_declarations
+variables-named [] d e n h k = subst AreNamed (ok d e k) h
+variables-named (x ∷ xs) d e n h k =
+    let both = and_parts (declaration_is_named x) (list_all declaration_is_named xs) n in
+    let y = bound (process_declaration d x) _ e k in
+    variables-named xs y.x e both.1 (process-declared x d y.x both.0 h y.gave) y.then_gave
 
 label-named : (label : Option (List ℕ)) → label_is_named label ≡ true → IfSome label (λ l. l ≢ [])
 label-named None h = tt
 label-named (Some l) h = some_text l h
 
-process-named : (here : Spot) (p : u.Process) (q : t.Process) → (label_is_named p.label && objects_are_named p.variables) ≡ true → process here p ≡ Ok q → ProcessIsNamed q
+process-named : (here : Spot) (p : u.Process) (q : t.Process) → (label_is_named p.label && list_all declaration_is_named p.declarations) ≡ true → process here p ≡ Ok q → ProcessIsNamed q
 process-named here p q n g =
-    let both = and_parts (label_is_named p.label) (objects_are_named p.variables) n in
+    let both = and_parts (label_is_named p.label) (list_all declaration_is_named p.declarations) n in
     let m = process_made here p q g in
-    subst ProcessIsNamed m.is (record { label = label-named p.label both.0; variables = variables-named here.site p.variables m.variables both.1 m.declares })
+    subst ProcessIsNamed m.is (record {
+      label = label-named p.label both.0;
+      variables = variables-named p.declarations (no_variables here.site) m.declared both.1 (All-nil HasVariableName) m.declares;
+    })
 
 -- ---- concurrent statements
 
@@ -109,7 +130,7 @@ if_named at label r body n =
     let both = and_parts (has_text label) (concurrents_are_named body) n in
     (some_text label both.0, both.1)
 
-process-parts : (p : u.Process) → concurrent_is_named (u.process p) ≡ true → (label_is_named p.label && objects_are_named p.variables) ≡ true
+process-parts : (p : u.Process) → concurrent_is_named (u.process p) ≡ true → (label_is_named p.label && list_all declaration_is_named p.declarations) ≡ true
 unfolding concurrent_is_named
 process-parts p n = n
 

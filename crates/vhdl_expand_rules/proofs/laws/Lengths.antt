@@ -6,6 +6,8 @@ use Rattle.std.proofs.lemmas.Bool.{eqb-true}
 use Rattle.vhdl_values.specs.declared.scalar.Nine.{Nine}
 use Rattle.vhdl_values.specs.Scalar.{code_of}
 use Rattle.vhdl_values.specs.Numbers.{digits_of}
+use Rattle.rtl_model.specs.bodies.Body as bodies
+use Rattle.rtl_model.specs.bodies.Values.{elements_of}
 use Rattle.vhdl_names_rules.specs.units.Units as u
 use Rattle.vhdl_names_rules.specs.units.Units.{Fixed, Port}
 use Rattle.vhdl_expand_rules.specs.declared.fault.ElabProblem.TheVariants.{Length, Index}
@@ -14,7 +16,8 @@ use Rattle.vhdl_expand_rules.specs.Integers.{natural}
 use Rattle.vhdl_expand_rules.specs.Kinds.{ObjectKind, vector, enumeration, size, size_of}
 use Rattle.vhdl_expand_rules.specs.Site.{Site}
 use Rattle.vhdl_expand_rules.specs.Tree.{Role, internal, Object}
-use Rattle.vhdl_expand_rules.specs.Declarations.{as_long_as, fixed_values, given_starts, starts, object, role_of}
+use Rattle.vhdl_expand_rules.specs.Declarations.{as_long_as, nothing_seen, elements_of_value, position_of_value, fixed_values, given_starts, starts, object, role_of}
+use Rattle.vhdl_expand_rules.specs.Statements.{value_given}
 use Rattle.vhdl_expand_rules.specs.laws.Lengths.{ObjectFits, EachDesignFits}
 use Rattle.vhdl_expand_rules.proofs.Steps.{given, ok, bound, kept}
 use Rattle.vhdl_expand_rules.proofs.Items.{all_any, all_of_zip}
@@ -28,6 +31,10 @@ as_long at len vs ws h =
     let x = bound (same_length at (length vs) len) _ ws h in
     subst (λ (xs : List Nine). length xs ≡ len) (ok vs ws x.then_gave) (eqb-true (length vs) len (kept (Length (length vs) len) at (length vs == len) x.x x.gave))
 
+elements-length : (at len : ℕ) (v : bodies.Value) (vs : List Nine) → elements_of_value at len v ≡ Ok vs → length vs ≡ len
+elements-length at len (bodies.elements e) vs h = as_long at len (elements_of nothing_seen e) vs h
+elements-length at len _ vs h = absurd cc
+
 fixed-length : (here : Site) (at len : ℕ) (f : Fixed) (vs : List Nine) → fixed_values here at len f ≡ Ok vs → length vs ≡ len
 unfolding fixed_values
 fixed-length here at len (u.Fixed.literal xs) vs h = as_long at len xs vs h
@@ -38,17 +45,27 @@ fixed-length here at len (u.Fixed.encoded s t) vs h =
     let n = bound (natural here.integers at s) _ vs h in
     let m = bound (size_of here.integers at t) _ vs n.then_gave in
     as_long at len (digits_of m.x n.x) vs m.then_gave
-fixed-length here at len (u.filled v) vs h = subst (λ (xs : List Nine). length xs ≡ len) (ok (replicate len v) vs h) (length-replicate len v)
-fixed-length here at len (u.Fixed.position n) vs h = absurd cc
+fixed-length here at len (u.Fixed.filled v) vs h = subst (λ (xs : List Nine). length xs ≡ len) (ok (replicate len v) vs h) (length-replicate len v)
+fixed-length here at len (u.Fixed.given g) vs h =
+    let v = bound (value_given here at len g) _ vs h in
+    elements-length at len v.x vs v.then_gave
+fixed-length here at len _ vs h = absurd cc
 
 codes-length : (here : Site) (at len : ℕ) (f : Fixed) (vs : List ℕ) → (fixed_values here at len f >>= λ xs. given (map code_of xs)) ≡ Ok vs → length vs ≡ len
 codes-length here at len f vs h =
     let x = bound (fixed_values here at len f) _ vs h in
     subst (λ (ns : List ℕ). length ns ≡ len) (ok (map code_of x.x) vs x.then_gave) (length-map x.x code_of ∙ fixed-length here at len f x.x x.gave)
 
+position-length : (at : ℕ) (v : bodies.Value) (vs : List ℕ) → position_of_value at v ≡ Ok vs → length vs ≡ 1
+position-length at (bodies.position n) vs h = ap length (sym (ok (n ∷ []) vs h))
+position-length at _ vs h = absurd cc
+
 given-length : (here : Site) (at : ℕ) (kind : ObjectKind) (f : Fixed) (vs : List ℕ) → given_starts here at kind f ≡ Ok vs → length vs ≡ size kind
 given-length here at (vector b) f vs h = codes-length here at (size (vector b)) f vs h
 given-length here at (enumeration count) (u.Fixed.position n) vs h = ap length (sym (ok (n ∷ []) vs h))
+given-length here at (enumeration count) (u.Fixed.given g) vs h =
+    let v = bound (value_given here at 1 g) _ vs h in
+    position-length at v.x vs v.then_gave
 given-length here at _ f vs h = codes-length here at 1 f vs h
 
 pub starts-length : (here : Site) (at : ℕ) (kind : ObjectKind) (d : Option Fixed) (vs : List ℕ) → starts here at kind d ≡ Ok vs → length vs ≡ size kind

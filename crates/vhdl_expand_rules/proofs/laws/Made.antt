@@ -2,46 +2,44 @@
 use Rattle.std.proofs.Common.{◌≡◌, ℕ, suc, List, [], Option, Some, Ok}
 use Rattle.std.specs.Prelude.{slice_get}
 use Rattle.std.specs.List.{list_all}
-use Rattle.vhdl_names_rules.specs.units.Expressions.{Static}
 use Rattle.vhdl_names_rules.specs.units.Units as u
-use Rattle.vhdl_names_rules.specs.units.Units.{Architecture, Entity, Units}
+use Rattle.vhdl_names_rules.specs.units.Units.{Fixed, Architecture, Entity, Units}
 use Rattle.rtl_model.specs.bodies.Body.{Stmts}
 use Rattle.vhdl_expand_rules.specs.declared.fault.ElabProblem.TheVariants.{NoTop, NoGeneric}
-use Rattle.vhdl_expand_rules.specs.Elab.{Elab, unless, item_or, each}
-use Rattle.vhdl_expand_rules.specs.Integers.{turns}
-use Rattle.vhdl_expand_rules.specs.Site.{no_integers}
+use Rattle.vhdl_expand_rules.specs.Elab.{Elab, unless, item_or}
+use Rattle.vhdl_expand_rules.specs.Site.{no_site}
 use Rattle.vhdl_expand_rules.specs.Tops.{Top, actuals_of, is_generic, top_interface}
-use Rattle.vhdl_expand_rules.specs.Tree.{Object, Variable, Sensitivity, Instance, Parts}
+use Rattle.vhdl_expand_rules.specs.Tree.{Object, Sensitivity, Instance, Parts}
 use Rattle.vhdl_expand_rules.specs.Tree as t
-use Rattle.vhdl_expand_rules.specs.Declarations.{generics, InstanceObjects, ports, interface, declarations, variable, associations}
+use Rattle.vhdl_expand_rules.specs.Declarations.{InstanceObjects, interface, declarations, ProcessVariables, no_variables, process_declarations, associations}
 use Rattle.vhdl_expand_rules.specs.Statements.{statements, statements_turns}
 use Rattle.vhdl_expand_rules.specs.Prefixes.{targets, prefixes_elements}
-use Rattle.vhdl_expand_rules.specs.Expansion.{Spot, sensitivity, with_variables, made_process, process, instance, concurrents, concurrents_turns, instance_of, entity_named, Design, expanded_design}
+use Rattle.vhdl_expand_rules.specs.Expansion.{Spot, sensitivity, made_process, process, instance, concurrents, concurrents_turns, instance_of, entity_named, Design, expanded_design}
 use Rattle.vhdl_expand_rules.proofs.Steps.{ok, bound}
 use Rattle.vhdl_expand_rules.proofs.laws.Names.{was_found}
 
 pub record MadeProcess (here : Spot) (p : u.Process) (q : t.Process) : Type 0 where
-  pub variables : List Variable
-  pub declares : each (variable here.site) p.variables ≡ Ok variables
+  pub declared : ProcessVariables
+  pub declares : process_declarations (no_variables here.site) p.declarations ≡ Ok declared
   pub driven : List ℕ
-  pub drives : prefixes_elements here.site (targets p.body) ≡ Ok driven
+  pub drives : prefixes_elements declared.site (targets p.body) ≡ Ok driven
   pub on : Sensitivity
   pub body : Stmts
-  pub gave : statements (with_variables here.site variables) p.body ≡ Ok body
+  pub gave : statements declared.site p.body ≡ Ok body
   pub turns : ℕ
-  pub is : made_process here p variables driven on turns body ≡ q
+  pub is : made_process here p declared.variables driven on turns body ≡ q
 
 pub process_made : (here : Spot) (p : u.Process) (q : t.Process) → process here p ≡ Ok q → MadeProcess here p q
 unfolding process
 process_made here p q h =
-    let vs = bound (each (variable here.site) p.variables) _ q h in
-    let ds = bound (prefixes_elements here.site (targets p.body)) _ q vs.then_gave in
-    let on = bound (sensitivity here.site p.sensitivity p.body) _ q ds.then_gave in
-    let m = bound (statements_turns here.site p.body) _ q on.then_gave in
-    let body = bound (statements (with_variables here.site vs.x) p.body) _ q m.then_gave in
+    let d = bound (process_declarations (no_variables here.site) p.declarations) _ q h in
+    let ds = bound (prefixes_elements d.x.site (targets p.body)) _ q d.then_gave in
+    let on = bound (sensitivity d.x.site p.sensitivity p.body) _ q ds.then_gave in
+    let m = bound (statements_turns d.x.site p.body) _ q on.then_gave in
+    let body = bound (statements d.x.site p.body) _ q m.then_gave in
     record {
-      variables = vs.x;
-      declares = vs.gave;
+      declared = d.x;
+      declares = d.gave;
       driven = ds.x;
       drives = ds.gave;
       on = on.x;
@@ -56,7 +54,7 @@ pub record MadeInstance (units : Units) (go : ℕ → Entity → InstanceObjects
   pub unit : Entity
   pub there : slice_get units x.unit ≡ Some unit
   pub declared : InstanceObjects
-  pub declares : interface here.site.integers x.generics unit ≡ Ok declared
+  pub declares : interface here.site x.generics unit ≡ Ok declared
   pub objects : List Object
   pub joins : associations here.site x.at unit.ports x.ports declared.objects ≡ Ok objects
   pub gave : go x.at unit (record declared { objects = objects }) ≡ Ok i
@@ -65,7 +63,7 @@ pub instance_made : (units : Units) (go : ℕ → Entity → InstanceObjects →
 unfolding instance
 instance_made units go here x i h =
     let unit = bound (item_or NoTop x.at (slice_get units x.unit)) _ i h in
-    let d = bound (interface here.site.integers x.generics unit.x) _ i unit.then_gave in
+    let d = bound (interface here.site x.generics unit.x) _ i unit.then_gave in
     let os = bound (associations here.site x.at unit.x.ports x.ports d.x.objects) _ i d.then_gave in
     record { unit = unit.x; there = was_found NoTop x.at (slice_get units x.unit) unit.x unit.gave; declared = d.x; declares = d.gave; objects = os.x; joins = os.gave; gave = os.then_gave }
 
@@ -103,14 +101,14 @@ instance_built units levels at unit d i k =
 pub record MadeDesign (units : Units) (top : Top) (design : Design) : Type 0 where
   pub unit : Entity
   pub there : entity_named units top.name ≡ Some unit
-  pub actuals : List (Option Static)
+  pub actuals : List (Option Fixed)
   pub declared : InstanceObjects
-  pub declares : interface no_integers actuals unit ≡ Ok declared
+  pub declares : interface no_site actuals unit ≡ Ok declared
   pub tree : Instance
   pub gave : instance_of units 32 unit.at unit declared ≡ Ok tree
   pub is : ◌≡◌ {A = Design} (record { name = unit.name; top = tree }) design
 
-pub interface_made : (top : Top) (unit : Entity) (d : InstanceObjects) → top_interface top unit ≡ Ok d → interface no_integers (actuals_of top.generics unit.generics) unit ≡ Ok d
+pub interface_made : (top : Top) (unit : Entity) (d : InstanceObjects) → top_interface top unit ≡ Ok d → interface no_site (actuals_of top.generics unit.generics) unit ≡ Ok d
 unfolding top_interface
 interface_made top unit d h =
     let known = bound (unless NoGeneric unit.at (list_all (is_generic unit.generics) top.generics)) _ d h in known.then_gave

@@ -9,8 +9,8 @@ use Rattle.vhdl_tree.specs.declared.operator.Direction.{Direction}
 use Rattle.vhdl_tree.specs.declared.operator.Direction.TheVariants.{To, Downto}
 use Rattle.vhdl_expand_rules.specs.declared.fault.ElabProblem.TheVariants.{Index}
 use Rattle.vhdl_expand_rules.specs.Elab.{Told, unless}
-use Rattle.vhdl_expand_rules.specs.Integers.{is_null, extent}
-use Rattle.vhdl_expand_rules.specs.Kinds.{Bounds, bounds_size, place_of, is_same_direction, slice_places}
+use Rattle.vhdl_expand_rules.specs.Integers.{is_null, extent, is_same_direction}
+use Rattle.vhdl_expand_rules.specs.Kinds.{Bounds, bounds_size, place_of, slice_places}
 use Rattle.vhdl_expand_rules.proofs.Steps.{given, ok, bound, kept}
 
 abbrev bounds : (left : ℕ) → Direction → (right : ℕ) → Bounds

@@ -1,6 +1,6 @@
 -- The elements of a name are among those of its longest static prefix, in each turn of the loops round it.
 use Rattle.std.proofs.Common.{◌≡◌, ℕ, ◌+◌, ◌<◌, Bool, true, false, cond, List, [], ◌∷◌, length, map, take, Ok, Err, All, refl, sym, ap, ◌∙◌, subst, arith}
-use Rattle.std.specs.Prelude.{ℤ, neg_ℤ, slice_get, slice_index_or, Contains}
+use Rattle.std.specs.Prelude.{ℤ, pos, neg_ℤ, nat_abs, slice_get, slice_index_or, Contains}
 use Rattle.std.specs.List.{range_with_len}
 use Rattle.std.proofs.lemmas.Bool.{and_parts}
 use Rattle.std.proofs.lemmas.List.Elements.{All-cons, All-nil, All-map, All-weaker, All-contains_itself}
@@ -9,7 +9,7 @@ use Rattle.vhdl_names_rules.specs.units.Expressions as u
 use Rattle.vhdl_names_rules.specs.units.Expressions.{Static, Signal, Part, SignalPart}
 use Rattle.vhdl_expand_rules.specs.declared.fault.ElabProblem.TheVariants.{Index}
 use Rattle.vhdl_expand_rules.specs.Elab.{Elab, ◌>>=◌, item_or}
-use Rattle.vhdl_expand_rules.specs.Integers.{Integers, checked_integer, integer_operation, integer}
+use Rattle.vhdl_expand_rules.specs.Integers.{Integers, checked_integer, integer_operation, sliced_bound, known_range, integer}
 use Rattle.vhdl_expand_rules.specs.Kinds.{ObjectKind, one, vector, enumeration, size, place_of, slice_places, places}
 use Rattle.vhdl_expand_rules.specs.Site.{Site, elements_count, part_elements, signal_elements, place_elements}
 use Rattle.vhdl_names_rules.specs.Names.{is_static}
@@ -54,6 +54,13 @@ static-same : (here : Integers) (at : ℕ) (loops : List ℤ) (s : Static) → i
 unfolding integer
 static-same here at loops (u.loop_parameter k) h = absurd cc
 static-same here at loops (u.Static.negated sign s) h = ap (λ (r : Elab ℤ). r >>= λ x. checked_integer sign (neg_ℤ x)) (static-same here sign loops s h)
+static-same here at loops (u.absolute sign s) h = ap (λ (r : Elab ℤ). r >>= λ x. checked_integer sign (pos (nat_abs x))) (static-same here sign loops s h)
+static-same here at loops (u.slice_bound place b k s d t) h =
+    let both = and_parts (is_static s) (is_static t) h in
+    ap (λ (r : Elab ℤ). known_range place here.ranges k >>= λ w. r >>= λ x. integer (turned here loops) place t >>= λ y.
+    sliced_bound place b w (record { left = x; direction = d; right = y })) (static-same here place loops s both.0)
+    ∙ ap (λ (r : Elab ℤ). known_range place here.ranges k >>= λ w. integer here place s >>= λ x. r >>= λ y.
+    sliced_bound place b w (record { left = x; direction = d; right = y })) (static-same here place loops t both.1)
 static-same here at loops (u.Static.binary sign op s t) h =
     let both = and_parts (is_static s) (is_static t) h in
     ap (λ (r : Elab ℤ). r >>= λ x. integer (turned here loops) sign t >>= λ y. integer_operation sign op x y) (static-same here sign loops s both.0)

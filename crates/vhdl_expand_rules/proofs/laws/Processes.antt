@@ -1,35 +1,38 @@
 -- The variables and processes of a sound unit are sound.
-use Rattle.std.proofs.Common.{◌≡◌, ℕ, ◌+◌, ◌<◌, Bool, true, false, cond, ◌&&◌, List, [], ◌∷◌, ◌++◌, length, map, Ok, All, sym, ◌∙◌, subst, arith}
+use Rattle.std.proofs.Common.{◌≡◌, ℕ, ◌+◌, ◌<◌, Bool, true, false, cond, not, ◌&&◌, List, [], ◌∷◌, ◌++◌, length, map, Ok, All, refl, sym, ap, ◌∙◌, subst, arith}
 use Rattle.std.specs.Prelude.{Contains}
-use Rattle.std.specs.List.{AllZip, range_with_len}
+use Rattle.std.specs.List.{AllZip, list_any, range_with_len}
 use Rattle.std.specs.List.Sorted.{IsStrictlyIncreasing}
 use Rattle.std.proofs.lemmas.Bool.{and_parts}
 use Rattle.std.proofs.lemmas.Option.{slice_get_within}
-use Rattle.std.proofs.lemmas.List.Elements.{All-cons, All-nil, All-weaker, All-contains}
+use Rattle.std.proofs.lemmas.List.Elements.{All-cons, All-nil, All-append, All-weaker, All-contains}
+use Rattle.std.proofs.lemmas.List.{map-append}
 use Rattle.std.proofs.lemmas.List.FromFn.{length-range_with_len, get_or-range_with_len}
 use Rattle.std.proofs.lemmas.List.Kept.{IsStrictlyIncreasing-filter}
 use Rattle.rtl_model.specs.bodies.Types.{ElementType}
 use Rattle.rtl_model.specs.bodies.Body as bodies
 use Rattle.rtl_model.specs.bodies.Fits.{Fits}
 use Rattle.vhdl_names_rules.specs.units.Expressions as e
-use Rattle.vhdl_names_rules.specs.units.Expressions.{Signal, SignalPart}
+use Rattle.vhdl_names_rules.specs.units.Expressions.{SignalPart}
 use Rattle.vhdl_names_rules.specs.units.Units as u
-use Rattle.vhdl_names_rules.specs.units.Units.{Form}
+use Rattle.vhdl_names_rules.specs.units.Units.{Form, Port, Declaration}
 use Rattle.vhdl_names_rules.specs.sound.Expressions.{Inside, shape_of}
 use Rattle.vhdl_names_rules.specs.sound.Statements.{is_driven, statements_fit}
-use Rattle.vhdl_names_rules.specs.sound.Units.{form_fits, default_fits, may_be_resolved, object_fits, objects_fit, sensitivity_fits, process_fits}
-use Rattle.vhdl_expand_rules.specs.Elab.{Elab, each}
+use Rattle.vhdl_names_rules.specs.sound.Units.{form_fits, default_fits, may_be_resolved, object_fits, is_signal, declaration_fits, with_declaration, declarations_fit, with_declarations, sensitivity_fits, process_fits}
+use Rattle.vhdl_expand_rules.specs.Elab.{Elab, ◌>>=◌, each}
 use Rattle.vhdl_expand_rules.specs.Kinds.{ObjectKind, kind_of}
 use Rattle.vhdl_expand_rules.specs.Site.{Site, elements_count, place_elements}
 use Rattle.vhdl_expand_rules.specs.Prefixes.{targets, is_static_part, prefix, prefixes_elements, concatenation_of, is_among, in_order}
-use Rattle.vhdl_expand_rules.specs.Declarations.{starts, variable}
+use Rattle.vhdl_expand_rules.specs.Declarations.{starts, role_of, declared, variable, ProcessVariables, no_variables, with_variable, process_declaration, process_declarations}
 use Rattle.vhdl_expand_rules.specs.Tree.{Object, Variable}
 use Rattle.vhdl_expand_rules.specs.Tree as t
-use Rattle.vhdl_expand_rules.specs.Expansion.{Spot, with_variables, process}
+use Rattle.vhdl_expand_rules.specs.Expansion.{Spot, process}
 use Rattle.vhdl_expand_rules.specs.laws.Sites.{IsOf, IsSite, kinds_types}
 use Rattle.vhdl_expand_rules.specs.laws.Trees.{object_kinds, object_types, object_roles, MayBeDriven, VariableIsSound, ProcessIsSound}
-use Rattle.vhdl_expand_rules.proofs.Steps.{ok, bound}
+use Rattle.vhdl_expand_rules.proofs.Steps.{given, ok, bound}
 use Rattle.vhdl_expand_rules.proofs.laws.Made.{process_made}
+use Rattle.vhdl_expand_rules.proofs.laws.Names.{zip_push}
+use Rattle.vhdl_expand_rules.proofs.laws.Declared.{IsPlain, declared-site, none_such}
 use Rattle.vhdl_expand_rules.proofs.laws.Lengths.{starts-length}
 use Rattle.vhdl_expand_rules.proofs.laws.Kinds.{kind_is_of, is_kind, starts_below}
 use Rattle.vhdl_expand_rules.proofs.laws.Statements.{each-body-fits}
@@ -62,20 +65,71 @@ variable-declares i here o v h e =
 abbrev kinds_of : List Variable → List ObjectKind
 kinds_of vs = map (λ (v : Variable). v.kind) vs
 
-record AllDeclare (os : List u.Object) (vs : List Variable) : Type 0 where
-  kinds : AllZip IsOf (map (λ (o : u.Object). o.form) os) (kinds_of vs)
-  sound : All VariableIsSound vs
+-- what is declared in a process that stands here
+record ProcessStands (j : Inside) (here : Site) (d : ProcessVariables) : Type 0 where
+  site : IsSite j d.site
+  ports : d.site.ports ≡ here.ports
+  signals : d.site.signals ≡ here.signals
+  kinds : kinds_of d.variables ≡ d.site.variables
+  sound : All VariableIsSound d.variables
 
-variables-declare : (i : Inside) (here : Site) (os : List u.Object) (vs : List Variable) → objects_fit i os ≡ true → each (variable here) os ≡ Ok vs → AllDeclare os vs
-variables-declare i here [] vs h e = subst (AllDeclare []) (ok [] vs e) (record { kinds = tt; sound = All-nil VariableIsSound })
-variables-declare i here (o ∷ os) vs h e =
-    let both = and_parts (object_fits i o) (objects_fit i os) h in
-    let v = bound (variable here o) _ vs e in
-    let rest = bound (each (variable here) os) _ vs v.then_gave in
-    let first = variable-declares i here o v.x both.0 v.gave in
-    let more = variables-declare i here os rest.x both.1 rest.gave in
-    subst (AllDeclare (o ∷ os)) (ok (v.x ∷ rest.x) vs rest.then_gave)
-    (record { kinds = (first.kind, more.kinds); sound = All-cons VariableIsSound v.x rest.x first.sound more.sound })
+plain-declares : (x : Declaration) (i : Inside) (here : Site) (d e : ProcessVariables) → IsPlain x → declaration_fits i x ≡ true → ProcessStands i here d
+    → (declared d.site x >>= λ site. given (record d { site = site })) ≡ Ok e → ProcessStands (with_declaration i x) here e
+plain-declares x i here d e plain fit h k =
+    let site = bound (declared d.site x) _ e k in
+    let s = declared-site x i d.site site.x plain fit h.site site.gave in
+    subst (ProcessStands (with_declaration i x) here) (ok _ e site.then_gave) (record {
+      site = s.site;
+      ports = s.ports ∙ h.ports;
+      signals = s.signals ∙ h.signals;
+      kinds = h.kinds ∙ sym s.variables;
+      sound = h.sound;
+    })
+
+declaration-declares : (x : Declaration) (i : Inside) (here : Site) (d e : ProcessVariables) → is_signal x ≡ false → declaration_fits i x ≡ true → ProcessStands i here d → process_declaration d x ≡ Ok e
+    → ProcessStands (with_declaration i x) here e
+unfolding process_declaration
+declaration-declares (u.Declaration.variable o) i here d e none fit h k =
+    let v = bound (variable d.site o) _ e k in
+    let w = variable-declares i d.site o v.x fit v.gave in
+    subst (ProcessStands (with_declaration i (u.Declaration.variable o)) here) (ok (with_variable d v.x) e v.then_gave) (record {
+      site = record {
+        constants = h.site.constants;
+        ports = h.site.ports;
+        signals = h.site.signals;
+        variables = zip_push IsOf i.variables d.site.variables o.form v.x.kind h.site.variables w.kind;
+      };
+      ports = h.ports;
+      signals = h.signals;
+      kinds = map-append (λ (y : Variable). y.kind) d.variables (v.x ∷ []) ∙ ap (λ (ks : List ObjectKind). ks ++ v.x.kind ∷ []) h.kinds;
+      sound = All-append VariableIsSound d.variables (v.x ∷ []) h.sound (All-cons VariableIsSound v.x [] w.sound (All-nil VariableIsSound));
+    })
+declaration-declares (u.Declaration.signal o) i here d e none fit h k = absurd cc
+declaration-declares x i here d e none fit h k = plain-declares x i here d e tt fit h k
+
+declarations-declare : (xs : List Declaration) (i : Inside) (here : Site) (d e : ProcessVariables) → not (list_any is_signal xs) ≡ true → declarations_fit i xs ≡ true → ProcessStands i here d
+    → process_declarations d xs ≡ Ok e → ProcessStands (with_declarations i xs) here e
+unfolding process_declarations
+declarations-declare [] i here d e none fit h k = subst (ProcessStands i here) (ok d e k) h
+declarations-declare (x ∷ xs) i here d e none fit h k =
+    let both = and_parts (declaration_fits i x) (declarations_fit (with_declaration i x) xs) fit in
+    let no = none_such is_signal x xs none in
+    let y = bound (process_declaration d x) _ e k in
+    declarations-declare xs (with_declaration i x) here y.x e no.1 both.1 (declaration-declares x i here d y.x no.0 both.0 h y.gave) y.then_gave
+
+-- the ports are those of the instance
+same-ports : (xs : List Declaration) (i : Inside) → (with_declarations i xs).ports ≡ i.ports
+same-ports [] i = refl
+same-ports (x ∷ xs) i = same-ports xs (with_declaration i x) ∙ one x
+  where
+    one : (x : Declaration) → (with_declaration i x).ports ≡ i.ports
+    one (u.Declaration.integer at type s) = refl
+    one (u.Declaration.truth at t) = refl
+    one (u.Declaration.constant at form f) = refl
+    one (u.Declaration.signal o) = refl
+    one (u.Declaration.variable o) = refl
+    one (u.vector_subtype at r) = refl
+    one (u.integer_subtype at s) = refl
 
 -- ---- processes
 
@@ -89,11 +143,6 @@ run-rises a n k h =
 in-order-rises : (n : ℕ) (ns : List ℕ) → IsStrictlyIncreasing (in_order n ns)
 unfolding in_order
 in-order-rises n ns = IsStrictlyIncreasing-filter (is_among ns) (range_with_len 0 n) (run-rises 0 n)
-
--- the same port or signal, whatever variables there are
-same-driven : (i : Inside) (fs : List Form) (x : Signal) → is_driven (record i { variables = fs }) x ≡ true → is_driven i x ≡ true
-same-driven i fs (e.port k) h = h
-same-driven i fs (e.Signal.signal k) h = h
 
 prefix-driven : (i : Inside) (p : SignalPart) → is_driven i p.signal ≡ true → is_driven i (prefix p).signal ≡ true
 prefix-driven i p h = by (is_static_part p.part)
@@ -123,42 +172,82 @@ prefixes-driven i here os ss ps ds h driven g =
       among = among_prefixes here ps ess.x ess.gave;
     })
 
-with-variables : (i : Inside) (here : Site) (os : List u.Object) (vs : List Variable) → IsSite i here → AllZip IsOf (map (λ (o : u.Object). o.form) os) (kinds_of vs)
-    → IsSite (record i { variables = map (λ (o : u.Object). o.form) os }) (with_variables here vs)
-with-variables i here os vs h k = record { constants = h.constants; ports = h.ports; signals = h.signals; variables = k }
-
-pub process-sound : (i : Inside) (here : Spot) (os ss : List Object) (p : u.Process) (q : t.Process) → IsDeclared i here.site os ss → process_fits i p ≡ true → process here p ≡ Ok q → ProcessIsSound (os ++ ss) q
-process-sound i here os ss p q h fit g =
-    let fs : List Form = map (λ (o : u.Object). o.form) p.variables in
-    let both = and_parts (sensitivity_fits i p.sensitivity && objects_fit i p.variables) (statements_fit (record i { variables = fs }) p.body) fit in
-    let first = and_parts (sensitivity_fits i p.sensitivity) (objects_fit i p.variables) both.0 in
+pub process-sound : (i : Inside) (here : Spot) (os ss : List Object) (p : u.Process) (q : t.Process) → IsDeclared i here.site os ss → i.variables ≡ [] → process_fits i p ≡ true → process here p ≡ Ok q
+    → ProcessIsSound (os ++ ss) q
+process-sound i here os ss p q h alone fit g =
+    let ds : List Declaration = p.declarations in
+    let j : Inside = with_declarations i ds in
     let m = process_made here p q g in
+    let site : Site = m.declared.site in
+    let vs : List Variable = m.declared.variables in
+    let last = and_parts (sensitivity_fits j p.sensitivity && declarations_fit i ds && not (list_any is_signal ds)) (statements_fit j p.body) fit in
+    let third = and_parts (sensitivity_fits j p.sensitivity && declarations_fit i ds) (not (list_any is_signal ds)) last.0 in
+    let second = and_parts (sensitivity_fits j p.sensitivity) (declarations_fit i ds) third.0 in
+    let start : ProcessStands i here.site (no_variables here.site) = record {
+      site = record {
+        constants = h.site.constants;
+        ports = h.site.ports;
+        signals = h.site.signals;
+        variables = subst (λ (fs : List Form). AllZip IsOf fs []) (sym alone) tt;
+      };
+      ports = refl;
+      signals = refl;
+      kinds = refl;
+      sound = All-nil VariableIsSound;
+    } in
+    let st = declarations-declare ds i here.site (no_variables here.site) m.declared third.1 second.1 start m.declares in
+    let within : IsDeclared j site os ss = record {
+      site = st.site;
+      ports = h.ports ∙ sym st.ports;
+      signals = h.signals ∙ sym st.signals;
+      roles = subst (λ (fs : List Port). AllZip (λ (f : Port) (o : Object). o.role ≡ role_of f.mode) fs os) (sym (same-ports ds i)) h.roles;
+      internals = h.internals;
+    } in
     let all : List Object = os ++ ss in
-    let count : ℕ = elements_count here.site.ports + elements_count here.site.signals in
+    let count : ℕ = elements_count site.ports + elements_count site.signals in
+    let same : count ≡ elements_count here.site.ports + elements_count here.site.signals =
+    ap (λ (ks : List ObjectKind). elements_count ks + elements_count site.signals) st.ports ∙ ap (λ (ks : List ObjectKind). elements_count here.site.ports + elements_count ks) st.signals in
     let drives : List ℕ = in_order count m.driven in
-    let declared = variables-declare i here.site p.variables m.variables first.1 m.declares in
-    let driven : All (IsDriven i) (targets p.body) =
-    All-weaker (IsDriven (record i { variables = fs })) (IsDriven i) (λ x k. same-driven i fs x.signal k) (targets p.body) (targets_are_driven p.body (record i { variables = fs }) both.1) in
-    let prefixes = prefixes-driven i here.site os ss (targets p.body) m.driven h driven m.drives in
-    let fits = each-body-fits (record i { variables = fs }) (with_variables here.site m.variables) p.body m.body (with-variables i here.site p.variables m.variables h.site declared.kinds) both.1 m.gave in
+    let prefixes = prefixes-driven j site os ss (targets p.body) m.driven within (targets_are_driven p.body j last.1) m.drives in
+    let fits = each-body-fits j site p.body m.body st.site last.1 m.gave in
     let kept : (e : ℕ) → Contains m.driven e → Contains drives e =
-    λ e c. in_order_has count m.driven e (is-below all count e (site-count i here.site os ss h) (All-contains (MayBeDriven all) m.driven e prefixes.driven c)) c in
-    subst (ProcessIsSound all) m.is (record {
-      body = body-stands (kinds_types here.site.ports ++ kinds_types here.site.signals) (object_types all) count (elements_count (object_kinds all)) (kinds_types (kinds_of m.variables)) m.body
-          (site-types i here.site os ss h) (site-count i here.site os ss h) fits;
-      assigned = body_assigns here.site (kinds_of m.variables) (Contains drives) p.body here.site.integers.loops m.body
-          (All-weaker (λ (x : SignalPart). (es : List ℕ) × (place_elements here.site (prefix x) ≡ Ok es) × All (Contains m.driven) es) (λ (x : SignalPart). (es : List ℕ) × (place_elements here.site (prefix x) ≡ Ok es) × All (Contains drives) es)
+    λ e c. in_order_has count m.driven e (is-below all count e (site-count j site os ss within) (All-contains (MayBeDriven all) m.driven e prefixes.driven c)) c in
+    let sound : ProcessIsSound all (record {
+      at = p.at;
+      prefix = here.prefix;
+      label = p.label;
+      drives = drives;
+      sensitivity = m.on;
+      variables = vs;
+      body = m.body;
+      turns = m.turns;
+    }) = record {
+      body = body-stands (kinds_types site.ports ++ kinds_types site.signals) (object_types all) count (elements_count (object_kinds all)) (kinds_types site.variables) (kinds_types (kinds_of vs)) m.body
+          (site-types j site os ss within) (site-count j site os ss within) (ap kinds_types (sym st.kinds)) fits;
+      assigned = body_assigns site site.variables (Contains drives) p.body site.integers.loops m.body
+          (All-weaker (λ (x : SignalPart). (es : List ℕ) × (place_elements site (prefix x) ≡ Ok es) × All (Contains m.driven) es) (λ (x : SignalPart). (es : List ℕ) × (place_elements site (prefix x) ≡ Ok es) × All (Contains drives) es)
           (λ x w. (w.0, w.1, All-weaker (Contains m.driven) (Contains drives) kept w.0 w.2)) (targets p.body) prefixes.among) m.gave;
       drives = in_order_all (MayBeDriven all) count m.driven prefixes.driven;
       drives_rise = in-order-rises count m.driven;
-      variables = declared.sound;
-    })
+      variables = st.sound;
+    } in
+    subst (ProcessIsSound all) m.is (subst (λ (n : ℕ). ProcessIsSound all (record {
+      at = p.at;
+      prefix = here.prefix;
+      label = p.label;
+      drives = in_order n m.driven;
+      sensitivity = m.on;
+      variables = vs;
+      body = m.body;
+      turns = m.turns;
+    })) same sound)
   where
     is-below : (all : List Object) (count e : ℕ) → count ≡ elements_count (object_kinds all) → MayBeDriven all e → e < count
     is-below all count e c m = subst (λ n. e < n) (length-roles all ∙ sym c) (slice_get_within (object_roles all) e m.0 m.1)
 
-    body-stands : (types types' : List ElementType) (count count' : ℕ) (variables : List ElementType) (body : bodies.Stmts) → types ≡ types' → count ≡ count'
-        → Fits (record { nets = types; variables = variables; targets = range_with_len 0 count }) body → Fits (record { nets = types'; variables = variables; targets = range_with_len 0 count' }) body
-    body-stands types types' count count' variables body p q h =
-        subst (λ n. Fits (record { nets = types'; variables = variables; targets = range_with_len 0 n }) body) q
-        (subst (λ (ts : List ElementType). Fits (record { nets = ts; variables = variables; targets = range_with_len 0 count }) body) p h)
+    body-stands : (types types' : List ElementType) (count count' : ℕ) (variables variables' : List ElementType) (body : bodies.Stmts) → types ≡ types' → count ≡ count' → variables ≡ variables'
+        → Fits (record { nets = types; variables = variables; targets = range_with_len 0 count }) body → Fits (record { nets = types'; variables = variables'; targets = range_with_len 0 count' }) body
+    body-stands types types' count count' variables variables' body p q r h =
+        subst (λ (ts : List ElementType). Fits (record { nets = types'; variables = ts; targets = range_with_len 0 count' }) body) r
+        (subst (λ n. Fits (record { nets = types'; variables = variables; targets = range_with_len 0 n }) body) q
+        (subst (λ (ts : List ElementType). Fits (record { nets = ts; variables = variables; targets = range_with_len 0 count }) body) p h))

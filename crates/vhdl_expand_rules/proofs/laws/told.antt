@@ -1,4 +1,5 @@
 pub mod Static
+pub mod Aggregates
 pub mod Expressions
 pub mod Statements
 pub mod Names

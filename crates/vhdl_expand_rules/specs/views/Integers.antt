@@ -1,17 +1,31 @@
 -- What contracts see of the code's static integers, and of what it computes.
-use Rattle.std.specs.Prelude.{◌≡◌, ℕ, List, [], ◌∷◌, ℤ, Option, Some, None, Result, Ok, Err, if◌then◌else◌, ◌+ℤ◌}
+use Rattle.std.specs.Prelude.{◌≡◌, ℕ, List, [], ◌∷◌, ◌++◌, map, ℤ, Option, Some, None, Result, Ok, Err, if◌then◌else◌, ◌+ℤ◌}
 use Rattle.vhdl_names_rules.specs.declared.integer.StaticLink.{StaticLink}
 use Rattle.vhdl_names_rules.specs.views.Integers.{static_view}
 use Rattle.vhdl_expand_rules.specs.declared.fault.ElabFault.{ElabFault}
 use Rattle.vhdl_expand_rules.specs.declared.fault.ElabProblem.TheVariants.{StaticError}
 use Rattle.vhdl_expand_rules.specs.declared.integer.Integers.{Integers}
+use Rattle.vhdl_expand_rules.specs.declared.range.IntegerRange.{IntegerRange}
 use Rattle.vhdl_expand_rules.specs.Elab.{Elab, ◌>>=◌, fault_told, refused}
 use Rattle.vhdl_expand_rules.specs.Integers as definition
 use Rattle.vhdl_expand_rules.specs.Integers.{checked_integer, are_opposite, integer_operation, integer, decision}
 
+abbrev pub range_view : IntegerRange → definition.IntegerRange
+range_view r = record { left = r.left; direction = r.direction; right = r.right }
+
+-- of what may be there
+abbrev pub if_any : {A : Type 0} → Option A → List A
+if_any None = []
+if_any (Some x) = x ∷ []
+
 abbrev pub integers_view : Integers → definition.Integers
-integers_view x =
-    record { generics = x.generics.now; constants = x.constants.now; generates = x.generates.now; loops = x.loops.now }
+integers_view x = record {
+  generics = x.generics.now;
+  constants = x.constants.now ++ x.own_constants.now;
+  generates = x.generates.now;
+  loops = x.loops.now;
+  ranges = map range_view x.ranges.now ++ map range_view x.own_ranges.now;
+}
 
 -- what is returned is what is computed, and it is refused just where that is, with the same problem at the same byte
 abbrev pub Computes : {X : Type 0} → Elab X → Result X ElabFault → Type 0

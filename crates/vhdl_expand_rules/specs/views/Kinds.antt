@@ -1,7 +1,7 @@
 -- What contracts see of bounds, of kinds and of neighbouring places.
 use Rattle.std.specs.Prelude.{ℕ, List}
 use Rattle.std.specs.List.{range_with_len}
-use Rattle.vhdl_expand_rules.specs.declared.kind.Bounds.{Bounds}
+use Rattle.vhdl_expand_rules.specs.declared.bounds.Bounds.{Bounds}
 use Rattle.vhdl_expand_rules.specs.declared.kind.ObjectKind.{ObjectKind}
 use Rattle.vhdl_expand_rules.specs.declared.kind.ObjectKind.TheVariants as k
 use Rattle.vhdl_expand_rules.specs.declared.kind.Run.{Run}

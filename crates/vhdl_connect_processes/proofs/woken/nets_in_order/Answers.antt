@@ -5,5 +5,5 @@ use Rattle.vhdl_connect_processes.proofs.woken.nets_in_order.Goals as goal
 
 pub returns : goal.returns
 returns c =
-    in_order_if c.short.result (λ v. v.items) _ c.sort_once.new.numbers.items _ c.sort_once.ensures.rise (λ n. c.sort_once.ensures.same n ∙ ap (is_in n) c.in_ok-found.ensures)
+    in_order_if c.short.result (λ v. v.items) _ c.order_once.new.numbers.items _ c.in_ok-order_once.ensures.rise (λ n. c.in_ok-order_once.ensures.same n ∙ ap (is_in n) c.in_ok-found.ensures)
     c.deref.ensures.value c.short.ensures

@@ -9,7 +9,7 @@ use Rattle.vhdl_expand_tree.proofs.Counts.{each-design-costs-its-parts}
 use Rattle.vhdl_elab_rules.specs.Numbering.{numbered_design}
 use Rattle.vhdl_elab_rules.specs.Limits.{Counts, counts, is_within_limits, is_within, limits}
 use Rattle.vhdl_elab_rules.specs.Elaboration.{Elaborated, netlist_of}
-use Rattle.vhdl_expand_bodies.specs.Results.{Expands}
+use Rattle.vhdl_expand_operands.specs.Results.{Expands}
 use Rattle.vhdl_elab_rules.specs.Shown.{as_shown, net_shown}
 use Rattle.vhdl_elab.specs.Wired.{wired}
 use Rattle.vhdl_elab.proofs.Lengths.{as-many-uses, as-many-defaults}

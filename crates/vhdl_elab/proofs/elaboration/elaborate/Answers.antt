@@ -18,7 +18,7 @@ use Rattle.vhdl_expand_rules.specs.Expansion.{Design, expanded_design}
 use Rattle.vhdl_expand_rules.specs.Tops.{Top}
 use Rattle.vhdl_expand_rules.specs.views.Tops.{top_view}
 use Rattle.vhdl_expand_rules.proofs.laws.Trees.{each-tree-is-sound}
-use Rattle.vhdl_expand_bodies.specs.Results.{Expands, Charges}
+use Rattle.vhdl_expand_operands.specs.Results.{Expands, Charges}
 use Rattle.vhdl_elab_rules.specs.Elaboration.{netlist_of, elaborated_net}
 use Rattle.vhdl_expand.specs.Limits.{within_limits}
 use Rattle.vhdl_expand_tree.specs.Views.{design_view}

@@ -17,12 +17,13 @@ use Rattle.vhdl_expand_tree.specs.declared.budget.Budget.{Budget}
 use Rattle.vhdl_expand_tree.specs.Costs.{charged, instance_costs}
 use Rattle.vhdl_expand_tree.specs.Views.{budget_view, instance_view}
 use Rattle.vhdl_expand.specs.Limits.{within_limits}
-use Rattle.vhdl_expand.specs.Views.{declared_view}
+use Rattle.vhdl_expand_declarations.specs.Views.{declared_view}
 use Rattle.vhdl_expand.proofs.Nested.{no_top, no_top_interface, no_instance, design_made}
 use Rattle.vhdl_elab_rules.specs.Refused.{HasInterface}
 use Rattle.vhdl_expand.proofs.Among.{same_among, then_among}
 use Rattle.vhdl_expand.proofs.Standing.{instance_list, top_places, top_among}
-use Rattle.vhdl_expand.proofs.Told.{told_at, other_told, no_top_other, same_at, has_interface}
+use Rattle.vhdl_expand_declarations.proofs.Told.{same_at}
+use Rattle.vhdl_expand.proofs.Told.{told_at, other_told, no_top_other, has_interface}
 use Rattle.vhdl_expand.proofs.Heavier.{found_among}
 use Rattle.vhdl_expand_rules.specs.Elab.{fault_told}
 use Rattle.vhdl_expand_tree.proofs.Alike.{tells, tells_same, tells_among}

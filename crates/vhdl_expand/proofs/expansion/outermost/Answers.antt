@@ -1,18 +1,19 @@
-use Rattle.std.proofs.Common.{◌≡◌, true, false, map, option_map, sym, ap, ◌∙◌, subst}
+use Rattle.std.proofs.Common.{◌≡◌, [], true, false, map, option_map, sym, ap, ◌∙◌, subst}
 use Rattle.std.specs.Prelude.{flat_map}
 use Rattle.std.specs.List.{list_all}
-use Rattle.vhdl_names_rules.specs.views.Integers.{static_view}
+use Rattle.vhdl_names_units.specs.views.Answers.{fixed_view}
 use Rattle.vhdl_names_units.specs.views.Declarations.{generics_view}
 use Rattle.vhdl_names_units.specs.views.Units.{entity_view}
-use Rattle.vhdl_expand_rules.specs.Declarations.{interface}
-use Rattle.vhdl_expand_rules.specs.Site.{no_integers}
+use Rattle.vhdl_expand_rules.specs.Declarations.{InstanceObjects, interface}
+use Rattle.vhdl_expand_rules.specs.Site.{no_site}
 use Rattle.vhdl_expand_rules.specs.Tops.{actuals_of, is_generic}
 use Rattle.vhdl_expand_rules.specs.views.Tops.{top_view}
-use Rattle.vhdl_expand_bodies.specs.Results.{Expands}
-use Rattle.vhdl_expand.specs.Generics.{actuals_view}
-use Rattle.vhdl_expand.specs.Views.{declared_view}
+use Rattle.vhdl_expand_operands.specs.Results.{Expands}
+use Rattle.vhdl_expand_bodies.specs.Sites.{site_view}
+use Rattle.vhdl_expand_declarations.specs.Generics.{actuals_view}
+use Rattle.vhdl_expand_declarations.specs.Views.{declared_view, within_generates}
 use Rattle.vhdl_expand.proofs.SetGenerics.{all_known, one_unknown}
-use Rattle.vhdl_expand.proofs.Told.{same_at}
+use Rattle.vhdl_expand_declarations.proofs.Told.{same_at}
 use Rattle.vhdl_expand.proofs.expansion.outermost.Goals as goal
 
 pub returns-then-not-are_generics : goal.returns-then-not-are_generics
@@ -30,6 +31,8 @@ returns c =
     let each : list_all (is_generic e.generics) top.generics ≡ true =
     ap (λ ds. list_all (is_generic (flat_map generics_view ds)) top.generics) (sym c.deref.ensures.value) ∙ sym c.are_generics.ensures ∙ c.if-not-are_generics.false in
     let seen : actuals_view c.deref-4.result.now ≡ actuals_of top.generics e.generics =
-    ap actuals_view c.deref-4.ensures.value ∙ c.in_ok-actuals.ensures ∙ ap (map (option_map static_view)) c.deref-3.ensures.value ∙ c.in_ok-set.ensures
+    ap actuals_view c.deref-4.ensures.value ∙ c.in_ok-actuals.ensures ∙ ap (map (option_map fixed_view)) c.deref-3.ensures.value ∙ c.in_ok-set.ensures
     ∙ ap (λ ds. actuals_of top.generics (flat_map generics_view ds)) c.deref-2.ensures.value in
-    subst (λ r. Expands declared_view r c.interface_with-declared.result) (ap (λ xs. interface no_integers xs e) seen ∙ sym (all_known top e each)) c.interface_with-declared.ensures
+    let outside : site_view c.site-above.result ≡ no_site = c.site-above.ensures.seen ∙ ap (λ (d : InstanceObjects). within_generates d.site []) c.new-nothing.ensures in
+    subst (λ r. Expands declared_view r c.interface_with-declared.result)
+    (ap (λ s. interface s (actuals_view c.deref-4.result.now) e) outside ∙ ap (λ xs. interface no_site xs e) seen ∙ sym (all_known top e each)) c.interface_with-declared.ensures

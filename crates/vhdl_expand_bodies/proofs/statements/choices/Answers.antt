@@ -6,8 +6,8 @@ use Rattle.vhdl_expand_rules.specs.declared.fault.ElabFault.TheVariants.{NoMemor
 use Rattle.vhdl_expand_rules.specs.Elab.{each, fault_told}
 use Rattle.vhdl_expand_rules.specs.Statements as definition
 use Rattle.vhdl_expand_rules.proofs.Items.{none_left}
-use Rattle.vhdl_expand_bodies.proofs.Passing.{passed_on, none_behind}
-use Rattle.vhdl_expand_bodies.proofs.Sequences.{each_adds, each_refuses, each_ends}
+use Rattle.vhdl_expand_operands.proofs.Passing.{passed_on, none_behind}
+use Rattle.vhdl_expand_operands.proofs.Several.{each_adds, each_refuses, each_ends}
 use Rattle.vhdl_expand_bodies.proofs.statements.choices.Goals as goal
 
 pub loop-item-init : goal.loop-item-init

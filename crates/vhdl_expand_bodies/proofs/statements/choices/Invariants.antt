@@ -3,7 +3,7 @@ use Rattle.rtl_net.specs.Bodies.{choice_view}
 use Rattle.vhdl_names_units.specs.views.Answers as answers
 use Rattle.vhdl_expand_rules.specs.Elab.{each}
 use Rattle.vhdl_expand_rules.specs.Statements as definition
-use Rattle.vhdl_expand_bodies.proofs.Sequences.{behind}
+use Rattle.vhdl_expand_operands.proofs.Several.{behind}
 use Rattle.vhdl_expand_bodies.proofs.statements.choices.Given as goal
 
 -- those so far, and those that are left

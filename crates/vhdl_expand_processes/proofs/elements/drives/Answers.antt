@@ -12,7 +12,7 @@ returns-clause-given c =
     let at = site_view c.args.site.now in
     drives_given at (statements_of (map statement_view c.args.list.now)) _ _
     (ap (prefixes_elements at) (sym c.in_ok-names.ensures ∙ ap (map name_view) (sym c.deref.ensures.value)) ∙ c.in_ok-elements.ensures)
-    c.sort_once.ensures.rise c.sort_once.ensures.same
+    c.in_ok-order_once.ensures.rise c.in_ok-order_once.ensures.same
 
 pub returns-clause-rising : goal.returns-clause-rising
-returns-clause-rising c = rising _ c.sort_once.ensures.rise
+returns-clause-rising c = rising _ c.in_ok-order_once.ensures.rise

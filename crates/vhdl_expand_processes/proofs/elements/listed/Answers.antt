@@ -4,7 +4,7 @@ use Rattle.vhdl_names_rules.specs.views.Vectors.{place_view}
 use Rattle.vhdl_expand_rules.specs.declared.fault.ElabFault.TheVariants.{NoMemory}
 use Rattle.vhdl_expand_rules.specs.Prefixes.{names_elements}
 use Rattle.vhdl_expand_bodies.specs.Sites.{site_view}
-use Rattle.vhdl_expand_bodies.proofs.Passing.{passed_on}
+use Rattle.vhdl_expand_operands.proofs.Passing.{passed_on}
 use Rattle.vhdl_expand_processes.proofs.Prefixed.{names_go, names_stop, names_end}
 use Rattle.vhdl_expand_rules.specs.Elab.{fault_told}
 use Rattle.vhdl_expand_processes.proofs.elements.listed.Goals as goal

@@ -2,7 +2,7 @@ use Rattle.std.proofs.Common.{◌≡◌, map, drop}
 use Rattle.vhdl_names_rules.specs.views.Vectors.{place_view}
 use Rattle.vhdl_expand_rules.specs.Prefixes.{names_elements}
 use Rattle.vhdl_expand_bodies.specs.Sites.{site_view}
-use Rattle.vhdl_expand_bodies.proofs.Sequences.{behind}
+use Rattle.vhdl_expand_operands.proofs.Several.{behind}
 use Rattle.vhdl_expand_processes.proofs.elements.listed.Given as goal
 
 -- the elements so far, and those of the names that are left

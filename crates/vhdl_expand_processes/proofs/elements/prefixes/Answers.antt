@@ -4,7 +4,7 @@ use Rattle.vhdl_expand_processes.specs.Named.{name_view}
 use Rattle.vhdl_expand_rules.specs.declared.fault.ElabFault.TheVariants.{NoMemory}
 use Rattle.vhdl_expand_rules.specs.Prefixes.{prefixes_elements}
 use Rattle.vhdl_expand_bodies.specs.Sites.{site_view}
-use Rattle.vhdl_expand_bodies.proofs.Passing.{passed_on}
+use Rattle.vhdl_expand_operands.proofs.Passing.{passed_on}
 use Rattle.vhdl_expand_processes.proofs.Prefixed.{prefixes_go, prefixes_stop, prefixes_end}
 use Rattle.vhdl_expand_rules.specs.Elab.{fault_told}
 use Rattle.vhdl_expand_processes.proofs.elements.prefixes.Goals as goal

@@ -1,7 +1,7 @@
 use Rattle.std.proofs.Common.{◌≡◌, map, drop}
 use Rattle.vhdl_expand_rules.specs.Prefixes.{prefixes_elements}
 use Rattle.vhdl_expand_bodies.specs.Sites.{site_view}
-use Rattle.vhdl_expand_bodies.proofs.Sequences.{behind}
+use Rattle.vhdl_expand_operands.proofs.Several.{behind}
 use Rattle.vhdl_expand_processes.specs.Named.{name_view}
 use Rattle.vhdl_expand_processes.proofs.elements.prefixes.Given as goal
 

@@ -1,12 +1,15 @@
-use Rattle.std.proofs.Common.{◌++◌, refl, sym, ap, ◌∙◌}
+use Rattle.std.proofs.Common.{◌≡◌, true, false, ◌++◌, refl, sym, ap, ◌∙◌, arith, rules}
+use Rattle.std.proofs.lemmas.Grind.{common_steps}
 use Rattle.std.specs.Prelude.{flat_map}
 use Rattle.vhdl_names_rules.specs.declared.vector.Vector.{Vector}
 use Rattle.vhdl_names_rules.specs.declared.vector.VectorStart.{VectorStart}
-use Rattle.vhdl_names_rules.specs.views.Vectors.{vector_view}
-use Rattle.vhdl_expand_rules.specs.Prefixes.{vector_names}
-use Rattle.vhdl_expand_processes.specs.Names.{link_names}
-use Rattle.vhdl_expand_processes.proofs.Gathering.{nothing_more, adds_along, adds_both, left_next, left_none}
-use Rattle.vhdl_expand_processes.proofs.Reading.{chain_names, chain_adds}
+use Rattle.vhdl_names_rules.specs.views.Vectors.{vector_view, elements_view}
+use Rattle.vhdl_names_rules.proofs.rows.Vectors.{view_aggregate}
+use Rattle.vhdl_expand_rules.specs.Prefixes.{vector_names, elements_names}
+use Rattle.vhdl_expand_bodies.proofs.Elements.{is_last}
+use Rattle.vhdl_expand_processes.specs.Names.{element_names, link_names}
+use Rattle.vhdl_expand_processes.proofs.Gathering.{nothing_more, adds_along, adds_both, next_of, last_of, none_of, left_next, left_none}
+use Rattle.vhdl_expand_processes.proofs.Reading.{chain_names, elements_more, elements_last, chain_adds}
 use Rattle.vhdl_expand_processes.proofs.names.+vectors.Goals as goal
 
 pub of_vector-returns-in-Signal : goal.of_vector-returns-in-Signal
@@ -54,3 +57,43 @@ of_links-loop-item-preserved t c =
 pub of_links-returns : goal.of_links-returns
 of_links-returns t c =
     left_none link_names c.args.found.now c.args.list.now c.loop-item.found c.loop-item.item-index c.loop-item-test.false c.loop-item.invariant
+
+-- ---- aggregates
+
+pub of_vector-returns-in-Aggregate : goal.of_vector-returns-in-Aggregate
+of_vector-returns-in-Aggregate t c =
+    adds_along c.args.found.now c.of_elements.new.found _ _
+    (ap (λ (x : Vector). vector_names (vector_view x)) c.in-Aggregate.is ∙ ap vector_names (view_aggregate c.in-Aggregate.field-0 c.in-Aggregate.field-1 c.in-Aggregate.elements)
+    ∙ ap (λ xs. elements_names (elements_view xs)) (sym c.deref-in-Aggregate.ensures.value)) c.of_elements.ensures
+
+pub of_vector-returns-in-Sized : goal.of_vector-returns-in-Sized
+of_vector-returns-in-Sized t c =
+    adds_along c.args.found.now c.of_vector-in-Sized.new.found _ _ (ap (λ (x : Vector). vector_names (vector_view x)) c.in-Sized.is ∙ ap (λ (x : Vector). vector_names (vector_view x)) (sym c.deref-in-Sized.ensures)) c.of_vector-in-Sized.ensures
+
+pub of_elements-loop-item-init : goal.of_elements-loop-item-init
+of_elements-loop-item-init t c = λ n. (n, refl)
+
+pub of_elements-loop-item-preserved : goal.of_elements-loop-item-preserved
+of_elements-loop-item-preserved t c =
+    let last : is_last c.item-item.result ≡ false = first_of (search rules, grind (arith, common_steps)) in
+    next_of (λ xs. elements_names (elements_view xs)) c.args.found.now c.args.list.now c.loop-item.found c.of_element.new.found c.loop-item.item-index c.item-item.result _
+    c.loop-item-test.true c.item-item.is c.loop-item.invariant (λ rest. elements_more c.item-item.result rest last) c.of_element.ensures
+
+pub of_elements-returns-in-Others : goal.of_elements-returns-in-Others
+of_elements-returns-in-Others t c =
+    let last : is_last c.item-item.result ≡ true = ap is_last c.in-Others.is in
+    last_of (λ xs. elements_names (elements_view xs)) c.args.found.now c.args.list.now c.loop-item.found c.of_element.new.found c.loop-item.item-index c.item-item.result _
+    c.loop-item-test.true c.item-item.is c.loop-item.invariant (λ rest. elements_last c.item-item.result rest last) c.of_element.ensures
+
+pub of_elements-returns : goal.of_elements-returns
+of_elements-returns t c =
+    none_of (λ xs. elements_names (elements_view xs)) c.args.found.now c.args.list.now c.loop-item.found c.loop-item.item-index c.loop-item-test.false c.loop-item.invariant refl
+
+pub of_element-returns-in-Next : goal.of_element-returns-in-Next
+of_element-returns-in-Next t c = adds_along c.args.found.now c.of_vector.new.found _ _ (ap element_names c.in-Next.is) c.of_vector.ensures
+
+pub of_element-returns-in-Chosen : goal.of_element-returns-in-Chosen
+of_element-returns-in-Chosen t c = adds_along c.args.found.now c.of_vector-in-Chosen.new.found _ _ (ap element_names c.in-Chosen.is) c.of_vector-in-Chosen.ensures
+
+pub of_element-returns-in-Others : goal.of_element-returns-in-Others
+of_element-returns-in-Others t c = adds_along c.args.found.now c.of_vector-in-Others.new.found _ _ (ap element_names c.in-Others.is) c.of_vector-in-Others.ensures

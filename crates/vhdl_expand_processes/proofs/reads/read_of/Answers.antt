@@ -11,5 +11,5 @@ pub returns-clause-all : goal.returns-clause-all
 returns-clause-all c =
     let b = statements_of c.args.body.now in
     let told = told_all _ _ _ c.walk_body.ensures c.if-reads.false in
-    same_contained _ _ (λ n. c.sort_once.ensures.same n
+    same_contained _ _ (λ n. c.in_ok-order_once.ensures.same n
     ∙ ap (is_in n) (told.1 ∙ ap (λ ns. ns ++ flat_map read_of (leaves b)) c.new.ensures.items ∙ sym (leaves_tell.reads_are b)))

@@ -4,10 +4,10 @@ use Rattle.std.proofs.Common.{◌≡◌, ℕ, ℤ, Result, rules, arith, refl, a
 use Rattle.std.specs.Prelude.{◌+ℤ◌}
 use Rattle.std.proofs.lemmas.Grind.{common_steps}
 use Rattle.vhdl_names_rules.specs.declared.operator.Arithmetic.{Arithmetic}
-use Rattle.vhdl_names_rules.specs.declared.operator.Arithmetic.TheVariants.{Add, Subtract, Multiply, Divide, Modulo, Remainder}
+use Rattle.vhdl_names_rules.specs.declared.operator.Arithmetic.TheVariants.{Add, Subtract, Multiply, Divide, Modulo, Remainder, Power}
 use Rattle.vhdl_expand_rules.specs.declared.fault.ElabFault.{ElabFault}
 use Rattle.vhdl_expand_rules.specs.Elab.{Elab}
-use Rattle.vhdl_expand_rules.specs.Integers.{checked_integer, integer_operation}
+use Rattle.vhdl_expand_rules.specs.Integers.{checked_integer, powered, integer_operation}
 use Rattle.vhdl_expand_rules.specs.views.Integers.{Computes}
 use Rattle.vhdl_expand_rules.proofs.Modulus.{same_word}
 use Rattle.vhdl_expand_rules.proofs.integer.operated.Goals as goal
@@ -44,3 +44,7 @@ returns-in-Multiply c = by_operator c.args.at c.args.left c.args.right c.within-
 
 pub returns-in-Divide : goal.returns-in-Divide
 returns-in-Divide c = by_operator c.args.at c.args.left c.args.right c.within-in-Divide.result _ Divide c.in-Divide.is (first_of (search rules, grind (arith, common_steps)))
+
+pub returns-in-Power : goal.returns-in-Power
+returns-in-Power c =
+    given_by c.args.at c.args.left c.args.right (powered c.args.at) c.power.result _ Power (search rules) (search rules) c.in-Power.is refl c.power.ensures

@@ -1,123 +1,111 @@
 -- What is refused of a body is told at one of its bytes.
-use Rattle.std.proofs.Common.{ℕ, ◌==◌, ◌++◌, length, All}
+use Rattle.std.proofs.Common.{ℕ, ◌++◌, length, All}
 use Rattle.std.proofs.lemmas.List.Elements.{All-head, All-tail}
-use Rattle.rtl_model.specs.bodies.Fits.{width, value_width}
+use Rattle.rtl_model.specs.bodies.Fits.{value_width}
 use Rattle.vhdl_names_rules.specs.units.Statements as s
 use Rattle.vhdl_names_rules.specs.units.Bytes.{range_bytes, part_bytes, place_bytes, value_bytes, test_bytes, given_bytes, statement_bytes, statements_bytes, branches_bytes, alternatives_bytes}
-use Rattle.vhdl_expand_rules.specs.declared.fault.ElabProblem.TheVariants.{Length}
-use Rattle.vhdl_expand_rules.specs.Elab.{each, same_length}
+use Rattle.vhdl_expand_rules.specs.declared.fault.ElabProblem.TheVariants.{TooMany}
+use Rattle.vhdl_expand_rules.specs.Elab.{Told, each, same_length}
 use Rattle.vhdl_expand_rules.specs.Integers.{turns}
 use Rattle.vhdl_expand_rules.specs.Site.{Site, in_loop, place_elements, variable_elements}
 use Rattle.vhdl_expand_rules.specs.Expressions as x
 use Rattle.vhdl_expand_rules.specs.Statements.{value_given, choice, statement, statements, branches, alternatives, statement_turns, statements_turns, branches_turns, alternatives_turns}
-use Rattle.vhdl_expand_rules.proofs.Tells.{Tells, tells_none, tells_then, tells_unless, tells_all}
+use Rattle.vhdl_expand_rules.proofs.Tells.{Tells, At, tells_none, tells_then, tells_all}
 use Rattle.vhdl_expand_rules.proofs.laws.Targets.{all_left, all_right}
 use Rattle.vhdl_expand_rules.proofs.laws.told.Static.{turns_tells, place_tells, variable_tells}
-use Rattle.vhdl_expand_rules.proofs.laws.told.Expressions.{vector_tells, value_tells, test_tells}
+use Rattle.vhdl_expand_rules.proofs.laws.told.Expressions.{value_tells, test_tells, length_tells, given_tells}
 
-module _ (P : ℕ → Type 0) where
-  length-tells : (at found needed : ℕ) → P at → Tells P (same_length at found needed)
-  length-tells at found needed h = tells_unless P (Length found needed) at (found == needed) h
-
-  given-tells : (here : Site) (at len : ℕ) (g : s.Given) → P at → All P (given_bytes g) → Tells P (value_given here at len g)
-  unfolding value_given
-  given-tells here at len (s.single v) h k =
-      tells_then P (x.value here at v) _ (value_tells P here at v h k) (λ e.
-      tells_then P (same_length at (value_width e) len) _ (length-tells at (value_width e) len h) (λ same. tells_none P _))
-  given-tells here at len (s.filled v) h k =
-      tells_then P (x.vector here v) _ (vector_tells P here v k) (λ e.
-      tells_then P (same_length at (width e) 1) _ (length-tells at (width e) 1 h) (λ same. tells_none P _))
-
-  choice-tells : (at len : ℕ) (c : s.Choice) → P at → Tells P (choice at len c)
+module _ (P : Told → Type 0) (many : (at : ℕ) → At P at → P (TooMany, at)) where
+  choice-tells : (at len : ℕ) (c : s.Choice) → At P at → Tells P (choice at len c)
   unfolding choice
-  choice-tells at len (s.values vs) h = tells_then P (same_length at (length vs) len) _ (length-tells at (length vs) len h) (λ same. tells_none P _)
+  choice-tells at len (s.values vs) h = tells_then P (same_length at (length vs) len) _ (length_tells P at (length vs) len h) (λ same. tells_none P _)
   choice-tells at len (s.Choice.position n) h = tells_none P _
 
   mutual
     unfolding statement
 
-    pub statement_tells : (y : s.Statement) (here : Site) → All P (statement_bytes y) → Tells P (statement here y)
+    pub statement_tells : (y : s.Statement) (here : Site) → All (At P) (statement_bytes y) → Tells P (statement here y)
     statement_tells s.null_of here k = tells_none P _
     statement_tells (s.assign p g) here k =
-        let place : All P (place_bytes p) = all_left P (place_bytes p) (given_bytes g) k in
+        let place : All (At P) (place_bytes p) = all_left (At P) (place_bytes p) (given_bytes g) k in
         tells_then P (place_elements here p) _ (place_tells P here p place) (λ es.
-        tells_then P (value_given here p.at (length es) g) _ (given-tells here p.at (length es) g (All-head P p.at (part_bytes p.part) place) (all_right P (place_bytes p) (given_bytes g) k)) (λ v.
+        tells_then P (value_given here p.at (length es) g) _ (given_tells P here p.at (length es) g (All-head (At P) p.at (part_bytes p.part) place) (all_right (At P) (place_bytes p) (given_bytes g) k)) (λ v.
         tells_none P _))
     statement_tells (s.set at n part g) here k =
-        let own : P at = All-head P at (part_bytes part ++ given_bytes g) k in
-        let rest : All P (part_bytes part ++ given_bytes g) = All-tail P at (part_bytes part ++ given_bytes g) k in
-        tells_then P (variable_elements here at n part) _ (variable_tells P here at n part own (all_left P (part_bytes part) (given_bytes g) rest)) (λ es.
-        tells_then P (value_given here at (length es) g) _ (given-tells here at (length es) g own (all_right P (part_bytes part) (given_bytes g) rest)) (λ v. tells_none P _))
-    statement_tells (s.if_of at bs) here k = tells_then P (branches here bs) _ (branches_tells bs here (All-tail P at (branches_bytes bs) k)) (λ cs. tells_none P _)
+        let own : At P at = All-head (At P) at (part_bytes part ++ given_bytes g) k in
+        let rest : All (At P) (part_bytes part ++ given_bytes g) = All-tail (At P) at (part_bytes part ++ given_bytes g) k in
+        tells_then P (variable_elements here at n part) _ (variable_tells P here at n part own (all_left (At P) (part_bytes part) (given_bytes g) rest)) (λ es.
+        tells_then P (value_given here at (length es) g) _ (given_tells P here at (length es) g own (all_right (At P) (part_bytes part) (given_bytes g) rest)) (λ v. tells_none P _))
+    statement_tells (s.if_of at bs) here k = tells_then P (branches here bs) _ (branches_tells bs here (All-tail (At P) at (branches_bytes bs) k)) (λ cs. tells_none P _)
     statement_tells (s.case_of at v alts) here k =
-        let own : P at = All-head P at (value_bytes v ++ alternatives_bytes alts) k in
-        let rest : All P (value_bytes v ++ alternatives_bytes alts) = All-tail P at (value_bytes v ++ alternatives_bytes alts) k in
-        tells_then P (x.value here at v) _ (value_tells P here at v own (all_left P (value_bytes v) (alternatives_bytes alts) rest)) (λ e.
-        tells_then P (alternatives here at (value_width e) alts) _ (alternatives_tells alts here at (value_width e) own (all_right P (value_bytes v) (alternatives_bytes alts) rest)) (λ cs.
+        let own : At P at = All-head (At P) at (value_bytes v ++ alternatives_bytes alts) k in
+        let rest : All (At P) (value_bytes v ++ alternatives_bytes alts) = All-tail (At P) at (value_bytes v ++ alternatives_bytes alts) k in
+        tells_then P (x.value here at v) _ (value_tells P here at v own (all_left (At P) (value_bytes v) (alternatives_bytes alts) rest)) (λ e.
+        tells_then P (alternatives here at (value_width e) alts) _ (alternatives_tells alts here at (value_width e) own (all_right (At P) (value_bytes v) (alternatives_bytes alts) rest)) (λ cs.
         tells_none P _))
     statement_tells (s.for_of at r body) here k =
-        let own : P at = All-head P at (range_bytes r ++ statements_bytes body) k in
-        let rest : All P (range_bytes r ++ statements_bytes body) = All-tail P at (range_bytes r ++ statements_bytes body) k in
-        tells_then P (turns here.integers at r) _ (turns_tells P here.integers at r own (all_left P (range_bytes r) (statements_bytes body) rest)) (λ is.
+        let own : At P at = All-head (At P) at (range_bytes r ++ statements_bytes body) k in
+        let rest : All (At P) (range_bytes r ++ statements_bytes body) = All-tail (At P) at (range_bytes r ++ statements_bytes body) k in
+        tells_then P (turns here.integers at r) _ (turns_tells P here.integers at r (many at own) own (all_left (At P) (range_bytes r) (statements_bytes body) rest)) (λ is.
         tells_then P (each (λ i. statements (in_loop here i) body) is) _
-        (tells_all P (λ i. statements (in_loop here i) body) is (λ i. statements_tells body (in_loop here i) (all_right P (range_bytes r) (statements_bytes body) rest))) (λ ss. tells_none P _))
+        (tells_all P (λ i. statements (in_loop here i) body) is (λ i. statements_tells body (in_loop here i) (all_right (At P) (range_bytes r) (statements_bytes body) rest))) (λ ss. tells_none P _))
 
-    pub statements_tells : (ys : s.Statements) (here : Site) → All P (statements_bytes ys) → Tells P (statements here ys)
+    pub statements_tells : (ys : s.Statements) (here : Site) → All (At P) (statements_bytes ys) → Tells P (statements here ys)
     statements_tells s.done here k = tells_none P _
     statements_tells (s.step y ys) here k =
-        tells_then P (statement here y) _ (statement_tells y here (all_left P (statement_bytes y) (statements_bytes ys) k)) (λ a.
-        tells_then P (statements here ys) _ (statements_tells ys here (all_right P (statement_bytes y) (statements_bytes ys) k)) (λ c. tells_none P _))
+        tells_then P (statement here y) _ (statement_tells y here (all_left (At P) (statement_bytes y) (statements_bytes ys) k)) (λ a.
+        tells_then P (statements here ys) _ (statements_tells ys here (all_right (At P) (statement_bytes y) (statements_bytes ys) k)) (λ c. tells_none P _))
 
-    pub branches_tells : (bs : s.Branches) (here : Site) → All P (branches_bytes bs) → Tells P (branches here bs)
+    pub branches_tells : (bs : s.Branches) (here : Site) → All (At P) (branches_bytes bs) → Tells P (branches here bs)
     branches_tells s.no_else here k = tells_none P _
     branches_tells (s.otherwise ys) here k = tells_then P (statements here ys) _ (statements_tells ys here k) (λ a. tells_none P _)
     branches_tells (s.branch t ys bs) here k =
-        let rest : All P (statements_bytes ys ++ branches_bytes bs) = all_right P (test_bytes t) (statements_bytes ys ++ branches_bytes bs) k in
-        tells_then P (x.test here t) _ (test_tells P here t (all_left P (test_bytes t) (statements_bytes ys ++ branches_bytes bs) k)) (λ c.
-        tells_then P (statements here ys) _ (statements_tells ys here (all_left P (statements_bytes ys) (branches_bytes bs) rest)) (λ a.
-        tells_then P (branches here bs) _ (branches_tells bs here (all_right P (statements_bytes ys) (branches_bytes bs) rest)) (λ d. tells_none P _)))
+        let rest : All (At P) (statements_bytes ys ++ branches_bytes bs) = all_right (At P) (test_bytes t) (statements_bytes ys ++ branches_bytes bs) k in
+        tells_then P (x.test here t) _ (test_tells P here t (all_left (At P) (test_bytes t) (statements_bytes ys ++ branches_bytes bs) k)) (λ c.
+        tells_then P (statements here ys) _ (statements_tells ys here (all_left (At P) (statements_bytes ys) (branches_bytes bs) rest)) (λ a.
+        tells_then P (branches here bs) _ (branches_tells bs here (all_right (At P) (statements_bytes ys) (branches_bytes bs) rest)) (λ d. tells_none P _)))
 
-    pub alternatives_tells : (alts : s.Alternatives) (here : Site) (at len : ℕ) → P at → All P (alternatives_bytes alts) → Tells P (alternatives here at len alts)
+    pub alternatives_tells : (alts : s.Alternatives) (here : Site) (at len : ℕ) → At P at → All (At P) (alternatives_bytes alts) → Tells P (alternatives here at len alts)
     alternatives_tells (s.others ys) here at len h k = tells_then P (statements here ys) _ (statements_tells ys here k) (λ a. tells_none P _)
     alternatives_tells (s.alternative choices ys alts) here at len h k =
         tells_then P (each (choice at len) choices) _ (tells_all P (choice at len) choices (λ c. choice-tells at len c h)) (λ cs.
-        tells_then P (statements here ys) _ (statements_tells ys here (all_left P (statements_bytes ys) (alternatives_bytes alts) k)) (λ a.
-        tells_then P (alternatives here at len alts) _ (alternatives_tells alts here at len h (all_right P (statements_bytes ys) (alternatives_bytes alts) k)) (λ d. tells_none P _)))
+        tells_then P (statements here ys) _ (statements_tells ys here (all_left (At P) (statements_bytes ys) (alternatives_bytes alts) k)) (λ a.
+        tells_then P (alternatives here at len alts) _ (alternatives_tells alts here at len h (all_right (At P) (statements_bytes ys) (alternatives_bytes alts) k)) (λ d. tells_none P _)))
 
   -- ---- turns
 
   mutual
     unfolding statement_turns
 
-    statement-turns : (y : s.Statement) (here : Site) → All P (statement_bytes y) → Tells P (statement_turns here y)
-    statement-turns (s.if_of at bs) here k = branches-turns bs here (All-tail P at (branches_bytes bs) k)
+    statement-turns : (y : s.Statement) (here : Site) → All (At P) (statement_bytes y) → Tells P (statement_turns here y)
+    statement-turns (s.if_of at bs) here k = branches-turns bs here (All-tail (At P) at (branches_bytes bs) k)
     statement-turns (s.case_of at v alts) here k =
-        alternatives-turns alts here (all_right P (value_bytes v) (alternatives_bytes alts) (All-tail P at (value_bytes v ++ alternatives_bytes alts) k))
+        alternatives-turns alts here (all_right (At P) (value_bytes v) (alternatives_bytes alts) (All-tail (At P) at (value_bytes v ++ alternatives_bytes alts) k))
     statement-turns (s.for_of at r body) here k =
-        let own : P at = All-head P at (range_bytes r ++ statements_bytes body) k in
-        let rest : All P (range_bytes r ++ statements_bytes body) = All-tail P at (range_bytes r ++ statements_bytes body) k in
-        tells_then P (turns here.integers at r) _ (turns_tells P here.integers at r own (all_left P (range_bytes r) (statements_bytes body) rest)) (λ is.
+        let own : At P at = All-head (At P) at (range_bytes r ++ statements_bytes body) k in
+        let rest : All (At P) (range_bytes r ++ statements_bytes body) = All-tail (At P) at (range_bytes r ++ statements_bytes body) k in
+        tells_then P (turns here.integers at r) _ (turns_tells P here.integers at r (many at own) own (all_left (At P) (range_bytes r) (statements_bytes body) rest)) (λ is.
         tells_then P (each (λ i. statements_turns (in_loop here i) body) is) _
-        (tells_all P (λ i. statements_turns (in_loop here i) body) is (λ i. turns_of_statements_tells body (in_loop here i) (all_right P (range_bytes r) (statements_bytes body) rest))) (λ ns.
+        (tells_all P (λ i. statements_turns (in_loop here i) body) is (λ i. turns_of_statements_tells body (in_loop here i) (all_right (At P) (range_bytes r) (statements_bytes body) rest))) (λ ns.
         tells_none P _))
     statement-turns _ here k = tells_none P _
 
-    pub turns_of_statements_tells : (ys : s.Statements) (here : Site) → All P (statements_bytes ys) → Tells P (statements_turns here ys)
+    pub turns_of_statements_tells : (ys : s.Statements) (here : Site) → All (At P) (statements_bytes ys) → Tells P (statements_turns here ys)
     turns_of_statements_tells s.done here k = tells_none P _
     turns_of_statements_tells (s.step y ys) here k =
-        tells_then P (statement_turns here y) _ (statement-turns y here (all_left P (statement_bytes y) (statements_bytes ys) k)) (λ m.
-        tells_then P (statements_turns here ys) _ (turns_of_statements_tells ys here (all_right P (statement_bytes y) (statements_bytes ys) k)) (λ n. tells_none P _))
+        tells_then P (statement_turns here y) _ (statement-turns y here (all_left (At P) (statement_bytes y) (statements_bytes ys) k)) (λ m.
+        tells_then P (statements_turns here ys) _ (turns_of_statements_tells ys here (all_right (At P) (statement_bytes y) (statements_bytes ys) k)) (λ n. tells_none P _))
 
-    branches-turns : (bs : s.Branches) (here : Site) → All P (branches_bytes bs) → Tells P (branches_turns here bs)
+    branches-turns : (bs : s.Branches) (here : Site) → All (At P) (branches_bytes bs) → Tells P (branches_turns here bs)
     branches-turns s.no_else here k = tells_none P _
     branches-turns (s.otherwise ys) here k = turns_of_statements_tells ys here k
     branches-turns (s.branch t ys bs) here k =
-        let rest : All P (statements_bytes ys ++ branches_bytes bs) = all_right P (test_bytes t) (statements_bytes ys ++ branches_bytes bs) k in
-        tells_then P (statements_turns here ys) _ (turns_of_statements_tells ys here (all_left P (statements_bytes ys) (branches_bytes bs) rest)) (λ m.
-        tells_then P (branches_turns here bs) _ (branches-turns bs here (all_right P (statements_bytes ys) (branches_bytes bs) rest)) (λ n. tells_none P _))
+        let rest : All (At P) (statements_bytes ys ++ branches_bytes bs) = all_right (At P) (test_bytes t) (statements_bytes ys ++ branches_bytes bs) k in
+        tells_then P (statements_turns here ys) _ (turns_of_statements_tells ys here (all_left (At P) (statements_bytes ys) (branches_bytes bs) rest)) (λ m.
+        tells_then P (branches_turns here bs) _ (branches-turns bs here (all_right (At P) (statements_bytes ys) (branches_bytes bs) rest)) (λ n. tells_none P _))
 
-    alternatives-turns : (alts : s.Alternatives) (here : Site) → All P (alternatives_bytes alts) → Tells P (alternatives_turns here alts)
+    alternatives-turns : (alts : s.Alternatives) (here : Site) → All (At P) (alternatives_bytes alts) → Tells P (alternatives_turns here alts)
     alternatives-turns (s.others ys) here k = turns_of_statements_tells ys here k
     alternatives-turns (s.alternative choices ys alts) here k =
-        tells_then P (statements_turns here ys) _ (turns_of_statements_tells ys here (all_left P (statements_bytes ys) (alternatives_bytes alts) k)) (λ m.
-        tells_then P (alternatives_turns here alts) _ (alternatives-turns alts here (all_right P (statements_bytes ys) (alternatives_bytes alts) k)) (λ n. tells_none P _))
+        tells_then P (statements_turns here ys) _ (turns_of_statements_tells ys here (all_left (At P) (statements_bytes ys) (alternatives_bytes alts) k)) (λ m.
+        tells_then P (alternatives_turns here alts) _ (alternatives-turns alts here (all_right (At P) (statements_bytes ys) (alternatives_bytes alts) k)) (λ n. tells_none P _))

@@ -14,7 +14,7 @@ use Rattle.vhdl_expand_rules.proofs.Modulus.{same_word}
 use Rattle.vhdl_expand_rules.proofs.Items.{none_left}
 use Rattle.vhdl_expand_tree.specs.Costs.{charged, spent, nets, instance_costs}
 use Rattle.vhdl_expand_tree.specs.Views.{budget_view, object_view, parts_of}
-use Rattle.vhdl_expand.specs.Views.{declared_view}
+use Rattle.vhdl_expand_declarations.specs.Views.{declared_view}
 use Rattle.vhdl_expand.proofs.Nested.{outermost, instance_made, not_expanded, no_unit, instance_here, instance_behind, expanded_here}
 use Rattle.vhdl_expand.proofs.Stopping.{deep_told, bare_told, many_told, declared_told, nets_told, inside_told, unit_found, interface_told, associated_told, inner_told}
 use Rattle.vhdl_names_rules.specs.views.Integers.{range_view}

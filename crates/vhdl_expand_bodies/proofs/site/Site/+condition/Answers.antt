@@ -12,8 +12,7 @@ use Rattle.vhdl_expand_rules.specs.Expressions as definition
 use Rattle.vhdl_expand_rules.proofs.Steps.{given}
 use Rattle.vhdl_expand_bodies.specs.Sites.{site_view}
 use Rattle.vhdl_expand_bodies.specs.steps.Tests as steps
-use Rattle.vhdl_expand_bodies.proofs.Links.{expands_along}
-use Rattle.vhdl_expand_bodies.proofs.Passing.{passed_on, on}
+use Rattle.vhdl_expand_operands.proofs.Passing.{expands_along, passed_on, on}
 use Rattle.vhdl_expand_bodies.proofs.TestChains.{chain_is, link_given}
 use Rattle.vhdl_expand_bodies.proofs.Chained.{chain_goes, chain_stops, more_stops, next_goes, next_stops}
 use Rattle.vhdl_expand_rules.specs.Elab.{◌>>=◌}

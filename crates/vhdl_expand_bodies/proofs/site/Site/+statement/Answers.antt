@@ -22,10 +22,10 @@ use Rattle.vhdl_expand_bodies.specs.Sites.{site_view}
 use Rattle.vhdl_expand_bodies.specs.Statements.{branch_view, branches_view, alternative_view, alternatives_view, otherwise_view}
 use Rattle.vhdl_expand_bodies.specs.steps.Statements as steps
 use Rattle.vhdl_expand_bodies.specs.steps.Statements.{after}
-use Rattle.vhdl_expand_bodies.proofs.Links.{expands_along}
+use Rattle.vhdl_expand_operands.proofs.Passing.{expands_along, passed_on, none_behind, made_by, refused_by, on}
 use Rattle.vhdl_expand_bodies.proofs.Parts.{branch_of, alternative_of, added_gives, null_one, assign_by, set_by, if_made, if_by, case_made, case_by, loop_is, same_turn, turned_goes}
-use Rattle.vhdl_expand_bodies.proofs.Passing.{passed_on, none_behind, made_by, refused_by, on}
-use Rattle.vhdl_expand_bodies.proofs.Sequences.{list_goes, list_stops, list_ends, turns_go, turns_stop, turns_end, each_adds, each_refuses, each_ends}
+use Rattle.vhdl_expand_bodies.proofs.Sequences.{list_goes, list_stops, list_ends, turns_go, turns_stop, turns_end}
+use Rattle.vhdl_expand_operands.proofs.Several.{each_adds, each_refuses, each_ends}
 use Rattle.vhdl_expand_rules.specs.Elab.{Elab, ◌>>=◌, each, fault_told}
 use Rattle.vhdl_expand_bodies.proofs.site.Site.+statement.Goals as goal
 

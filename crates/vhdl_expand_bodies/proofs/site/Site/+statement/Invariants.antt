@@ -8,7 +8,7 @@ use Rattle.vhdl_expand_bodies.specs.Sites.{site_view}
 use Rattle.vhdl_expand_bodies.specs.Statements.{branch_view, alternative_view}
 use Rattle.vhdl_expand_bodies.specs.steps.Statements as steps
 use Rattle.vhdl_expand_bodies.specs.steps.Statements.{after}
-use Rattle.vhdl_expand_bodies.proofs.Sequences.{behind}
+use Rattle.vhdl_expand_operands.proofs.Several.{behind}
 use Rattle.vhdl_expand_bodies.proofs.site.Site.+statement.Given as goal
 
 -- those so far, and those that are left

@@ -1,14 +1,22 @@
-use Rattle.std.proofs.Common.{refl, sym, ap, ◌∙◌, arith}
+use Rattle.std.proofs.Common.{◌≡◌, true, false, [], ◌∷◌, ◌+◌, map, drop, refl, sym, ap, ◌∙◌, arith, rules}
+use Rattle.std.specs.Prelude.{option_map}
+use Rattle.std.proofs.lemmas.Grind.{common_steps}
+use Rattle.std.proofs.lemmas.List.{map-append}
 use Rattle.rtl_model.specs.bodies.Body as bodies
-use Rattle.vhdl_names_rules.specs.views.Vectors.{vector_view}
-use Rattle.vhdl_expand_bodies.specs.Operands.{operand_view, chain_view}
+use Rattle.vhdl_names_rules.specs.views.Vectors.{vector_view, elements_view}
+use Rattle.vhdl_expand_rules.specs.Elab.{◌>>=◌}
+use Rattle.vhdl_expand_rules.specs.Aggregates.{composed}
+use Rattle.vhdl_expand_operands.specs.Placings.{indexes_view, placed_view}
+use Rattle.vhdl_expand_bodies.proofs.Elements.{is_last, elements_go, elements_last, elements_stop, elements_end}
+use Rattle.vhdl_expand_operands.proofs.Several.{behind}
+use Rattle.vhdl_expand_operands.specs.Operands.{operand_view, chain_view}
 use Rattle.vhdl_expand_rules.specs.Expressions as definition
 use Rattle.vhdl_expand_rules.proofs.Steps.{given}
 use Rattle.vhdl_expand_bodies.specs.Sites.{site_view}
 use Rattle.vhdl_expand_bodies.specs.steps.Vectors as steps
-use Rattle.vhdl_expand_bodies.proofs.Links.{expands_along, chain_is}
+use Rattle.vhdl_expand_operands.proofs.Passing.{expands_along, passed_on, on}
+use Rattle.vhdl_expand_bodies.proofs.Links.{chain_is, aggregate_is}
 use Rattle.vhdl_expand_bodies.proofs.Chained.{chain_goes, chain_stops, more_stops, next_goes, next_stops}
-use Rattle.vhdl_expand_bodies.proofs.Passing.{passed_on, on}
 use Rattle.vhdl_expand_bodies.proofs.site.Site.+vector.Goals as goal
 
 pub expanded-returns-in_err-chain-in-Chain : goal.expanded-returns-in_err-chain-in-Chain
@@ -89,3 +97,68 @@ pub expanded-returns-in_ok-inverse-in-Not : goal.expanded-returns-in_ok-inverse-
 unfolding definition.vector
 expanded-returns-in_ok-inverse-in-Not t c =
     ap (λ x. definition.vector (site_view c.args.self.now) (vector_view x)) c.in-Not.is ∙ on (λ e. given (bodies.inverse e)) _ _ (rw c.deref-in-Not.ensures at c.in_ok-operand-in-Not.ensures) ∙ ap given (sym c.in_ok-inverse-in-Not.ensures)
+
+-- ---- aggregates
+
+pub aggregate-returns-in_err-all : goal.aggregate-returns-in_err-all
+unfolding definition.vector
+aggregate-returns-in_err-all t c =
+    let here = site_view c.args.self.now in
+    passed_on _ _ c.in_err-all.field-0.0 _ c.from_residual.result c.from_residual.ensures.1 (λ e p. p)
+    (λ n. on (λ all. definition.elements here c.args.at all [] (elements_view c.args.elements.now) >>= λ xs. composed c.args.at all xs) _ _ (c.in_err-all.ensures n))
+
+pub aggregate-returns-in_err-placed : goal.aggregate-returns-in_err-placed
+unfolding definition.vector
+aggregate-returns-in_err-placed t c =
+    let here = site_view c.args.self.now in
+    passed_on _ _ c.in_err-placed.field-0.0 _ c.from_residual-in_err-placed.result c.from_residual-in_err-placed.ensures.1 (λ e p. p)
+    (λ n. on (λ all. definition.elements here c.args.at all [] (elements_view c.args.elements.now) >>= λ xs. composed c.args.at all xs) _ _ c.in_ok-all.ensures
+    ∙ on (λ xs. composed c.args.at (option_map indexes_view c.in_ok-all.all) xs) _ _ (c.in_err-placed.ensures n))
+
+pub aggregate-returns : goal.aggregate-returns
+unfolding definition.vector
+aggregate-returns t c =
+    let here = site_view c.args.self.now in
+    expands_along operand_view _ _ _
+    (on (λ all. definition.elements here c.args.at all [] (elements_view c.args.elements.now) >>= λ xs. composed c.args.at all xs) _ _ c.in_ok-all.ensures
+    ∙ on (λ xs. composed c.args.at (option_map indexes_view c.in_ok-all.all) xs) _ _ c.in_ok-placed.ensures)
+    (rw c.deref.ensures.value at c.composed.ensures)
+
+pub placed_elements-loop-element-preserved : goal.placed_elements-loop-element-preserved
+placed_elements-loop-element-preserved t c =
+    let here = site_view c.args.self.now in
+    let all = option_map indexes_view c.args.all.now in
+    let i = c.loop-element.element-index in
+    let last : is_last c.element-item.result ≡ false = first_of (search rules, grind (arith, common_steps)) in
+    elements_go here c.args.at all _ (map placed_view c.loop-element.placed.items) c.loop-element.taken.items c.args.elements.now i c.loop-element.invariant c.element-item.result _
+    c.loop-element-test.true c.element-item.is last c.in_ok-next.ensures
+    ∙ ap (λ ys. behind ys (definition.elements here c.args.at all c.placed_element.new.taken.items (elements_view (drop (i + 1) c.args.elements.now))))
+    (sym (ap (map placed_view) c.in_ok-push.ensures.items ∙ map-append placed_view c.loop-element.placed.items (c.in_ok-next.next ∷ [])))
+
+pub placed_elements-returns-in-Others : goal.placed_elements-returns-in-Others
+placed_elements-returns-in-Others t c =
+    let here = site_view c.args.self.now in
+    let all = option_map indexes_view c.args.all.now in
+    let last : is_last c.element-item.result ≡ true = ap is_last c.in-Others.is in
+    elements_last here c.args.at all _ (map placed_view c.loop-element.placed.items) c.loop-element.taken.items c.args.elements.now c.loop-element.element-index c.loop-element.invariant
+    c.element-item.result _ c.loop-element-test.true c.element-item.is last c.in_ok-next.ensures
+    ∙ ap given (sym (ap (map placed_view) c.in_ok-push.ensures.items ∙ map-append placed_view c.loop-element.placed.items (c.in_ok-next.next ∷ [])))
+
+pub placed_elements-returns-in_err-next : goal.placed_elements-returns-in_err-next
+placed_elements-returns-in_err-next t c =
+    let here = site_view c.args.self.now in
+    let all = option_map indexes_view c.args.all.now in
+    passed_on _ _ c.in_err-next.field-0.0 _ c.from_residual.result c.from_residual.ensures.1 (λ e p. p)
+    (λ n. elements_stop here c.args.at all _ (map placed_view c.loop-element.placed.items) c.loop-element.taken.items c.args.elements.now c.loop-element.element-index c.loop-element.invariant
+    c.element-item.result c.loop-element-test.true c.element-item.is (c.in_err-next.ensures n))
+
+pub placed_elements-returns : goal.placed_elements-returns
+placed_elements-returns t c =
+    elements_end (site_view c.args.self.now) c.args.at (option_map indexes_view c.args.all.now) _ (map placed_view c.loop-element.placed.items) c.loop-element.taken.items c.args.elements.now
+    c.loop-element.element-index c.loop-element.invariant (omega arith)
+
+pub expanded-returns-in-Aggregate : goal.expanded-returns-in-Aggregate
+expanded-returns-in-Aggregate t c =
+    expands_along operand_view _ _ _
+    (aggregate_is (site_view c.args.self.now) c.args.vector.now c.in-Aggregate.at c.in-Aggregate.range c.in-Aggregate.elements _ _ c.in-Aggregate.is (sym c.lent_range.ensures) c.deref-in-Aggregate.ensures.value)
+    c.aggregate.ensures

@@ -1,5 +1,10 @@
-use Rattle.std.proofs.Common.{◌≡◌, drop}
-use Rattle.vhdl_expand_bodies.specs.Operands.{chain_view}
+use Rattle.std.proofs.Common.{◌≡◌, [], map, drop}
+use Rattle.std.specs.Prelude.{option_map}
+use Rattle.vhdl_names_rules.specs.views.Vectors.{elements_view}
+use Rattle.vhdl_expand_rules.specs.Expressions.{elements}
+use Rattle.vhdl_expand_operands.specs.Placings.{indexes_view, placed_view}
+use Rattle.vhdl_expand_operands.proofs.Several.{behind}
+use Rattle.vhdl_expand_operands.specs.Operands.{chain_view}
 use Rattle.vhdl_expand_bodies.specs.Sites.{site_view}
 use Rattle.vhdl_expand_bodies.specs.steps.Chains.{chained}
 use Rattle.vhdl_expand_bodies.specs.steps.Vectors as steps
@@ -9,3 +14,9 @@ use Rattle.vhdl_expand_bodies.proofs.site.Site.+vector.Given as goal
 abbrev pub invariant-add_links-loop-link : goal.invariant-add_links-loop-link
 invariant-add_links-loop-link l =
     chained (steps.linked (site_view l.self)) (chain_view l.fn.chain) l.links ≡ chained (steps.linked (site_view l.self)) (chain_view l.chain) (drop l.link-index l.links)
+
+-- the elements so far, and those that are left behind what is taken
+abbrev pub invariant-placed_elements-loop-element : goal.invariant-placed_elements-loop-element
+invariant-placed_elements-loop-element l =
+    elements (site_view l.self) l.fn.at (option_map indexes_view l.all) [] (elements_view l.elements)
+    ≡ behind (map placed_view l.placed.items) (elements (site_view l.self) l.fn.at (option_map indexes_view l.all) l.taken.items (elements_view (drop l.element-index l.elements)))

@@ -16,11 +16,11 @@ use Rattle.vhdl_expand_bodies.proofs.site.Site.assign.Goals as goal
 pub returns : goal.returns
 returns c =
     assign_gives (site_view c.args.self.now) (place_view c.args.target.now) (given_view c.args.value.now)
-    c.in_ok-run.run'.first c.in_ok-run.run'.len (value_view c.in_ok-value.value) (numbers c.elements-places.result) c.in_ok-run.ensures.given c.in_ok-value.ensures (ap given (sym c.elements-places.ensures))
+    c.in_ok-run.run'.first c.in_ok-run.run'.len (value_view c.in_ok-selected.selected.value) (numbers c.elements-places.result) c.in_ok-run.ensures.given c.in_ok-selected.ensures (ap given (sym c.elements-places.ensures))
 
-pub returns-in_err-value : goal.returns-in_err-value
-returns-in_err-value c =
-    let stopped : c.in_err-value.field-0.0 ≢ NoMemory → (steps.assign (site_view c.args.self.now) (place_view c.args.target.now) (given_view c.args.value.now)) ≡ Err (fault_told c.in_err-value.field-0.0) =
+pub returns-in_err-selected : goal.returns-in_err-selected
+returns-in_err-selected c =
+    let stopped : c.in_err-selected.field-0.0 ≢ NoMemory → (steps.assign (site_view c.args.self.now) (place_view c.args.target.now) (given_view c.args.value.now)) ≡ Err (fault_told c.in_err-selected.field-0.0) =
     λ n. assign_stops (site_view c.args.self.now) (place_view c.args.target.now) (given_view c.args.value.now)
-    c.in_ok-run.run'.first c.in_ok-run.run'.len c.in_ok-run.ensures.given (c.in_err-value.ensures n) in
+    c.in_ok-run.run'.first c.in_ok-run.run'.len c.in_ok-run.ensures.given (c.in_err-selected.ensures n) in
     first_of (search rules, grind (arith, common_steps))

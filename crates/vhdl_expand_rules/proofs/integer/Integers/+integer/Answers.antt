@@ -1,14 +1,17 @@
 use mir.Syntax.{w32}
 use mir.Val.{to_z, of_z}
 use Rattle.std.proofs.Common.{◌≡◌, ℤ, ℕ, ◌<◌, ◌+◌, List, ◌∷◌, length, get_or, drop, Ok, Err, ap, sym, ◌∙◌, arith, rules}
-use Rattle.std.specs.Prelude.{neg_ℤ}
+use Rattle.std.specs.Prelude.{neg_ℤ, nat_abs, pos}
 use Rattle.std.proofs.lemmas.List.{at_drop_more, at_drop_all}
 use Rattle.std.proofs.lemmas.Grind.{common_steps}
+use Rattle.vhdl_tree.specs.declared.operator.Direction.{Direction}
+use Rattle.vhdl_names_rules.specs.declared.operator.Bound.{Bound}
+use Rattle.vhdl_names_rules.specs.units.Expressions as u
 use Rattle.vhdl_names_rules.specs.views.Integers.{static_view}
 use Rattle.vhdl_names_rules.specs.declared.integer.StaticLink.{StaticLink}
 use Rattle.vhdl_expand_rules.specs.Elab.{◌>>=◌, Told, fault_told}
 use Rattle.vhdl_expand_rules.specs.Integers as definition
-use Rattle.vhdl_expand_rules.specs.views.Integers.{integers_view, all_operated}
+use Rattle.vhdl_expand_rules.specs.views.Integers.{integers_view, range_view, all_operated}
 use Rattle.vhdl_expand_rules.proofs.Chains.{computes_along, computes_err, chain-value, chain-err}
 use Rattle.vhdl_expand_rules.proofs.Modulus.{same_word}
 use Rattle.vhdl_expand_rules.proofs.integer.Integers.+integer.Goals as goal
@@ -35,7 +38,7 @@ integer-returns-in-Generic t c = computes_along _ _ _ (ap (λ v. definition.inte
 
 pub integer-returns-in-Constant : goal.integer-returns-in-Constant
 unfolding definition.integer
-integer-returns-in-Constant t c = computes_along _ _ _ (ap (λ v. definition.integer (integers_view c.args.self.now) c.args.at (static_view v)) c.in-Constant.is) c.known-in-Constant.ensures
+integer-returns-in-Constant t c = computes_along _ _ _ (ap (λ v. definition.integer (integers_view c.args.self.now) c.args.at (static_view v)) c.in-Constant.is) c.constant.ensures
 
 pub integer-returns-in-GenerateParameter : goal.integer-returns-in-GenerateParameter
 unfolding definition.integer
@@ -50,6 +53,98 @@ unfolding definition.integer
 integer-returns-in_err-x-in-Negated t c =
     computes_err _ c.in_err-x-in-Negated.field-0.0 _ c.from_residual.result c.from_residual.ensures.1 (λ e p. p)
     (ap (λ v. definition.integer (integers_view c.args.self.now) c.args.at (static_view v)) c.in-Negated.is ∙ ap (λ r. r >>= λ x. definition.checked_integer c.in-Negated.sign (neg_ℤ x)) (rw c.deref.ensures at c.in_err-x-in-Negated.ensures))
+
+pub integer-returns-in_err-x-in-Absolute : goal.integer-returns-in_err-x-in-Absolute
+unfolding definition.integer
+integer-returns-in_err-x-in-Absolute t c =
+    computes_err _ c.in_err-x-in-Absolute.field-0.0 _ c.from_residual-in_err-x-in-Absolute.result c.from_residual-in_err-x-in-Absolute.ensures.1 (λ e p. p)
+    (ap (λ v. definition.integer (integers_view c.args.self.now) c.args.at (static_view v)) c.in-Absolute.is
+    ∙ ap (λ r. r >>= λ x. definition.checked_integer c.in-Absolute.sign (pos (nat_abs x))) (rw c.deref-in-Absolute.ensures at c.in_err-x-in-Absolute.ensures))
+
+pub integer-returns-in_err-range-in-Bound : goal.integer-returns-in_err-range-in-Bound
+unfolding definition.integer
+integer-returns-in_err-range-in-Bound t c =
+    computes_err _ c.in_err-range-in-Bound.field-0.0 _ c.from_residual-in_err-range-in-Bound.result c.from_residual-in_err-range-in-Bound.ensures.1 (λ e p. p)
+    (ap (λ v. definition.integer (integers_view c.args.self.now) c.args.at (static_view v)) c.in-Bound.is
+    ∙ ap (λ r. r >>= definition.bound_checked c.args.at c.in-Bound.bound) c.in_err-range-in-Bound.ensures)
+
+pub integer-returns-in_ok-range-in-Bound : goal.integer-returns-in_ok-range-in-Bound
+unfolding definition.integer
+integer-returns-in_ok-range-in-Bound t c =
+    computes_along _ _ _
+    (ap (λ v. definition.integer (integers_view c.args.self.now) c.args.at (static_view v)) c.in-Bound.is
+    ∙ ap (λ r. r >>= definition.bound_checked c.args.at c.in-Bound.bound) c.in_ok-range-in-Bound.ensures)
+    c.bound.ensures
+
+abbrev slice_from : ℤ → Direction → ℤ → definition.IntegerRange
+slice_from x d y = record { left = x; direction = d; right = y }
+
+-- of a slice, whose whole, left and right are computed in turn
+module _ (here : definition.Integers) (at : ℕ) (b : Bound) (k : ℕ) (s t : u.Static) (d : Direction) where
+  whole_stops : (told : Told) → definition.known_range at here.ranges k ≡ Err told → definition.integer here at (u.slice_bound at b k s d t) ≡ Err told
+  unfolding definition.integer
+  whole_stops told h = ap (λ r. r >>= λ w. definition.integer here at s >>= λ x. definition.integer here at t >>= λ y. definition.sliced_bound at b w (record { left = x; direction = d; right = y })) h
+
+  left_stops : (told : Told) (w : definition.IntegerRange) → definition.known_range at here.ranges k ≡ Ok w → definition.integer here at s ≡ Err told
+      → definition.integer here at (u.slice_bound at b k s d t) ≡ Err told
+  unfolding definition.integer
+  left_stops told w h e = ap (λ r. r >>= λ w. definition.integer here at s >>= λ x. definition.integer here at t >>= λ y. definition.sliced_bound at b w (record { left = x; direction = d; right = y })) h
+      ∙ ap (λ r. r >>= λ x. definition.integer here at t >>= λ y. definition.sliced_bound at b w (record { left = x; direction = d; right = y })) e
+
+  all_computed : (w : definition.IntegerRange) (x : ℤ) → definition.known_range at here.ranges k ≡ Ok w → definition.integer here at s ≡ Ok x
+      → definition.integer here at (u.slice_bound at b k s d t) ≡ (definition.integer here at t >>= λ y. definition.sliced_bound at b w (record { left = x; direction = d; right = y }))
+  unfolding definition.integer
+  all_computed w x h e = ap (λ r. r >>= λ w. definition.integer here at s >>= λ x. definition.integer here at t >>= λ y. definition.sliced_bound at b w (record { left = x; direction = d; right = y })) h
+      ∙ ap (λ r. r >>= λ x. definition.integer here at t >>= λ y. definition.sliced_bound at b w (record { left = x; direction = d; right = y })) e
+
+pub integer-returns-in_err-whole-in-SliceBound : goal.integer-returns-in_err-whole-in-SliceBound
+unfolding definition.integer
+integer-returns-in_err-whole-in-SliceBound t c =
+    let x = c.in-SliceBound in
+    computes_err _ c.in_err-whole-in-SliceBound.field-0.0 _ c.from_residual-in_err-whole-in-SliceBound.result c.from_residual-in_err-whole-in-SliceBound.ensures.1 (λ e p. p)
+    (ap (λ v. definition.integer (integers_view c.args.self.now) c.args.at (static_view v)) c.in-SliceBound.is
+    ∙ whole_stops (integers_view c.args.self.now) x.at x.bound x.range (static_view x.left.value) (static_view x.right.value) x.direction _ c.in_err-whole-in-SliceBound.ensures)
+
+pub integer-returns-in_err-left-in-SliceBound : goal.integer-returns-in_err-left-in-SliceBound
+unfolding definition.integer
+integer-returns-in_err-left-in-SliceBound t c =
+    let x = c.in-SliceBound in
+    computes_err _ c.in_err-left-in-SliceBound.field-0.0 _ c.from_residual-in_err-left-in-SliceBound.result c.from_residual-in_err-left-in-SliceBound.ensures.1 (λ e p. p)
+    (ap (λ v. definition.integer (integers_view c.args.self.now) c.args.at (static_view v)) c.in-SliceBound.is
+    ∙ left_stops (integers_view c.args.self.now) x.at x.bound x.range (static_view x.left.value) (static_view x.right.value) x.direction _ _ c.in_ok-whole-in-SliceBound.ensures (rw c.deref-in-SliceBound.ensures at c.in_err-left-in-SliceBound.ensures))
+
+pub integer-returns-in_err-right-in-SliceBound : goal.integer-returns-in_err-right-in-SliceBound
+unfolding definition.integer
+integer-returns-in_err-right-in-SliceBound t c =
+    let p = c.in-SliceBound in
+    let w = range_view c.in_ok-whole-in-SliceBound.whole in
+    let x = c.in_ok-left-in-SliceBound.left in
+    computes_err _ c.in_err-right-in-SliceBound.field-0.0 _ c.from_residual-in_err-right-in-SliceBound.result c.from_residual-in_err-right-in-SliceBound.ensures.1 (λ e p. p)
+    (ap (λ v. definition.integer (integers_view c.args.self.now) c.args.at (static_view v)) c.in-SliceBound.is
+    ∙ all_computed (integers_view c.args.self.now) p.at p.bound p.range (static_view p.left.value) (static_view p.right.value) p.direction w x c.in_ok-whole-in-SliceBound.ensures (rw c.deref-in-SliceBound.ensures at c.in_ok-left-in-SliceBound.ensures)
+    ∙ ap (λ r. r >>= λ y. definition.sliced_bound c.in-SliceBound.at c.in-SliceBound.bound w (record { left = x; direction = c.in-SliceBound.direction; right = y }))
+    (rw c.deref-in-SliceBound-2.ensures at c.in_err-right-in-SliceBound.ensures))
+
+pub integer-returns-in_ok-right-in-SliceBound : goal.integer-returns-in_ok-right-in-SliceBound
+unfolding definition.integer
+integer-returns-in_ok-right-in-SliceBound t c =
+    let p = c.in-SliceBound in
+    let w = range_view c.in_ok-whole-in-SliceBound.whole in
+    let d = c.in-SliceBound.direction in
+    let x = c.in_ok-left-in-SliceBound.left in
+    let y = c.in_ok-right-in-SliceBound.right in
+    let ex = same_word x (search rules) in
+    let ey = same_word y (search rules) in
+    let made : range_view c.new-slice.result ≡ record { left = to_z w32 (of_z w32 x); direction = d; right = to_z w32 (of_z w32 y) } = c.new-slice.ensures in
+    let slice : range_view c.new-slice.result ≡ record { left = x; direction = d; right = y } =
+    made ∙ ap (λ (z : ℤ). slice_from z d (to_z w32 (of_z w32 y))) ex ∙ ap (λ (z : ℤ). slice_from x d z) ey in
+    computes_along _ (definition.sliced_bound c.in-SliceBound.at c.in-SliceBound.bound w (range_view c.new-slice.result)) _
+    (ap (λ v. definition.integer (integers_view c.args.self.now) c.args.at (static_view v)) c.in-SliceBound.is
+    ∙ all_computed (integers_view c.args.self.now) p.at p.bound p.range (static_view p.left.value) (static_view p.right.value) p.direction w x c.in_ok-whole-in-SliceBound.ensures (rw c.deref-in-SliceBound.ensures at c.in_ok-left-in-SliceBound.ensures)
+    ∙ ap (λ r. r >>= λ y. definition.sliced_bound c.in-SliceBound.at c.in-SliceBound.bound w (record { left = x; direction = d; right = y }))
+    (rw c.deref-in-SliceBound-2.ensures at c.in_ok-right-in-SliceBound.ensures)
+    ∙ ap (definition.sliced_bound c.in-SliceBound.at c.in-SliceBound.bound w) (sym slice))
+    c.sliced_bound.ensures
 
 pub started-returns-in_err-left : goal.started-returns-in_err-left
 unfolding definition.integer

@@ -1,0 +1,12 @@
+pub mod Walks
+pub mod Names
+pub mod Given
+pub mod Stepping
+pub mod Growing
+pub mod Elsewhere
+pub mod ObjectSteps
+pub mod ConstantSteps
+pub mod Associating
+pub mod Declaring
+pub mod Valued
+pub mod Told

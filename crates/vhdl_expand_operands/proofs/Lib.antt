@@ -1,0 +1,9 @@
+pub mod Several
+pub mod Passing
+pub mod Links
+pub mod Unseen
+pub mod Walking
+pub mod Runs
+pub mod IndexSteps
+pub mod Composing
+pub mod Rows
