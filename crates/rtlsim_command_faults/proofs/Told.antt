@@ -44,7 +44,7 @@ explains_plain telling fault true old new plain all goes = (unread, (λ read. ab
 explains_plain telling fault false old new plain all goes = absurd (true≢false (sym all))
 
 pub explains_read : (telling : Telling) (fault : Fault) (report : Option Report) (whole : Bool) (old new : SinkState) → is_read fault ≡ true
-    → report ≡ source_report fault → ((read : Source) (net : NetlistView) → source_said (files_of telling) read report ≡ explanation telling read net fault)
+    → report ≡ source_report fault → ((read : Source) (net : NetlistView) → source_said telling.language (files_of telling) read report ≡ explanation telling read net fault)
     → ExplainsRead telling.language (files_of telling) report whole old new → Explains telling fault whole old new
 explains_read telling fault report true old new reads is same h =
     (h.0, (λ _. subst (λ (r : Option Report). IsRead telling.language (files_of telling) r h.0) is h.1), λ net. goes_along old new _ _ (same h.0 net) h.2)

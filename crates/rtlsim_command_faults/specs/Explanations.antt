@@ -59,8 +59,8 @@ reported said (Some report) = said report
 abbrev pub refusal_said : List FileView → Option Report → List ℕ
 refusal_said files report = reported (refusal_explained files) report
 
-abbrev pub source_said : List FileView → Source → Option Report → List ℕ
-source_said files source report = explained (told_of files source.read source.expected report)
+abbrev pub source_said : Language → List FileView → Source → Option Report → List ℕ
+source_said language files source report = explained (told_of language files source.read source.expected report)
 
 -- ---- what differs, and names that no signal has
 
@@ -88,9 +88,9 @@ traced_name telling place = slice_index_or (map (λ name. name.now) telling.trac
 -- `read`: the source, of a fault of grammar, of names or of elaboration
 abbrev pub explanation : Telling → (read : Source) → NetlistView → Fault → List ℕ
 explanation telling read net (Lex fault) = refusal_said (files_of telling) (lex_report fault)
-explanation telling read net (Syntax fault) = source_said (files_of telling) read (syntax_report fault)
-explanation telling read net (Name fault) = source_said (files_of telling) read (name_report fault)
-explanation telling read net (Elab fault) = source_said (files_of telling) read (elab_report fault)
+explanation telling read net (Syntax fault) = source_said telling.language (files_of telling) read (syntax_report fault)
+explanation telling read net (Name fault) = source_said telling.language (files_of telling) read (name_report fault)
+explanation telling read net (Elab fault) = source_said telling.language (files_of telling) read (elab_report fault)
 explanation telling read net (Rejected faults) =
     rejection_explained (files_of telling) (read_of telling.source) net faults.items
 explanation telling read net (Stim fault) =

@@ -13,6 +13,7 @@ use Rattle.vhdl_source_files.specs.Files.{FileView}
 use Rattle.vhdl_parser_rules.specs.Expected.{Expected, nothing}
 use Rattle.vhdl_front_rules.specs.Asking.{Asked, of_text}
 use Rattle.vhdl_lexer.specs.Cut.{Cuts}
+use Rattle.vhdl_lexer.specs.declared.language.Language.{Language}
 use Rattle.vhdl_lexer.specs.declared.token.Token.{Token}
 use Rattle.vhdl_names_further.specs.Known.{is_known}
 use Rattle.vhdl_names_further.specs.Taken.{past}
@@ -37,12 +38,15 @@ abbrev pub told_by : (tell : Report → Option Told) → Option Report → Optio
 told_by tell None = None
 told_by tell (Some report) = tell report
 
-abbrev pub told_of : List FileView → Read → Expected → Option Report → Option Told
-told_of files read expected report = told_by (told_of_source files read expected) report
+-- of one on a source that is read in this language
+abbrev pub told_of : Language → List FileView → Read → Expected → Option Report → Option Told
+told_of language files read expected report = told_by (told_of_source language files read expected) report
 
 -- what is told of a fault of names
 abbrev pub name_told : Sought → NameFault → List Told
-name_told a fault = option_to_list (told_of a.files (with_tokens a.asked.source a.tokens) nothing (name_report fault))
+name_told a fault =
+    option_to_list
+    (told_of a.asked.language a.files (with_tokens a.asked.source a.tokens) nothing (name_report fault))
 
 -- what is told of the faults that are found, in order, and how the search for them ends
 pub record Found : Type 0 where

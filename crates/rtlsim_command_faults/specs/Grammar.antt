@@ -25,7 +25,7 @@ IsExpectedOf asked tokens fault expected =
 -- what is told of it, where this was expected
 abbrev pub grammar_told : List FileView → Asked → List Token → Expected → SyntaxFault → List Told
 grammar_told files asked tokens expected fault =
-    option_to_list (told_of files (with_tokens asked.source tokens) expected (syntax_report fault))
+    option_to_list (told_of asked.language files (with_tokens asked.source tokens) expected (syntax_report fault))
 
 -- that is appended; or memory is refused, and nothing is
 abbrev pub Appends : List FileView → Asked → List Token

@@ -27,7 +27,7 @@ abbrev pub TellsRead : Language → List FileView → (source : List ℕ) → Op
 TellsRead language files source report told =
     (tokens : List Token) × (expected : Expected) × Cuts None 0 source tokens
     × IsExpectedBy language (with_tokens source tokens) report expected
-    × (told ≡ told_of files (with_tokens source tokens) expected report)
+    × (told ≡ told_of language files (with_tokens source tokens) expected report)
 
 -- this is told of the first fault; nothing of another one than a source's
 abbrev pub TellsFirst : List FileView → Asked → Fault → Option Told → Type 0

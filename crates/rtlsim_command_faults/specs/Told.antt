@@ -20,7 +20,7 @@ use Rattle.byte_streams.specs.Written.{SinkState, TakesBeginning, Goes}
 -- the source is read, and its fault explained; or memory for that is refused, and nothing is written
 abbrev pub ExplainsRead : Language → List FileView → Option Report → (whole : Bool) → (old new : SinkState) → Type 0
 ExplainsRead language files report true old new =
-    (read : Source) × IsRead language files report read × Goes old new (source_said files read report)
+    (read : Source) × IsRead language files report read × Goes old new (source_said language files read report)
 ExplainsRead language files report false old new = new ≡ old
 
 -- the fault is explained, whichever netlist is looked at; or memory to read the source is refused, and nothing

@@ -133,5 +133,5 @@ pub(crate) fn told_read<'f>(
         text: source,
         tokens: &tokens,
     };
-    told_of(alloc, files, source, expected, report)
+    told_of(alloc, language, files, source, expected, report)
 }

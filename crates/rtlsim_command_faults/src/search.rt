@@ -19,7 +19,7 @@ use fault_rules::Report;
 use rtlsim_refusals::{Lexed, Told, told_source};
 use std::alloc::{AllocError, Global};
 use vhdl_front_rules::{Asked, Front};
-use vhdl_lexer::{Token, lex};
+use vhdl_lexer::{Language, Token, lex};
 use vhdl_names_further::is_known;
 use vhdl_names_rules::NameFault;
 use vhdl_parser_rules::Expected;
@@ -126,6 +126,7 @@ fn find_behind<'f, F: Front>(
             };
             match push_report(
                 alloc,
+                search.asked.language,
                 search.files,
                 lexed,
                 Expected::Nothing,
@@ -149,9 +150,10 @@ pub(crate) fn is_none(count: u32) -> bool
     count == 0
 }
 
-/// Appends what is told of a report on a source that has these tokens.
+/// Appends what is told of a report on a source that has these tokens and is read in a language.
 pub(crate) fn push_report<'f>(
     alloc: Global,
+    language: Language,
     files: &[SourceFile<'f>],
     source: Lexed<'_>,
     expected: Expected,
@@ -160,28 +162,31 @@ pub(crate) fn push_report<'f>(
 ) -> Result<(), AllocError>
     ensures { map told_view told.new.items
         ≡ (if is_ok result then map told_view told.old.items
-        ++ option_to_list (spec.told_of (map file_view files.now) (read_of source.entry) (expected_of expected) report)
+        ++ option_to_list (spec.told_of language (map file_view files.now) (read_of source.entry)
+        (expected_of expected) report)
         else map told_view told.old.items) }
 {
-    match told_of(alloc, files, source, expected, report)? {
+    match told_of(alloc, language, files, source, expected, report)? {
         Some(one) => Ok(told.push(one)?),
         None => Ok(()),
     }
 }
 
-/// What is told of a report on a source that has these tokens, if there is one.
+/// What is told of a report on a source that has these tokens and is read in a language, if there
+/// is one.
 pub(crate) fn told_of<'f>(
     alloc: Global,
+    language: Language,
     files: &[SourceFile<'f>],
     source: Lexed<'_>,
     expected: Expected,
     report: Option<Report>,
 ) -> Result<Option<Told<'f>>, AllocError>
     ensures { IfOk result (λ told. option_map told_view told
-        ≡ spec.told_of (map file_view files.now) (read_of source.entry) (expected_of expected) report) }
+        ≡ spec.told_of language (map file_view files.now) (read_of source.entry) (expected_of expected) report) }
 {
     match report {
-        Some(report) => told_source(alloc, files, source, expected, report),
+        Some(report) => told_source(alloc, language, files, source, expected, report),
         None => Ok(None),
     }
 }

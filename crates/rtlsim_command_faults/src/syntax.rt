@@ -90,7 +90,7 @@ fn push_grammar<'f>(
         text: asked.source,
         tokens,
     };
-    push_report(alloc, files, lexed, expected, report, told)
+    push_report(alloc, asked.language, files, lexed, expected, report, told)
 }
 
 /// The next fault behind one of these tokens, which are let go.

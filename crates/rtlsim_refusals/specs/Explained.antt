@@ -31,14 +31,16 @@ use Rattle.rtlsim_refusals.specs.declared.beside.Noted.{Noted}
 use Rattle.rtlsim_refusals.specs.declared.beside.Notes.{Notes}
 use Rattle.rtlsim_refusals.specs.declared.told.Told as told
 use Rattle.vhdl_source_files.specs.Files.{FileView, Spot, after, before, spot_in, spot_view}
+use Rattle.vhdl_lexer.specs.declared.language.Language.{Language}
 use Rattle.vhdl_lexer.specs.declared.token.Token.{Token}
 use Rattle.vhdl_places.specs.Firsts.{first_declared}
 use Rattle.vhdl_places.specs.Drivers.{first_driver, second_driver}
 use Rattle.vhdl_parser_rules.specs.Expected.{Expected, expected_of, nothing, perhaps, surely}
 
--- a byte of a source that has tokens: where it stands in its own file, the tokens before it and from it on, and what
--- was expected at the first of these, where the parser refuses it
+-- a byte of a source that has tokens: the language in which that is read, where it stands in its own file, the tokens
+-- before it and from it on, and what was expected at the first of these, where the parser refuses it
 pub record Seen : Type 0 where
+  pub language : Language
   pub spot : Spot
   pub before : Read
   pub from : Read
@@ -79,15 +81,21 @@ told_view t =
 abbrev pub site_of : Site → Seen
 site_of site =
     record {
+      language = site.language;
       spot = spot_view site.place;
       before = read_of site.before;
       from = read_of site.from;
       expected = expected_of site.expected;
     }
 
-abbrev pub seen_at : List FileView → Read → Expected → (at : ℕ) → Seen
-seen_at files source expected at =
-    record { spot = spot_in files at; before = words.before at source; from = from at source; expected = expected }
+abbrev pub seen_at : Language → List FileView → Read → Expected → (at : ℕ) → Seen
+seen_at language files source expected at = record {
+  language = language;
+  spot = spot_in files at;
+  before = words.before at source;
+  from = from at source;
+  expected = expected;
+}
 
 -- ---- the parts of a paragraph
 
@@ -135,7 +143,7 @@ reported from r = reported_of from r.rule r.subject
 
 -- the form that isn't read at the token, or the slip of the pen
 abbrev pub form_at : Seen → Said
-form_at s = unexpected_form s.before.tokens (begins_line s.spot) (first_text s.from)
+form_at s = unexpected_form s.language s.before.tokens (begins_line s.spot) (first_text s.from)
 
 -- nothing is said but that it can't stand there
 abbrev pub is_plain : Said → Bool
@@ -153,7 +161,7 @@ unexpected_said s = unexpected_by (form_at s) s.expected
 -- of what is left out, what is said of the form; of a generic that isn't there, that
 abbrev pub said_at : Seen → Rule → Said
 said_at s (rule.Syntax grammar.Unexpected) = unexpected_said s
-said_at s (rule.Name naming.LeftOut) = left_out_form s.before.tokens (first_text s.from)
+said_at s (rule.Name naming.LeftOut) = left_out_form s.language s.before.tokens (first_text s.from)
 said_at s (rule.Elab elaboration.NoGeneric) = no_generic_said (names_entity s.before.tokens)
 said_at s rule = said_of rule
 
@@ -238,12 +246,13 @@ refusal_at files rule _ = None
 abbrev pub told_of_refusal : List FileView → Report → Option Told
 told_of_refusal files r = refusal_at files r.rule r.place
 
-abbrev pub told_at : List FileView → (source : Read) → Expected → Report → Place → Option Told
-told_at files source expected r (Byte at) = Some (seen_told files (seen_at files source expected at) source r)
-told_at files source expected r _ = None
+abbrev pub told_at : Language → List FileView → (source : Read) → Expected → Report → Place → Option Told
+told_at language files source expected r (Byte at) =
+    Some (seen_told files (seen_at language files source expected at) source r)
+told_at language files source expected r _ = None
 
-abbrev pub told_of_source : List FileView → (source : Read) → Expected → Report → Option Told
-told_of_source files source expected r = told_at files source expected r r.place
+abbrev pub told_of_source : Language → List FileView → (source : Read) → Expected → Report → Option Told
+told_of_source language files source expected r = told_at language files source expected r r.place
 
 -- ---- explanations
 

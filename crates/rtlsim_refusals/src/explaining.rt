@@ -15,6 +15,7 @@ use crate::unset::{names_entity, no_generic_said, push_generics_of};
 use byte_streams::{Sink, push_number, push_text};
 use fault_rules::{ElabRule, NameRule, Place, Report, Rule, Subject, SyntaxRule};
 use vhdl_hints::{Hint, help, hint_at, push_hint};
+use vhdl_lexer::Language;
 use vhdl_parser_rules::Expected;
 use vhdl_slips::{
     Lexed, Listing, Said, first_text, is_same_word, left_out_form, push_missing, push_names,
@@ -25,6 +26,8 @@ use vhdl_source_files::{FilePlace, SourceFile, place_in};
 /// A byte of a source that has tokens.
 #[derive(Clone, Copy)]
 pub(crate) struct Site<'f, 's> {
+    /// The language in which the source is read.
+    pub language: Language,
     /// Where it stands in its own file.
     pub place: FilePlace<'f>,
     /// The tokens of the source before it.
@@ -45,18 +48,20 @@ pub fn explain_refusal<S: Sink>(files: &[SourceFile<'_>], report: Report, sink: 
     }
 }
 
-/// A byte of a source of these files.
+/// A byte of a source of these files, which is read in a language.
 pub(crate) fn site_at<'f, 's>(
+    language: Language,
     files: &[SourceFile<'f>],
     source: Lexed<'s>,
     expected: Expected,
     at: usize,
 ) -> Site<'f, 's>
     ensures { spec.site_of result
-        ≡ spec.seen_at (map file_view files.now) (read_of source.entry) (expected_of expected) at }
+        ≡ spec.seen_at language (map file_view files.now) (read_of source.entry) (expected_of expected) at }
 {
     let (before, from) = source.split_at(at);
     Site {
+        language,
         place: place_in(files, at),
         before,
         from,
@@ -165,7 +170,7 @@ fn said_at(site: Site<'_, '_>, rule: Rule) -> Said
     match rule {
         Rule::Syntax(SyntaxRule::Unexpected) => unexpected_said(site),
         Rule::Name(NameRule::LeftOut) => {
-            left_out_form(site.before.tokens, first_text(site.from))
+            left_out_form(site.language, site.before.tokens, first_text(site.from))
         }
         Rule::Elab(ElabRule::NoGeneric) => no_generic_said(names_entity(site.before.tokens)),
         _ => said_of(rule),
@@ -190,6 +195,7 @@ fn form_at(site: Site<'_, '_>) -> Said
     ensures { (result.0.now, result.1.now) ≡ spec.form_at (spec.site_of site.entry) }
 {
     unexpected_form(
+        site.language,
         site.before.tokens,
         begins_line(site.place),
         first_text(site.from),

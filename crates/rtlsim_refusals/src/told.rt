@@ -15,6 +15,7 @@ use crate::explaining::{
 use byte_streams::{Out, Sink, push_text};
 use fault_rules::{Place, Report, Rule};
 use std::alloc::{AllocError, Global};
+use vhdl_lexer::Language;
 use vhdl_parser_rules::Expected;
 use vhdl_slips::Lexed;
 use vhdl_source_files::{FilePlace, SourceFile, place_in};
@@ -55,26 +56,28 @@ pub fn told_refusal<'a>(
     }
 }
 
-/// What is told of which rule a source of these files breaks, by its text and tokens, and by what
-/// was expected where the parser refuses one; nothing of a report without a byte. It takes the
-/// memory of its texts.
+/// What is told of which rule a source of these files breaks, which is read in a language, by its
+/// text and tokens, and by what was expected where the parser refuses one; nothing of a report
+/// without a byte. It takes the memory of its texts.
 ///
 /// # Errors
 ///
 /// Where that is refused.
 pub fn told_source<'a>(
     alloc: Global,
+    language: Language,
     files: &[SourceFile<'a>],
     source: Lexed<'_>,
     expected: Expected,
     report: Report,
 ) -> Result<Option<Told<'a>>, AllocError>
     ensures { IfOk result (λ told. option_map spec.told_view told
-        ≡ spec.told_of_source (map file_view files.now) (read_of source.entry) (expected_of expected) report) }
+        ≡ spec.told_of_source language (map file_view files.now) (read_of source.entry) (expected_of expected)
+        report) }
 {
     match report.place {
         Place::Byte(at) => {
-            let site = site_at(files, source, expected, at);
+            let site = site_at(language, files, source, expected, at);
             Ok(Some(seen_told(alloc, files, site, source, report)?))
         }
         _ => Ok(None),

@@ -3,3 +3,4 @@ pub mod Within
 pub mod Begun
 pub mod Trials
 pub mod Expectation
+pub mod Tables

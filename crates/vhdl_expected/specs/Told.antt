@@ -4,6 +4,7 @@ use Rattle.std.specs.Prelude.{◌≡◌, ℕ, zero, suc, ◌+◌, ◌-◌, ◌==
 use Rattle.std.specs.Borrow.{Bor}
 use Rattle.std.specs.List.{list_any}
 use Rattle.vhdl_lexer.specs.declared.language.Language.{Language}
+use Rattle.vhdl_lexer.specs.declared.language.Language.TheVariants.{Profile, Wide}
 use Rattle.vhdl_lexer.specs.declared.token.Token.{Token}
 use Rattle.vhdl_lexer.specs.declared.token.TokenKind.{TokenKind}
 use Rattle.vhdl_lexer.specs.declared.token.TokenKind.TheVariants as k
@@ -16,11 +17,11 @@ use Rattle.vhdl_parser_rules.specs.Near.{is_near}
 use Rattle.vhdl_expected.specs.Reading.{Reading, before, from}
 use Rattle.vhdl_expected.specs.declared.reading.TheConstants.{MOST_TOKENS}
 use Rattle.vhdl_expected.specs.declared.respelling.TheConstants.{MOST_PLACES}
-use Rattle.vhdl_expected.specs.declared.otherwise.TheConstants.{OPERATORS, DELIMITERS, SPARES, STRAYS}
+use Rattle.vhdl_expected.specs.declared.otherwise.TheConstants.{ATTRIBUTES, WIDE_ATTRIBUTES, OPERATORS, DELIMITERS, SPARES, STRAYS}
 use Rattle.vhdl_expected.specs.declared.closed.TheConstants.{CLOSED, UNENDED, PLACES, MODES}
 use Rattle.vhdl_expected.specs.declared.names.TheConstants.{NAMES, MAPPED, TYPES, RANGES}
-use Rattle.vhdl_expected.specs.declared.instead.TheConstants.{INSTEAD, PARTS, DIVIDED, UNPARTED}
-use Rattle.vhdl_expected.specs.declared.table.TheConstants.{SLIPS, BLANKS, ENDED, ENDINGS, OPERANDS, VALUES, JOINTS, TARGETS, DECLARED, LISTS, HEADS, UNITS}
+use Rattle.vhdl_expected.specs.declared.instead.TheConstants.{INSTEAD, SIGNALS, WIDE_SIGNALS, RELATED, PARTS, DIVIDED, UNPARTED}
+use Rattle.vhdl_expected.specs.declared.table.TheConstants.{SLIPS, BLANKS, ENDED, ENDINGS, OPERANDS, VALUES, JOINTS, TARGETS, WIDE_TARGETS, VALUED, DECLARED, LISTS, HEADS, UNITS}
 use Rattle.vhdl_expected.specs.declared.word.TheConstants.{FROM_A, FROM_E, FROM_L, FROM_P, ENDS, JOINED}
 use Rattle.vhdl_expected.specs.declared.reserved.TheConstants.{NO_NAMES}
 use Rattle.vhdl_expected.specs.declared.texts.TheConstants.{RESERVED}
@@ -173,22 +174,28 @@ tried_in r rows = flat_map (tried_as r) rows
 
 -- ---- in which order
 
-unfoldable pub missing_tables : List (List Row)
-missing_tables =
-    map (map (λ c. row c.0 c.1.now c.2.now c.3 (c.4.0.now, c.4.1.now)))
-    (SLIPS ∷ BLANKS ∷ ENDED ∷ ENDINGS ∷ OPERANDS ∷ VALUES ∷ JOINTS ∷ TARGETS ∷ DECLARED ∷ LISTS ∷ HEADS ∷ UNITS
-    ∷ CLOSED ∷ UNENDED ∷ PLACES ∷ MODES ∷ NAMES ∷ MAPPED ∷ TYPES ∷ RANGES ∷ INSTEAD ∷ PARTS ∷ DIVIDED ∷ UNPARTED ∷ [])
+-- one of these is told by the language
+abbrev pub told_in : {A : Type 0} → Language → (narrow wide : A) → A
+told_in Profile narrow wide = narrow
+told_in Wide narrow wide = wide
 
-unfoldable pub other_tables : List (List Row)
-other_tables =
+unfoldable pub missing_tables : Language → List (List Row)
+missing_tables language =
     map (map (λ c. row c.0 c.1.now c.2.now c.3 (c.4.0.now, c.4.1.now)))
-    (OPERATORS ∷ DELIMITERS ∷ SPARES ∷ STRAYS ∷ [])
+    (SLIPS ∷ BLANKS ∷ ENDED ∷ ENDINGS ∷ OPERANDS ∷ VALUES ∷ JOINTS ∷ told_in language TARGETS WIDE_TARGETS ∷ VALUED
+    ∷ DECLARED ∷ LISTS ∷ HEADS ∷ UNITS ∷ CLOSED ∷ UNENDED ∷ PLACES ∷ MODES ∷ NAMES ∷ MAPPED ∷ TYPES ∷ RANGES
+    ∷ INSTEAD ∷ told_in language SIGNALS WIDE_SIGNALS ∷ RELATED ∷ PARTS ∷ DIVIDED ∷ UNPARTED ∷ [])
+
+unfoldable pub other_tables : Language → List (List Row)
+other_tables language =
+    map (map (λ c. row c.0 c.1.now c.2.now c.3 (c.4.0.now, c.4.1.now)))
+    (told_in language ATTRIBUTES WIDE_ATTRIBUTES ∷ OPERATORS ∷ DELIMITERS ∷ SPARES ∷ STRAYS ∷ [])
 
 abbrev pub missing : Reading → List Trial
-missing r = flat_map (tried_in r) missing_tables
+missing r = flat_map (tried_in r) (missing_tables r.language)
 
 abbrev pub otherwise : Reading → List Trial
-otherwise r = flat_map (tried_in r) other_tables
+otherwise r = flat_map (tried_in r) (other_tables r.language)
 
 abbrev pub perhaps_said : Option Said → Expected
 perhaps_said None = nothing

@@ -45,14 +45,29 @@ const UNCHANGED: Said = (
     "write a value in each case; what keeps its value is a register: if rising_edge(clk) then .. end if;",
 );
 
-/// What stands in place of `<=`, `:=`, `>=`, `=` or `=>`, or of a word.
-pub static INSTEAD: [Row; 19] = [
+/// What stands in place of `:=`.
+pub static INSTEAD: [Row; 2] = [
     // Before another statement: so a declaration isn't taken for an assignment.
     in_place_here!("`<=` or `:=`", ASSIGN, [Arrow] Assign Integer Semicolon Null Semicolon),
     in_place_here!("`:=`", ASSIGN, [Arrow] Assign Integer),
+];
+
+/// What stands in place of `<=`.
+pub static SIGNALS: [Row; 2] = [
     // An aggregate: so an operand isn't taken for the target of an assignment.
     in_place_here!("`<=`", ASSIGN, [Arrow] LessEqual LeftParen Others Arrow Integer RightParen Semicolon),
     in_place_here!("`<=`", ASSIGN, [Arrow] LessEqual LeftParen Others Arrow Integer RightParen When Others Semicolon),
+];
+
+/// The same with `--wide`, where an aggregate is an operand.
+pub static WIDE_SIGNALS: [Row; 2] = [
+    // In a relation: so an operand isn't taken for the target, since no relation follows another.
+    in_place_here!("`<=`", ASSIGN, [Arrow] LessEqual Integer Equal Integer Semicolon),
+    in_place_here!("`<=`", ASSIGN, [Arrow] LessEqual Integer Equal Integer When Others Semicolon),
+];
+
+/// What stands in place of `>=`, `=` or `=>`, or of a word.
+pub static RELATED: [Row; 15] = [
     in_place_here!("`>=`", AT_LEAST, [Arrow] GreaterEqual Integer Then),
     in_place_here!("`>=`", AT_LEAST, [Arrow] GreaterEqual Integer RightParen Then),
     in_place_here!("`>=`", AT_LEAST, [Arrow] GreaterEqual Integer Else Integer Semicolon),

@@ -7,6 +7,7 @@
 //! `otherwise`, with what is told of each there, in `texts` and in `help`.
 #![tactic(auto)]
 
+mod by_language;
 mod change;
 mod closed;
 mod help;

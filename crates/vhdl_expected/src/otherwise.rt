@@ -3,23 +3,31 @@
 ghost use Rattle.std.specs.Prelude.{◌≡◌, map};
 ghost use Rattle.vhdl_expected.specs.Told as spec;
 
+use crate::by_language::told_in;
 use crate::help::{
     ARROW, ASSIGN, COLON, COMMA, COMPARE, CONDITIONAL, END_STATEMENT, GENERATE, IN, IS, LOOP, OF,
     OUTSIDE_IF, THEN, TO,
 };
 use crate::reading::MOST_TOKENS;
 use crate::row::{Row, before, here, in_place, in_place_here, row};
-use crate::texts::{COMMENT, MERGE, OPERATOR, SPARE, UNREAD};
-use vhdl_lexer::TokenKind;
+use crate::texts::{ARGUMENT, COMMENT, MERGE, OPERATOR, SPARE, UNREAD};
+use vhdl_lexer::{Language, TokenKind};
 
-/// An operator that lacks, and a word in place of another.
-pub static OPERATORS: [Row; 15] = [
-    row!(("can't stand here: no unit is read behind a number, and no name without an operator",
-        "leave out what is a time or a delay; else write what joins the two, as + or &"),
-        1, [Integer Identifier] 1, [Integer Ampersand]),
+/// An attribute with an argument.
+pub static ATTRIBUTES: [Row; 1] = [
     row!(("isn't read here: of the attributes only 'event is served",
         "write what it stands for, or a generic in its place"),
         2, [Tick Identifier LeftParen] 2, []),
+];
+
+/// The same with `--wide`.
+pub static WIDE_ATTRIBUTES: [Row; 1] = [row!(ARGUMENT, 2, [Tick Identifier LeftParen] 2, [])];
+
+/// An operator that lacks, and a word in place of another.
+pub static OPERATORS: [Row; 14] = [
+    row!(("can't stand here: no unit is read behind a number, and no name without an operator",
+        "leave out what is a time or a delay; else write what joins the two, as + or &"),
+        1, [Integer Identifier] 1, [Integer Ampersand]),
     row!(OPERATOR, 0, [] 0, [Ampersand]),
     row!(OPERATOR, 0, [] 0, [And]),
     row!(OPERATOR, 0, [] 0, [Or]),
@@ -106,9 +114,16 @@ pub static STRAYS: [Row; 10] = [
         0, [] [Entity Identifier Is]),
 ];
 
-/// The tables of what else the token may be; the first row counts with which the text goes on.
-pub(crate) fn otherwise() -> [&'static [Row]; 4]
-    ensures { map spec.rows_of result ≡ spec.other_tables }
+/// The tables of what else the token may be in this language; the first row counts with which the
+/// text goes on.
+pub(crate) fn otherwise(language: Language) -> [&'static [Row]; 5]
+    ensures { map spec.rows_of result ≡ spec.other_tables language }
 {
-    [&OPERATORS, &DELIMITERS, &SPARES, &STRAYS]
+    [
+        told_in(language, &ATTRIBUTES, &WIDE_ATTRIBUTES),
+        &OPERATORS,
+        &DELIMITERS,
+        &SPARES,
+        &STRAYS,
+    ]
 }

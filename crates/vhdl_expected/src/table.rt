@@ -3,6 +3,7 @@
 ghost use Rattle.std.specs.Prelude.{◌≡◌, map};
 ghost use Rattle.vhdl_expected.specs.Told as spec;
 
+use crate::by_language::told_in;
 use crate::closed::{CLOSED, MODES, PLACES, UNENDED};
 use crate::help::{
     ALL, ALTERNATIVE, ARROW, ASSIGN, BEGIN, CASE, CLOSE, COLON, COMMA, COMPONENT, CONDITIONAL, DOT,
@@ -10,15 +11,16 @@ use crate::help::{
     IF, IN, IS, IS_PORT, LIBRARY, LOOP, MAP, OBJECT, OF, OPEN, PORT, PROCESS, SELECT, SIGNAL,
     SPARE_END, THEN, TO, TYPE, VARIABLE,
 };
-use crate::instead::{DIVIDED, INSTEAD, PARTS, UNPARTED};
+use crate::instead::{DIVIDED, INSTEAD, PARTS, RELATED, SIGNALS, UNPARTED, WIDE_SIGNALS};
 use crate::names::{MAPPED, NAMES, RANGES, TYPES};
 use crate::reading::MOST_TOKENS;
 use crate::row::{Row, bare, before, before_name, here, in_place_here, row, spare_end, unended};
 use crate::texts::{
-    ALONE, AROUND, ASSIGNED, BLANK, BOUND, EITHER, INDEX, LITERAL, OF_GENERATE, OTHERS, RELATION,
-    SHIFT, SIGN, SPARE, SPARE_BEFORE, STEP, TARGET, TWICE, TWO_MODES, UNEQUAL, UNTYPED, VALUE,
+    ALONE, ARGUMENT, AROUND, ASSIGNED, BLANK, BOUND, EITHER, INDEX, LITERAL, OF_GENERATE, OTHERS,
+    RELATION, SHIFT, SIGN, SPARE, SPARE_BEFORE, STEP, TARGET, TWICE, TWO_MODES, UNEQUAL, UNTYPED,
+    VALUE,
 };
-use vhdl_lexer::TokenKind;
+use vhdl_lexer::{Language, TokenKind};
 
 /// What is written twice, or in place of a delimiter.
 pub static SLIPS: [Row; 14] = [
@@ -159,8 +161,8 @@ pub static JOINTS: [Row; 12] = [
         1, [Identifier Identifier LeftParen] [Identifier Colon Identifier Port]),
 ];
 
-/// Of what an assignment or a value in a declaration lacks.
-pub static TARGETS: [Row; 9] = [
+/// Of what an assignment lacks.
+pub static TARGETS: [Row; 4] = [
     // Behind an aggregate, and behind another statement: so neither an operand nor a declaration is
     // taken for an assignment. The token stands in a relation: so none follows it, as that of
     // another assignment.
@@ -169,6 +171,19 @@ pub static TARGETS: [Row; 9] = [
     // A character literal behind a name is read as two ticks with a word between them.
     row!(ASSIGNED, 0, [Tick Integer Tick] 3, [LessEqual LeftParen Others Arrow Integer RightParen When Integer Else Integer Equal Character]),
     row!(EITHER, 0, [Tick Integer Tick] 3, [Assign Integer Semicolon Null Semicolon Identifier Assign Integer Equal Character]),
+];
+
+/// The same with `--wide`, where an aggregate is an operand.
+pub static WIDE_TARGETS: [Row; 4] = [
+    row!(EITHER, 0, [] 0, [Assign Integer Semicolon Null Semicolon Identifier Assign Integer Equal]),
+    // In a relation: so an operand isn't taken for the target, since no relation follows another.
+    row!(ASSIGNED, 0, [] 0, [LessEqual Integer Equal]),
+    row!(EITHER, 0, [Tick Integer Tick] 3, [Assign Integer Semicolon Null Semicolon Identifier Assign Integer Equal Character]),
+    row!(ASSIGNED, 0, [Tick Integer Tick] 3, [LessEqual Integer Equal Character]),
+];
+
+/// Of what a value in a declaration lacks.
+pub static VALUED: [Row; 5] = [
     row!(VALUE, 0, [Tick Integer Tick] 3, [Assign Character]),
     row!(VALUE, 0, [Integer] 0, [Assign]),
     row!(VALUE, 0, [String] 0, [Assign]),
@@ -195,7 +210,7 @@ pub static DECLARED: [Row; 13] = [
 ];
 
 /// What lacks in a list, or in what goes on behind a name.
-pub static LISTS: [Row; 13] = [
+pub static LISTS: [Row; 14] = [
     before!("`:`", COLON, [] Colon),
     // Behind a slice: so an index in an expression, or in the name that is assigned, isn't taken
     // for a list of names.
@@ -205,6 +220,7 @@ pub static LISTS: [Row; 13] = [
     before!("`of`", OF, [] Of),
     before!("`of`, and the name of its entity,", OF, [Is] Of Identifier),
     before!("`in`", IN, [] In),
+    row!(ARGUMENT, 2, [Tick Range LeftParen Integer RightParen] 5, [Tick Range]),
     before!("`to` or `downto`", TO, [] To),
     before!("`map`", MAP, [] Map),
     before!("`select`", SELECT, [] Select),
@@ -254,14 +270,38 @@ pub static UNITS: [Row; 12] = [
         0, [Dot Identifier LeftParen] 1, [Identifier Arrow]),
 ];
 
-/// The tables of what lacks, or of what else is wrong, at the token or shortly before it; the first
-/// row counts with which the text goes on.
-pub(crate) fn missing() -> [&'static [Row]; 24]
-    ensures { map spec.rows_of result ≡ spec.missing_tables }
+/// The tables of what lacks, or of what else is wrong, at the token or shortly before it in this
+/// language; the first row counts with which the text goes on.
+pub(crate) fn missing(language: Language) -> [&'static [Row]; 27]
+    ensures { map spec.rows_of result ≡ spec.missing_tables language }
 {
     [
-        &SLIPS, &BLANKS, &ENDED, &ENDINGS, &OPERANDS, &VALUES, &JOINTS, &TARGETS, &DECLARED,
-        &LISTS, &HEADS, &UNITS, &CLOSED, &UNENDED, &PLACES, &MODES, &NAMES, &MAPPED, &TYPES,
-        &RANGES, &INSTEAD, &PARTS, &DIVIDED, &UNPARTED,
+        &SLIPS,
+        &BLANKS,
+        &ENDED,
+        &ENDINGS,
+        &OPERANDS,
+        &VALUES,
+        &JOINTS,
+        told_in(language, &TARGETS, &WIDE_TARGETS),
+        &VALUED,
+        &DECLARED,
+        &LISTS,
+        &HEADS,
+        &UNITS,
+        &CLOSED,
+        &UNENDED,
+        &PLACES,
+        &MODES,
+        &NAMES,
+        &MAPPED,
+        &TYPES,
+        &RANGES,
+        &INSTEAD,
+        told_in(language, &SIGNALS, &WIDE_SIGNALS),
+        &RELATED,
+        &PARTS,
+        &DIVIDED,
+        &UNPARTED,
     ]
 }

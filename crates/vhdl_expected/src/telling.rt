@@ -96,7 +96,7 @@ fn lacking(alloc: Global, reading: Reading<'_>) -> Result<Option<Said>, AllocErr
     ensures { IfOk result (λ said. spec.Finds (reading_of reading.entry)
         (spec.missing (reading_of reading.entry) ++ spec.named (reading_of reading.entry)) (option_map said_of said)) }
 {
-    let said = first_among(alloc, reading, &missing())?;
+    let said = first_among(alloc, reading, &missing(reading.language))?;
     if said.is_some() {
         return Ok(said);
     }
@@ -109,7 +109,7 @@ fn perhaps(alloc: Global, reading: Reading<'_>) -> Result<Expected, AllocError>
     requires place { reading.refused ≤ length reading.tokens.now }
     ensures { IfOk result (λ found. spec.IsToldBehind (reading_of reading.entry) None (expected_of found)) }
 {
-    match first_among(alloc, reading, &otherwise())? {
+    match first_among(alloc, reading, &otherwise(reading.language))? {
         Some(said) => Ok(Expected::Perhaps(said)),
         None => Ok(Expected::Nothing),
     }

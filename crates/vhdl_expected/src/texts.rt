@@ -156,6 +156,11 @@ pub const OPEN_PROCESS: Said = (
     OUTSIDE,
 );
 
+pub const ARGUMENT: Said = (
+    "isn't read here: no attribute takes an argument",
+    "leave the (1) of 'length(1) or 'range(1) out, and write the value itself in place of 'image, 'pos or 'val",
+);
+
 pub const OPERATOR: Said = (
     "can't stand here: an operator, as `and` or `&`, is expected before it",
     "write what joins it to the name, literal or parenthesis before it",

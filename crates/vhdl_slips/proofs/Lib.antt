@@ -3,3 +3,4 @@ pub mod Choices
 pub mod Folds
 pub mod Names
 pub mod Searches
+pub mod Tables

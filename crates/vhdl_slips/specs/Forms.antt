@@ -7,8 +7,10 @@ use Rattle.vhdl_slips.specs.declared.form.Behind.{Behind}
 use Rattle.vhdl_slips.specs.declared.form.Behind.TheVariants as behind
 use Rattle.vhdl_slips.specs.declared.form.TheConstants.{OTHER}
 use Rattle.vhdl_slips.specs.declared.slip.TheConstants.{SLIP}
-use Rattle.vhdl_slips.specs.declared.table.TheConstants.{BEGUN, CONDITIONS, LISTS, TARGETS, SIGNS, DECLARED, TYPES, UNITS, WAITS, STATEMENTS, AGGREGATES, LOGICAL, SHIFTS, ENDED, VALUES, ELEMENTS, FUNCTIONS, OTHER_TYPES, PLACES}
+use Rattle.vhdl_slips.specs.declared.table.TheConstants.{BEGUN, CONDITIONS, LISTS, TARGETS, SIGNS, VARIABLES, DECLARED, WIDE_DECLARED, STATIC, WIDE_STATIC, AGGREGATES, WIDE_AGGREGATES, TYPES, UNITS, WAITS, STATEMENTS, LOGICAL, SHIFTS, ENDED, VALUES, WIDE_VALUES, ELEMENTS, WIDE_ELEMENTS, RELATIONS, FUNCTIONS, OTHER_TYPES, PLACES, DEFAULTS, WIDE_DEFAULTS}
 use Rattle.vhdl_slips.specs.declared.unread.Context.{Context}
+use Rattle.vhdl_lexer.specs.declared.language.Language.{Language}
+use Rattle.vhdl_lexer.specs.declared.language.Language.TheVariants.{Profile, Wide}
 use Rattle.vhdl_lexer.specs.declared.token.Token.{Token}
 use Rattle.vhdl_lexer.specs.declared.token.TokenKind.{TokenKind}
 use Rattle.vhdl_lexer.specs.declared.token.TokenKind.TheVariants as k
@@ -173,29 +175,41 @@ abbrev pub form_among : List (List FormWord) → Context → (word : List ℕ) �
 form_among [] c word fallback = fallback
 form_among (words ∷ tables) c word fallback = unwrap_or (form_in words c word) (form_among tables c word fallback)
 
-unfoldable pub slips : List (List FormWord)
-slips =
-    map (map (λ w. (w.0.now, w.1, (w.2.0.now, w.2.1.now))))
-    (BEGUN ∷ CONDITIONS ∷ LISTS ∷ TARGETS ∷ SIGNS ∷ DECLARED ∷ [])
+-- one of these is told by the language
+abbrev pub told_in : {A : Type 0} → Language → (narrow wide : A) → A
+told_in Profile narrow wide = narrow
+told_in Wide narrow wide = wide
 
-unfoldable pub unread : List (List FormWord)
-unread =
+-- the words at which slips of the pen are told
+unfoldable pub slips : Language → List (List FormWord)
+slips language =
     map (map (λ w. (w.0.now, w.1, (w.2.0.now, w.2.1.now))))
-    (TYPES ∷ UNITS ∷ WAITS ∷ STATEMENTS ∷ AGGREGATES ∷ LOGICAL ∷ SHIFTS ∷ ENDED ∷ [])
+    (BEGUN ∷ CONDITIONS ∷ LISTS ∷ TARGETS ∷ SIGNS ∷ VARIABLES ∷ told_in language DECLARED WIDE_DECLARED ∷ [])
 
-unfoldable pub left_out : List (List FormWord)
-left_out =
+-- those at which a form begins that the grammar hasn't
+unfoldable pub unread : Language → List (List FormWord)
+unread language =
     map (map (λ w. (w.0.now, w.1, (w.2.0.now, w.2.1.now))))
-    (VALUES ∷ ELEMENTS ∷ FUNCTIONS ∷ OTHER_TYPES ∷ PLACES ∷ [])
+    (told_in language STATIC WIDE_STATIC ∷ told_in language AGGREGATES WIDE_AGGREGATES
+    ∷ TYPES ∷ UNITS ∷ WAITS ∷ STATEMENTS ∷ LOGICAL ∷ SHIFTS ∷ ENDED ∷ [])
+
+-- the names of packages, types and attributes that are left out
+unfoldable pub left_out : Language → List (List FormWord)
+left_out language =
+    map (map (λ w. (w.0.now, w.1, (w.2.0.now, w.2.1.now))))
+    (told_in language VALUES WIDE_VALUES ∷ told_in language ELEMENTS WIDE_ELEMENTS
+    ∷ RELATIONS ∷ FUNCTIONS ∷ OTHER_TYPES ∷ PLACES ∷ told_in language DEFAULTS WIDE_DEFAULTS ∷ [])
 
 -- a slip of the pen at the word, or a form that isn't read
-abbrev pub form_behind : Context → (word : List ℕ) → Said
-form_behind c word = form_among slips c word (form_among unread c word (SLIP.0.now, SLIP.1.now))
+abbrev pub form_behind : Language → Context → (word : List ℕ) → Said
+form_behind language c word =
+    form_among (slips language) c word (form_among (unread language) c word (SLIP.0.now, SLIP.1.now))
 
 -- what stands at a word where nothing of the language can stand, behind these tokens
-unfoldable pub unexpected_form : (before : List Token) → (begins_line : Bool) → (word : List ℕ) → Said
-unexpected_form before begins_line word = form_behind (context_of begins_line before) word
+unfoldable pub unexpected_form : Language → (before : List Token) → (begins_line : Bool) → (word : List ℕ) → Said
+unexpected_form language before begins_line word = form_behind language (context_of begins_line before) word
 
--- what stands at a word where something is left out
-unfoldable pub left_out_form : (before : List Token) → (word : List ℕ) → Said
-left_out_form before word = form_among left_out (context_of false before) word (OTHER.0.now, OTHER.1.now)
+-- what stands at a word where the language leaves something out
+unfoldable pub left_out_form : Language → (before : List Token) → (word : List ℕ) → Said
+left_out_form language before word =
+    form_among (left_out language) (context_of false before) word (OTHER.0.now, OTHER.1.now)

@@ -6,10 +6,12 @@
 //! `specs/Words.antt` says how tokens are looked at as words, and `specs/Parts.antt` has the words
 //! for parts of a list of them. `specs/Forms.antt` says which form is told, by what stands before
 //! the word: the texts of forms of VHDL that aren't read are in `form`, those of slips of the pen
-//! in `slip`, and the words at which each is told in `table`. `specs/Interfaces.antt`,
-//! `specs/Instances.antt`, `specs/Listings.antt` and `specs/Choices.antt` say what is found.
+//! in `slip`, those that are told with `--wide` alone in `wide`, and the words at which each is
+//! told in `table`. `specs/Interfaces.antt`, `specs/Instances.antt`, `specs/Listings.antt` and
+//! `specs/Choices.antt` say what is found.
 #![tactic(auto)]
 
+mod by_language;
 mod choice;
 mod enumeration;
 mod form;
@@ -21,6 +23,7 @@ mod part;
 mod slip;
 mod table;
 mod unread;
+mod wide;
 
 pub use choice::{first_choice, push_missing};
 pub use enumeration::{is_literal, literals_of, type_of};

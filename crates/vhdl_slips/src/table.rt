@@ -1,8 +1,5 @@
 //! The words at which forms of VHDL begin that aren't read, and slips of the pen; of two rows that
-//! fit the first counts.
-
-ghost use Rattle.std.specs.Prelude.{◌≡◌, map};
-ghost use Rattle.vhdl_slips.specs.Forms as spec;
+//! fit the first counts. Some tables differ by the language.
 
 use crate::form::{
     ABSOLUTE, ACTUAL, AGGREGATE, ALIAS, ARRAY, ATTRIBUTE, BLOCK, Behind, CHOICE, DEFAULT, DELAY,
@@ -18,6 +15,7 @@ use crate::slip::{
     NAME, NAMES, NEW_LINE, OTHERS, PORT_MAP, QUOTES, SELECTED, SLIP, TARGET, UNENDED, VARIABLE,
     VECTOR_GENERIC, WHEN, WHEN_LINE,
 };
+use crate::wide;
 use vhdl_lexer::TokenKind;
 
 /// Slips of the pen: words in place of a name, and what begins in another place than its own.
@@ -36,14 +34,13 @@ pub static BEGUN: [FormWord; 11] = [
 ];
 
 /// Conditions, alternatives and choices.
-pub static CONDITIONS: [FormWord; 11] = [
+pub static CONDITIONS: [FormWord; 10] = [
     (b"if", Behind::Kind(TokenKind::Else), ELSE_CONDITION),
     (b"when", Behind::Kind(TokenKind::Else), ELSE_CONDITION),
     (b"when", Behind::Target, SELECTED),
     (b"when", Behind::Concurrent, WHEN),
     (b"when", Behind::Kind(TokenKind::Semicolon), ALTERNATIVE),
     (b"when", Behind::Opener(TokenKind::Case), CASE_IS),
-    (b"when", Behind::NewLine, WHEN_LINE),
     (b"to", Behind::Opener(TokenKind::When), CHOICE_RANGE),
     (b"downto", Behind::Opener(TokenKind::When), CHOICE_RANGE),
     (b",", Behind::Opener(TokenKind::When), CHOICES),
@@ -94,25 +91,87 @@ pub static SIGNS: [FormWord; 11] = [
     (b"=", Behind::Target, EQUALITY),
 ];
 
-/// Declarations, and the end of a list.
-pub static DECLARED: [FormWord; 11] = [
+/// Variables, and the end of a list.
+pub static VARIABLES: [FormWord; 3] = [
+    (b"variable", Behind::NewLine, NEW_LINE),
+    (b"variable", Behind::Anything, VARIABLE),
+    (b")", Behind::Kind(TokenKind::Semicolon), LIST_END),
+];
+
+/// Other declarations, and `when` behind the end of a line.
+pub static DECLARED: [FormWord; 9] = [
+    (b"when", Behind::NewLine, WHEN_LINE),
     (b"constant", Behind::NewLine, DECLARATION_LINE),
     (b"constant", Behind::Anything, DECLARATION),
     (b"type", Behind::NewLine, DECLARATION_LINE),
     (b"type", Behind::Anything, DECLARATION),
     (b"signal", Behind::NewLine, DECLARATION_LINE),
     (b"signal", Behind::Anything, DECLARATION),
-    (b"variable", Behind::NewLine, NEW_LINE),
-    (b"variable", Behind::Anything, VARIABLE),
     (b"component", Behind::NewLine, DECLARATION_LINE),
     (b"component", Behind::Anything, DECLARATION),
-    (b")", Behind::Kind(TokenKind::Semicolon), LIST_END),
+];
+
+/// The same with `--wide`.
+pub static WIDE_DECLARED: [FormWord; 11] = [
+    (b"when", Behind::NewLine, wide::WHEN_LINE),
+    (b"constant", Behind::NewLine, wide::DECLARATION_LINE),
+    (b"constant", Behind::Anything, wide::DECLARATION),
+    (b"type", Behind::NewLine, wide::DECLARATION_LINE),
+    (b"type", Behind::Anything, wide::DECLARATION),
+    (b"subtype", Behind::NewLine, wide::DECLARATION_LINE),
+    (b"subtype", Behind::Anything, wide::DECLARATION),
+    (b"signal", Behind::NewLine, wide::DECLARATION_LINE),
+    (b"signal", Behind::Anything, wide::DECLARATION),
+    (b"component", Behind::NewLine, wide::DECLARATION_LINE),
+    (b"component", Behind::Anything, wide::DECLARATION),
+];
+
+/// Forms that are read with `--wide` alone: ranges and subtypes, messages, operators.
+pub static STATIC: [FormWord; 8] = [
+    (b"range", Behind::Kind(TokenKind::Tick), RANGE_ATTRIBUTE),
+    (b"range", Behind::Anything, NUMBER_RANGE),
+    (b"subtype", Behind::Anything, SUBTYPE),
+    (b"assert", Behind::Anything, MESSAGE),
+    (b"report", Behind::Anything, MESSAGE),
+    (b"abs", Behind::Anything, ABSOLUTE),
+    (b"*", Behind::Kind(TokenKind::Star), POWER),
+    (b"(", Behind::Kind(TokenKind::Tick), QUALIFIED),
+];
+
+/// The same words with `--wide`, where those forms don't stand.
+pub static WIDE_STATIC: [FormWord; 6] = [
+    (b"range", Behind::Anything, wide::NUMBER_RANGE),
+    (b"assert", Behind::Anything, wide::MESSAGE),
+    (b"report", Behind::Anything, wide::MESSAGE),
+    (b"abs", Behind::Anything, wide::ABSOLUTE),
+    (b"*", Behind::Kind(TokenKind::Star), wide::POWER),
+    (b"(", Behind::Kind(TokenKind::Tick), wide::QUALIFIED),
+];
+
+/// Conditional values, aggregates and associations.
+pub static AGGREGATES: [FormWord; 8] = [
+    (b"when", Behind::Anything, CONDITIONAL),
+    (b"to", Behind::Opener(TokenKind::LeftParen), AGGREGATE),
+    (b"downto", Behind::Opener(TokenKind::LeftParen), AGGREGATE),
+    (b"=>", Behind::Opener(TokenKind::LeftParen), AGGREGATE),
+    (b"=>", Behind::Opener(TokenKind::Comma), AGGREGATE),
+    (b"=>", Behind::Anything, ARROW),
+    (b"others", Behind::Anything, OTHERS),
+    (b",", Behind::Anything, COMMA),
+];
+
+/// The same words with `--wide`.
+pub static WIDE_AGGREGATES: [FormWord; 6] = [
+    (b"when", Behind::Anything, WHEN),
+    (b"=>", Behind::Opener(TokenKind::LeftParen), wide::FORMAL),
+    (b"=>", Behind::Opener(TokenKind::Comma), wide::FORMAL),
+    (b"=>", Behind::Anything, ARROW),
+    (b"others", Behind::Anything, wide::OTHERS),
+    (b",", Behind::Anything, wide::COMMA),
 ];
 
 /// Forms that the grammar hasn't: types and objects.
-pub static TYPES: [FormWord; 10] = [
-    (b"range", Behind::Kind(TokenKind::Tick), RANGE_ATTRIBUTE),
-    (b"range", Behind::Anything, NUMBER_RANGE),
+pub static TYPES: [FormWord; 8] = [
     (b"array", Behind::Anything, ARRAY),
     (b"record", Behind::Anything, RECORD),
     (b".", Behind::Opener(TokenKind::Colon), INSTANCE),
@@ -124,7 +183,7 @@ pub static TYPES: [FormWord; 10] = [
 ];
 
 /// Subprograms, packages and declarations.
-pub static UNITS: [FormWord; 10] = [
+pub static UNITS: [FormWord; 9] = [
     (b"function", Behind::Anything, SUBPROGRAM),
     (b"procedure", Behind::Anything, SUBPROGRAM),
     (b"pure", Behind::Anything, SUBPROGRAM),
@@ -134,7 +193,6 @@ pub static UNITS: [FormWord; 10] = [
     (b"attribute", Behind::Anything, ATTRIBUTE),
     (b"group", Behind::Anything, ATTRIBUTE),
     (b"alias", Behind::Anything, ALIAS),
-    (b"subtype", Behind::Anything, SUBTYPE),
 ];
 
 /// Modes, waits and delays.
@@ -153,9 +211,7 @@ pub static WAITS: [FormWord; 11] = [
 ];
 
 /// Statements and blocks.
-pub static STATEMENTS: [FormWord; 11] = [
-    (b"assert", Behind::Anything, MESSAGE),
-    (b"report", Behind::Anything, MESSAGE),
+pub static STATEMENTS: [FormWord; 9] = [
     (b"configuration", Behind::Anything, BLOCK),
     (b"block", Behind::Anything, BLOCK),
     (b"guarded", Behind::Anything, BLOCK),
@@ -165,18 +221,6 @@ pub static STATEMENTS: [FormWord; 11] = [
     (b"while", Behind::Anything, OTHER_LOOP),
     (b"next", Behind::Anything, OTHER_LOOP),
     (b"exit", Behind::Anything, OTHER_LOOP),
-];
-
-/// Conditional values, aggregates and associations.
-pub static AGGREGATES: [FormWord; 8] = [
-    (b"when", Behind::Anything, CONDITIONAL),
-    (b"to", Behind::Opener(TokenKind::LeftParen), AGGREGATE),
-    (b"downto", Behind::Opener(TokenKind::LeftParen), AGGREGATE),
-    (b"=>", Behind::Opener(TokenKind::LeftParen), AGGREGATE),
-    (b"=>", Behind::Opener(TokenKind::Comma), AGGREGATE),
-    (b"=>", Behind::Anything, ARROW),
-    (b"others", Behind::Anything, OTHERS),
-    (b",", Behind::Anything, COMMA),
 ];
 
 /// Logical operators.
@@ -195,21 +239,18 @@ pub static LOGICAL: [FormWord; 12] = [
     (b"xnor", Behind::Anything, REDUCTION),
 ];
 
-/// Other operators.
-pub static SHIFTS: [FormWord; 8] = [
+/// Shifts.
+pub static SHIFTS: [FormWord; 6] = [
     (b"sll", Behind::Anything, SHIFT),
     (b"srl", Behind::Anything, SHIFT),
     (b"sla", Behind::Anything, SHIFT),
     (b"sra", Behind::Anything, SHIFT),
     (b"rol", Behind::Anything, SHIFT),
     (b"ror", Behind::Anything, SHIFT),
-    (b"abs", Behind::Anything, ABSOLUTE),
-    (b"*", Behind::Kind(TokenKind::Star), POWER),
 ];
 
 /// Parentheses, and what isn't ended.
-pub static ENDED: [FormWord; 6] = [
-    (b"(", Behind::Kind(TokenKind::Tick), QUALIFIED),
+pub static ENDED: [FormWord; 5] = [
     (b"(", Behind::Kind(TokenKind::RightParen), SECOND_INDEX),
     (b"(", Behind::Target, VECTOR_GENERIC),
     (b"", Behind::NewLine, NEW_LINE),
@@ -230,13 +271,47 @@ pub static VALUES: [FormWord; 9] = [
     (b"length", Behind::Kind(TokenKind::Tick), RANGE_ATTRIBUTE),
 ];
 
-/// Types without a range, and relations.
-pub static ELEMENTS: [FormWord; 9] = [
+/// The same with `--wide`.
+pub static WIDE_VALUES: [FormWord; 3] = [
+    (b"", Behind::Kind(TokenKind::Tick), wide::ATTRIBUTE),
+    (b"", Behind::Kind(TokenKind::Arrow), wide::ACTUAL),
+    (b"", Behind::Opener(TokenKind::Map), wide::ACTUAL),
+];
+
+/// Types without a range, or with one that they don't take.
+pub static ELEMENTS: [FormWord; 5] = [
     (b"std_logic_vector", Behind::Declared, VECTOR),
     (b"std_ulogic_vector", Behind::Declared, VECTOR),
     (b"unsigned", Behind::Declared, VECTOR),
     (b"std_logic", Behind::Declared, ELEMENT),
     (b"std_ulogic", Behind::Declared, ELEMENT),
+];
+
+/// The same with `--wide`, and truth values.
+pub static WIDE_ELEMENTS: [FormWord; 11] = [
+    (b"std_logic_vector", Behind::Declared, wide::VECTOR),
+    (
+        b"std_logic_vector",
+        Behind::Kind(TokenKind::Is),
+        wide::VECTOR,
+    ),
+    (b"std_ulogic_vector", Behind::Declared, wide::VECTOR),
+    (
+        b"std_ulogic_vector",
+        Behind::Kind(TokenKind::Is),
+        wide::VECTOR,
+    ),
+    (b"unsigned", Behind::Declared, wide::VECTOR),
+    (b"unsigned", Behind::Kind(TokenKind::Is), wide::VECTOR),
+    (b"std_logic", Behind::Declared, wide::ELEMENT),
+    (b"std_logic", Behind::Kind(TokenKind::Is), wide::ELEMENT),
+    (b"std_ulogic", Behind::Declared, wide::ELEMENT),
+    (b"std_ulogic", Behind::Kind(TokenKind::Is), wide::ELEMENT),
+    (b"boolean", Behind::Anything, wide::BOOLEAN),
+];
+
+/// Relations.
+pub static RELATIONS: [FormWord; 4] = [
     (b"<", Behind::Anything, ORDER),
     (b"<=", Behind::Anything, ORDER),
     (b">", Behind::Anything, ORDER),
@@ -269,9 +344,8 @@ pub static OTHER_TYPES: [FormWord; 11] = [
 ];
 
 /// What is told by its place.
-pub static PLACES: [FormWord; 7] = [
+pub static PLACES: [FormWord; 6] = [
     (b"wait", Behind::Anything, WAIT_HEAD),
-    (b"", Behind::Kind(TokenKind::Assign), DEFAULT),
     (b"", Behind::Kind(TokenKind::When), CHOICE),
     (b"work", Behind::Kind(TokenKind::Use), PACKAGE),
     (b"", Behind::Kind(TokenKind::Library), LIBRARY),
@@ -279,32 +353,12 @@ pub static PLACES: [FormWord; 7] = [
     (b"", Behind::Kind(TokenKind::Bar), CHOICE),
 ];
 
-/// The words at which slips of the pen are told.
-pub(crate) fn slips() -> [&'static [FormWord]; 6]
-    ensures { map spec.words_of result ≡ spec.slips }
-{
-    [&BEGUN, &CONDITIONS, &LISTS, &TARGETS, &SIGNS, &DECLARED]
-}
+/// Values of declarations.
+pub static DEFAULTS: [FormWord; 1] = [(b"", Behind::Kind(TokenKind::Assign), DEFAULT)];
 
-/// The words at which a form begins that the grammar hasn't, where none of these slips is told.
-pub(crate) fn unread() -> [&'static [FormWord]; 8]
-    ensures { map spec.words_of result ≡ spec.unread }
-{
-    [
-        &TYPES,
-        &UNITS,
-        &WAITS,
-        &STATEMENTS,
-        &AGGREGATES,
-        &LOGICAL,
-        &SHIFTS,
-        &ENDED,
-    ]
-}
-
-/// The names of packages, types and attributes that are left out.
-pub(crate) fn left_out() -> [&'static [FormWord]; 5]
-    ensures { map spec.words_of result ≡ spec.left_out }
-{
-    [&VALUES, &ELEMENTS, &FUNCTIONS, &OTHER_TYPES, &PLACES]
-}
+/// The same with `--wide`, and types that are declared.
+pub static WIDE_DEFAULTS: [FormWord; 3] = [
+    (b"", Behind::Kind(TokenKind::Assign), wide::DEFAULT),
+    (b"", Behind::Declared, wide::MARK),
+    (b"", Behind::Kind(TokenKind::Is), wide::MARK),
+];

@@ -3,11 +3,11 @@
 ghost use Rattle.std.specs.Prelude.{◌≡◌, map, option_map};
 ghost use Rattle.vhdl_slips.specs.Forms as spec;
 
+use crate::by_language::{left_out, slips, unread};
 use crate::form::{Behind, FormWord, OTHER, Said};
 use crate::lexed::{is_same_kind, is_same_word};
 use crate::slip::SLIP;
-use crate::table::{left_out, slips, unread};
-use vhdl_lexer::{Token, TokenKind};
+use vhdl_lexer::{Language, Token, TokenKind};
 
 /// What stands before a token.
 #[derive(Clone, Copy)]
@@ -28,20 +28,20 @@ pub(crate) struct Context {
     in_process: bool,
 }
 
-/// What stands at a word where no file goes on, behind these tokens.
-pub fn unexpected_form(before: &[Token], begins_line: bool, word: &[u8]) -> Said
-    ensures { (result.0.now, result.1.now) ≡ spec.unexpected_form before.now begins_line word.now }
+/// What stands at a word where no file of the language goes on, behind these tokens.
+pub fn unexpected_form(language: Language, before: &[Token], begins_line: bool, word: &[u8]) -> Said
+    ensures { (result.0.now, result.1.now) ≡ spec.unexpected_form language before.now begins_line word.now }
 {
     let context = context_of(before, begins_line);
-    let form = form_among(&unread(), context, word, SLIP);
-    form_among(&slips(), context, word, form)
+    let form = form_among(&unread(language), context, word, SLIP);
+    form_among(&slips(language), context, word, form)
 }
 
-/// What stands where something is left out, behind these tokens.
-pub fn left_out_form(before: &[Token], word: &[u8]) -> Said
-    ensures { (result.0.now, result.1.now) ≡ spec.left_out_form before.now word.now }
+/// What stands where the language leaves something out, behind these tokens.
+pub fn left_out_form(language: Language, before: &[Token], word: &[u8]) -> Said
+    ensures { (result.0.now, result.1.now) ≡ spec.left_out_form language before.now word.now }
 {
-    form_among(&left_out(), context_of(before, false), word, OTHER)
+    form_among(&left_out(language), context_of(before, false), word, OTHER)
 }
 
 /// The form of a word in the first of these tables that has it, or another one.

@@ -1,13 +1,14 @@
 -- The small trees of specs/rules/Declarations.antt compute.
 use Rattle.std.proofs.Common.{refl}
-use Rattle.vhdl_names_rules.specs.Expressions.{typed, static}
-use Rattle.vhdl_names_rules.specs.Subtypes.{subtype, fixed_value}
-use Rattle.vhdl_names_rules.specs.Declarations.{generic, port, constants, signals}
+use Rattle.vhdl_names_rules.specs.Expressions.{typed, static, static_range}
+use Rattle.vhdl_names_rules.specs.Subtypes.{subtype, integer_subtype, fixed_value}
+use Rattle.vhdl_names_rules.specs.Declarations.{generic, port, constants_in, signals}
 use Rattle.vhdl_names_rules.specs.Interfaces.{interface}
+use Rattle.vhdl_names_rules.specs.Local.{is_local}
 use Rattle.rtl_definition_examples.specs.rules.Declarations.{DeclarationsDeclare, ValuesAreFixed, ChoicesCover}
 
 pub declarations_declare : DeclarationsDeclare
-unfolding typed static subtype fixed_value generic port constants signals interface
+unfolding typed static static_range is_local subtype integer_subtype fixed_value generic port constants_in signals interface
 declarations_declare = record { ports = refl; generics = refl; integers = refl; elements = refl; twice = refl; enumerated_port = refl; integer_port = refl; unconstrained = refl; not_visible = refl; self_hidden = refl; logic_generic = refl }
 
 pub values_are_fixed : ValuesAreFixed

@@ -1,6 +1,6 @@
 -- The small trees of specs/rules/Statements.antt compute.
 use Rattle.std.proofs.Common.{refl}
-use Rattle.vhdl_names_rules.specs.Expressions.{typed, static, condition, value_given}
+use Rattle.vhdl_names_rules.specs.Expressions.{typed, static, static_range, condition, value_given}
 use Rattle.vhdl_names_rules.specs.Subtypes.{subtype}
 use Rattle.vhdl_names_rules.specs.Declarations.{variables}
 use Rattle.vhdl_names_rules.specs.Statements.{signal, target, variable, statement, statements, alternatives, conditionals, otherwise}
@@ -16,7 +16,7 @@ unfolding typed static condition value_given subtype variables signal target var
 processes_are_regions = record { hiding = refl; no_variable = refl; twice = refl; no_list = refl; on_constant = refl; labels = refl; end_label = refl }
 
 pub turns_have_parameters : TurnsHaveParameters
-unfolding typed static condition value_given subtype variables signal target variable statement statements assignment process concurrent concurrents
+unfolding typed static static_range condition value_given subtype variables signal target variable statement statements assignment process concurrent concurrents
 turns_have_parameters = record { for_loop = refl; generate_for = refl; undeclared = refl; static_condition = refl; signal_condition = refl }
 
 pub conditions_become_ifs : ConditionsBecomeIfs

@@ -20,7 +20,7 @@ use Rattle.vhdl_expand_rules.specs.Kinds.{one}
 use Rattle.vhdl_expand_rules.specs.Kinds as k
 use Rattle.vhdl_expand_rules.specs.Site.{Site, no_site}
 use Rattle.vhdl_expand_rules.specs.Expressions.{vector, test}
-use Rattle.rtl_definition_examples.specs.designs.Words.{number, downto, port, from, at, assignment, instance, object, input, entity, elaborated, elaborated_with, Of}
+use Rattle.rtl_definition_examples.specs.designs.Words.{number, downto, port, from, at, assignment, instance, object, integer_generic, input, entity, elaborated, elaborated_with, Of}
 use Rattle.rtl_definition_examples.specs.designs.Designs.{no_statement}
 use Rattle.rtl_definition_examples.specs.designs.Refusals.{minus, of}
 
@@ -127,9 +127,8 @@ wide_output = record {
 -- n : natural := 2; m : natural := n + 1; y : out (m downto 0)
 abbrev pub later_default : Entity
 later_default = record (entity (codes "g") (wide_output ∷ []) [] []) {
-  generics = record { at = 6; name = codes "n"; type = Natural; default = Some (number 2) }
-      ∷ record { at = 7; name = codes "m"; type = Natural; default = Some (of arithmetic.Add (e.generic 0) (number 1)) }
-      ∷ [];
+  generics = integer_generic 6 (codes "n") Natural (Some (number 2))
+      ∷ integer_generic 7 (codes "m") Natural (Some (of arithmetic.Add (e.generic 0) (number 1))) ∷ [];
 }
 
 -- if 0 = 1 generate, round a generate over 0 to 1 / 0

@@ -23,7 +23,7 @@ use Rattle.vhdl_expand_rules.specs.declared.fault.ElabProblem.TheVariants.{Unass
 use Rattle.vhdl_expand_rules.specs.Integers.{integer}
 use Rattle.vhdl_expand_rules.specs.Site.{no_integers}
 use Rattle.rtl_definition_examples.specs.designs.Words.{number, downto, to, port, signal, from, at, read}
-use Rattle.rtl_definition_examples.specs.designs.Words.{literal, assigned, process, assignment, instance, object, input, output, declared}
+use Rattle.rtl_definition_examples.specs.designs.Words.{literal, assigned, process, assignment, instance, object, integer_generic, input, output, declared}
 use Rattle.rtl_definition_examples.specs.designs.Words.{entity, elaborated, elaborated_with, Of}
 use Rattle.rtl_definition_examples.specs.designs.Designs.{inverter, no_statement}
 
@@ -57,8 +57,7 @@ pub record IntegersHaveValues : Type 0 where
 -- n, m : positive, with these defaults
 abbrev pub with_generics : (n m : Option Static) → Entity
 with_generics n m = record (entity (codes "g") [] [] []) {
-  generics = record { at = 6; name = codes "n"; type = Positive; default = n }
-      ∷ record { at = 7; name = codes "m"; type = Positive; default = m } ∷ [];
+  generics = integer_generic 6 (codes "n") Positive n ∷ integer_generic 7 (codes "m") Positive m ∷ [];
 }
 
 abbrev pub with_generic : Option Static → Entity
@@ -248,7 +247,13 @@ pub record ActualsFit : Type 0 where
   -- a generic's actual at the generic's name, in the entity of the instance
   pub generic : elaborated
       (with_generic None ∷ entity (codes "t") [] []
-      (u.instance (record { at = 40; label = codes "u"; unit = 0; generics = Some (minus 1) ∷ []; ports = [] }) ∷ [])
+      (u.instance (record {
+        at = 40;
+        label = codes "u";
+        unit = 0;
+        generics = Some (u.Fixed.integer (minus 1)) ∷ [];
+        ports = [];
+      }) ∷ [])
       ∷ []) (codes "t")
       ≡ Err (GenericRange, 6)
 
@@ -323,9 +328,9 @@ with_variables = entity (codes "t") (input 10 (codes "a") u.element ∷ output 1
     (u.process (record {
       at = 50;
       label = Some (codes "p");
-      variables =
-          object 60 (codes "v") (u.vector (downto 1 0)) (Some (u.Fixed.literal (One ∷ Zero ∷ [])))
-          ∷ object 61 (codes "w") u.element None ∷ [];
+      declarations =
+          u.variable (object 60 (codes "v") (u.vector (downto 1 0)) (Some (u.Fixed.literal (One ∷ Zero ∷ []))))
+          ∷ u.variable (object 61 (codes "w") u.element None) ∷ [];
       sensitivity = u.every;
       body = s.step (s.set 30 0 (at (number 0)) (s.single (read (port 0 e.whole))))
           (s.step (assigned (port 1 e.whole) (e.elements (e.of_variable 34 0 (at (number 1))))) s.done);
@@ -347,7 +352,8 @@ abbrev pub with_ranges : (v w : Range) → Entity
 with_ranges v w = with_four (u.process (record {
   at = 50;
   label = None;
-  variables = object 60 (codes "v") (u.vector v) None ∷ object 61 (codes "w") (u.vector w) None ∷ [];
+  declarations =
+      u.variable (object 60 (codes "v") (u.vector v) None) ∷ u.variable (object 61 (codes "w") (u.vector w) None) ∷ [];
   sensitivity = u.every;
   body = s.step (s.set 30 0 e.whole (s.single (literal (Zero ∷ One ∷ [])))) s.done;
 }) ∷ [])
@@ -358,7 +364,9 @@ abbrev pub with_default : Fixed → Entity
 with_default f = with_four (u.process (record {
   at = 50;
   label = None;
-  variables = object 60 (codes "v") u.element None ∷ object 61 (codes "w") (u.vector (downto 1 0)) (Some f) ∷ [];
+  declarations =
+      u.variable (object 60 (codes "v") u.element None)
+      ∷ u.variable (object 61 (codes "w") (u.vector (downto 1 0)) (Some f)) ∷ [];
   sensitivity = u.every;
   body = s.step outside_target s.done;
 }) ∷ [])

@@ -3,10 +3,11 @@
 -- loop at 51, a case at 52, an if at 53, a generate at 54, variables from 60 on; and within a statement its target at
 -- 30, a literal at 31, an operator at 32, a call at 33, a name that is read at 34, a relation at 35, an instance's
 -- label at 40 and its actuals from 41 on. Static integers have their sign at 3 and their operator at 5.
-use Rattle.std.specs.Prelude.{ℕ, true, List, [], ◌∷◌, Option, Some, None, Ok, Err, codes, ℤ}
+use Rattle.std.specs.Prelude.{ℕ, true, List, [], ◌∷◌, Option, Some, None, option_map, Ok, Err, codes, ℤ}
 use Rattle.vhdl_values.specs.declared.scalar.Nine.{Nine}
 use Rattle.vhdl_tree.specs.declared.declaration.Mode.TheVariants.{In, Out}
 use Rattle.vhdl_tree.specs.declared.operator.Direction.TheVariants.{To, Downto}
+use Rattle.vhdl_names_rules.specs.declared.operator.IntegerType.{IntegerType}
 use Rattle.vhdl_names_rules.specs.units.Expressions as e
 use Rattle.vhdl_names_rules.specs.units.Expressions.{Static, Range, Part, SignalPart, Vector, Value}
 use Rattle.vhdl_names_rules.specs.units.Statements as s
@@ -57,13 +58,14 @@ sequence [] = s.done
 sequence (x ∷ xs) = s.step x (sequence xs)
 
 abbrev pub process : u.Sensitivity → List s.Statement → Concurrent
-process on body = u.process (record { at = 50; label = None; variables = []; sensitivity = on; body = sequence body })
+process on body =
+    u.process (record { at = 50; label = None; declarations = []; sensitivity = on; body = sequence body })
 
 -- target <= value;
 abbrev pub assignment : SignalPart → Value → Concurrent
 assignment p v =
     u.process
-    (record { at = 30; label = None; variables = []; sensitivity = u.as_read; body = s.step (assigned p v) s.done })
+    (record { at = 30; label = None; declarations = []; sensitivity = u.as_read; body = s.step (assigned p v) s.done })
 
 -- an instance u of the unit of this number, with these actuals
 abbrev pub instance : ℕ → List (Option SignalPart) → Concurrent
@@ -80,6 +82,15 @@ object at name form default = record { at = at; name = name; form = form; is_res
 
 abbrev pub input : (at : ℕ) → List ℕ → Form → u.Port
 input at name form = record { mode = In; object = object at name form None }
+
+-- a generic of integers
+abbrev pub integer_generic : (at : ℕ) → List ℕ → IntegerType → Option Static → u.Generic
+integer_generic at name type default = record {
+  at = at;
+  name = name;
+  type = u.integers (record { base = u.of_type type; range = None });
+  default = option_map u.Fixed.integer default;
+}
 
 abbrev pub output : (at : ℕ) → List ℕ → Form → u.Port
 output at name form = record { mode = Out; object = object at name form None }

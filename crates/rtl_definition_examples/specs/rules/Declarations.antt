@@ -17,12 +17,16 @@ use Rattle.vhdl_names_rules.specs.Subtypes.{fixed_value}
 use Rattle.vhdl_names_rules.specs.Declarations.{generic, port, constants, signals}
 use Rattle.vhdl_names_rules.specs.Choices.{covered}
 use Rattle.vhdl_names_rules.specs.Interfaces.{interface}
-use Rattle.rtl_definition_examples.specs.rules.Words.{word, words, name, with_two, enclosed, number, character, string, plain_type, of_four, sight, both_packages, logic_alone}
+use Rattle.rtl_definition_examples.specs.rules.Words.{words, name, with_two, enclosed, number, character, string, plain_type, of_four, sight, both_packages, logic_alone}
 
 -- ---- declarations
 
 abbrev pub empty_sight : Sight
 empty_sight = sight_of both_packages []
+
+-- the integers of natural
+abbrev pub naturals : u'.IntegerSubtype
+naturals = record { base = u'.of_type Natural; range = None }
 
 -- ports of these names and this type, with no mode and no default
 abbrev pub ports_of : List (List ℕ) → t.Subtype → t.Port
@@ -39,7 +43,7 @@ generics_of mark = record {
   constant_word = false;
   names = words (codes "w" ∷ codes "x" ∷ []);
   in_word = false;
-  mark = word mark;
+  subtype = plain_type mark;
   default = None;
 }
 
@@ -59,15 +63,17 @@ pub record DeclarationsDeclare : Type 0 where
   pub generics : generic empty_sight (generics_of (codes "natural")) ≡ Some (record {
     declared = declare (codes "w") (visibility.generic 0) ∷ declare (codes "x") (visibility.generic 1) ∷ [];
     analysed =
-        record { at = 10; name = codes "w"; type = Natural; default = None }
-        ∷ record { at = 11; name = codes "x"; type = Natural; default = None } ∷ [];
+        record { at = 10; name = codes "w"; type = u'.integers naturals; default = None }
+        ∷ record { at = 11; name = codes "x"; type = u'.integers naturals; default = None } ∷ [];
   })
   pub integers : constants empty_sight (constants_of (plain_type (codes "natural")) (t.single (number (codes "1"))))
       ≡ Some (record {
         declared =
             declare (codes "w") (visibility.integer_constant 0)
             ∷ declare (codes "x") (visibility.integer_constant 1) ∷ [];
-        analysed = u'.Declaration.integer 10 Natural (u.number 1) ∷ u'.Declaration.integer 11 Natural (u.number 1) ∷ [];
+        analysed =
+            u'.Declaration.integer 10 naturals (u.number 1)
+            ∷ u'.Declaration.integer 11 naturals (u.number 1) ∷ [];
       })
   -- w, x : std_logic with the value '1'
   pub elements : constants empty_sight (constants_of (plain_type (codes "std_logic")) (t.single (character 49)))
@@ -96,20 +102,23 @@ pub record DeclarationsDeclare : Type 0 where
 -- ---- values of constants and defaults
 
 pub record ValuesAreFixed : Type 0 where
-  pub a_character : fixed_value sight (Elements Element) (t.single (character 49)) ≡ Some (u'.Fixed.literal (One ∷ []))
-  pub a_string : fixed_value sight (Elements Unsigned) (t.single (string (codes "01")))
+  pub a_character : fixed_value sight (Elements Element) None (t.single (character 49))
+      ≡ Some (u'.Fixed.literal (One ∷ []))
+  pub a_string : fixed_value sight (Elements Unsigned) None (t.single (string (codes "01")))
       ≡ Some (u'.Fixed.literal (Zero ∷ One ∷ []))
-  pub a_filling : fixed_value sight (Elements LogicVector) (t.Value.others 0 (character 48))
+  pub a_filling : fixed_value sight (Elements LogicVector) None (t.Value.others 0 (character 48))
       ≡ Some (u'.Fixed.filled Zero)
-  pub a_literal : fixed_value sight (Enumeration 0 2) (t.single (name (codes "green"))) ≡ Some (u'.Fixed.position 1)
-  pub a_constant : fixed_value sight (Elements Element) (t.single (name (codes "one"))) ≡ Some (u'.Fixed.constant 0)
-  pub an_encoding : fixed_value sight (Elements Unsigned)
+  pub a_literal : fixed_value sight (Enumeration 0 2) None (t.single (name (codes "green")))
+      ≡ Some (u'.Fixed.position 1)
+  pub a_constant : fixed_value sight (Elements Element) None (t.single (name (codes "one")))
+      ≡ Some (u'.Fixed.constant 0)
+  pub an_encoding : fixed_value sight (Elements Unsigned) None
       (t.single (with_two (codes "to_unsigned") (name (codes "k")) (number (codes "4"))))
       ≡ Some (u'.Fixed.encoded (u.Static.constant 0) (u.number 4))
   -- a signal's name, a literal in parentheses, and not '1'
-  pub a_signal : fixed_value sight (Elements Element) (t.single (name (codes "a"))) ≡ None
-  pub enclosed_literal : fixed_value sight (Elements Element) (t.single (enclosed (character 49))) ≡ None
-  pub computed : fixed_value sight (Elements Element) (t.single (t.negation 0 (character 49))) ≡ None
+  pub a_signal : fixed_value sight (Elements Element) None (t.single (name (codes "a"))) ≡ None
+  pub enclosed_literal : fixed_value sight (Elements Element) None (t.single (enclosed (character 49))) ≡ None
+  pub computed : fixed_value sight (Elements Element) None (t.single (t.negation 0 (character 49))) ≡ None
 
 -- ---- choices
 

@@ -18,7 +18,7 @@ use Rattle.vhdl_names_rules.specs.units.Expressions as u
 use Rattle.vhdl_names_rules.specs.units.Statements as s
 use Rattle.vhdl_names_rules.specs.Visibility.{Sight, within_loop, within_generate}
 use Rattle.vhdl_names_rules.specs.Packages.{sight_of}
-use Rattle.vhdl_names_rules.specs.Operators.{integer, elements, truth}
+use Rattle.vhdl_names_rules.specs.Types.{integer, elements, truth}
 use Rattle.vhdl_names_rules.specs.Expressions.{typed, value_given}
 use Rattle.rtl_definition_examples.specs.rules.Words.{word, name, with_one, with_two, event, enclosed, number, character, string, binary, region, sight, logic_alone, a, v, n}
 
@@ -62,10 +62,10 @@ pub record OperatorsHaveTypes : Type 0 where
   -- v + 1
   pub no_number : typed sight (binary o.Add named_v (number (codes "1"))) ≡ None
   -- "01" + "1" is an unsigned, and needs numeric_std in sight
-  pub open_sum : value_given sight (Elements Unsigned) (t.single sum)
+  pub open_sum : value_given sight (Elements Unsigned) None (t.single sum)
       ≡ Some
       (s.single (u.elements (u.Vector.binary 5 (op.Arithmetic by.Add) literal_01 (u.Vector.literal 4 (One ∷ [])))))
-  pub vector_sum : value_given sight (Elements LogicVector) (t.single sum) ≡ None
+  pub vector_sum : value_given sight (Elements LogicVector) None (t.single sum) ≡ None
   pub unseen_sum : typed (sight_of logic_alone region) sum ≡ None
   -- v = n, v < v, n /= 3, and 3 < n
   pub unlike_kinds : typed sight (binary o.Equal named_v named_n) ≡ None

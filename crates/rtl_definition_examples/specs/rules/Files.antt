@@ -1,5 +1,6 @@
 -- Entities, architectures, components and instances of small files.
 use Rattle.std.specs.Prelude.{◌≡◌, ℕ, Bool, true, false, List, [], ◌∷◌, ◌++◌, Option, Some, None, is_some, codes}
+use Rattle.vhdl_lexer.specs.declared.language.Language.TheVariants.{Profile}
 use Rattle.vhdl_tree.specs.declared.declaration.Mode.{Mode}
 use Rattle.vhdl_tree.specs.declared.declaration.Mode.TheVariants.{In, Out}
 use Rattle.vhdl_tree.specs.Tree as t
@@ -38,7 +39,16 @@ entity_with ports n = record {
   context = with_logic;
   unit =
       t.LibraryUnit.entity
-      (record { at = 26; name = word n; generics = None; ports = ports; end_word = false; end_name = None });
+      (record {
+        at = 26;
+        name = word n;
+        generics = None;
+        ports = ports;
+        attributes = [];
+        statements = None;
+        end_word = false;
+        end_name = None;
+      });
 }
 
 abbrev pub entity : List ℕ → DesignUnit
@@ -109,23 +119,23 @@ analysed_with n c =
 
 pub record UnitsAreOnce : Type 0 where
   -- entity e with its architecture y <= a;
-  pub buffer : units_of (file (entity e ∷ architecture e (y_from_a None ∷ []) ∷ []))
+  pub buffer : units_of Profile (file (entity e ∷ architecture e (y_from_a None ∷ []) ∷ []))
       ≡ Some (analysed_with e (u'.process (record {
         at = 6;
         label = None;
-        variables = [];
+        declarations = [];
         sensitivity = u'.as_read;
         body = s.step (s.assign (whole_port 6 1) (s.single (u.elements (u.of_signal (whole_port 1 0))))) s.done;
       })) ∷ [])
-  pub empty : units_of (file []) ≡ Some []
+  pub empty : units_of Profile (file []) ≡ Some []
   -- an entity twice, a second architecture, an architecture before its entity, and one of no entity
-  pub entity_twice : units_of (file (entity e ∷ entity e ∷ [])) ≡ None
-  pub second_architecture : units_of (file (entity e ∷ architecture e [] ∷ architecture e [] ∷ [])) ≡ None
-  pub architecture_first : units_of (file (architecture e [] ∷ entity e ∷ [])) ≡ None
-  pub no_entity : units_of (file (architecture e [] ∷ [])) ≡ None
+  pub entity_twice : units_of Profile (file (entity e ∷ entity e ∷ [])) ≡ None
+  pub second_architecture : units_of Profile (file (entity e ∷ architecture e [] ∷ architecture e [] ∷ [])) ≡ None
+  pub architecture_first : units_of Profile (file (architecture e [] ∷ entity e ∷ [])) ≡ None
+  pub no_entity : units_of Profile (file (architecture e [] ∷ [])) ≡ None
   -- the label a, which is a port's name; a label twice
-  pub label_of_port : units_of (file (entity e ∷ architecture e (y_from_a (Some (codes "a")) ∷ []) ∷ [])) ≡ None
-  pub label_twice : units_of
+  pub label_of_port : units_of Profile (file (entity e ∷ architecture e (y_from_a (Some (codes "a")) ∷ []) ∷ [])) ≡ None
+  pub label_twice : units_of Profile
       (file (entity e ∷ architecture e (y_from_a (Some (codes "l")) ∷ y_from_a (Some (codes "l")) ∷ []) ∷ [])) ≡ None
 
 -- ---- instances
@@ -155,13 +165,13 @@ component_with ports =
     t.component (record { name = word k; is_word = false; generics = None; ports = ports; end_name = None })
 
 abbrev pub is_accepted : File → Bool
-is_accepted f = is_some (units_of f)
+is_accepted f = is_some (units_of Profile f)
 
 pub record FormalsAreAssociated : Type 0 where
   -- u : entity work.k port map (a, y => y)
   pub mixed : is_accepted
       (with_instance [] work_k (actual_named (codes "a") ∷ for_formal (codes "y") (name (codes "y")) ∷ [])) ≡ true
-  pub placed : units_of
+  pub placed : units_of Profile
       (with_instance [] work_k (actual_named (codes "a") ∷ for_formal (codes "y") (name (codes "y")) ∷ []))
       ≡ Some (analysed k ∷ analysed_with e (u'.instance (record {
         at = 28;

@@ -45,21 +45,23 @@ sequential x = record { label = None; statement = x }
 abbrev pub labelled : t.Statement → t.Sequential
 labelled x = record { label = Some (word (codes "l")); statement = x }
 
--- process sensitivity variables begin statements end process;
-abbrev pub process_of : t.Sensitivity → List t.Variables → List t.Sequential → t.Process
-process_of on vs xs = record {
+-- process sensitivity declarations begin statements end process;
+abbrev pub process_of : t.Sensitivity → List t.ProcessDeclaration → List t.Sequential → t.Process
+process_of on ds xs = record {
   at = 20;
   sensitivity = on;
   is_word = false;
-  variables = vs;
+  declarations = ds;
   wait = None;
   statements = xs;
   end_label = None;
 }
 
 -- variable a : std_logic, which hides the port
-abbrev pub variable_a : t.Variables
-variable_a = record { names = words (codes "a" ∷ []); subtype = plain_type (codes "std_logic"); default = None }
+abbrev pub variable_a : t.ProcessDeclaration
+variable_a =
+    t.variables
+    (record { names = words (codes "a" ∷ []); subtype = plain_type (codes "std_logic"); default = None })
 
 -- a := '1'; y <= a;
 abbrev pub through_variable : List t.Sequential
@@ -76,7 +78,9 @@ pub record ProcessesAreRegions : Type 0 where
   pub hiding : process sight None (process_of on_a (variable_a ∷ []) through_variable) ≡ Some (record {
     at = 20;
     label = None;
-    variables = record { at = 10; name = codes "a"; form = u'.element; is_resolved = true; default = None } ∷ [];
+    declarations =
+        u'.variable (record { at = 10; name = codes "a"; form = u'.element; is_resolved = true; default = None })
+        ∷ [];
     sensitivity = u'.listed (record { at = 6; signal = u.port 0; part = u.whole } ∷ []);
     body =
         s.step (s.set 6 0 u.whole (s.single (u.elements (u.character One))))
@@ -128,7 +132,7 @@ empty_if test = t.generated (word (codes "g")) 22 (t.if_holds test) false t.no_c
 -- for i in 0 to 3 loop y <= v(i); end loop;
 abbrev pub loop_over_v : t.Statement
 loop_over_v =
-    t.Statement.for_of 21 (word (codes "i")) to_three
+    t.Statement.for_of 21 (word (codes "i")) (t.bounds to_three)
     (t.step None (t.assigned (target (codes "y")) (y_from_v (word (codes "i")))) t.done) None
 
 -- an assignment of an element of v to y, alone
@@ -137,16 +141,18 @@ y_is_element i = s.step (s.assign at_y (s.single (u.elements (element_of_v i))))
 
 -- a process that starts at this byte and is sensitive to what it reads
 abbrev pub reading : (at : ℕ) → s.Statements → u'.Concurrent
-reading at body = u'.process (record { at = at; label = None; variables = []; sensitivity = u'.as_read; body = body })
+reading at body =
+    u'.process
+    (record { at = at; label = None; declarations = []; sensitivity = u'.as_read; body = body })
 
 pub record TurnsHaveParameters : Type 0 where
   pub for_loop : statement sight None loop_over_v ≡ Some (s.for_of 21 zero_to_three (y_is_element (u.loop_parameter 0)))
   -- g : for i in 0 to 3 generate y <= v(i); end generate;
-  pub generate_for : concurrent [] sight (generate (t.for_each (word (codes "i")) to_three))
+  pub generate_for : concurrent [] sight (generate (t.for_each (word (codes "i")) (t.bounds to_three)))
       ≡ Some (u'.generate_for 22 (codes "g") zero_to_three
       (u'.concurrent (reading 6 (y_is_element (u.generate_parameter 0))) u'.no_concurrents))
   -- with another parameter i isn't declared
-  pub undeclared : concurrent [] sight (generate (t.for_each (word (codes "j")) to_three)) ≡ None
+  pub undeclared : concurrent [] sight (generate (t.for_each (word (codes "j")) (t.bounds to_three))) ≡ None
   -- g : if k = 2 generate, and with a signal in the condition
   pub static_condition : concurrent [] sight (empty_if (binary o.Equal (name (codes "k")) (number (codes "2"))))
       ≡ Some

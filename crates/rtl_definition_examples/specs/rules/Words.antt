@@ -3,6 +3,7 @@
 -- a name of a list at 6, what is declared at 10, 11 and so on, a process at 20 and other statements behind it.
 use Rattle.std.specs.Prelude.{ℕ, suc, true, false, List, [], ◌∷◌, ◌++◌, Some, None, codes}
 use Rattle.vhdl_values.specs.declared.scalar.Nine.TheVariants.{One}
+use Rattle.vhdl_lexer.specs.declared.language.Language.TheVariants.{Profile}
 use Rattle.vhdl_tree.specs.declared.operator.Operator.{Operator}
 use Rattle.vhdl_tree.specs.declared.operator.Direction.TheVariants.{Downto}
 use Rattle.vhdl_tree.specs.declared.declaration.Mode.TheVariants.{In, Out}
@@ -45,7 +46,7 @@ with_two n d e = t.named (word_at 2 n) (t.arguments (t.expr d (t.expr e t.no_exp
 
 -- n'event
 abbrev pub event : List ℕ → Expr
-event n = t.named (word n) t.plain (Some (word_at 8 (codes "event")))
+event n = t.named (word n) t.plain (Some (t.called (word_at 8 (codes "event"))))
 
 -- ( e )
 abbrev pub enclosed : Expr → Expr
@@ -71,22 +72,26 @@ target n = record { identifier = word_at 6 n; suffix = t.plain; attribute = None
 
 -- a type without a range, and with ( 3 downto 0 )
 abbrev pub plain_type : List ℕ → t.Subtype
-plain_type mark = record { mark = word mark; range = None }
+plain_type mark = record { mark = word mark; constraint = None }
 
 abbrev pub of_four : List ℕ → t.Subtype
 of_four mark = record {
   mark = word mark;
-  range = Some (record { left = number (codes "3"); direction = Downto; right = number (codes "0") });
+  constraint = Some (t.index_range (t.bounds (record {
+    left = number (codes "3");
+    direction = Downto;
+    right = number (codes "0");
+  })));
 }
 
 -- ---- what names mean where the examples stand
 
 -- both packages, std_logic_1164 alone, and none
 abbrev pub both_packages : Context
-both_packages = record { has_ieee = true; has_logic = true; has_numbers = true }
+both_packages = record { language = Profile; has_ieee = true; has_logic = true; has_numbers = true }
 
 abbrev pub logic_alone : Context
-logic_alone = record { has_ieee = true; has_logic = true; has_numbers = false }
+logic_alone = record { language = Profile; has_ieee = true; has_logic = true; has_numbers = false }
 
 -- in ports a, v and n, out port y; signal q of an enumeration (red, green); a constant one declared by '1'; an
 -- integer k

@@ -9,4 +9,4 @@ unfolding left_out_form
 returns c =
     c.form_among.ensures
     ∙ ap (λ (tables : List (List FormWord)). form_among tables c.context_of.result c.args.word.now (OTHER.0.now, OTHER.1.now)) c.left_out.ensures
-    ∙ ap (λ (context : Context). form_among left_out context c.args.word.now (OTHER.0.now, OTHER.1.now)) c.context_of.ensures
+    ∙ ap (λ (context : Context). form_among (left_out c.args.language) context c.args.word.now (OTHER.0.now, OTHER.1.now)) c.context_of.ensures
