@@ -83,7 +83,9 @@ pub fn explain_at(
         text: source,
         tokens,
     };
-    if let Ok(Some(told)) = told_source(alloc, &file_of(source), lexed, expected, report) {
+    let files = file_of(source);
+    let told = told_source(alloc, Language::Profile, &files, lexed, expected, report);
+    if let Ok(Some(told)) = told {
         push_paragraph(&told, out);
     }
 }

@@ -12,7 +12,6 @@ mod beginnings;
 mod calls;
 mod explained;
 mod fault;
-mod kinds;
 mod operands;
 mod problems;
 mod source;

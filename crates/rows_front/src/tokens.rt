@@ -1,9 +1,9 @@
 //! What the lexer makes of a text, in words.
 
 use crate::fault::push_fault;
-use crate::kinds::kind_name;
 use crate::source::source_of;
 use rows_calls::Text;
+use rows_tree_texts::kind_name;
 use std::alloc::Global;
 use vhdl_lexer::{Token, integer_value, lex};
 

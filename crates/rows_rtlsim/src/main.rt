@@ -37,7 +37,7 @@ use std::io;
 use tries::Tries;
 
 /// The tables of calls, in the folder in which the program runs.
-const TABLES: [&str; 30] = [
+const TABLES: [&str; 31] = [
     "values.txt",
     "refused.txt",
     "inputs.txt",
@@ -49,6 +49,7 @@ const TABLES: [&str; 30] = [
     "by_nets.txt",
     "inner_resets.txt",
     "kept_variables.txt",
+    "static_names.txt",
     "explain.txt",
     "remarks.txt",
     "net.txt",

@@ -1,13 +1,16 @@
 //! Concurrent statements.
 
-use crate::declarations::push_variables;
-use crate::expressions::{push_choices, push_expr, push_map, push_name, push_range, push_value};
-use crate::sequential::push_sequentials;
+use crate::declarations::push_process_declaration;
+use crate::expressions::{
+    push_choices, push_discrete_range, push_expr, push_map, push_name, push_value,
+};
+use crate::kinds::push_kinds;
+use crate::sequential::{push_conditional, push_sequentials};
 use crate::words::{Piece, push_at, push_end, push_identifier, push_if, push_label, push_list};
 use rows_calls::Text;
 use vhdl_tree::{
-    Assignment, Concurrent, Generate, Instance, Instantiated, Process, Scheme, SelectedAssignment,
-    Sensitivity, Wait, Waveform,
+    Assertion, Assignment, Concurrent, Generate, Instance, Instantiated, Process, Scheme,
+    SelectedAssignment, Sensitivity, Wait, Waveform,
 };
 
 /// Adds statements, with a space before each.
@@ -36,6 +39,7 @@ fn push_concurrent(out: &mut Text, statement: &Concurrent) {
             push_instance(out, instance);
         }
         Concurrent::Generate(generate) => push_generate(out, generate),
+        Concurrent::Assert(assertion) => push_assertion(out, assertion),
     }
 }
 
@@ -43,19 +47,12 @@ fn push_assignment(out: &mut Text, assignment: &Assignment) {
     push_label(out, &assignment.label);
     push_name(out, &assignment.target);
     out.push(" <=");
-    let mut before: &[u8] = b" ";
-    for branch in &assignment.branches {
-        out.push_bytes(before);
-        push_value(out, &branch.value);
-        out.push(" when ");
-        push_expr(out, &branch.condition);
-        before = b" else ";
-    }
-    if let Some(value) = &assignment.otherwise {
-        out.push_bytes(before);
-        push_value(out, value);
-    }
-    out.push(";");
+    push_conditional(out, &assignment.branches, &assignment.otherwise);
+}
+
+pub fn push_assertion(out: &mut Text, assertion: &Assertion) {
+    push_label(out, &assertion.label);
+    push_kinds(out, "assert", &assertion.text);
 }
 
 fn push_selected(out: &mut Text, selected: &SelectedAssignment) {
@@ -91,8 +88,8 @@ fn push_process(out: &mut Text, process: &Process) {
     push_at(out, b"process", process.at);
     push_sensitivity(out, &process.sensitivity);
     push_if(out, process.is_word, " is");
-    for variables in &process.variables {
-        push_variables(out, variables);
+    for declaration in &process.declarations {
+        push_process_declaration(out, declaration);
     }
     out.push(" begin");
     if let Some(wait) = &process.wait {
@@ -152,7 +149,7 @@ fn push_scheme(out: &mut Text, scheme: &Scheme, at: usize) {
             out.push(" ");
             push_identifier(out, parameter);
             out.push(" in ");
-            push_range(out, range);
+            push_discrete_range(out, range);
         }
         Scheme::If { condition } => {
             push_at(out, b"if", at);

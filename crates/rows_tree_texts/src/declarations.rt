@@ -1,17 +1,32 @@
 //! Declarations and interfaces.
 
-use crate::expressions::{push_default, push_expr, push_slice, push_value};
+use crate::expressions::{push_default, push_discrete_range, push_expr, push_value};
+use crate::kinds::push_kinds;
 use crate::words::{Piece, push_end, push_identifier, push_identifiers, push_if, push_list};
 use rows_calls::Text;
 use vhdl_tree::{
-    Component, Constants, Declaration, Enumeration, Generic, Identifier, Port, Subtype, Value,
-    Variables,
+    Component, Constants, Constraint, Declaration, Enumeration, Generic, Identifier, Port,
+    ProcessDeclaration, Signals, Subtype, SubtypeDeclaration, Value, Variables,
 };
 
 fn push_subtype(out: &mut Text, subtype: &Subtype) {
     push_identifier(out, &subtype.mark);
-    if let Some(range) = &subtype.range {
-        push_slice(out, range);
+    if let Some(constraint) = &subtype.constraint {
+        push_constraint(out, constraint);
+    }
+}
+
+fn push_constraint(out: &mut Text, constraint: &Constraint) {
+    match constraint {
+        Constraint::Index(range) => {
+            out.push(" (");
+            push_discrete_range(out, range);
+            out.push(")");
+        }
+        Constraint::Range(range) => {
+            out.push(" range ");
+            push_discrete_range(out, range);
+        }
     }
 }
 
@@ -33,7 +48,7 @@ impl Piece for Generic {
         push_identifiers(out, &self.names);
         out.push(" : ");
         push_if(out, self.in_word, "in ");
-        push_identifier(out, &self.mark);
+        push_subtype(out, &self.subtype);
         if let Some(default) = &self.default {
             out.push(" := ");
             push_expr(out, default);
@@ -63,28 +78,53 @@ fn push_objects(out: &mut Text, word: &str, names: &[Identifier], subtype: &Subt
     push_subtype(out, subtype);
 }
 
-pub fn push_variables(out: &mut Text, variables: &Variables) {
+/// Adds a declaration of an architecture, with a space before it.
+pub fn push_declaration(out: &mut Text, declaration: &Declaration) {
+    match declaration {
+        Declaration::Signals(signals) => push_signals(out, signals),
+        Declaration::Constants(constants) => push_constants(out, constants),
+        Declaration::Enumeration(enumeration) => push_enumeration(out, enumeration),
+        Declaration::Component(component) => push_component(out, component),
+        Declaration::Subtype(declared) => push_declared_subtype(out, declared),
+        Declaration::Attribute(text) => push_kinds(out, " attribute", text),
+    }
+}
+
+/// Adds a declaration of a process, with a space before it.
+pub fn push_process_declaration(out: &mut Text, declaration: &ProcessDeclaration) {
+    match declaration {
+        ProcessDeclaration::Variables(variables) => push_variables(out, variables),
+        ProcessDeclaration::Constants(constants) => push_constants(out, constants),
+        ProcessDeclaration::Enumeration(enumeration) => push_enumeration(out, enumeration),
+        ProcessDeclaration::Subtype(declared) => push_declared_subtype(out, declared),
+    }
+}
+
+fn push_signals(out: &mut Text, signals: &Signals) {
+    push_objects(out, " signal ", &signals.names, &signals.subtype);
+    push_default(out, &signals.default);
+    out.push(";");
+}
+
+fn push_variables(out: &mut Text, variables: &Variables) {
     push_objects(out, " variable ", &variables.names, &variables.subtype);
     push_default(out, &variables.default);
     out.push(";");
 }
 
-pub fn push_declaration(out: &mut Text, declaration: &Declaration) {
-    match declaration {
-        Declaration::Signals(signals) => {
-            push_objects(out, " signal ", &signals.names, &signals.subtype);
-            push_default(out, &signals.default);
-            out.push(";");
-        }
-        Declaration::Constants(constants) => {
-            push_objects(out, " constant ", &constants.names, &constants.subtype);
-            out.push(" := ");
-            push_value(out, &constants.value);
-            out.push(";");
-        }
-        Declaration::Enumeration(enumeration) => push_enumeration(out, enumeration),
-        Declaration::Component(component) => push_component(out, component),
-    }
+fn push_constants(out: &mut Text, constants: &Constants) {
+    push_objects(out, " constant ", &constants.names, &constants.subtype);
+    out.push(" := ");
+    push_value(out, &constants.value);
+    out.push(";");
+}
+
+fn push_declared_subtype(out: &mut Text, declared: &SubtypeDeclaration) {
+    out.push(" subtype ");
+    push_identifier(out, &declared.name);
+    out.push(" is ");
+    push_subtype(out, &declared.subtype);
+    out.push(";");
 }
 
 fn push_enumeration(out: &mut Text, enumeration: &Enumeration) {

@@ -1,8 +1,11 @@
 //! Names and expressions.
 
-use crate::words::{Piece, push_at, push_identifier, push_list};
+use crate::words::{Piece, push_at, push_identifier, push_if, push_list};
 use rows_calls::Text;
-use vhdl_tree::{Actual, Association, Chain, Choice, Expr, Link, Name, Range, Suffix, Value};
+use vhdl_tree::{
+    Actual, Association, Attribute, Chain, Choice, DiscreteRange, Element, Expr, Link, Name, Power,
+    Range, Suffix, Value,
+};
 
 #[cycle(expression)]
 pub fn push_expr(out: &mut Text, expr: &Expr) {
@@ -17,11 +20,19 @@ pub fn push_expr(out: &mut Text, expr: &Expr) {
             out.push(")");
         }
         Expr::Not { at, operand } => push_operand(out, "Not", *at, operand),
+        Expr::Abs { at, operand } => push_operand(out, "Abs", *at, operand),
+        Expr::Power(power) => push_power(out, power),
         Expr::Signed { sign, at, operand } => {
             out.push_named(sign);
             push_operand(out, "", *at, operand);
         }
         Expr::Chain(chain) => push_chain(out, chain),
+        Expr::Aggregate { at, elements } => push_elements(out, *at, elements),
+        Expr::Qualified { mark, at, elements } => {
+            push_identifier(out, mark);
+            out.push("'");
+            push_elements(out, *at, elements);
+        }
     }
 }
 
@@ -31,6 +42,15 @@ fn push_operand(out: &mut Text, operator: &str, at: usize, operand: &Expr) {
     push_at(out, operator.as_bytes(), at);
     out.push(" ");
     push_expr(out, operand);
+}
+
+#[cycle(expression)]
+fn push_power(out: &mut Text, power: &Power) {
+    out.push("{");
+    push_expr(out, &power.base);
+    out.push(" ");
+    push_operand(out, "Power", power.at, &power.exponent);
+    out.push("}");
 }
 
 #[cycle(expression)]
@@ -57,7 +77,14 @@ pub fn push_name(out: &mut Text, name: &Name) {
     push_suffix(out, &name.suffix);
     if let Some(attribute) = &name.attribute {
         out.push("'");
-        push_identifier(out, attribute);
+        push_attribute(out, attribute);
+    }
+}
+
+fn push_attribute(out: &mut Text, attribute: &Attribute) {
+    match attribute {
+        Attribute::Name(name) => push_identifier(out, name),
+        Attribute::Range { at } => push_at(out, b"range", *at),
     }
 }
 
@@ -72,16 +99,12 @@ fn push_suffix(out: &mut Text, suffix: &Suffix) {
     match suffix {
         Suffix::Plain => {}
         Suffix::Arguments(all) => push_arguments(out, all),
-        Suffix::Range(range) => push_slice(out, range),
+        Suffix::Range(range) => {
+            out.push(" (");
+            push_range(out, range);
+            out.push(")");
+        }
     }
-}
-
-/// Adds a range in parentheses.
-#[cycle(expression)]
-pub fn push_slice(out: &mut Text, range: &Range) {
-    out.push(" (");
-    push_range(out, range);
-    out.push(")");
 }
 
 #[cycle(expression)]
@@ -95,13 +118,60 @@ fn push_arguments(out: &mut Text, all: &[Expr]) {
     out.push(")");
 }
 
+/// Adds the elements of an aggregate in parentheses, which start at a byte.
 #[cycle(expression)]
-pub fn push_range(out: &mut Text, range: &Range) {
+fn push_elements(out: &mut Text, at: usize, elements: &[Element]) {
+    push_at(out, b"(", at);
+    let mut before: &[u8] = b" ";
+    for element in elements {
+        out.push_bytes(before);
+        push_element(out, element);
+        before = b", ";
+    }
+    out.push(")");
+}
+
+#[cycle(expression)]
+fn push_element(out: &mut Text, element: &Element) {
+    push_choices(out, &element.choices);
+    push_if(out, !element.choices.is_empty(), " => ");
+    push_expr(out, &element.value);
+}
+
+/// Adds choices with bars between.
+#[cycle(expression)]
+pub fn push_choices(out: &mut Text, choices: &[Choice]) {
+    let mut before: &[u8] = b"";
+    for choice in choices {
+        out.push_bytes(before);
+        push_choice(out, choice);
+        before = b" | ";
+    }
+}
+
+#[cycle(expression)]
+fn push_choice(out: &mut Text, choice: &Choice) {
+    match choice {
+        Choice::Expr(expr) => push_expr(out, expr),
+        Choice::Range(range) => push_range(out, range),
+        Choice::Others { at } => push_at(out, b"others", *at),
+    }
+}
+
+#[cycle(expression)]
+fn push_range(out: &mut Text, range: &Range) {
     push_expr(out, &range.left);
     out.push(" ");
     out.push_named(&range.direction);
     out.push(" ");
     push_expr(out, &range.right);
+}
+
+pub fn push_discrete_range(out: &mut Text, range: &DiscreteRange) {
+    match range {
+        DiscreteRange::Bounds(bounds) => push_range(out, bounds),
+        DiscreteRange::Name(name) => push_name(out, name),
+    }
 }
 
 pub fn push_value(out: &mut Text, value: &Value) {
@@ -121,20 +191,6 @@ pub fn push_default(out: &mut Text, value: &Option<Value>) {
     if let Some(value) = value {
         out.push(" := ");
         push_value(out, value);
-    }
-}
-
-/// Adds choices with bars between.
-pub fn push_choices(out: &mut Text, choices: &[Choice]) {
-    push_list(out, ["", " | "], choices);
-}
-
-impl Piece for Choice {
-    fn push(&self, out: &mut Text) {
-        match self {
-            Choice::Expr(expr) => push_expr(out, expr),
-            Choice::Others { at } => push_at(out, b"others", *at),
-        }
     }
 }
 

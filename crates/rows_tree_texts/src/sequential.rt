@@ -1,9 +1,10 @@
 //! Sequential statements.
 
-use crate::expressions::{push_choices, push_expr, push_name, push_range, push_value};
+use crate::expressions::{push_choices, push_discrete_range, push_expr, push_name, push_value};
+use crate::kinds::push_kinds;
 use crate::words::{push_at, push_end, push_identifier, push_label};
 use rows_calls::Text;
-use vhdl_tree::{Case, For, If, Name, Sequential, Statement, Value};
+use vhdl_tree::{Branch, Case, For, If, Name, Sequential, Statement, Value};
 
 /// Adds statements, with a space before each.
 #[cycle(statement)]
@@ -26,9 +27,21 @@ fn push_statement(out: &mut Text, statement: &Statement) {
         Statement::VariableAssignment { target, value } => {
             push_assigned(out, target, " := ", value)
         }
+        Statement::ConditionalAssignment {
+            is_variable,
+            target,
+            branches,
+            otherwise,
+        } => {
+            push_name(out, target);
+            out.push(if *is_variable { " :=" } else { " <=" });
+            push_conditional(out, branches, otherwise);
+        }
         Statement::If(found) => push_if_statement(out, found),
         Statement::Case(found) => push_case(out, found),
         Statement::For(found) => push_for(out, found),
+        Statement::Assert(text) => push_kinds(out, "assert", text),
+        Statement::Report(text) => push_kinds(out, "report", text),
     }
 }
 
@@ -36,6 +49,23 @@ fn push_assigned(out: &mut Text, target: &Name, delimiter: &str, value: &Value) 
     push_name(out, target);
     out.push(delimiter);
     push_value(out, value);
+    out.push(";");
+}
+
+/// Adds what is assigned under conditions, and the end of the assignment.
+pub fn push_conditional(out: &mut Text, branches: &[Branch], otherwise: &Option<Value>) {
+    let mut before: &[u8] = b" ";
+    for branch in branches {
+        out.push_bytes(before);
+        push_value(out, &branch.value);
+        out.push(" when ");
+        push_expr(out, &branch.condition);
+        before = b" else ";
+    }
+    if let Some(value) = otherwise {
+        out.push_bytes(before);
+        push_value(out, value);
+    }
     out.push(";");
 }
 
@@ -78,7 +108,7 @@ fn push_for(out: &mut Text, found: &For) {
     out.push(" ");
     push_identifier(out, &found.parameter);
     out.push(" in ");
-    push_range(out, &found.range);
+    push_discrete_range(out, &found.range);
     out.push(" loop");
     push_sequentials(out, &found.statements);
     push_end(out, " end loop", &found.end_label);

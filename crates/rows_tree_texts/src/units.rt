@@ -1,12 +1,15 @@
 //! Design units and files.
 
-use crate::concurrent::push_concurrents;
+use crate::concurrent::{push_assertion, push_concurrents};
 use crate::declarations::{push_declaration, push_interface};
+use crate::kinds::push_kinds;
 use crate::words::{
     Piece, push_at, push_end, push_identifier, push_identifiers, push_if, push_list,
 };
 use rows_calls::Text;
-use vhdl_tree::{Architecture, ContextItem, DesignUnit, Entity, File, LibraryUnit, Selected};
+use vhdl_tree::{
+    Architecture, Assertion, ContextItem, DesignUnit, Entity, File, LibraryUnit, Selected,
+};
 
 /// Adds the units of a file, with a space between.
 pub fn push_file(out: &mut Text, file: &File) {
@@ -51,9 +54,24 @@ fn push_entity(out: &mut Text, entity: &Entity) {
     push_identifier(out, &entity.name);
     out.push(" is");
     push_interface(out, &entity.generics, &entity.ports);
+    for text in &entity.attributes {
+        push_kinds(out, " attribute", text);
+    }
+    push_entity_statements(out, &entity.statements);
     out.push(" end");
     push_if(out, entity.end_word, " entity");
     push_end(out, "", &entity.end_name);
+}
+
+/// Adds `begin` and the statements of an entity, if they are there.
+fn push_entity_statements(out: &mut Text, statements: &Option<Vec<Assertion>>) {
+    if let Some(statements) = statements {
+        out.push(" begin");
+        for statement in statements {
+            out.push(" ");
+            push_assertion(out, statement);
+        }
+    }
 }
 
 fn push_architecture(out: &mut Text, body: &Architecture) {

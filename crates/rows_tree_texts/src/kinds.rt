@@ -1,5 +1,6 @@
-//! The names of the kinds of tokens.
+//! Kinds of tokens by their names.
 
+use rows_calls::Text;
 use vhdl_lexer::TokenKind;
 
 macro_rules! names {
@@ -27,4 +28,14 @@ pub fn kind_name(kind: TokenKind) -> &'static str {
         Some(name) => *name,
         None => "",
     }
+}
+
+/// Adds a word, and the kinds of the tokens behind it, which the tree keeps without their places.
+pub fn push_kinds(out: &mut Text, word: &str, kinds: &[TokenKind]) {
+    out.push(word);
+    for kind in kinds {
+        out.push(" ");
+        out.push(kind_name(*kind));
+    }
+    out.push(";");
 }
