@@ -11,6 +11,7 @@
     design_cases.py make_resets N SEED FILE   as make_wide, with resets that are made inside, and resets behind the edge
     design_cases.py make_kept N SEED FILE     as make_wide, with variables that clocked processes keep; a trace shows them as GHDL's signals
                                               beside them, but those of a process without a label
+    design_cases.py make_static N SEED FILE   as make_wide, with subtypes, attributes, aggregates, powers, constants of any type and so on
     design_cases.py make_plain N SEED FILE    as make, with no weak letter in stimuli and literals, so that a 0 or 1 of GHDL's trace is one
     design_cases.py expect FILE PROGRAM       PROGRAM run --expect (also --levels, --event) of such designs with GHDL's values in a file: all
                                               hold; and with one letter turned over, that line is told
@@ -31,6 +32,7 @@ from pathlib import Path
 
 import designs
 from designs import HEAD, Design, Signal, beside
+from static import StaticDesign
 
 TOP = Path(__file__).resolve().parents[2]
 sys.path.insert(0, str(TOP / "bridge"))
@@ -38,6 +40,7 @@ from dump import vcd  # noqa: E402
 from raw.ghdl import called  # noqa: E402
 
 NINE = "01010101010101LHXUZW-"
+FORM = Design
 BATCH = 50
 DIGITS = {"0": "0", "l": "0", "1": "1", "h": "1", "z": "z"}
 
@@ -178,7 +181,7 @@ def twins(r, text):
 
 
 def is_wide():
-    return designs.WIDE or designs.NETS or designs.RESETS or designs.KEPT
+    return designs.WIDE or designs.NETS or designs.RESETS or designs.KEPT or FORM is StaticDesign
 
 
 def make(n, seed, path):
@@ -187,7 +190,7 @@ def make(n, seed, path):
         while done < n:
             batch = []
             while len(batch) < min(BATCH, n - done):
-                d = Design(r, f"d{done + len(batch)}")
+                d = FORM(r, f"d{done + len(batch)}")
                 tried += 1
                 unit = d.make(wild=not is_wide() and r.random() < 0.33)
                 lines, changes, toggles, stop = stimulus(r, d)
@@ -335,6 +338,9 @@ def expect(path, program):
 if __name__ == "__main__":
     if sys.argv[1] == "make_plain":
         NINE, designs.LETTERS, designs.IDLE = "01", "01", "Z-"
+    if sys.argv[1] == "make_static":
+        # GHDL 2.0 ends on one of a dozen
+        FORM, BATCH = StaticDesign, 10
     words = ("make_wide", "make_nets", "make_resets", "make_kept")
     designs.WIDE, designs.NETS, designs.RESETS, designs.KEPT = (sys.argv[1] == word for word in words)
     if sys.argv[1].startswith("make"):

@@ -14,28 +14,37 @@ KEPT = False  # whether clocked processes keep variables
 
 
 class Signal:
-    """kind: s one element, v std_logic_vector, u unsigned, e an enumeration, whose literals stand in words"""
+    """kind: s one element, v std_logic_vector, u unsigned, e an enumeration, whose literals stand in words; low: a vector's least index"""
 
-    def __init__(self, name, kind, width, upward=False, words=None):
-        self.name, self.kind, self.width, self.upward, self.words = name, kind, width, upward, words
+    def __init__(self, name, kind, width, upward=False, words=None, low=0):
+        self.name, self.kind, self.width, self.upward, self.words, self.low = name, kind, width, upward, words, low
+        self.is_local = True  # whether its range is locally static
+
+    def ends(self):
+        both = self.low, self.low + self.width - 1
+        return both if self.upward else both[::-1]
 
     def type(self):
         if self.kind == "s":
             return "std_logic"
         if self.kind == "e":
             return self.words[0]
-        ends = f"0 to {self.width - 1}" if self.upward else f"{self.width - 1} downto 0"
-        return "{}({})".format("std_logic_vector" if self.kind == "v" else "unsigned", ends)
+        left, right = self.ends()
+        return f"{'std_logic_vector' if self.kind == 'v' else 'unsigned'}({left} {'to' if self.upward else 'downto'} {right})"
+
+    def at(self, text):
+        """the element of which the text counts from the least index"""
+        return f"{self.name}({text} + {self.low})" if self.low else f"{self.name}({text})"
 
     def element(self, right):
-        return f"{self.name}({self.width - 1 - right if self.upward else right})"
+        return f"{self.name}({self.low + (self.width - 1 - right if self.upward else right)})"
 
     def slice(self, right, width):
         if width == self.width:
             return self.name
         if self.upward:
-            return f"{self.name}({self.width - right - width} to {self.width - right - 1})"
-        return f"{self.name}({right + width - 1} downto {right})"
+            return f"{self.name}({self.low + self.width - right - width} to {self.low + self.width - right - 1})"
+        return f"{self.name}({self.low + right + width - 1} downto {self.low + right})"
 
 
 class Design:
@@ -45,6 +54,7 @@ class Design:
         self.keeping = []  # labels of processes, each with the variables that it keeps
         self.decls, self.body, self.units, self.ins, self.outs = [], [], [], [], []
         self.resets = [("rst", "01")]  # what may reset, and by which values
+        self.out_ports = []
 
     def fresh(self, letter):
         self.count += 1
@@ -55,6 +65,30 @@ class Design:
 
     def of_kind(self, kinds, least=1):
         return [s for s in self.known if s.kind in kinds and s.width >= least]
+
+    # how what is declared is written
+
+    def placed(self, s):
+        return s
+
+    def type_of(self, s):
+        return s.type()
+
+    def type_of_port(self, s):
+        return s.type()
+
+    def constants(self):
+        for kind in "suv" if self.chance(0.3) else "":
+            k = self.placed(Signal(self.fresh("k"), kind, 1 if kind == "s" else self.r.randint(1, 9), self.chance(0.3)))
+            self.decls.append("constant {} : {} := {};".format(k.name, self.type_of(k), self.literal(k)))
+            self.known = self.known + [k]
+
+    def generics(self):
+        return [f"n : natural := {self.r.randrange(1, 5)}"] if self.depth else []
+
+    def generic_map(self):
+        """of an instance of this design"""
+        return [f'{self.r.choice(["", "n => "])}{self.r.randrange(1, 7)}'] if self.chance(0.5) else []
 
     # expressions over what is known so far
 
@@ -186,8 +220,8 @@ class Design:
             return None
         x, last = self.r.choice(near), s.width - 1
         ends = f"0 to {last}" if self.chance(0.5) else f"{last} downto 0"
-        return "for i in {} loop {}(i) {} {}({}) {} {}; end loop;".format(
-            ends, s.name, sign, x.name, self.r.choice(["i", f"{last} - i"]), self.r.choice(LOGIC[:3]), self.scalar(1)
+        return "for i in {} loop {} {} {} {} {}; end loop;".format(
+            ends, s.at("i"), sign, x.at(self.r.choice(["i", f"{last} - i"])), self.r.choice(LOGIC[:3]), self.scalar(1)
         )
 
     def statement(self, s, sign, deep, whole):
@@ -222,7 +256,8 @@ class Design:
                 self.chance(0.3),
                 self.r.choice(self.types) if kind == "e" else None,
             )
-            decls += "variable {} : {}{}; ".format(v.name, v.type(), " := " + self.literal(v) if self.chance(0.4) else "")
+            v = self.placed(v)
+            decls += "variable {} : {}{}; ".format(v.name, self.type_of(v), " := " + self.literal(v) if self.chance(0.4) else "")
             text += self.assign(v, ":=") + " "
             self.known.append(v)
             mine.append(v)
@@ -237,9 +272,9 @@ class Design:
         """two loops over a vector's elements that change a variable"""
         x = self.r.choice(near)
         step = (
-            "{} := {} xor ({}(i) and {}(j));".format(v.name, v.name, x.name, x.name)
+            "{} := {} xor ({} and {});".format(v.name, v.name, x.at("i"), x.at("j"))
             if v.kind == "s"
-            else "if {}(i) = '1' and {}(j) /= '0' then {} := {} + 1; end if;".format(x.name, x.name, v.name, v.name)
+            else "if {} = '1' and {} /= '0' then {} := {} + 1; end if;".format(x.at("i"), x.at("j"), v.name, v.name)
         )
         return f"for i in 0 to {x.width - 1} loop for j in i to {x.width - 1} loop {step} end loop; end loop;"
 
@@ -282,9 +317,9 @@ class Design:
         if k < 0.85 and near and s.kind in "uv":
             x, g = r.choice(near), self.fresh("g")
             if self.chance(0.4):
-                return f"{g}: for i in 0 to {s.width - 1} generate {s.name}(i) <= {x.name}(i) {r.choice(LOGIC)} {self.scalar(1)}; end generate;"
-            inner = f"process (all) begin if {self.condition()} then {s.name}(i) <= {x.name}({x.width - 1} - i); else {s.name}(i) <= {self.scalar(1)}; end if; end process;"
-            return f'{g}: for i in 0 to {s.width - 1} generate {self.fresh("h")}: if i mod 2 = 0 generate {inner} end generate; {self.fresh("h")}: if i mod 2 /= 0 generate {s.name}(i) <= {x.name}(i); end generate; end generate;'
+                return f"{g}: for i in 0 to {s.width - 1} generate {s.at('i')} <= {x.at('i')} {r.choice(LOGIC)} {self.scalar(1)}; end generate;"
+            inner = f"process (all) begin if {self.condition()} then {s.at('i')} <= {x.at(f'{x.width - 1} - i')}; else {s.at('i')} <= {self.scalar(1)}; end if; end process;"
+            return f'{g}: for i in 0 to {s.width - 1} generate {self.fresh("h")}: if i mod 2 = 0 generate {inner} end generate; {self.fresh("h")}: if i mod 2 /= 0 generate {s.at("i")} <= {x.at("i")}; end generate; end generate;'
         return self.process([s])
 
     def declare(self, kind, width, out=False, start=False):
@@ -295,9 +330,12 @@ class Design:
             self.chance(0.25),
             self.r.choice(self.types) if kind == "e" else None,
         )
-        text = "{} : {}{}{}".format(s.name, "out " if out else "", s.type(), " := " + self.literal(s) if start else "")
+        s = self.placed(s)
+        written = self.type_of_port(s) if out else self.type_of(s)
+        text = "{} : {}{}{}".format(s.name, "out " if out else "", written, " := " + self.literal(s) if start else "")
         if out:
             self.outs.append(text)
+            self.out_ports.append(s)
         else:
             self.decls.append(f"signal {text};")
         if kind == "e":
@@ -323,7 +361,7 @@ class Design:
     def child(self):
         """an entity of its own, and one to three instances; their outputs side by side in one net where there is one kind"""
         r = self.r
-        c = Design(r, self.top + self.fresh("c"), self.depth + 1)
+        c = type(self)(r, self.top + self.fresh("c"), self.depth + 1)
         unit, shadow = c.make()
         self.units += c.units + [(unit, shadow)]
         self.edges |= c.edges
@@ -354,14 +392,15 @@ class Design:
                     maps.append("{} => {}".format(p.name, s.name))
                 elif self.chance(0.5):
                     maps.append(p.name + " => open")
-            generic = f' generic map ({r.choice(["", "n => "])}{r.randrange(1, 7)})' if self.chance(0.5) else ""
+            given = c.generic_map()
+            generic = f" generic map ({', '.join(given)})" if given else ""
             self.body.append("{}: {}{} port map ({});".format(self.fresh("u"), form, generic, ", ".join(maps)))
         self.known += fresh
 
     def row(self):
         """a row of instances in a generate, whose width is a generic"""
         r, name, w, n = self.r, self.top + self.fresh("c"), self.r.randint(1, 4), self.r.randint(1, 4)
-        near = [s for s in self.of_kind("u", w * n) if not s.upward and s.name[0] != "k"]
+        near = [s for s in self.of_kind("u", w * n) if not s.upward and not s.low and s.name[0] != "k"]
         if not near:
             return
         x, z = r.choice(near), Signal(self.fresh("n"), "u", w * n)
@@ -697,15 +736,12 @@ class Design:
             self.types.append([self.fresh("t")] + [self.fresh("w") for _ in range(r.randint(2, 6))])
             self.decls.append("type {} is ({});".format(self.types[-1][0], ", ".join(self.types[-1][1:])))
         self.in_ports = [Signal("i0", "s", 1)] + [
-            Signal(f"i{k}", q, 1 if q == "s" else r.randint(1, 12), self.chance(0.25))
+            self.placed(Signal(f"i{k}", q, 1 if q == "s" else r.randint(1, 12), self.chance(0.25)))
             for k, q in enumerate((r.choice("svvu") for _ in range(r.randint(0, 4))), 1)
         ]
         self.known = self.in_ports + ([Signal("rst", "s", 1)] if self.chance(0.5) else [])
         registers = [self.any(False, self.chance(0.8)) for _ in range(r.randint((WIDE or KEPT) and self.depth == 0, 5))]
-        for kind in "suv" if self.chance(0.3) else "":
-            k = Signal(self.fresh("k"), kind, 1 if kind == "s" else r.randint(1, 9), self.chance(0.3))
-            self.decls.append("constant {} : {} := {};".format(k.name, k.type(), self.literal(k)))
-            self.known = self.known + [k]
+        self.constants()
         self.known = self.known + registers
         if RESETS or (KEPT and self.chance(0.3)):
             self.make_resets()
@@ -731,18 +767,10 @@ class Design:
     def text(self):
         """the design's text, and what GHDL needs beside it to show enumerations and variables: declarations and statements,
         and both for variables by their process's label"""
-        self.out_ports = []
-        for o in self.outs:
-            m = re.match(r"(\w+) : out (std_logic_vector|unsigned|std_logic)(?:\((\d+) (to|downto) (\d+)\))?", o)
-            up = m.group(4) == "to"
-            self.out_ports.append(
-                Signal(
-                    m.group(1), {"std_logic": "s", "unsigned": "u"}.get(m.group(2), "v"), 1 + int(m.group(5 if up else 3)) if m.group(3) else 1, up
-                )
-            )
         default = lambda p: " := " + self.literal(p) if self.depth else ""
-        ports = ["clk, rst, ck2 : in std_logic"] + ["{} : in {}{}".format(p.name, p.type(), default(p)) for p in self.in_ports] + self.outs
-        generic = f"generic (n : natural := {self.r.randrange(1, 5)}); " if self.depth else ""
+        ports = ["clk, rst, ck2 : in std_logic"] + ["{} : in {}{}".format(p.name, self.type_of_port(p), default(p)) for p in self.in_ports] + self.outs
+        its = self.generics()
+        generic = f"generic ({'; '.join(its)}); " if its else ""
         if self.depth and self.of_kind("u") and self.chance(0.7):
             s, x = self.declare("u", self.r.randint(1, 8)), self.r.choice(self.of_kind("u"))
             self.body.append(f"{s.name} <= resize({x.name}, {s.width}) + n;")
