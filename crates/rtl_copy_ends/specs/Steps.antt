@@ -9,6 +9,7 @@ use Rattle.rtl_copy_ends.specs.declared.sight.Standing.{Standing}
 use Rattle.rtl_copy_ends.specs.declared.walks.Walks.{Walks}
 use Rattle.rtl_copy_ends.specs.Ends.{all_kinds, look}
 use Rattle.rtl_copy_ends.specs.Inside.{inside}
+use Rattle.rtl_seen_nets.specs.Drivers.{seen_nets}
 
 -- ---- places
 
@@ -47,11 +48,11 @@ pub record AreAfter (steps : List ℕ) (many : ℕ) (far : List ℕ) : Type 0 wh
   pub places : length far ≡ length steps
   pub each : (place : ℕ) → place < length steps → slice_index far place ≡ after (slice_index steps) many place
 
--- ---- all walks: but for their first step and their last; and the nets that don't come from outside
+-- ---- all walks: but for their first step and their last; and what each net's driver looks at
 
 pub record AreWalks (net : NetlistView) (walks : Walks) : Type 0 where
   pub kinds : walks.kinds.items ≡ all_kinds net
-  pub inside : walks.inside.items ≡ inside net
+  pub seen : walks.seen.items ≡ seen_nets net (inside net)
   pub places : length walks.far.items ≡ 4 * length net.types
   pub far : (place : ℕ) → place < 4 * length net.types
       → slice_index walks.far.items place ≡ after (next net) (length net.processes - 2) place

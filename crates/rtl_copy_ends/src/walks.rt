@@ -2,6 +2,7 @@
 
 ghost use Rattle.std.specs.Prelude.{◌≡◌, ◌<◌, ◌*◌, ◌^◌, All, IfOk, true, length};
 ghost use Rattle.rtl_copy_ends.specs.Ends as spec;
+ghost use Rattle.rtl_copy_ends.specs.Inside.{seen_by};
 ghost use Rattle.rtl_copy_ends.specs.Steps.{AreSteps, AreWalks, next, place_of, standing_at};
 
 use crate::inside::inside_nets;
@@ -11,22 +12,23 @@ use crate::table::after;
 use rtl_body_facts::ProcessKind;
 use rtl_net::Net;
 use rtl_process_kinds::Asked;
+use rtl_seen_nets::seen_nets;
 use std::alloc::{AllocError, Global};
 
 /// Where the walks from all nets down copies stand one step before their last, and the kinds of all
-/// processes: where a walk ends is found by it in constant time. And which nets don't come from
-/// outside.
+/// processes: where a walk ends is found by it in constant time. And which net that doesn't come
+/// from outside each net's driver looks at.
 #[derive(Drop)]
 pub struct Walks {
     kinds: Vec<ProcessKind>,
     far: Vec<usize>,
-    inside: Vec<bool>,
+    seen: Vec<Option<usize>>,
 }
 
 impl Walks {
     /// Those of a netlist, which is wide: of another there are none. It takes time in proportion to
     /// its processes with their bodies, and to its nets times the logarithm of how many processes
-    /// it has, and memory for each of its processes and nets.
+    /// it has, and memory for each of its processes and nets, and for what a body looks at.
     pub fn of(alloc: Global, net: &Net) -> Result<Walks, AllocError>
         ensures { IfOk result (λ walks. net.now.wide ≡ true → AreWalks net.now walks) }
     {
@@ -34,15 +36,16 @@ impl Walks {
             return Ok(Walks {
                 kinds: Vec::new(alloc),
                 far: Vec::new(alloc),
-                inside: Vec::new(alloc),
+                seen: Vec::new(alloc),
             });
         }
         let kinds = all_kinds(alloc, net)?;
         let inside = inside_nets(alloc, net, &kinds)?;
+        let seen = seen_nets(alloc, net, &inside)?;
         let steps = first_steps(alloc, net, &kinds)?;
         let between = net.processes().len().saturating_sub(2);
         let far = after(alloc, &steps, between)?;
-        Ok(Walks { kinds, far, inside })
+        Ok(Walks { kinds, far, seen })
     }
 
     /// What stands where the walk ends that begins here.
@@ -66,11 +69,16 @@ impl Walks {
         }
     }
 
-    /// Of each net whether a process drives it or it is a clock.
-    pub fn inside(&self) -> &[bool]
-        ensures { result.now ≡ self.now.inside.items }
+    /// The lowest net that a net's first driver looks at and that doesn't come from outside.
+    pub fn seen_by(&self, net: &Net, number: usize) -> Option<usize>
+        requires { AreWalks net.now self.now }
+        ensures { result ≡ seen_by net.now number }
     {
-        &self.inside
+        if number < net.nets() {
+            self.seen[number]
+        } else {
+            None
+        }
     }
 }
 

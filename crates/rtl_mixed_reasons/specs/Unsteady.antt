@@ -9,11 +9,10 @@ use Rattle.rtl_body_facts.specs.declared.kinds.ProcessKind.TheVariants as k
 use Rattle.rtl_process_kinds.specs.BodyViews.{asked_last}
 use Rattle.rtl_process_kinds.specs.declared.asked.Asked.{Asked}
 use Rattle.rtl_copy_ends.specs.Ends.{driven_by, kind_in, end_of}
-use Rattle.rtl_copy_ends.specs.Inside.{inside}
+use Rattle.rtl_copy_ends.specs.Inside.{seen_by}
 use Rattle.rtl_copy_ends.specs.declared.sight.End.{End}
 use Rattle.rtl_copy_ends.specs.declared.sight.End.TheVariants.{Nothing, Starts, Made, Register, Circle}
 use Rattle.rtl_copy_ends.specs.declared.sight.Standing.{Standing}
-use Rattle.rtl_seen_nets.specs.Drivers.{seen_among}
 use Rattle.rtl_mixed_reasons.specs.declared.reason.Reason.{Reason}
 use Rattle.rtl_mixed_reasons.specs.declared.reason.ReasonKind.{ReasonKind}
 use Rattle.rtl_mixed_reasons.specs.declared.reason.ReasonKind.TheVariants.{UnsteadyGate, UnsteadyClock, UnsteadyRegister, UnsteadyStart, UnsteadyCircle}
@@ -25,10 +24,6 @@ use Rattle.rtl_mixed_reasons.specs.Reasons.{naming, naming_two, at_of, is_mixed,
 abbrev pub seen_kind : NetlistView → (seen : Option ℕ) → ReasonKind
 seen_kind net None = UnsteadyClock
 seen_kind net (Some n) = if is_some (driven_by net n) then UnsteadyGate else UnsteadyClock
-
--- the lowest net that it looks at and that doesn't come from outside
-abbrev pub seen_by : NetlistView → (n : ℕ) → Option ℕ
-seen_by net n = seen_among net n (inside net)
 
 abbrev pub made_of : NetlistView → (at n : ℕ) → Reason
 made_of net at n =

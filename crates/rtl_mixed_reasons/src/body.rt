@@ -250,8 +250,8 @@ fn is_mixed(net: &Net, process: &Process) -> bool
 /// its own. It is to be asked of a process that has a fault: it finds reasons, not whether a reset
 /// is calm. It takes time in proportion to its drivers and to its body times how deep it is nested,
 /// but for the logarithms of sorted lists, and memory for the nets that it assigns. Where the
-/// copies end that its reset is made by is in the walks, which serve all processes; of what makes
-/// the net there the body is looked at.
+/// copies end that its reset is made by, and what the net there looks at, is in the walks, which
+/// serve all processes.
 pub fn reason_of(
     alloc: Global,
     net: &Net,
@@ -265,7 +265,7 @@ pub fn reason_of(
         return Ok(None);
     };
     if !is_mixed(net, process) {
-        return unsteady(alloc, net, walks, process);
+        return Ok(unsteady(net, walks, process));
     }
     reason_of_body(alloc, net, process)
 }

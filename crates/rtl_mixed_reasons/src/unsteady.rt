@@ -1,6 +1,6 @@
 //! What a reset is made of that may come and go within a moment.
 
-ghost use Rattle.std.specs.Prelude.{◌≡◌, ◌<◌, IfOk, length, true};
+ghost use Rattle.std.specs.Prelude.{◌≡◌, ◌<◌, length, true};
 ghost use Rattle.rtl_copy_ends.specs.Steps.{AreWalks};
 ghost use Rattle.rtl_mixed_reasons.specs.Unsteady as spec;
 
@@ -10,8 +10,6 @@ use rtl_body_facts::ProcessKind;
 use rtl_copy_ends::{End, Standing, Walks, driven_by, kind_in};
 use rtl_net::{Net, Process, Statement};
 use rtl_process_kinds::asked_last;
-use rtl_seen_nets::seen_among;
-use std::alloc::{AllocError, Global};
 
 /// The kind of the reason that a reset looks at this net, which a process drives, or else a clock.
 fn seen_kind(net: &Net, seen: Option<usize>) -> ReasonKind
@@ -28,52 +26,36 @@ fn seen_kind(net: &Net, seen: Option<usize>) -> ReasonKind
 
 /// What is told of a net that a process makes: the lowest net that it looks at and that doesn't
 /// come from outside.
-fn made_of(
-    alloc: Global,
-    net: &Net,
-    walks: &Walks,
-    at: u32,
-    number: usize,
-) -> Result<Reason, AllocError>
+fn made_of(net: &Net, walks: &Walks, at: u32, number: usize) -> Reason
     requires { AreWalks net.now walks.now }
-    ensures { IfOk result (λ reason. reason ≡ spec.made_of net.now at number) }
+    ensures { result ≡ spec.made_of net.now at number }
 {
-    let second = seen_among(alloc, net, number, walks.inside())?;
-    Ok(Reason {
+    let second = walks.seen_by(net, number);
+    Reason {
         kind: seen_kind(net, second),
         at,
         net: Some(number),
         driver: None,
         second,
-    })
+    }
 }
 
 /// What is told where copies end so.
-fn told_of(
-    alloc: Global,
-    net: &Net,
-    walks: &Walks,
-    at: u32,
-    end: End,
-) -> Result<Option<Reason>, AllocError>
+fn told_of(net: &Net, walks: &Walks, at: u32, end: End) -> Option<Reason>
     requires { AreWalks net.now walks.now }
-    ensures { IfOk result (λ reason. reason ≡ spec.told_of net.now at end) }
+    ensures { result ≡ spec.told_of net.now at end }
 {
     match end {
-        End::Nothing => Ok(None),
-        End::Starts { net: number } => {
-            Ok(Some(Reason::naming(ReasonKind::UnsteadyStart, at, number)))
-        }
-        End::Made { net: number } => Ok(Some(made_of(alloc, net, walks, at, number)?)),
-        End::Register { net: number, reset } => Ok(Some(Reason::naming_two(
+        End::Nothing => None,
+        End::Starts { net: number } => Some(Reason::naming(ReasonKind::UnsteadyStart, at, number)),
+        End::Made { net: number } => Some(made_of(net, walks, at, number)),
+        End::Register { net: number, reset } => Some(Reason::naming_two(
             ReasonKind::UnsteadyRegister,
             at,
             number,
             reset,
-        ))),
-        End::Circle { net: number } => {
-            Ok(Some(Reason::naming(ReasonKind::UnsteadyCircle, at, number)))
-        }
+        )),
+        End::Circle { net: number } => Some(Reason::naming(ReasonKind::UnsteadyCircle, at, number)),
     }
 }
 
@@ -104,24 +86,15 @@ fn reset_in(net: &Net, process: &Process) -> Option<Standing>
 }
 
 /// What is told of the reset of a process, if it has one, where the netlist is wide.
-pub(crate) fn unsteady(
-    alloc: Global,
-    net: &Net,
-    walks: &Walks,
-    process: &Process,
-) -> Result<Option<Reason>, AllocError>
+pub(crate) fn unsteady(net: &Net, walks: &Walks, process: &Process) -> Option<Reason>
     requires walks { net.now.wide ≡ true → AreWalks net.now walks.now }
     requires some { 0 < length net.now.processes }
-    ensures { IfOk result (λ reason. reason ≡ spec.unsteady net.now process.now) }
+    ensures { result ≡ spec.unsteady net.now process.now }
 {
     if !net.is_wide() {
-        return Ok(None);
+        return None;
     }
-    match reset_in(net, process) {
-        Some(reset) => {
-            let end = walks.end_of(net, reset);
-            told_of(alloc, net, walks, last_at(&process.body), end)
-        }
-        None => Ok(None),
-    }
+    let reset = reset_in(net, process)?;
+    let end = walks.end_of(net, reset);
+    told_of(net, walks, last_at(&process.body), end)
 }

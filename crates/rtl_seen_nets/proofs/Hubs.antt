@@ -1,14 +1,13 @@
 -- What was found behind hubs.
 use Rattle.std.proofs.Common.{◌≡◌, ℕ, zero, suc, ◌+◌, ◌<◌, ◌≤◌, Bool, List, [], ◌∷◌, ◌++◌, length, get_or, map, drop, Option, Some, None, refl, sym, ap, ◌∙◌}
 use Rattle.std.proofs.lemmas.List.{drop_more, drop_all, map_push}
-use Rattle.rtl_body_facts.specs.Reading.{is_in}
 use Rattle.rtl_looks.specs.declared.hubs.Look.{Look}
 use Rattle.rtl_looks.specs.declared.hubs.Look.TheVariants as l
 use Rattle.rtl_looks.specs.declared.hubs.Hub.{Hub}
 use Rattle.rtl_model.specs.bodies.Body.{Stmts}
 use Rattle.rtl_model.specs.bodies.Looks.{looked_nets}
 use Rattle.rtl_looks.specs.Denoting.{nets_by, nets_behind, nets_of, look_at, DriversLook}
-use Rattle.rtl_seen_nets.specs.Behind.{lowest_at, lowest_behind}
+use Rattle.rtl_seen_nets.specs.Behind.{lowest_at, lowest_behind, lowest_seen}
 use Rattle.rtl_seen_nets.specs.Lowest.{lower, if_wanted, lowest}
 use Rattle.rtl_seen_nets.proofs.Lists.{lower-none, lowest-append, lowest-same}
 
@@ -53,16 +52,21 @@ module _ (wanted : List Bool) where
   pub ends : (hubs : List Hub) (i : ℕ) (found : List (Option ℕ)) → FoundSoFar hubs i found → length hubs ≤ i → found ≡ map (lowest wanted) (nets_behind [] hubs)
   ends hubs i found so l = so.are ∙ ap (map (lowest wanted)) (sym (ap (nets_behind so.known) (drop_all i hubs l)) ∙ so.left)
 
-  -- ---- what a driver looks at
+  -- ---- what drivers look at
 
-  module _ (body : Stmts) (old hubs : List Hub) (looks : List (Option Look)) (place : ℕ) (drivers : DriversLook body old hubs looks) where
-    same : (look : Option Look) → look ≡ look_at looks place → (n : ℕ) → is_in n (nets_of hubs look) ≡ is_in n (looked_nets body place)
-    same look e n = ap (λ (o : Option Look). is_in n (nets_of hubs o)) e ∙ (drivers.denotes place).nets n
+  at-place : (found : List (Option ℕ)) (looks : List (Option Look)) (place : ℕ) → lowest_at (map (lowest_seen wanted found) looks) place ≡ lowest_seen wanted found (look_at looks place)
+  at-place found [] place = refl
+  at-place found (look ∷ looks) zero = refl
+  at-place found (look ∷ looks) (suc place) = at-place found looks place
 
-    pub some-is : (look : Look) (found : List (Option ℕ)) → Some look ≡ look_at looks place → found ≡ map (lowest wanted) (nets_behind [] hubs) → lowest_behind wanted found look ≡ lowest wanted (looked_nets body place)
-    some-is look found e f =
-        ap (λ (xs : List (Option ℕ)). lowest_behind wanted xs look) f
-        ∙ (behind-is (nets_behind [] hubs) look ∙ lowest-same wanted (nets_of hubs (Some look)) (looked_nets body place) (same (Some look) e))
+  seen-is : (hubs : List Hub) (look : Option Look) → lowest_seen wanted (map (lowest wanted) (nets_behind [] hubs)) look ≡ lowest wanted (nets_of hubs look)
+  seen-is hubs None = refl
+  seen-is hubs (Some look) = behind-is (nets_behind [] hubs) look
 
-    pub none-is : None ≡ look_at looks place → None ≡ lowest wanted (looked_nets body place)
-    none-is e = lowest-same wanted [] (looked_nets body place) (same None e)
+  pub drivers-see : (body : Stmts) (old hubs : List Hub) (looks : List (Option Look)) (found seen : List (Option ℕ)) → DriversLook body old hubs looks → found ≡ map (lowest wanted) (nets_behind [] hubs)
+      → seen ≡ map (lowest_seen wanted found) looks → (place : ℕ) → lowest_at seen place ≡ lowest wanted (looked_nets body place)
+  drivers-see body old hubs looks found seen drivers f s place =
+      ap (λ (xs : List (Option ℕ)). lowest_at xs place) s
+      ∙ (at-place found looks place
+      ∙ (ap (λ (xs : List (Option ℕ)). lowest_seen wanted xs (look_at looks place)) f
+      ∙ (seen-is hubs (look_at looks place) ∙ lowest-same wanted (nets_of hubs (look_at looks place)) (looked_nets body place) (drivers.denotes place).nets)))

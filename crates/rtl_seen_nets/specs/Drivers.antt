@@ -1,5 +1,6 @@
 -- What the driver of a net looks at.
-use Rattle.std.specs.Prelude.{ℕ, Bool, nat_lt, if◌then◌else◌, List, [], ◌∷◌, length, slice_get, Option, Some, None}
+use Rattle.std.specs.Prelude.{ℕ, Bool, nat_lt, if◌then◌else◌, List, [], ◌∷◌, length, map, slice_get, Option, Some, None}
+use Rattle.std.specs.List.{range_with_len}
 use Rattle.rtl_model.specs.bodies.Looks.{looked_nets}
 use Rattle.rtl_model.specs.nets.FlatNetlist.{flat_sources}
 use Rattle.rtl_model.specs.simulation.Netlist.{Source, Driver}
@@ -20,5 +21,9 @@ abbrev pub looked_from : NetlistView → (n : ℕ) → List ℕ
 looked_from net n = if nat_lt n (length net.types) then looked_by net (flat_sources (flat net) n) else []
 
 -- the lowest of these nets that is wanted
-abbrev pub seen_among : NetlistView → (n : ℕ) → (wanted : List Bool) → Option ℕ
-seen_among net n wanted = lowest wanted (looked_from net n)
+abbrev pub seen_among : NetlistView → (wanted : List Bool) → (n : ℕ) → Option ℕ
+seen_among net wanted n = lowest wanted (looked_from net n)
+
+-- the same of each net
+abbrev pub seen_nets : NetlistView → (wanted : List Bool) → List (Option ℕ)
+seen_nets net wanted = map (seen_among net wanted) (range_with_len 0 (length net.types))

@@ -1,4 +1,4 @@
-//! The lowest wanted net behind each hub.
+//! The lowest wanted net behind each hub, and behind looks.
 
 ghost use Rattle.std.specs.Prelude.{◌≡◌, [], IfOk, map};
 ghost use Rattle.rtl_looks.specs.Denoting.{nets_behind};
@@ -9,15 +9,19 @@ use crate::lowest::{if_wanted, lower};
 use rtl_looks::{Hub, Look};
 use std::alloc::{AllocError, Global};
 
-/// What was found behind a hub.
-fn lowest_at(found: &[Option<usize>], hub: usize) -> Option<usize>
-    ensures { result ≡ spec.lowest_at found.now hub }
+/// What was found at a place.
+pub(crate) fn lowest_at(found: &[Option<usize>], place: usize) -> Option<usize>
+    ensures { result ≡ spec.lowest_at found.now place }
 {
-    if hub < found.len() { found[hub] } else { None }
+    if place < found.len() {
+        found[place]
+    } else {
+        None
+    }
 }
 
 /// The lowest wanted net behind a look, by what was found behind hubs.
-pub(crate) fn lowest_behind(wanted: &[bool], found: &[Option<usize>], look: Look) -> Option<usize>
+fn lowest_behind(wanted: &[bool], found: &[Option<usize>], look: Look) -> Option<usize>
     ensures { result ≡ spec.lowest_behind wanted.now found.now look }
 {
     match look {
@@ -41,4 +45,30 @@ pub(crate) fn lowest_of_hubs(
         found.push(lower(left, right))?;
     }
     Ok(found)
+}
+
+/// The lowest wanted net behind a look, if there is one.
+fn lowest_seen(wanted: &[bool], found: &[Option<usize>], look: Option<Look>) -> Option<usize>
+    ensures { result ≡ spec.lowest_seen wanted.now found.now look }
+{
+    match look {
+        Some(look) => lowest_behind(wanted, found, look),
+        None => None,
+    }
+}
+
+/// The same of all these looks.
+pub(crate) fn lowest_of_looks(
+    alloc: Global,
+    wanted: &[bool],
+    found: &[Option<usize>],
+    looks: &[Option<Look>],
+) -> Result<Vec<Option<usize>>, AllocError>
+    ensures { IfOk result (λ seen. seen.items ≡ map (spec.lowest_seen wanted.now found.now) looks.now) }
+{
+    let mut seen = Vec::new(alloc);
+    for look in looks {
+        seen.push(lowest_seen(wanted, found, *look))?;
+    }
+    Ok(seen)
 }

@@ -1,4 +1,4 @@
-//! The lowest wanted net that a driver looks at.
+//! The lowest wanted net that each net's driver looks at.
 //!
 //! `specs/Lowest.antt` defines the lowest of some nets, and `specs/Drivers.antt` what a net's
 //! driver looks at.
@@ -8,4 +8,4 @@ mod behind;
 mod lowest;
 mod seen;
 
-pub use seen::seen_among;
+pub use seen::seen_nets;

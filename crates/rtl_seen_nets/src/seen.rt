@@ -1,77 +1,86 @@
-//! The lowest wanted net that a driver looks at.
+//! The lowest wanted net that each net's driver looks at.
 
-ghost use Rattle.std.specs.Prelude.{◌≡◌, IfOk, slice_get};
+ghost use Rattle.std.specs.Prelude.{◌≡◌, ℕ, ◌<◌, IfOk, length, slice_get};
 ghost use Rattle.rtl_model.specs.bodies.Looks.{looked_nets};
+ghost use Rattle.rtl_model.specs.nets.FlatNetlist.{flat_sources};
 ghost use Rattle.rtl_net.specs.Bodies.{statements_of};
-ghost use Rattle.rtl_looks.specs.Denoting.{look_at};
-ghost use Rattle.rtl_seen_nets.specs.Drivers.{looked_in, seen_among};
+ghost use Rattle.rtl_net.specs.Nets.{flat};
+ghost use Rattle.rtl_seen_nets.specs.Behind.{found_by, found_in, lowest_at};
+ghost use Rattle.rtl_seen_nets.specs.Drivers.{looked_in, seen_nets};
 ghost use Rattle.rtl_seen_nets.specs.Lowest.{lowest};
 
-use crate::behind::{lowest_behind, lowest_of_hubs};
-use rtl_looks::{Hubs, Look, driver_looks};
-use rtl_net::{Net, Source, Statement};
+use crate::behind::{lowest_at, lowest_of_hubs, lowest_of_looks};
+use rtl_looks::{Hubs, driver_looks};
+use rtl_net::{Net, Process, Source, Statement};
 use std::alloc::{AllocError, Global};
 
-/// What the driver at a place looks at.
-fn look_at(looks: &[Option<Look>], place: usize) -> Option<Look>
-    ensures { result ≡ look_at looks.now place }
-{
-    if place < looks.len() {
-        looks[place]
-    } else {
-        None
-    }
-}
-
-/// The lowest wanted net that the driver at a place of a body looks at.
+/// The lowest wanted net that each driver of a body looks at, by its place; past the end of the
+/// list none.
 fn seen_in(
     alloc: Global,
     body: &[Statement],
-    place: usize,
     wanted: &[bool],
-) -> Result<Option<usize>, AllocError>
-    ensures { IfOk result (λ seen. seen ≡ lowest wanted.now (looked_nets (statements_of body.now) place)) }
+) -> Result<Vec<Option<usize>>, AllocError>
+    ensures { IfOk result (λ seen. (place : ℕ) →
+        lowest_at seen.items place ≡ lowest wanted.now (looked_nets (statements_of body.now) place)) }
 {
     let mut hubs = Hubs::new(alloc);
     let looks = driver_looks(body, &mut hubs)?;
     let found = lowest_of_hubs(alloc, wanted, &hubs.hubs)?;
-    match look_at(&looks, place) {
-        Some(look) => Ok(lowest_behind(wanted, &found, look)),
-        None => Ok(None),
+    lowest_of_looks(alloc, wanted, &found, &looks)
+}
+
+/// The same of each process.
+fn seen_in_all(
+    alloc: Global,
+    processes: &[Process],
+    wanted: &[bool],
+) -> Result<Vec<Vec<Option<usize>>>, AllocError>
+    ensures { IfOk result (λ seen. (process place : ℕ) → found_in (slice_get seen.items process) place
+        ≡ lowest wanted.now (looked_in (slice_get processes.now process) place)) }
+{
+    let mut seen = Vec::new(alloc);
+    for process in processes {
+        let places = seen_in(alloc, &process.body, wanted)?;
+        seen.push(places)?;
+    }
+    Ok(seen)
+}
+
+/// What was found for the driver at a place of a process.
+fn found_at(found: &[Vec<Option<usize>>], process: usize, place: usize) -> Option<usize>
+    ensures { result ≡ found_in (slice_get found.now process) place }
+{
+    match found.get(process) {
+        Some(places) => lowest_at(places, place),
+        None => None,
     }
 }
 
-/// The same, by the number of the process.
-fn seen_at(
-    alloc: Global,
-    net: &Net,
-    process: usize,
-    place: usize,
-    wanted: &[bool],
-) -> Result<Option<usize>, AllocError>
-    ensures { IfOk result (λ seen. seen ≡ lowest wanted.now (looked_in (slice_get net.now.processes process) place)) }
+/// What was found for the first driver of a net.
+fn seen_by(net: &Net, found: &[Vec<Option<usize>>], number: usize) -> Option<usize>
+    requires { number < length net.now.types }
+    ensures { result ≡ found_by found.now (flat_sources (flat net.now) number) }
 {
-    match net.processes().get(process) {
-        Some(process) => seen_in(alloc, &process.body, place, wanted),
-        None => Ok(None),
-    }
-}
-
-/// The lowest net that is wanted and that the first driver of a net looks at. It takes time and
-/// memory as `driver_looks` does for the body of that driver's process.
-pub fn seen_among(
-    alloc: Global,
-    net: &Net,
-    number: usize,
-    wanted: &[bool],
-) -> Result<Option<usize>, AllocError>
-    ensures { IfOk result (λ seen. seen ≡ seen_among net.now number wanted.now) }
-{
-    if number >= net.nets() {
-        return Ok(None);
-    }
     match net.sources(number) {
-        [Source::Driven { process, place }, ..] => seen_at(alloc, net, *process, *place, wanted),
-        _ => Ok(None),
+        [Source::Driven { process, place }, ..] => found_at(found, *process, *place),
+        _ => None,
     }
+}
+
+/// Of each net the lowest that is wanted and that its first driver looks at. It takes time and
+/// memory as `driver_looks` does for the bodies of all processes, and for each net.
+pub fn seen_nets(
+    alloc: Global,
+    net: &Net,
+    wanted: &[bool],
+) -> Result<Vec<Option<usize>>, AllocError>
+    ensures { IfOk result (λ seen. seen.items ≡ seen_nets net.now wanted.now) }
+{
+    let found = seen_in_all(alloc, net.processes(), wanted)?;
+    let mut seen = Vec::new(alloc);
+    for number in 0..net.nets() {
+        seen.push(seen_by(net, &found, number))?;
+    }
+    Ok(seen)
 }
