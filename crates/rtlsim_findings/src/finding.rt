@@ -1,14 +1,13 @@
 //! Findings: the faults of one cause.
 
-ghost use Rattle.std.specs.Prelude.{◌≡◌, ◌||◌, ℕ, map, true, IfOk, OnOk};
+ghost use Rattle.std.specs.Prelude.{◌≡◌, ◌||◌, ℕ, map, IfOk, OnOk};
 ghost use Rattle.std.specs.List.Sorted.{IsStrictlyIncreasing};
 ghost use Rattle.rtl_check.specs.Views.{fault_view};
-ghost use Rattle.rtl_copy_ends.specs.Steps.{AreWalks};
 ghost use Rattle.rtl_body_facts.specs.Reading.{is_in};
 ghost use Rattle.rtlsim_findings.specs.Findings as spec;
 ghost use Rattle.rtlsim_findings.specs.Findings.{finding_view};
 ghost use Rattle.rtlsim_findings.specs.steps.Joining.{causes_of};
-ghost use Rattle.rtlsim_findings.specs.steps.Walked.{AreOf};
+ghost use Rattle.rtlsim_findings.specs.steps.Walked.{AreOf, IfMade};
 
 use crate::cause::{Cause, cause_of};
 use crate::mixed::why;
@@ -37,8 +36,9 @@ pub struct Finding<'a> {
 
 /// The findings of a rejection with these faults. It takes memory for each fault and for the body
 /// of one process at a time, which is walked over once while its latches follow each other, and in
-/// a wide netlist for each process and net; and time in proportion to these, but for the
-/// logarithms of sorted lists and of the number of processes.
+/// a wide netlist, where a fault is one of kinds or resets, for each process and net; and time in
+/// proportion to these and all bodies, but for the logarithms of sorted lists and of the number of
+/// processes.
 pub fn findings<'a>(
     alloc: Global,
     net: &Net,
@@ -47,7 +47,7 @@ pub fn findings<'a>(
     ensures { IfOk result (λ found. map finding_view found.items ≡ spec.findings net.now faults.now) }
 {
     let gated = gated_nets(alloc, faults)?;
-    let walks = Walks::of(alloc, net)?;
+    let mut walks = None;
     let mut walked = Omissions::new(alloc, net);
     let mut causes = IndexSet::new(alloc);
     let mut found = Vec::new(alloc);
@@ -57,7 +57,7 @@ pub fn findings<'a>(
             join(
                 alloc,
                 net,
-                &walks,
+                &mut walks,
                 fault,
                 &mut walked,
                 &mut causes,
@@ -73,15 +73,16 @@ pub fn findings<'a>(
 fn join<'a>(
     alloc: Global,
     net: &Net,
-    walks: &Walks,
+    walks: &mut Option<Walks>,
     fault: &'a CheckFault,
     walked: &mut Omissions,
     causes: &mut IndexSet<Cause>,
     found: &mut Vec<Finding<'a>>,
 ) -> Result<(), NoMemory>
-    requires walks { net.now.wide ≡ true → AreWalks net.now walks.now }
+    requires made { IfMade net.now walks.old }
     requires are { AreOf net.now walked.old }
     requires causes { causes.old.keys ≡ causes_of (map finding_view found.old.items) }
+    ensures made { OnOk result (IfMade net.now walks.new) }
     ensures are { OnOk result (AreOf net.now walked.new) }
     ensures causes { OnOk result (causes.new.keys ≡ causes_of (map finding_view found.new.items)) }
     ensures is { OnOk result (map finding_view found.new.items

@@ -1,9 +1,10 @@
 //! Why the process of a fault is neither clocked nor combinational, or its reset not calm.
 
-ghost use Rattle.std.specs.Prelude.{◌≡◌, true, IfOk};
+ghost use Rattle.std.specs.Prelude.{◌≡◌, IfOk, OnOk};
 ghost use Rattle.rtl_check.specs.Views.{fault_view};
-ghost use Rattle.rtl_copy_ends.specs.Steps.{AreWalks};
+ghost use Rattle.rtl_mixed_reasons.specs.Unsteady.{reason_of};
 ghost use Rattle.rtlsim_findings.specs.Mixed as spec;
+ghost use Rattle.rtlsim_findings.specs.steps.Walked.{IfMade};
 
 use rtl_check::CheckFault;
 use rtl_copy_ends::Walks;
@@ -13,19 +14,40 @@ use rtlsim_circles::name_of_net;
 use rtlsim_listing::process_name;
 use std::alloc::Global;
 
+/// The reason of a process, by the walks, which the first such question makes.
+fn reason_by(
+    alloc: Global,
+    net: &Net,
+    walks: &mut Option<Walks>,
+    process: usize,
+) -> Result<Option<Reason>, NoMemory>
+    requires { IfMade net.now walks.old }
+    ensures is { IfOk result (λ reason. reason ≡ reason_of net.now process) }
+    ensures made { OnOk result (IfMade net.now walks.new) }
+{
+    if let Some(made) = &*walks {
+        return reason_of(alloc, net, made, process);
+    }
+    let made = Walks::of(alloc, net)?;
+    let reason = reason_of(alloc, net, &made, process)?;
+    *walks = Some(made);
+    Ok(reason)
+}
+
 /// Why the process is neither clocked nor combinational, or its reset not calm, where a fault tells
 /// that.
 pub(crate) fn why(
     alloc: Global,
     net: &Net,
-    walks: &Walks,
+    walks: &mut Option<Walks>,
     fault: &CheckFault,
 ) -> Result<Option<Reason>, NoMemory>
-    requires { net.now.wide ≡ true → AreWalks net.now walks.now }
-    ensures { IfOk result (λ reason. reason ≡ spec.why net.now (fault_view fault.now)) }
+    requires { IfMade net.now walks.old }
+    ensures is { IfOk result (λ reason. reason ≡ spec.why net.now (fault_view fault.now)) }
+    ensures made { OnOk result (IfMade net.now walks.new) }
 {
     match fault {
-        CheckFault::Mixed { process } => reason_of(alloc, net, walks, *process),
+        CheckFault::Mixed { process } => reason_by(alloc, net, walks, *process),
         _ => Ok(None),
     }
 }

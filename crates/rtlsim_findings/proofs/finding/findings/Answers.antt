@@ -25,6 +25,7 @@ loop-left-preserved-in_ok-join c =
     let l = c.loop-left in
     let x = c.fault-item.result in
     record {
+      made = c.in_ok-join.ensures.made;
       are = c.in_ok-join.ensures.are;
       causes = c.in_ok-join.ensures.causes;
       same = taken-in c.args.net.now (any_gated c.args.faults.now) _ x l.left.now _ _ (first_is l.left.now x c.in-len1-up.len_at_least c.fault-item.is) l.invariant.same _
@@ -37,6 +38,7 @@ loop-left-preserved c =
     let l = c.loop-left in
     let x = c.fault-item.result in
     record {
+      made = l.invariant.made;
       are = l.invariant.are;
       causes = l.invariant.causes;
       same = left-out c.args.net.now (any_gated c.args.faults.now) _ x l.left.now _ _ (first_is l.left.now x c.in-len1-up.len_at_least c.fault-item.is) l.invariant.same

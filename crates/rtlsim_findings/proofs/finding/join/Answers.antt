@@ -68,6 +68,7 @@ returns-then-number-len c =
     let is = put_in net fault items c.in_ok-number.number old _ e (grind (arith, nat_tests, c.if-number-len.true, c.len.ensures)) c.index_mut-finding.ensures.value
     (ap (made old.cause old.reason (fault_view old.first.now)) (one_more _ _ _ _ c.in_ok-push.ensures.items (λ o. fault_view o.now) refl)) in
     record {
+      made = c.in_ok-reason.ensures.made;
       are = c.in_ok-cause.ensures.are;
       causes = causes_then net fault (map finding_view items) _ _ _ _ c.in_ok-cause.ensures.is are c.in_ok-number.ensures.keys is;
       is = is;
@@ -83,8 +84,9 @@ returns c =
     let new : Finding = record { cause = c.in_ok-cause.cause; reason = c.in_ok-reason.reason; first = c.args.fault; others = c.new-others.result } in
     let is = ap (map finding_view) c.in_ok-push-2.ensures.items
     ∙ put_behind net fault items c.in_ok-number.number new e (grind (arith, nat_tests, c.if-number-len.false, c.len.ensures))
-    (fresh net fault new c.in_ok-cause.ensures.is c.in_ok-reason.ensures refl c.new-others.ensures.items) in
+    (fresh net fault new c.in_ok-cause.ensures.is c.in_ok-reason.ensures.is refl c.new-others.ensures.items) in
     record {
+      made = c.in_ok-reason.ensures.made;
       are = c.in_ok-cause.ensures.are;
       causes = causes_then net fault (map finding_view items) _ _ _ _ c.in_ok-cause.ensures.is are c.in_ok-number.ensures.keys is;
       is = is;
