@@ -10,7 +10,7 @@ use Rattle.std.proofs.Common.{inl, inr}
 use Rattle.std.proofs.lemmas.Nat.{shr_high}
 use Rattle.std.proofs.lemmas.Nat.Bits.{bit_at_cat_low}
 use Rattle.vhdl_values.specs.declared.scalar.Nine.{Nine}
-use Rattle.vhdl_values.specs.declared.scalar.Nine.TheVariants.{U, X, Zero, One, Z, W, L, H, Dash}
+use Rattle.vhdl_values.specs.declared.scalar.Nine.TheVariants.{U}
 use Rattle.vhdl_values.specs.Scalar.{code_of, value_of_code}
 use Rattle.vhdl_values.specs.Planes.{bit, marks, has_bit, plane_of, code_at, values_at, IsPlanes, length-values_at, plane_of-first, plane_of-second, plane_of-third, plane_of-fourth}
 use Rattle.vhdl_values.proofs.Marks.{marks_below}

@@ -5,7 +5,7 @@ use Rattle.std.specs.List.{list_all}
 use Rattle.std.proofs.Math.Nat.{pow-suc}
 use Rattle.std.proofs.lemmas.Nat.{pow_pos, mod-pow-add, and_mask}
 use Rattle.vhdl_values.specs.declared.scalar.Nine.{Nine}
-use Rattle.vhdl_values.specs.declared.scalar.Nine.TheVariants.{U, X, Zero, One, Z, W, L, H, Dash}
+use Rattle.vhdl_values.specs.declared.scalar.Nine.TheVariants.{Zero, One, L, H}
 use Rattle.vhdl_values.specs.Numbers.{is_good, all_good, bit_of, number_of, digit_of, digits_of}
 use Rattle.vhdl_values.specs.Planes.{bit, marks, has_bit, plane_of}
 use Rattle.vhdl_values.proofs.Marks.{marks_below, marks-like}

@@ -6,7 +6,7 @@ use Rattle.std.proofs.lemmas.List.{length-map}
 use Rattle.std.proofs.lemmas.Nat.{and_le_l, pow_pos}
 use Rattle.std.proofs.lemmas.Nat.Bits.{bit_at-lt, bit_at-zero}
 use Rattle.vhdl_values.specs.declared.kinds.Logic.{Logic}
-use Rattle.vhdl_values.specs.declared.kinds.Logic.TheVariants.{And, Or, Nand, Nor, Xor, Xnor}
+use Rattle.vhdl_values.specs.declared.kinds.Logic.TheVariants.{And}
 use Rattle.vhdl_values.specs.declared.scalar.Nine.{Nine}
 use Rattle.vhdl_values.specs.Scalar.{is_same, nines}
 use Rattle.vhdl_values.specs.Logic.{strip, not_of, logic_of, logic_of_all, not_of_all}

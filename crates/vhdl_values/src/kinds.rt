@@ -1,4 +1,4 @@
-//! Kinds of edges, of relations and of logical operators.
+//! Kinds of edges, of relations and of operators.
 
 use crate::scalar::Nine;
 
@@ -27,7 +27,7 @@ pub enum Cmp {
 }
 
 /// A logical operator of two operands.
-#[derive(Clone, Copy)]
+#[derive(Clone, Copy, PartialEq, Eq)]
 pub enum Logic {
     And,
     Or,
@@ -37,15 +37,27 @@ pub enum Logic {
     Xnor,
 }
 
+/// A shift or rotate of numeric_std, by a number of places.
+#[derive(Clone, Copy, PartialEq, Eq)]
+pub enum Shift {
+    /// `shift_left`.
+    Left,
+    /// `shift_right`.
+    Right,
+    /// `shift_right` of a `signed`.
+    RightSigned,
+    /// `rotate_left`.
+    RotateLeft,
+}
+
 /// An operator of numeric_std on a vector with a count beside it: a length, or how many places.
-#[derive(Clone, Copy)]
+#[derive(Clone, Copy, PartialEq, Eq)]
 pub enum Counted {
     /// `resize`.
     Resize,
-    /// `shift_left`.
-    ShiftLeft,
-    /// `shift_right`.
-    ShiftRight,
+    /// `resize` of a `signed`.
+    ResizeSigned,
+    Shift(Shift),
 }
 
 impl Counted {
@@ -57,8 +69,8 @@ impl Counted {
         ensures { result ≡ counted_length self count len }
     {
         match self {
-            Counted::Resize => count,
-            Counted::ShiftLeft | Counted::ShiftRight => len,
+            Counted::Resize | Counted::ResizeSigned => count,
+            Counted::Shift(_) => len,
         }
     }
 }

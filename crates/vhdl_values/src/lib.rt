@@ -19,7 +19,7 @@ mod vector;
 mod words;
 
 pub use edges::edge;
-pub use kinds::{Cmp, Counted, Edge, Logic};
+pub use kinds::{Cmp, Counted, Edge, Logic, Shift};
 pub use resolution::resolve;
 pub use scalar::Nine;
 pub use vector::Vec9;

@@ -7,14 +7,13 @@ ghost use Rattle.vhdl_values.specs.Logic.{strip, logic_of_all, not_of_all};
 ghost use Rattle.vhdl_values.specs.Numbers.{all_good, number_of, digits_of};
 ghost use Rattle.vhdl_values.specs.Arithmetic.{sum_of, difference_of, product_of};
 ghost use Rattle.vhdl_values.specs.Relations.{compares, compares_number};
-ghost use Rattle.vhdl_values.specs.Shifts.{shifted_left, shifted_right, resized, counted_of, counted_length, IsCount};
 ghost use Rattle.vhdl_values.specs.Marked.{IsMarkedBy};
 ghost use Rattle.vhdl_values.specs.declared.scalar.Nine.{Nine as Value};
-ghost use Rattle.vhdl_values.specs.declared.scalar.Nine.TheVariants.{Zero};
 
 mod codes;
+mod shifts;
 
-use crate::kinds::{Cmp, Counted, Logic};
+use crate::kinds::{Cmp, Logic};
 use crate::scalar::Nine;
 use crate::stripped::Stripped;
 use crate::words::{beside, bit, mask, part, with_bit};
@@ -281,69 +280,8 @@ impl Vec9 {
         }
     }
 
-    /// The vector at another length, 1 to 64 (numeric_std, `RESIZE`, R.2): with 0s to its left, or
-    /// its rightmost values alone.
-    pub fn resize(&self, len: usize) -> Vec9
-        requires some { 1 ≤ len }
-        requires room { len ≤ 64 }
-        ensures list { result ≡ resized Zero len self.now }
-        ensures len { length result ≡ len }
-    {
-        if len <= self.len() {
-            self.slice(self.len() - len, len)
-        } else {
-            Vec9::fill(Nine::Zero, len - self.len()).concat(self)
-        }
-    }
-
-    /// The values moved that many places to the left, with 0s to their right (numeric_std,
-    /// `SHIFT_LEFT`, S.1): all 0 from the length on.
-    pub fn shl(&self, count: usize) -> Vec9
-        ensures list { result ≡ shifted_left Zero count self.now }
-        ensures len { length result ≡ length self.now }
-    {
-        let len = self.len();
-        if count == 0 {
-            *self
-        } else if count < len {
-            self.slice(count, len - count)
-                .concat(&Vec9::fill(Nine::Zero, count))
-        } else {
-            Vec9::fill(Nine::Zero, len)
-        }
-    }
-
-    /// The values moved that many places to the right, with 0s to their left (numeric_std,
-    /// `SHIFT_RIGHT`, S.2): all 0 from the length on.
-    pub fn shr(&self, count: usize) -> Vec9
-        ensures list { result ≡ shifted_right Zero count self.now }
-        ensures len { length result ≡ length self.now }
-    {
-        let len = self.len();
-        if count == 0 {
-            *self
-        } else if count < len {
-            Vec9::fill(Nine::Zero, count).concat(&self.slice(0, len - count))
-        } else {
-            Vec9::fill(Nine::Zero, len)
-        }
-    }
-
-    /// An operator with a count: `resize`, `shl` or `shr`.
-    pub fn counted(&self, operator: Counted, count: usize) -> Vec9
-        requires { IsCount operator count }
-        ensures list { result ≡ counted_of Zero operator count self.now }
-        ensures len { length result ≡ counted_length operator count (length self.now) }
-    {
-        match operator {
-            Counted::Resize => self.resize(count),
-            Counted::ShiftLeft => self.shl(count),
-            Counted::ShiftRight => self.shr(count),
-        }
-    }
-
     /// The number that the values stand for, if each stands for a digit.
-    fn number(&self) -> Option<u64>
+    pub fn number(&self) -> Option<u64>
         ensures { result ≡ (if all_good self.now then Some (number_of self.now) else None) }
     {
         if self.second == mask(self.len()) {

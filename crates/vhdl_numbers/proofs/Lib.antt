@@ -1,0 +1,4 @@
+pub mod Complement
+pub mod Signs
+pub mod Digits
+pub mod Lengths
