@@ -18,6 +18,8 @@ pub fn statement_assigns(statement: &Statement, element: usize) -> bool
         Statement::Null => false,
         Statement::Assign { .. } => false,
         Statement::Set { elements, .. } => has_number(elements, element),
+        Statement::AssignAt { .. } => false,
+        Statement::SetAt { .. } => false,
         Statement::If {
             branches,
             otherwise,

@@ -16,7 +16,7 @@ mod search;
 mod stores;
 
 pub use kinds::{Clocking, ProcessKind, clocking_of, kind_of};
-pub use paths::assigned_nets;
+pub use paths::{assigned_nets, target_nets};
 pub use rising::{contains_rising, order_once, sort_once};
 pub use search::body_has_event;
 pub use stores::body_stores;

@@ -65,6 +65,19 @@ fn push_targets(
     }
 }
 
+/// The nets of the drivers at these places.
+pub fn target_nets(
+    alloc: Global,
+    drives: &[Driver],
+    places: &Indices,
+) -> Result<Vec<usize>, AllocError>
+    ensures { IfOk result (λ v. (n : ℕ) → is_in n v.items ≡ list_any (covers drives.now n) (numbers places.now)) }
+{
+    let mut nets = Vec::new(alloc);
+    push_targets(drives, places, &mut nets)?;
+    Ok(nets)
+}
+
 /// The numbers that stand in both lists.
 fn common_of(alloc: Global, left: &[usize], right: &[usize]) -> Result<Vec<usize>, AllocError>
     requires { IsStrictlyIncreasing right.now }
@@ -91,6 +104,8 @@ fn push_assigned(
         Statement::Null => Ok(()),
         Statement::Assign { places, .. } => push_targets(drives, places, nets),
         Statement::Set { .. } => Ok(()),
+        Statement::AssignAt { .. } => Ok(()),
+        Statement::SetAt { .. } => Ok(()),
         Statement::If {
             branches,
             otherwise,

@@ -3,17 +3,19 @@
 
 ghost use Rattle.std.specs.Prelude.{◌≡◌, ◌||◌, false, not};
 ghost use Rattle.std.specs.List.{list_any};
-ghost use Rattle.rtl_net.specs.Bodies.{value_view, test_view, statements_of};
+ghost use Rattle.rtl_net.specs.Bodies.{expr_view, value_view, test_view, statements_of};
 ghost use Rattle.rtl_net.specs.Visits.{leaf_view};
 ghost use Rattle.rtl_model.specs.basics.Lists.{is_empty};
-ghost use Rattle.rtl_model.specs.bodies.Leaves.{value_leaves, test_leaves, leaves};
+ghost use Rattle.rtl_model.specs.bodies.Leaves.{expr_leaves, value_leaves, test_leaves, leaves};
 ghost use Rattle.rtl_model.specs.bodies.Reads as r;
 ghost use Rattle.rtl_model.specs.bodies.Stored as s;
 ghost use Rattle.rtl_body_facts.specs.Reading.{is_in, some};
 ghost use Rattle.rtl_body_facts.specs.Searching.{seeks};
 
 use crate::numbers::{has_none, has_number};
-use rtl_net::{Leaf, Statement, Test, Value, Visit, walk_body, walk_test, walk_value};
+use rtl_net::{
+    Expr, Leaf, Statement, Test, Value, Visit, walk_body, walk_expr, walk_test, walk_value,
+};
 
 /// What is sought.
 #[derive(Clone, Copy)]
@@ -85,6 +87,15 @@ fn in_body(statements: &[Statement], sought: Sought) -> bool
     search.found
 }
 
+/// Whether it stands in an expression.
+fn in_expr(expr: &Expr, sought: Sought) -> bool
+    ensures { result ≡ list_any (seeks sought) (expr_leaves (expr_view expr.now)) }
+{
+    let mut search = Search::of(sought);
+    walk_expr(expr, &mut search);
+    search.found
+}
+
 /// Whether it stands in a value.
 fn in_value(value: &Value, sought: Sought) -> bool
     ensures { result ≡ list_any (seeks sought) (value_leaves (value_view value.now)) }
@@ -120,6 +131,13 @@ pub fn is_constant(value: &Value) -> bool
     ensures { result ≡ is_empty (r.value_reads (value_view value.now)) }
 {
     !in_value(value, Sought::SomeNet)
+}
+
+/// Whether an expression reads this variable element.
+pub fn expr_looks_at(expr: &Expr, element: usize) -> bool
+    ensures { result ≡ s.expr_looks_at element (expr_view expr.now) }
+{
+    in_expr(expr, Sought::Element(element))
 }
 
 /// Whether a value reads this variable element.

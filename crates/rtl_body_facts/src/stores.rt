@@ -7,7 +7,7 @@ ghost use Rattle.rtl_model.specs.bodies.Stored as m;
 ghost use Rattle.rtl_body_facts.specs.Looks.{branch_stores, alternative_stores};
 
 use crate::assigned::statement_assigns;
-use crate::search::{test_looks_at, value_looks_at};
+use crate::search::{expr_looks_at, test_looks_at, value_looks_at};
 use rtl_net::{Alternative, Branch, Statement};
 
 /// Whether a statement reads this variable element where it hasn't assigned it on every syntactic
@@ -20,6 +20,12 @@ fn statement_stores(statement: &Statement, element: usize) -> bool
         Statement::Null => false,
         Statement::Assign { value, .. } => value_looks_at(value, element),
         Statement::Set { value, .. } => value_looks_at(value, element),
+        Statement::AssignAt { index, value, .. } => {
+            expr_looks_at(index, element) || expr_looks_at(value, element)
+        }
+        Statement::SetAt { index, value, .. } => {
+            expr_looks_at(index, element) || expr_looks_at(value, element)
+        }
         Statement::If {
             branches,
             otherwise,

@@ -1,5 +1,6 @@
 pub mod Lanes
 pub mod Reading
+pub mod Beginnings
 pub mod Chains
 pub mod Values
 pub mod Totals

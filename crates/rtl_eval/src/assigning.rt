@@ -1,6 +1,6 @@
 //! Assignments to drivers and variables.
 
-ghost use Rattle.std.specs.Prelude.{◌≡◌, ◌<◌, ◌≤◌, All, IfSome, length, slice_index};
+ghost use Rattle.std.specs.Prelude.{◌≡◌, ◌<◌, ◌≤◌, All, IfSome, length};
 ghost use Rattle.rtl_model.specs.bodies.Variables.{values_put};
 ghost use Rattle.rtl_net.specs.Indices.{numbers};
 ghost use Rattle.rtl_eval.specs.Combined.{combined};
@@ -127,7 +127,7 @@ pub fn assign_codes(places: &Indices, codes: &[u8], out: &mut Drives)
 
 /// These codes, from the left, to the drivers at these places, which need not stand one after
 /// another.
-fn assign_each(places: &[u32], codes: &[u8], out: &mut Drives)
+pub(crate) fn assign_each(places: &[u32], codes: &[u8], out: &mut Drives)
     requires as_many { length places.now ≡ length codes.now }
     requires there { All (λ place. place < length out.old.entries) places.now }
     ensures { out.new ≡ record (out.old) { entries = assigned places.now codes.now out.old.entries } }
@@ -144,20 +144,6 @@ fn set_codes(elements: &Indices, codes: &[u8], out: &mut Drives)
     ensures { out.new ≡ record (out.old) { variables = values_put (numbers elements.now) codes.now out.old.variables } }
 {
     for at in 0..codes.len() {
-        out.set_variable(number_at(elements, at), codes[at]);
-    }
-}
-
-/// The number at a place.
-fn number_at(indices: &Indices, at: usize) -> usize
-    requires { at < length (numbers indices.now) }
-    ensures { result ≡ slice_index (numbers indices.now) at }
-{
-    match indices {
-        Indices::Run { first, len } => {
-            let _len = *len;
-            *first as usize + at
-        }
-        Indices::List(listed) => listed.as_slice()[at] as usize,
+        out.set_variable(elements.at(at), codes[at]);
     }
 }

@@ -8,8 +8,10 @@ ghost use Rattle.rtl_net.specs.Indices.{numbers};
 ghost use Rattle.rtl_net.specs.Bodies.{operator_view, expr_view, links_of};
 ghost use Rattle.rtl_eval.specs.Seeing.{seen_of, Within};
 
+use crate::choosing::chosen;
 use crate::seen::SeenValues;
 use rtl_net::{Expr, Indices, Link, Operator};
+use vhdl_numbers::{converted, shifted_by, signed};
 use vhdl_values::Vec9;
 
 /// The value of an expression.
@@ -30,6 +32,20 @@ pub fn value(expr: &Expr, seen: SeenValues<'_>) -> Vec9
             count,
             operand,
         } => value(operand, seen).counted(*operator, *count as usize),
+        Expr::Shifted {
+            operator,
+            count,
+            operand,
+        } => shifted_by(&value(operand, seen), *operator, &value(count, seen)),
+        Expr::Converted {
+            conversion,
+            operand,
+        } => converted(&value(operand, seen), *conversion),
+        Expr::Chosen {
+            index,
+            spacing,
+            rows,
+        } => chosen(&value(index, seen), *spacing, rows, seen),
     }
 }
 
@@ -58,6 +74,7 @@ pub fn operate(operator: Operator, left: &Vec9, right: &Vec9) -> Vec9
         Operator::Add => left.add(right),
         Operator::Subtract => left.sub(right),
         Operator::Multiply => left.mul(right),
+        Operator::Signed(operator) => signed(operator, left, right),
     }
 }
 
@@ -78,7 +95,7 @@ pub fn gathered(places: &Indices, values: &[u8]) -> Vec9
 }
 
 /// The values at these places, which need not be one after another.
-fn scattered(places: &[u32], values: &[u8]) -> Vec9
+pub(crate) fn scattered(places: &[u32], values: &[u8]) -> Vec9
     requires width { IsWidth (length places.now) }
     requires there { All (λ place. place < length values.now) places.now }
     requires nine { All (λ place. slice_index values.now place < 9) places.now }

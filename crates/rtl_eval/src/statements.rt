@@ -10,7 +10,9 @@ ghost use Rattle.rtl_eval.specs.Running.{IsPlaceOfFirst, else_of, met_by, chosen
 ghost use Rattle.rtl_eval.specs.Seeing.{seen_of, Within};
 
 use crate::assigning::{assign, set};
+use crate::choosing::{assign_row, set_row};
 use crate::evaluated::{Evaluated, evaluate, is_chosen};
+use crate::expressions::value as elements;
 use crate::seen::{SeenValues, Valuations, seeing};
 use crate::tests::is_met;
 use rtl_drives::Drives;
@@ -42,6 +44,28 @@ fn run(statement: &Statement, nets: Valuations<'_>, out: &mut Drives)
         Statement::Set { elements, value } => {
             let value = evaluate(value, seeing(nets, out));
             set(elements, &value, out);
+        }
+        Statement::AssignAt {
+            index,
+            spacing,
+            places,
+            value,
+            ..
+        } => {
+            let index = elements(index, seeing(nets, out));
+            let value = elements(value, seeing(nets, out));
+            assign_row(&index, *spacing, places, &value, out);
+        }
+        Statement::SetAt {
+            index,
+            spacing,
+            elements: targets,
+            value,
+            ..
+        } => {
+            let index = elements(index, seeing(nets, out));
+            let value = elements(value, seeing(nets, out));
+            set_row(&index, *spacing, targets, &value, out);
         }
         Statement::If {
             branches,

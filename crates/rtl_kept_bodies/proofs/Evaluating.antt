@@ -5,8 +5,8 @@ use Rattle.std.proofs.lemmas.List.{at_drop_more, at_drop_all, length-map, take_m
 use Rattle.std.proofs.lemmas.List.Elements.{All-weaker}
 use Rattle.std.proofs.lemmas.Option.{slice_get_within}
 use Rattle.vhdl_values.specs.Scalar.{code_of}
-use Rattle.rtl_model.specs.bodies.Body.{set as set_of, Stmts, done, step, followed_by, Expr, signal, variable, constant, inverse, filled, binary, counted, Value, elements, position_in}
-use Rattle.rtl_model.specs.bodies.Fits.{Scope, FitsExpr, FitsAs, value_width}
+use Rattle.rtl_model.specs.bodies.Body.{set as set_of, Stmts, done, step, followed_by, Expr, signal, variable, constant, inverse, filled, binary, counted, shifted, converted, chosen, Value, elements, position_in}
+use Rattle.rtl_model.specs.bodies.Fits.{HoldsRows, Scope, FitsExpr, FitsAs, value_width}
 use Rattle.rtl_model.specs.bodies.Reads.{expr_reads}
 use Rattle.rtl_model.specs.bodies.Types.{ElementType, nine_valued, enumeration, HasType}
 use Rattle.rtl_model.specs.bodies.Values.{Seen, value_of}
@@ -30,6 +30,13 @@ use Rattle.rtl_kept_bodies.proofs.Sequences.{followed_assoc, followed_done, of_a
 abbrev alone : Scope → Scope
 alone scope = record { nets = []; variables = scope.variables; targets = [] }
 
+rows_alone : (scope : Scope) (rows : Expr) → expr_reads rows ≡ [] → HoldsRows scope rows → HoldsRows (alone scope) rows
+rows_alone scope (signal []) n h = λ k d l. absurd (omega arith)
+rows_alone scope (signal (m ∷ ms)) n h = absurd cc
+rows_alone scope (variable es) n h = h
+rows_alone scope (constant vs) n h = h
+rows_alone scope _ n h = absurd h
+
 expr_alone : (scope : Scope) (e : Expr) → expr_reads e ≡ [] → FitsExpr scope e → FitsExpr (alone scope) e
 expr_alone scope (signal []) n h = (h.0, λ k d l. absurd (omega arith))
 expr_alone scope (signal (m ∷ ms)) n h = absurd cc
@@ -40,6 +47,11 @@ expr_alone scope (filled len e) n h = (h.0, expr_alone scope e n h.1, h.2)
 expr_alone scope (binary op d e) n h =
     let (c, k) = nil_parts (expr_reads d) (expr_reads e) n in (h.0, expr_alone scope d c h.1, expr_alone scope e k h.2, h.3)
 expr_alone scope (counted op count e) n h = (h.0, expr_alone scope e n h.1)
+expr_alone scope (shifted by count e) n h =
+    let (c, k) = nil_parts (expr_reads count) (expr_reads e) n in (expr_alone scope count c h.0, expr_alone scope e k h.1)
+expr_alone scope (converted by e) n h = expr_alone scope e n h
+expr_alone scope (chosen index spacing rows) n h =
+    let (c, k) = nil_parts (expr_reads index) (expr_reads rows) n in (h.0, expr_alone scope index c h.1, rows_alone scope rows k h.2, h.3)
 
 pub expr_within : (vars : List ℕ) (x : Expr) → CanEvaluate vars (elements x) → Within (at_start vars) (λ scope. FitsExpr scope x)
 expr_within vars x c = record {

@@ -7,10 +7,10 @@ use Rattle.std.proofs.lemmas.List.{at_drop_more, at_drop_all, get_or_past, get_o
 use Rattle.std.proofs.lemmas.List.Folds.{list_all-append}
 use Rattle.std.proofs.lemmas.List.Elements.{All-contains}
 use Rattle.std.proofs.lemmas.Option.{slice_get_within}
-use Rattle.rtl_model.specs.bodies.Body.{Stmt, null_of, assign, set, if_of, case_of, Stmts, done, step, Branches, no_else, otherwise, branch, Alternatives, others, alternative, Value}
+use Rattle.rtl_model.specs.bodies.Body.{Stmt, null_of, assign, set, assign_at, set_at, if_of, case_of, Stmts, done, step, Branches, no_else, otherwise, branch, Alternatives, others, alternative, Value}
 use Rattle.rtl_model.specs.bodies.Fits.{Scope, Fits, FitsStmt, FitsBranches, FitsAlternatives, value_width}
 use Rattle.rtl_model.specs.bodies.Leaves.{Leaf}
-use Rattle.rtl_model.specs.bodies.Types.{ElementType, HasType}
+use Rattle.rtl_model.specs.bodies.Types.{ElementType, nine_valued, HasType}
 use Rattle.rtl_model.specs.bodies.Values.{value_of}
 use Rattle.rtl_model.specs.bodies.Variables.{stmt_variables}
 use Rattle.rtl_model.specs.nets.FlatNetlist.{FlatProcess, ProcessInRange, element_starts, scope_of}
@@ -51,6 +51,8 @@ module _ (scope : Scope) (e : ℕ) where
     stmt_there null_of f h = absurd cc
     stmt_there (assign ps v) f h = absurd (let n = none_of ps in cc)
     stmt_there (set es v) f h = slice_get_within scope.variables e f.0 (All-contains (HasType scope.variables f.0) es e f.3 (in_contains es e h))
+    stmt_there (assign_at index spacing ps d) f h = absurd (let n = none_of ps in cc)
+    stmt_there (set_at index spacing es d) f h = slice_get_within scope.variables e nine_valued (All-contains (HasType scope.variables nine_valued) es e f.4 (in_contains es e h))
     stmt_there (if_of bs) f h = branches_there bs f h
     stmt_there (case_of v alts) f h = alternatives_there f.0 (value_width v) alts f.2 h
 
@@ -132,6 +134,8 @@ gives_first : (these : ℕ → Bool) (s : Stmt) (rest : Stmts) → gives_constan
 gives_first these null_of rest = refl
 gives_first these (assign ps v) rest = refl
 gives_first these (set es v) rest = refl
+gives_first these (assign_at index spacing places d) rest = refl
+gives_first these (set_at index spacing es d) rest = refl
 gives_first these (if_of bs) rest = refl
 gives_first these (case_of v alts) rest = refl
 
@@ -162,6 +166,8 @@ pub gives_not : (these : ℕ → Bool) (s : Statement) → (s ≡ vs.Null → �
 gives_not these vs.Null n a t = absurd (n refl)
 gives_not these (vs.Assign places v) n a t = absurd (a places v refl)
 gives_not these (vs.Set es v) n a t = absurd (t es v refl)
+gives_not these (vs.AssignAt at index spacing places value) n a t = refl
+gives_not these (vs.SetAt at index spacing elements value) n a t = refl
 gives_not these (vs.If' at shape branches last) n a t = refl
 gives_not these (vs.Case' at selector shape alternatives shape_of_last last) n a t = refl
 
@@ -228,5 +234,7 @@ can_later vars (set es v) rest c =
       as_many = length-values_put es (value_of (at_start vars) v) vars ∙ c.as_many;
       typed = typed_after c.scope c.these (at_start vars) es v c.typed k c.fits.0;
     }
+can_later vars (assign_at index spacing places d) rest c = absurd (let g = c.gives in cc)
+can_later vars (set_at index spacing es d) rest c = absurd (let g = c.gives in cc)
 can_later vars (if_of bs) rest c = absurd (let g = c.gives in cc)
 can_later vars (case_of v alts) rest c = absurd (let g = c.gives in cc)

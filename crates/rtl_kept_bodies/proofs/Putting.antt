@@ -5,7 +5,7 @@ use Rattle.std.specs.List.{range_with_len}
 use Rattle.std.proofs.Math.ListN.{set}
 use Rattle.std.proofs.lemmas.Bool.{cases_eq, cases_lt, le-leb, lt-leb, lt-ltb, le-ltb}
 use Rattle.std.proofs.lemmas.List.{at_drop_more, at_drop_all, get_or-set_same, get_or-set_other, map-append, take_more_set, take_all, drop-set-lt}
-use Rattle.rtl_model.specs.bodies.Body.{Stmt, null_of, assign, set as set_of, if_of, case_of, Stmts, done, step, followed_by}
+use Rattle.rtl_model.specs.bodies.Body.{Stmt, null_of, assign, set as set_of, assign_at, set_at, if_of, case_of, Stmts, done, step, followed_by}
 use Rattle.rtl_model.specs.nets.FlatNetlist.{FlatDriver}
 use Rattle.rtl_net.specs.declared.body.Statement.{Statement}
 use Rattle.rtl_net.specs.declared.process.Driver.{Driver}
@@ -135,5 +135,7 @@ at_reset_is net place done = refl
 at_reset_is net place (step null_of rest) = ap (step null_of) (at_reset_is net place rest)
 at_reset_is net place (step (assign ps v) rest) = ap (step (assign ps v)) (at_reset_is net place rest)
 at_reset_is net place (step (set_of es v) rest) = ap (step (assign (map place es) v)) (at_reset_is net place rest)
+at_reset_is net place (step (assign_at index spacing places d) rest) = ap (step (assign_at index spacing places d)) (at_reset_is net place rest)
+at_reset_is net place (step (set_at index spacing es d) rest) = ap (step (set_at index spacing es d)) (at_reset_is net place rest)
 at_reset_is net place (step (if_of bs) rest) = ap (step (if_of bs)) (at_reset_is net place rest)
 at_reset_is net place (step (case_of v alts) rest) = ap (step (case_of v alts)) (at_reset_is net place rest)

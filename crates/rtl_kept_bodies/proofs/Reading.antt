@@ -7,7 +7,7 @@ use Rattle.std.proofs.lemmas.Bool.{cases_lt}
 use Rattle.std.proofs.lemmas.List.{get_or_append_left, get_or-append_right, get_or_default}
 use Rattle.std.proofs.lemmas.List.Elements.{All-nil, All-cons}
 use Rattle.std.proofs.lemmas.List.FromFn.{length-range_with_len, get_or-range_with_len}
-use Rattle.rtl_model.specs.bodies.Body.{Test, null_of, assign, set, if_of, case_of, Stmts, done, step, followed_by}
+use Rattle.rtl_model.specs.bodies.Body.{Test, null_of, assign, set, assign_at, set_at, if_of, case_of, Stmts, done, step, followed_by}
 use Rattle.rtl_model.specs.bodies.Reads.{value_reads, stmt_reads, test_reads, reads}
 use Rattle.rtl_model.specs.bodies.Types.{ElementType, nine_valued, enumeration}
 use Rattle.rtl_model.specs.nets.FlatNetlist.{VariableInRange, ProcessInRange, scope_of}
@@ -63,6 +63,8 @@ reset_reads place done = refl
 reset_reads place (step null_of rest) = reset_reads place rest
 reset_reads place (step (assign ps v) rest) = ap (λ ns. value_reads v ++ ns) (reset_reads place rest)
 reset_reads place (step (set es v) rest) = ap (λ ns. value_reads v ++ ns) (reset_reads place rest)
+reset_reads place (step (assign_at index spacing places d) rest) = ap (λ ns. stmt_reads (assign_at index spacing places d) ++ ns) (reset_reads place rest)
+reset_reads place (step (set_at index spacing es d) rest) = ap (λ ns. stmt_reads (set_at index spacing es d) ++ ns) (reset_reads place rest)
 reset_reads place (step (if_of bs) rest) = ap (λ ns. stmt_reads (if_of bs) ++ ns) (reset_reads place rest)
 reset_reads place (step (case_of v alts) rest) = ap (λ ns. stmt_reads (case_of v alts) ++ ns) (reset_reads place rest)
 

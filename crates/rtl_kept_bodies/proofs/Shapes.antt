@@ -2,7 +2,7 @@
 use Rattle.std.proofs.Common.{◌≡◌, ℕ, ◌<◌, true, false, ◌&&◌, List, [], ◌∷◌, length, get_or, set, ◌∙◌, refl, sym, ap, cond, subst, arith}
 use Rattle.rtl_net.specs.declared.body.Statement.{Statement}
 use Rattle.rtl_net.specs.Bodies.{statement_view, statements_of}
-use Rattle.rtl_model.specs.bodies.Body.{Test, Stmt, null_of, assign, set as set_of, if_of, case_of, Stmts, done, step, no_else, otherwise, branch}
+use Rattle.rtl_model.specs.bodies.Body.{Test, Stmt, null_of, assign, set as set_of, assign_at, set_at, if_of, case_of, Stmts, done, step, no_else, otherwise, branch}
 use Rattle.rtl_model.specs.bodies.Kinds.{clocking}
 use Rattle.std.specs.Prelude.{is_some, None}
 use Rattle.std.proofs.lemmas.Bool.{and_parts}
@@ -26,6 +26,8 @@ shape done = no_register (λ f g. refl) refl refl refl
 shape (step null_of rest) = no_register (λ f g. refl) refl refl refl
 shape (step (assign places v) rest) = no_register (λ f g. refl) refl refl refl
 shape (step (set_of es v) rest) = no_register (λ f g. refl) refl refl refl
+shape (step (assign_at index spacing places d) rest) = no_register (λ f g. refl) refl refl refl
+shape (step (set_at index spacing es d) rest) = no_register (λ f g. refl) refl refl refl
 shape (step (case_of v alts) rest) = no_register (λ f g. refl) refl refl refl
 shape (step (if_of no_else) rest) = no_register (λ f g. refl) refl refl refl
 shape (step (if_of (otherwise x)) rest) = no_register (λ f g. refl) refl refl refl
@@ -33,6 +35,8 @@ shape (step (if_of (branch t s no_else)) done) = alone t s refl
 shape (step (if_of (branch t s no_else)) (step null_of rest)) = no_register (λ f g. refl) refl refl refl
 shape (step (if_of (branch t s no_else)) (step (assign places v) rest)) = no_register (λ f g. refl) refl refl refl
 shape (step (if_of (branch t s no_else)) (step (set_of es v) rest)) = no_register (λ f g. refl) refl refl refl
+shape (step (if_of (branch t s no_else)) (step (assign_at index spacing places d) rest)) = no_register (λ f g. refl) refl refl refl
+shape (step (if_of (branch t s no_else)) (step (set_at index spacing es d) rest)) = no_register (λ f g. refl) refl refl refl
 shape (step (if_of (branch t s no_else)) (step (case_of v alts) rest)) = no_register (λ f g. refl) refl refl refl
 shape (step (if_of (branch t s no_else)) (step (if_of no_else) rest)) = no_register (λ f g. refl) refl refl refl
 shape (step (if_of (branch t s no_else)) (step (if_of (otherwise x)) rest)) = no_register (λ f g. refl) refl refl refl
@@ -52,6 +56,8 @@ pub form_of_one : (s : Stmt) → form_of (step s done) ≡ cond (is_if_of 1 s) A
 form_of_one null_of = refl
 form_of_one (assign places v) = refl
 form_of_one (set_of es v) = refl
+form_of_one (assign_at index spacing places d) = refl
+form_of_one (set_at index spacing es d) = refl
 form_of_one (case_of v alts) = refl
 form_of_one (if_of no_else) = refl
 form_of_one (if_of (otherwise x)) = refl
@@ -65,12 +71,16 @@ pub form_of_two : (s r : Stmt) → form_of (step s (step r done)) ≡ cond (is_i
 form_of_two null_of r = refl
 form_of_two (assign places v) r = refl
 form_of_two (set_of es v) r = refl
+form_of_two (assign_at index spacing places d) r = refl
+form_of_two (set_at index spacing es d) r = refl
 form_of_two (case_of v alts) r = refl
 form_of_two (if_of no_else) r = refl
 form_of_two (if_of (otherwise x)) r = refl
 form_of_two (if_of (branch t s no_else)) null_of = refl
 form_of_two (if_of (branch t s no_else)) (assign places v) = refl
 form_of_two (if_of (branch t s no_else)) (set_of es v) = refl
+form_of_two (if_of (branch t s no_else)) (assign_at index spacing places d) = refl
+form_of_two (if_of (branch t s no_else)) (set_at index spacing es d) = refl
 form_of_two (if_of (branch t s no_else)) (case_of v alts) = refl
 form_of_two (if_of (branch t s no_else)) (if_of no_else) = refl
 form_of_two (if_of (branch t s no_else)) (if_of (otherwise x)) = refl
@@ -86,12 +96,16 @@ pub form_of_more : (s r q : Stmt) (rest : Stmts) → form_of (step s (step r (st
 form_of_more null_of r q rest = refl
 form_of_more (assign places v) r q rest = refl
 form_of_more (set_of es v) r q rest = refl
+form_of_more (assign_at index spacing places d) r q rest = refl
+form_of_more (set_at index spacing es d) r q rest = refl
 form_of_more (case_of v alts) r q rest = refl
 form_of_more (if_of no_else) r q rest = refl
 form_of_more (if_of (otherwise x)) r q rest = refl
 form_of_more (if_of (branch t s no_else)) null_of q rest = refl
 form_of_more (if_of (branch t s no_else)) (assign places v) q rest = refl
 form_of_more (if_of (branch t s no_else)) (set_of es v) q rest = refl
+form_of_more (if_of (branch t s no_else)) (assign_at index spacing places d) q rest = refl
+form_of_more (if_of (branch t s no_else)) (set_at index spacing es d) q rest = refl
 form_of_more (if_of (branch t s no_else)) (case_of v alts) q rest = refl
 form_of_more (if_of (branch t s no_else)) (if_of no_else) q rest = refl
 form_of_more (if_of (branch t s no_else)) (if_of (otherwise x)) q rest = refl

@@ -116,6 +116,8 @@ fn keep_given(alloc: Global, places: &Places, statement: &mut Statement) -> Resu
         }
         Statement::Null => {}
         Statement::Assign { .. } => {}
+        Statement::AssignAt { .. } => {}
+        Statement::SetAt { .. } => {}
         Statement::If { .. } => {}
         Statement::Case { .. } => {}
     }

@@ -20,6 +20,8 @@ fn mark_set(statement: &Statement, marks: &mut [bool])
         Statement::Null => {}
         Statement::Assign { .. } => {}
         Statement::Set { elements, .. } => mark_named(elements, marks),
+        Statement::AssignAt { .. } => {}
+        Statement::SetAt { elements, .. } => mark_named(elements, marks),
         Statement::If {
             branches,
             otherwise,

@@ -99,6 +99,8 @@ fn make_constant(statement: &mut Statement, out: &mut Drives)
             };
         }
         Statement::Null => {}
+        Statement::AssignAt { .. } => {}
+        Statement::SetAt { .. } => {}
         Statement::If { .. } => {}
         Statement::Case { .. } => {}
     }

@@ -56,3 +56,6 @@ never (x ∷ xs) = never xs
 
 pub set_assigns : (drives : List Driver) (n : ℕ) (x : Statement) (es : _) (value : _) → x ≡ vs.Set es value → statement_assigns (to_net drives n) x ≡ false
 set_assigns drives n x es value is = ap (statement_assigns (to_net drives n)) is ∙ never (numbers es)
+
+pub set_at_assigns : (drives : List Driver) (n : ℕ) (x : Statement) (at : _) (index : _) (spacing : _) (es : _) (value : _) → x ≡ vs.SetAt at index spacing es value → statement_assigns (to_net drives n) x ≡ false
+set_at_assigns drives n x at index spacing es value is = ap (statement_assigns (to_net drives n)) is ∙ never (numbers es)

@@ -13,7 +13,8 @@ use Rattle.rtl_net.specs.declared.body.Statement.TheVariants as vs
 use Rattle.rtl_net.specs.declared.body.Branch.{Branch}
 use Rattle.rtl_net.specs.declared.body.Alternative.{Alternative}
 use Rattle.rtl_net.specs.Bodies.{statement_view, statements_of}
-use Rattle.rtl_body_facts.specs.Paths.{to_net}
+use Rattle.rtl_net.specs.Indices.{numbers}
+use Rattle.rtl_body_facts.specs.Paths.{covers, to_net}
 use Rattle.rtl_body_facts.proofs.Anys.{or_none, and_not, and_assoc}
 use Rattle.rtl_body_facts.proofs.EveryPath.{set_covers, if_covers, if_alone_covers, case_covers}
 use Rattle.rtl_latches.specs.Omissions.{branch_assigns, alternative_assigns, leaves_out, in_statement, omission_of, part_omission, branches_omission, alternatives_omission}
@@ -22,7 +23,7 @@ use Rattle.rtl_latches.specs.declared.omission.Omission.TheVariants as o
 use Rattle.rtl_latches.specs.declared.choosing.Counted.TheVariants as c
 use Rattle.rtl_latches.specs.declared.parts.Part.{Part}
 use Rattle.rtl_latches.specs.Parts.{Told, told_of, of_branch, of_alternative, nothing, both, where_so, only_left, numbered, is_touched, all_must, first_open, together}
-use Rattle.rtl_latches.proofs.Assigned.{statement_assigns, set_assigns, if_assigns, if_alone_assigns, case_assigns}
+use Rattle.rtl_latches.proofs.Assigned.{statement_assigns, set_assigns, set_at_assigns, if_assigns, if_alone_assigns, case_assigns}
 use Rattle.rtl_latches.proofs.Rows.{in_if, in_if_alone, in_case}
 use Rattle.rtl_latches.proofs.There.{omission_there}
 use Rattle.rtl_latches.proofs.Telling.{as_told, told-same, both-assoc}
@@ -49,6 +50,8 @@ module _ (these : Target → Bool) where
   mutual
     must-stmt : (s : bodies.Stmt) → stmt_must_assign these s ≡ true → stmt_assigns these s ≡ true
     must-stmt bodies.null_of h = absurd cc
+    must-stmt (bodies.assign_at index spacing places e) h = absurd cc
+    must-stmt (bodies.set_at index spacing es e) h = absurd cc
     must-stmt (bodies.if_of bs) h = must-branches bs h
     must-stmt (bodies.case_of v alts) h = must-alternatives alts h
     must-stmt _ h = h
@@ -198,16 +201,29 @@ told-plain true false within e = absurd cc
 told-plain false true within e = absurd cc
 told-plain _ _ within e = refl
 
+-- what is left out where some of it is assigned, and none on every path
+left-told : (omission : Omission) (a m any : Bool) (within : Option Omission) → a ≡ any → m ≡ false → within ≡ Some omission
+    → as_told (m || false) (if a && not m then within else None) ≡ only_left (where_so any (Some omission))
+left-told omission a m any within e f g = (λ i. record { must = f i || false; left = if e i && not (f i) then g i else None }) ∙ ends any
+  where
+    ends : (any : Bool) → as_told (false) (if any && true then Some omission else None) ≡ only_left (where_so any (Some omission))
+    ends true = refl
+    ends false = refl
+
 module _ (drives : List Driver) (n : ℕ) (x : Statement) where
   pub null-told : x ≡ vs.Null → told_of (to_net drives n) (x ∷ []) ≡ nothing
   null-told is = ap (λ (s : Statement). told_of (to_net drives n) (s ∷ [])) is
 
+  -- what assigns a variable
+  unassigned : (a m : Bool) → a ≡ false → m ≡ false → as_told (m || false) (if a && not m then in_statement (to_net drives n) x else None) ≡ nothing
+  unassigned a m e f = λ i. record { must = f i || false; left = if e i && not (f i) then in_statement (to_net drives n) x else None }
+
   pub set-told : (es : _) (value : _) → x ≡ vs.Set es value → told_of (to_net drives n) (x ∷ []) ≡ nothing
-  set-told es value is = go _ _ (set_assigns drives n x es value is) (set_covers drives n x es value is)
-    where
-      go : (a m : Bool) → a ≡ false → m ≡ false
-          → as_told (m || false) (if a && not m then in_statement (to_net drives n) x else None) ≡ nothing
-      go a m e f = λ i. record { must = f i || false; left = if e i && not (f i) then in_statement (to_net drives n) x else None }
+  set-told es value is = unassigned _ _ (set_assigns drives n x es value is) (set_covers drives n x es value is)
+
+  pub set_at-told : (at : _) (index : _) (spacing : _) (es : _) (value : _) → x ≡ vs.SetAt at index spacing es value → told_of (to_net drives n) (x ∷ []) ≡ nothing
+  set_at-told at index spacing es value is =
+      unassigned _ _ (set_at_assigns drives n x at index spacing es value is) (ap (λ (s : Statement). stmt_must_assign (to_net drives n) (statement_view s)) is)
 
   pub assign-told : (places : _) (value : _) → x ≡ vs.Assign places value
       → told_of (to_net drives n) (x ∷ []) ≡ as_told (must_assign (to_net drives n) (statements_of (x ∷ []))) (None)
@@ -218,18 +234,16 @@ module _ (drives : List Driver) (n : ℕ) (x : Statement) where
   pub if_alone-told : (at : ℕ) (branches : Vec Branch Global) → x ≡ vs.If at branches None
       → told_of (to_net drives n) (x ∷ []) ≡ only_left (where_so (list_any is_touched (map (of_branch drives n) branches.items)) (Some (o.NoElse at)))
   if_alone-told at branches is =
-      go (statement_assigns (to_net drives n) x) (stmt_must_assign (to_net drives n) (statement_view x)) (list_any is_touched (map (of_branch drives n) branches.items)) (in_statement (to_net drives n) x)
+      left-told (o.NoElse at) (statement_assigns (to_net drives n) x) (stmt_must_assign (to_net drives n) (statement_view x)) (list_any is_touched (map (of_branch drives n) branches.items)) (in_statement (to_net drives n) x)
       (if_alone_assigns (to_net drives n) x at branches is
       ∙ sym (any-same (of_branch drives n) (branch_assigns (to_net drives n)) (λ (b : Branch). touched-is (to_net drives n) b.statements.items) branches.items))
       (if_alone_covers drives n x at branches is) (in_if_alone (to_net drives n) x at branches is)
-    where
-      go : (a m any : Bool) (within : Option Omission) → a ≡ any → m ≡ false → within ≡ Some (o.NoElse at)
-          → as_told (m || false) (if a && not m then within else None) ≡ only_left (where_so any (Some (o.NoElse at)))
-      go a m any within e f g = (λ i. record { must = f i || false; left = if e i && not (f i) then g i else None }) ∙ ends any
-        where
-          ends : (any : Bool) → as_told (false) (if any && true then Some (o.NoElse at) else None) ≡ only_left (where_so any (Some (o.NoElse at)))
-          ends true = refl
-          ends false = refl
+
+  pub assign_at-told : (at : _) (index : _) (spacing : _) (places : _) (value : _) → x ≡ vs.AssignAt at index spacing places value
+      → told_of (to_net drives n) (x ∷ []) ≡ only_left (where_so (list_any (covers drives n) (numbers places)) (Some (o.Row at)))
+  assign_at-told at index spacing places value is =
+      left-told (o.Row at) (statement_assigns (to_net drives n) x) (stmt_must_assign (to_net drives n) (statement_view x)) (list_any (covers drives n) (numbers places)) (in_statement (to_net drives n) x)
+      (ap (statement_assigns (to_net drives n)) is) (ap (λ (s : Statement). stmt_must_assign (to_net drives n) (statement_view s)) is) (ap (in_statement (to_net drives n)) is)
 
   pub if-told : (at : ℕ) (branches : Vec Branch Global) (v : Vec Statement Global) → x ≡ vs.If at branches (Some v)
       → told_of (to_net drives n) (x ∷ []) ≡ together (numbered (c.Branches at)) (map (of_branch drives n) branches.items ++ told_of (to_net drives n) v.items ∷ [])

@@ -49,6 +49,8 @@ module _ (these : Target → Bool) where
   mutual
     there-statement : (x : Statement) → leaves_out these x ≡ true → IsSome (in_statement these x)
     there-statement vs.Null h = absurd cc
+    there-statement (vs.AssignAt at index spacing places value) h = refl
+    there-statement (vs.SetAt at index spacing es value) h = refl
     there-statement (vs.If' at shape branches None') h = refl
     there-statement (vs.If' at shape branches (Some' of_last last)) h =
         there-branches at (λ k. itself_or these (o.Branch at k) (statements_row last) (in_row these last)) (bodies.otherwise (statements_row last))

@@ -29,6 +29,7 @@ abbrev pub at_of : Omission → ℕ
 at_of (o.NoElse at) = at
 at_of (o.Branch at number) = at
 at_of (o.Alternative at number) = at
+at_of (o.Row at) = at
 
 -- one of these is assigned on some path, and not on all
 abbrev pub leaves_out : (these : Target → Bool) → Statement → Bool
@@ -41,12 +42,15 @@ abbrev pub itself_or : (these : Target → Bool) → (itself : Omission)
 itself_or these itself xs within = if stmts_assign these xs then within else Some itself
 
 abbrev mutual
-  -- of an if without an else, that no condition holds; else of its first branch, or of a case's first alternative, that
-  -- doesn't assign on all paths. They are counted from 1, and the else and the others are the last.
+  -- of an assignment to one of several rows, the assignment itself; of an if without an else, that no condition holds;
+  -- else of its first branch, or of a case's first alternative, that doesn't assign on all paths. They are counted from
+  -- 1, and the else and the others are the last.
   pub in_statement : (these : Target → Bool) → Statement → Option Omission
   in_statement these s.Null = None
   in_statement these (s.Assign places value) = None
   in_statement these (s.Set elements value) = None
+  in_statement these (s.AssignAt at index spacing places value) = Some (o.Row at)
+  in_statement these (s.SetAt at index spacing elements value) = Some (o.Row at)
   in_statement these (s.If' at shape branches None') = Some (o.NoElse at)
   in_statement these (s.If' at shape branches (Some' of_last last)) =
       in_branches these at

@@ -10,7 +10,7 @@ ghost use Rattle.rtl_latches.specs.declared.parts.Part.{Part};
 use crate::choosing::{Counted, choose};
 use crate::omission::Omission;
 use crate::parts::{Part, touched};
-use rtl_body_facts::assigned_nets;
+use rtl_body_facts::{assigned_nets, target_nets};
 use rtl_net::{Alternative, Branch, Driver, Statement};
 use std::alloc::{AllocError, Global};
 use std::slice;
@@ -33,6 +33,11 @@ fn gather_statement(
             part.assign(&nets)
         }
         Statement::Set { .. } => Ok(()),
+        Statement::AssignAt { at, places, .. } => {
+            let nets = target_nets(alloc, drives, places)?;
+            part.leave_out(&nets, Omission::Row { at: *at })
+        }
+        Statement::SetAt { .. } => Ok(()),
         Statement::If {
             at,
             branches,

@@ -13,6 +13,8 @@ pub enum Omission {
     Branch { at: u32, number: usize },
     /// An alternative of a case, counted from 1; the others are the last.
     Alternative { at: u32, number: usize },
+    /// An assignment to the row at an index, where the index is that of another row.
+    Row { at: u32 },
 }
 
 impl Omission {
@@ -23,7 +25,8 @@ impl Omission {
         match self {
             Omission::NoElse { at }
             | Omission::Branch { at, .. }
-            | Omission::Alternative { at, .. } => at,
+            | Omission::Alternative { at, .. }
+            | Omission::Row { at } => at,
         }
     }
 }

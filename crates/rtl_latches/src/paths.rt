@@ -63,6 +63,8 @@ fn statement_covers(statement: &Statement, drives: &[Driver], net: usize) -> boo
         Statement::Null => false,
         Statement::Assign { places, .. } => places_have(drives, net, places),
         Statement::Set { .. } => false,
+        Statement::AssignAt { .. } => false,
+        Statement::SetAt { .. } => false,
         Statement::If {
             branches,
             otherwise,

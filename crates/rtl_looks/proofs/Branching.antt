@@ -212,7 +212,7 @@ alternatives_end last bs i l sights so_far t = ap (λ (ys : List Alternative). a
 -- ---- the end of an if or a case
 
 -- one part more, which changes nothing
-skipped : (round : Option Look) (hubs : List Hub) (env : Env) (ends : Ends) → Parted (λ sights so_far. so_far) round hubs hubs env env ends (record ends { parts = ends.parts + 1 })
+pub skipped : (round : Option Look) (hubs : List Hub) (env : Env) (ends : Ends) → Parted (λ sights so_far. so_far) round hubs hubs env env ends (record ends { parts = ends.parts + 1 })
 skipped round hubs env ends = record {
   grows = grows_none hubs;
   restored = λ t. refl;

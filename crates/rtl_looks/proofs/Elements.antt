@@ -1,16 +1,20 @@
 -- The looks of a value's elements.
-use Rattle.std.proofs.Common.{◌≡◌, ℕ, zero, suc, ◌+◌, ◌-◌, ◌<◌, ◌≤◌, min, List, [], ◌∷◌, ◌++◌, length, get_or, take, drop, map, replicate, Option, None, refl, sym, ap, ◌∙◌, subst, add-one, arith}
+use Rattle.std.proofs.Common.{◌≡◌, ℕ, zero, suc, ◌+◌, ◌-◌, ◌*◌, ◌%◌, ◌<◌, ◌≤◌, min, List, [], ◌∷◌, ◌++◌, length, get_or, take, drop, map, replicate, Option, None, refl, sym, ap, ◌∙◌, subst, add-one, arith, drop-cons}
 use Rattle.std.proofs.lemmas.List.{take_more, take_all, append-nil}
 use Rattle.std.proofs.lemmas.List.Concat.{flat_map-append}
 use Rattle.vhdl_values.specs.declared.kinds.Counted.{Counted}
-use Rattle.vhdl_values.specs.declared.kinds.Counted.TheVariants.{Resize, ShiftLeft, ShiftRight}
+use Rattle.vhdl_values.specs.declared.kinds.Counted.TheVariants.{Resize, ResizeSigned, Shift}
+use Rattle.vhdl_values.specs.declared.kinds.Shift.{Shift as Shifting}
+use Rattle.vhdl_values.specs.declared.kinds.Shift.TheVariants.{Left, Right, RightSigned, RotateLeft}
 use Rattle.vhdl_values.specs.Logic.{zip_with}
-use Rattle.vhdl_values.specs.Shifts.{counted_of}
-use Rattle.rtl_model.specs.bodies.Looks.{Sight, whole}
+use Rattle.vhdl_values.specs.Shifts.{shifted_right, rotated_left, leftmost, shifted_of, counted_of}
+use Rattle.rtl_model.specs.bodies.Rows.{Spacing, row, row_count, all_rows}
+use Rattle.rtl_model.specs.bodies.Looks.{Sight, whole, chosen_looks}
+use Rattle.rtl_model.proofs.bodies.Rows.{length-all, at_row}
 use Rattle.rtl_looks.specs.declared.hubs.Look.{Look}
 use Rattle.rtl_looks.specs.declared.hubs.Hub.{Hub}
 use Rattle.rtl_looks.specs.Denoting.{AreInOrder, Grows, Denotes, DenoteEach, none, more}
-use Rattle.rtl_looks.specs.Evaluating.{Joins, JoinsAll, Combines}
+use Rattle.rtl_looks.specs.Evaluating.{Joins, JoinsAll, Combines, Chooses}
 use Rattle.rtl_looks.proofs.Joining.{later, grows_none, grows_then, nothing}
 
 abbrev pub beside : List (List Sight) → List (List Sight) → List (List Sight)
@@ -52,15 +56,36 @@ module _ {hubs : List Hub} where
   each_take (suc n) (none order) = none order
   each_take (suc n) (more d h) = more d (each_take n h)
 
+  sign_denotes : {ls : List (Option Look)} {xs : List (List Sight)} → DenoteEach hubs ls xs → Denotes hubs (leftmost None ls) (leftmost [] xs)
+  sign_denotes (none order) = nothing order
+  sign_denotes (more d h) = d
+
+  each_right : (count : ℕ) {look : Option Look} {sights : List Sight} {ls : List (Option Look)} {xs : List (List Sight)} → Denotes hubs look sights → DenoteEach hubs ls xs
+      → DenoteEach hubs (shifted_right look count ls) (shifted_right sights count xs)
+  each_right count {look} {sights} {ls} {xs} d h =
+      subst (λ (n : ℕ). DenoteEach hubs (shifted_right look count ls) (take n (replicate count sights ++ xs))) (same_length h)
+      (each_take (length ls) (each_append (each_replicate count d) h))
+
+  each_shifted : (by : Shifting) (count : ℕ) {ls : List (Option Look)} {xs : List (List Sight)} → DenoteEach hubs ls xs
+      → DenoteEach hubs (shifted_of None by count ls) (shifted_of [] by count xs)
+  each_shifted Left count h = each_drop count (each_append h (each_replicate count (nothing (order_of h))))
+  each_shifted Right count h = each_right count (nothing (order_of h)) h
+  each_shifted RightSigned count h = each_right count (sign_denotes h) h
+  each_shifted RotateLeft count {ls} {xs} h =
+      subst (λ (n : ℕ). DenoteEach hubs (rotated_left count ls) (drop (count % n) xs ++ take (count % n) xs)) (same_length h)
+      (each_append (each_drop (count % length ls) h) (each_take (count % length ls) h))
+
   pub each_counted : (op : Counted) (count : ℕ) {ls : List (Option Look)} {xs : List (List Sight)} → DenoteEach hubs ls xs
       → DenoteEach hubs (counted_of None op count ls) (counted_of [] op count xs)
   each_counted Resize count {ls} {xs} h =
       subst (λ (n : ℕ). DenoteEach hubs (counted_of None Resize count ls) (replicate (count - n) [] ++ drop (n - count) xs)) (same_length h)
       (each_append (each_replicate (count - length ls) (nothing (order_of h))) (each_drop (length ls - count) h))
-  each_counted ShiftLeft count h = each_drop count (each_append h (each_replicate count (nothing (order_of h))))
-  each_counted ShiftRight count {ls} {xs} h =
-      subst (λ (n : ℕ). DenoteEach hubs (counted_of None ShiftRight count ls) (take n (replicate count [] ++ xs))) (same_length h)
-      (each_take (length ls) (each_append (each_replicate count (nothing (order_of h))) h))
+  each_counted ResizeSigned count {ls} {xs} h =
+      subst
+      (λ (n : ℕ). DenoteEach hubs (counted_of None ResizeSigned count ls)
+      (replicate (count - (min count n - 1)) (leftmost [] xs) ++ drop (n - (min count n - 1)) xs)) (same_length h)
+      (each_append (each_replicate (count - (min count (length ls) - 1)) (sign_denotes h)) (each_drop (length ls - (min count (length ls) - 1)) h))
+  each_counted (Shift by) count h = each_shifted by count h
 
   pub each_map : {X : Type 0} (f : X → Option Look) (g : X → List Sight) → AreInOrder hubs → ((x : X) → Denotes hubs (f x) (g x)) → (xs : List X)
       → DenoteEach hubs (map f xs) (map g xs)
@@ -158,3 +183,49 @@ besides_all {old} {new} {left} {right} {looks} {i} l h = record {
       let long_r = same_length b in
       subst (λ (s : List (List Sight)). DenoteEach new looks s) (zip_all i ls rs (omega arith)) (h.each ls rs a b);
 }
+
+-- ---- rows
+
+rows_from : (spacing : Spacing) (rows : List (List Sight)) (k : ℕ) → k < row_count spacing (length rows)
+    → drop k (all_rows spacing rows) ≡ row spacing rows k ∷ drop (k + 1) (all_rows spacing rows)
+rows_from spacing rows k below =
+    drop-cons (all_rows spacing rows) k [] (omega (arith, below, length-all spacing rows))
+    ∙ (ap (λ (r : List (List Sight)). r ∷ drop (suc k) (all_rows spacing rows)) (at_row spacing rows k [] below)
+    ∙ ap (λ (n : ℕ). row spacing rows k ∷ drop n (all_rows spacing rows)) (sym (add-one k)))
+
+rows_past : (rows : List (List (List Sight))) (k : ℕ) → length rows ≤ k → drop k rows ≡ []
+rows_past [] zero l = refl
+rows_past [] (suc k) l = refl
+rows_past (r ∷ rows) zero l = absurd (omega arith)
+rows_past (r ∷ rows) (suc k) l = rows_past rows k (omega arith)
+
+-- the elements of the row that an index chooses, as far as it is one from this one on
+pub record ChoosesFrom (spacing : Spacing) (index : Option Look) (looks : List (Option Look)) (old new : List Hub) (left : ℕ) (columns : List (Option Look)) : Type 0 where
+  pub grows : Grows old new
+  pub each : (sights : List Sight) (rows : List (List Sight)) → Denotes old index sights → DenoteEach old looks rows
+      → DenoteEach new columns (chosen_looks sights spacing.len (drop left (all_rows spacing rows)))
+
+pub chooses_none : (spacing : Spacing) (hubs : List Hub) (index : Option Look) (looks : List (Option Look))
+    → ChoosesFrom spacing index looks hubs hubs (row_count spacing (length looks)) (replicate spacing.len index)
+chooses_none spacing hubs index looks = record {
+  grows = grows_none hubs;
+  each = λ sights rows d h.
+      let past : length (all_rows spacing rows) ≤ row_count spacing (length looks) = (rw (same_length h) (let l = length-all spacing rows in omega arith)) in
+      subst (λ (rs : List (List (List Sight))). DenoteEach hubs (replicate spacing.len index) (chosen_looks sights spacing.len rs)) (sym (rows_past (all_rows spacing rows) _ past))
+      (each_replicate spacing.len d);
+}
+
+pub chooses_more : {old mid new : List Hub} {index : Option Look} {looks columns result : List (Option Look)} (spacing : Spacing) (k : ℕ) → k < row_count spacing (length looks)
+    → ChoosesFrom spacing index looks old mid (k + 1) columns → Combines beside mid new (row spacing looks k) columns result → ChoosesFrom spacing index looks old new k result
+chooses_more {old} {mid} {new} {index} {looks} {columns} {result} spacing k below h c = record {
+  grows = grows_then h.grows c.grows;
+  each = λ sights rows d e.
+      let so_far = h.each sights rows d e in
+      let part : DenoteEach old (row spacing looks k) (row spacing rows k) = each_take spacing.len (each_drop (k * spacing.step) e) in
+      subst (λ (rs : List (List (List Sight))). DenoteEach new result (chosen_looks sights spacing.len rs))
+      (sym (rows_from spacing rows k (subst (λ (n : ℕ). k < row_count spacing n) (same_length e) below)))
+      (c.each (row spacing rows k) (chosen_looks sights spacing.len (drop (k + 1) (all_rows spacing rows))) (each_later h.grows (order_of so_far) part) so_far);
+}
+
+pub chooses_all : {old new : List Hub} {index : Option Look} {looks columns : List (Option Look)} (spacing : Spacing) → ChoosesFrom spacing index looks old new 0 columns → Chooses spacing index looks old new columns
+chooses_all spacing h = record { grows = h.grows; each = h.each }

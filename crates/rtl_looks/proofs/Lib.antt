@@ -9,3 +9,5 @@ pub mod Parting
 pub mod Finishing
 pub mod Walking
 pub mod Branching
+pub mod RowCounts
+pub mod RowWalks

@@ -5,18 +5,18 @@ use Rattle.vhdl_values.specs.declared.scalar.Nine.{Nine}
 use Rattle.vhdl_values.specs.declared.kinds.Counted.{Counted}
 use Rattle.vhdl_values.specs.Shifts.{counted_of}
 use Rattle.rtl_model.specs.bodies.Body as m
+use Rattle.rtl_model.specs.bodies.Rows.{Spacing, all_rows}
 use Rattle.rtl_model.specs.bodies.Fits.{operated_width}
-use Rattle.rtl_model.specs.bodies.Looks.{Sight, net_now, net_before, Looks, whole, operation_looks, expr_looks, test_looks}
+use Rattle.rtl_model.specs.bodies.Looks.{Sight, net_now, net_before, Looks, whole, operation_looks, chosen_looks, expr_looks, test_looks}
 use Rattle.rtl_net.specs.Bodies.{operator_view, expr_view, links_of, test_view, test_links_of}
 use Rattle.rtl_net.specs.declared.body.Operator.{Operator}
-use Rattle.rtl_net.specs.declared.body.Operator.TheVariants as o
 use Rattle.rtl_net.specs.declared.body.Link.{Link}
 use Rattle.rtl_net.specs.declared.body.TestLink.{TestLink}
 use Rattle.rtl_looks.specs.declared.hubs.Look.{Look}
 use Rattle.rtl_looks.specs.declared.hubs.Look.TheVariants as l
 use Rattle.rtl_looks.specs.declared.hubs.Hub.{Hub}
 use Rattle.rtl_looks.specs.Denoting.{AreInOrder, Grows, Denotes, DenoteEach, none, more, look_at}
-use Rattle.rtl_looks.specs.Evaluating.{Joins, JoinsAll, Combines, ElementsMean, Evaluates, Sums, Chains, ChainsTests}
+use Rattle.rtl_looks.specs.Evaluating.{Joins, JoinsAll, Combines, Chooses, ElementsMean, Evaluates, Sums, Chains, ChainsTests}
 use Rattle.rtl_looks.proofs.Joining.{later, grows_none, grows_then, nothing}
 use Rattle.rtl_looks.proofs.Elements.{order_of, same_length, denotes_at, each_append, each_replicate, each_map, each_counted, each_later}
 
@@ -195,3 +195,38 @@ of_counted op count e = record { grows = e.grows; each = λ so_far known. each_c
 pub of_one : {elements : List (Option Look)} {hubs : List Hub} {look : Option Look} (sights : Looks → List Sight) → ((so_far : Looks) → ElementsMean hubs elements so_far → Denotes hubs look (sights so_far))
     → Evaluates (λ so_far. sights so_far ∷ []) elements hubs hubs (replicate 1 look)
 of_one {hubs = hubs} sights d = record { grows = grows_none hubs; each = λ so_far known. more (d so_far known) (none (d so_far known).order) }
+
+-- ---- shifts by a count that a run computes, functions of a number, and rows
+
+pub of_shifted : {old mid most new : List Hub} {elements counts looks result : List (Option Look)} {lefts rights : Looks → List (List Sight)} → Evaluates lefts elements old mid counts → Evaluates rights elements mid most looks
+    → Combines (λ ls rs. replicate (length looks) (whole ls ++ whole rs)) most new counts looks result
+    → Evaluates (λ so_far. replicate (length (rights so_far)) (whole (lefts so_far) ++ whole (rights so_far))) elements old new result
+of_shifted {new = new} {elements = elements} {result = result} {lefts = lefts} {rights = rights} a b c = record {
+  grows = grows_then a.grows (grows_then b.grows c.grows);
+  each = λ so_far known.
+      let first = a.each so_far known in
+      let second = b.each so_far (known_later elements so_far a.grows (order_of first) known) in
+      subst (λ (n : ℕ). DenoteEach new result (replicate n (whole (lefts so_far) ++ whole (rights so_far)))) (same_length second)
+      (c.each (lefts so_far) (rights so_far) (each_later b.grows (order_of second) first) second);
+}
+
+pub of_converted : {old mid new : List Hub} {elements looks : List (Option Look)} {look : Option Look} {means : Looks → List (List Sight)} → Evaluates means elements old mid looks → JoinsAll mid new looks look
+    → Evaluates (λ so_far. replicate (length (means so_far)) (whole (means so_far))) elements old new (replicate (length looks) look)
+of_converted {new = new} {looks = looks} {look = look} {means = means} e j = record {
+  grows = grows_then e.grows j.grows;
+  each = λ so_far known.
+      let d = e.each so_far known in
+      subst (λ (n : ℕ). DenoteEach new (replicate (length looks) look) (replicate n (whole (means so_far)))) (same_length d)
+      (each_replicate (length looks) (j.denotes (means so_far) d));
+}
+
+pub of_chosen : {old mid most new : List Hub} {elements looks result : List (Option Look)} {index : Option Look} {means : Looks → List Sight} {rows : Looks → List (List Sight)} (spacing : Spacing) → Sums means elements old mid index
+    → Evaluates rows elements mid most looks → Chooses spacing index looks most new result
+    → Evaluates (λ so_far. chosen_looks (means so_far) spacing.len (all_rows spacing (rows so_far))) elements old new result
+of_chosen {elements = elements} {means = means} {rows = rows} spacing s e h = record {
+  grows = grows_then s.grows (grows_then e.grows h.grows);
+  each = λ so_far known.
+      let first = s.denotes so_far known in
+      let second = e.each so_far (known_later elements so_far s.grows first.order known) in
+      h.each (means so_far) (rows so_far) (later e.grows (order_of second) first) second;
+}

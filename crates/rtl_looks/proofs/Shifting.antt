@@ -1,12 +1,13 @@
 -- Lists that are shifted or resized by their ends, and tables that grow.
-use Rattle.std.proofs.Common.{◌≡◌, ℕ, zero, suc, ◌+◌, ◌-◌, ◌<◌, ◌≤◌, min, max, ◌==◌, if◌then◌else◌, Bool, List, [], ◌∷◌, ◌++◌, length, take, drop, replicate, Option, None, refl, sym, ap, ◌∙◌, subst, ◌⊎◌, inl, inr, arith, true, false, cond}
+use Rattle.std.proofs.Common.{◌≡◌, ℕ, zero, suc, ◌+◌, ◌-◌, ◌%◌, ◌<◌, ◌≤◌, min, max, ◌==◌, if◌then◌else◌, Bool, List, [], ◌∷◌, ◌++◌, length, take, drop, replicate, Option, Some, None, refl, sym, ap, ◌∙◌, subst, ◌⊎◌, inl, inr, arith, true, false, cond}
 use Rattle.std.proofs.Math.ListN.{set}
+use Rattle.std.specs.Prelude.{unwrap_or, SomeIff}
 use Rattle.std.specs.List.{range_with_len}
 use Rattle.std.proofs.lemmas.Bool.{cases_eq, cases_lt, eq-eqb, ne_eqb, lt-ltb, le-ltb}
 use Rattle.std.specs.declared.cmp.Ordering.TheVariants.{Less, Equal, Greater}
 use Rattle.std.specs.Ordering.{nat_cmp, is_lt, ord_min, ord_max}
 use Rattle.std.proofs.lemmas.List.{drop-append-le, drop_all, take-append-le, drop-replicate, take-replicate, length-replicate, get_or-set_same, get_or-set_other, append-nil}
-use Rattle.vhdl_values.specs.Shifts.{shifted_left, shifted_right}
+use Rattle.vhdl_values.specs.Shifts.{shifted_left, shifted_right, rotated_left, leftmost}
 use Rattle.rtl_looks.specs.declared.hubs.Look.{Look}
 use Rattle.rtl_looks.specs.Denoting.{look_at}
 
@@ -78,6 +79,25 @@ module _ {X : Type 0} where
           ∙ (ap (λ (m : ℕ). replicate (length vs) d ++ take m vs) f
           ∙ (append-nil (replicate (length vs) d)
           ∙ sym (take-append-le (length vs) (replicate count d) vs (omega arith) ∙ take-replicate (length vs) count d l)))
+
+  -- by how many elements fall off and come in again, which is less than the length
+  pub rotated_by : (count turned : ℕ) (vs : List X) → (0 < length vs → turned ≡ count % length vs) → drop turned vs ++ take turned vs ≡ rotated_left count vs
+  rotated_by count turned [] is = nothing turned ∙ sym (nothing (count % 0))
+    where
+      nothing : (n : ℕ) → ◌≡◌ {A = List X} (drop n [] ++ take n []) []
+      nothing zero = refl
+      nothing (suc n) = refl
+  rotated_by count turned (v ∷ vs) is = ap (λ (n : ℕ). drop n (v ∷ vs) ++ take n (v ∷ vs)) (is (omega arith))
+
+-- a rest, and 0 where the divisor is 0
+pub rest_is : (o : Option ℕ) (n d : ℕ) → SomeIff o (0 < d) (n % d) → 0 < d → unwrap_or o 0 ≡ n % d
+rest_is (Some r) n d h some = h.1
+rest_is None n d h some = absurd (h some)
+
+-- the sign of looks
+pub sign_is : (looks : List (Option Look)) → look_at looks 0 ≡ leftmost None looks
+sign_is [] = refl
+sign_is (x ∷ xs) = refl
 
 -- ---- tables
 

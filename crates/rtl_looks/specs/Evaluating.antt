@@ -1,9 +1,10 @@
 -- What the walk makes of values and tests: their looks, where `elements` are those of the variables' elements. Hubs
 -- grow, and the looks denote what rtl_model says of whatever the elements' looks denote.
 use Rattle.std.specs.Prelude.{ℕ, List, ◌++◌, Option}
+use Rattle.rtl_model.specs.bodies.Rows.{Spacing, all_rows}
 use Rattle.rtl_model.specs.bodies.Assigns.{element}
 use Rattle.rtl_model.specs.bodies.Body.{Expr, Test}
-use Rattle.rtl_model.specs.bodies.Looks.{Sight, Looks, whole, expr_looks, test_looks}
+use Rattle.rtl_model.specs.bodies.Looks.{Sight, Looks, whole, chosen_looks, expr_looks, test_looks}
 use Rattle.rtl_net.specs.Bodies.{links_of, test_links_of}
 use Rattle.rtl_net.specs.declared.body.Link.{Link}
 use Rattle.rtl_net.specs.declared.body.TestLink.{TestLink}
@@ -27,6 +28,13 @@ pub record Combines (by : (ls rs : List (List Sight)) → List (List Sight)) (ol
   pub grows : Grows old new
   pub each : (ls rs : List (List Sight)) → DenoteEach old left ls → DenoteEach old right rs
       → DenoteEach new looks (by ls rs)
+
+-- the elements of the row that an index chooses, in what has these looks
+pub record Chooses (spacing : Spacing) (index : Option Look) (looks : List (Option Look)) (old new : List Hub)
+    (chosen : List (Option Look)) : Type 0 where
+  pub grows : Grows old new
+  pub each : (sights : List Sight) (rows : List (List Sight)) → Denotes old index sights → DenoteEach old looks rows
+      → DenoteEach new chosen (chosen_looks sights spacing.len (all_rows spacing rows))
 
 -- ---- values and tests
 

@@ -12,6 +12,7 @@ mod env;
 mod hubs;
 mod looks;
 mod names;
+mod rows;
 mod statements;
 mod table;
 mod tests;

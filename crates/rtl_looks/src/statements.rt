@@ -3,10 +3,11 @@
 ghost use Rattle.std.specs.Prelude.{◌≡◌, ◌<◌, ◌≤◌, ◌+◌, ◌++◌, length, OnOk, IfOk};
 ghost use Rattle.rtl_model.specs.bodies.Body.{Stmts, Branches};
 ghost use Rattle.rtl_model.specs.bodies.Looks as m;
-ghost use Rattle.rtl_net.specs.Bodies.{value_view, test_view, statement_view, statements_of, alternatives_of};
+ghost use Rattle.rtl_net.specs.Bodies.{spacing_view, value_view, test_view, statement_view, statements_of, alternatives_of};
 ghost use Rattle.rtl_net.specs.Indices.{numbers};
 ghost use Rattle.rtl_looks.specs.Targets.{target_of};
-ghost use Rattle.rtl_looks.specs.Walks.{Walked, Parted, Assigned, Branched, Rounds};
+ghost use Rattle.rtl_model.specs.bodies.Rows.{row_count, all_rows};
+ghost use Rattle.rtl_looks.specs.Walks.{Walked, Parted, Assigned, PartAssigned, RowsAssigned, rows_walked, Branched, Rounds};
 ghost use Rattle.rtl_looks.specs.Rests.{PartsWalked, Leaves, Rests, Left};
 
 use crate::changes::Changes;
@@ -14,10 +15,11 @@ use crate::ends::Ends;
 use crate::env::{Env, Kind};
 use crate::hubs::{Hubs, Look};
 use crate::names::numbers_of;
+use crate::rows::{row, row_count};
 use crate::table::{Table, at};
 use crate::tests::{decided, test_look};
-use crate::values::{value_look, value_looks};
-use rtl_net::{Alternative, Branch, Indices, Statement, Value};
+use crate::values::{expr_look, expr_looks, value_look, value_looks};
+use rtl_net::{Alternative, Branch, Expr, Indices, Spacing, Statement, Value};
 use std::alloc::AllocError;
 
 /// Makes each of these targets look at what the value's element at its place does, and at the
@@ -58,6 +60,87 @@ fn walk_assignment(
     let looks = value_looks(value, &env.elements, hubs)?;
     let numbers = numbers_of(hubs.alloc(), target)?;
     assign(kind, &numbers, &looks, round, hubs, env, changes)
+}
+
+/// The same as one of several assignments of which a run does one: it is taken back.
+fn assign_part(
+    kind: Kind,
+    numbers: &[usize],
+    looks: &[Option<Look>],
+    round: Option<Look>,
+    hubs: &mut Hubs,
+    env: &mut Env,
+    ends: &mut Ends,
+) -> Result<(), AllocError>
+    requires { ends.old.parts < usize.MAX }
+    ensures parts { OnOk result (ends.new.parts ≡ ends.old.parts + 1) }
+    ensures parted { OnOk result (PartAssigned kind numbers.now looks.now round
+        hubs.old.hubs.items hubs.new.hubs.items env.old env.new ends.old ends.new) }
+{
+    let mut changes = Changes::new(hubs.alloc());
+    assign(kind, numbers, looks, round, hubs, env, &mut changes)?;
+    ends.take(&mut changes, env, hubs)
+}
+
+/// The same of each row that lies in these numbers.
+fn assign_rows(
+    kind: Kind,
+    spacing: Spacing,
+    numbers: &[usize],
+    looks: &[Option<Look>],
+    round: Option<Look>,
+    hubs: &mut Hubs,
+    env: &mut Env,
+    ends: &mut Ends,
+) -> Result<(), AllocError>
+    requires { ends.old.parts + row_count (spacing_view spacing) (length numbers.now) < usize.MAX }
+    ensures parts { OnOk result (ends.new.parts ≡ ends.old.parts
+        + row_count (spacing_view spacing) (length numbers.now)) }
+    ensures rows { OnOk result (RowsAssigned kind (all_rows (spacing_view spacing) numbers.now) looks.now round
+        hubs.old.hubs.items hubs.new.hubs.items env.old env.new ends.old ends.new) }
+{
+    for number in 0..row_count(spacing, numbers.len()) {
+        let row = row(numbers, spacing, number);
+        assign_part(kind, row, looks, round, hubs, env, ends)?;
+    }
+    Ok(())
+}
+
+/// Makes the targets in which rows lie look at what they may look at behind an assignment to the
+/// row at an index: at what they did before, and at what they do behind X to all of them, or the
+/// value to any row.
+fn walk_rows(
+    kind: Kind,
+    assignment: RowAssignment<'_>,
+    round: Option<Look>,
+    hubs: &mut Hubs,
+    env: &mut Env,
+    changes: &mut Changes,
+) -> Result<(), AllocError>
+    ensures { OnOk result (Walked (rows_walked kind assignment.entry)
+        round hubs.old.hubs.items hubs.new.hubs.items env.old env.new changes.old changes.new) }
+{
+    let index = expr_look(assignment.index, &env.elements, hubs)?;
+    let round = hubs.join(round, index)?;
+    let looks = expr_looks(assignment.value, &env.elements, hubs)?;
+    let numbers = numbers_of(hubs.alloc(), assignment.targets)?;
+    let mut parts = Ends::new(hubs.alloc());
+    parts.skip();
+    assign_part(kind, &numbers, &[], round, hubs, env, &mut parts)?;
+    let spacing = assignment.spacing;
+    assign_rows(
+        kind, spacing, &numbers, &looks, round, hubs, env, &mut parts,
+    )?;
+    parts.finish(env, hubs, changes)
+}
+
+/// An assignment to the row at an index.
+#[derive(Clone, Copy)]
+struct RowAssignment<'a> {
+    index: &'a Expr,
+    spacing: Spacing,
+    targets: &'a Indices,
+    value: &'a Expr,
 }
 
 /// What is left of an if behind its branches.
@@ -124,6 +207,36 @@ fn walk_statement(
         }
         Statement::Set { elements, value } => {
             walk_assignment(Kind::Element, elements, value, round, hubs, env, changes)
+        }
+        Statement::AssignAt {
+            index,
+            spacing,
+            places: targets,
+            value,
+            ..
+        } => {
+            let assignment = RowAssignment {
+                index,
+                spacing: *spacing,
+                targets,
+                value,
+            };
+            walk_rows(Kind::Driver, assignment, round, hubs, env, changes)
+        }
+        Statement::SetAt {
+            index,
+            spacing,
+            elements: targets,
+            value,
+            ..
+        } => {
+            let assignment = RowAssignment {
+                index,
+                spacing: *spacing,
+                targets,
+                value,
+            };
+            walk_rows(Kind::Element, assignment, round, hubs, env, changes)
         }
         Statement::If {
             branches,

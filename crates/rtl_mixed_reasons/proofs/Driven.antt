@@ -6,7 +6,7 @@ use Rattle.std.proofs.lemmas.Bool.{cases_Bool, ltb-true, eqb-true, eq-eqb, ne_eq
 use Rattle.std.proofs.lemmas.List.{get_or_default}
 use Rattle.rtl_model.specs.basics.Lists.{is_empty}
 use Rattle.rtl_model.specs.bodies.Assigns.{Target, driver, element, stmt_assigns, stmts_assign, branches_assign, alternatives_assign}
-use Rattle.rtl_model.specs.bodies.Body.{Stmt, null_of, assign, set, if_of, case_of, Stmts, done, step, Branches, no_else, otherwise, branch, Alternatives, others, alternative}
+use Rattle.rtl_model.specs.bodies.Body.{Stmt, null_of, assign, set, assign_at, set_at, if_of, case_of, Stmts, done, step, Branches, no_else, otherwise, branch, Alternatives, others, alternative}
 use Rattle.rtl_model.specs.nets.CoreNetlist.{drives_net}
 use Rattle.rtl_net.specs.declared.process.Process.{Process}
 use Rattle.rtl_body_facts.specs.Paths.{driven, to_net}
@@ -27,6 +27,8 @@ module _ (these : Target → Bool) (none : (t : Target) → these t ≡ false) w
     stmt-never null_of = refl
     stmt-never (assign places v) = never (λ place. these (driver place)) (λ place. none (driver place)) places
     stmt-never (set es v) = never (λ e. these (element e)) (λ e. none (element e)) es
+    stmt-never (assign_at index spacing places e) = never (λ place. these (driver place)) (λ place. none (driver place)) places
+    stmt-never (set_at index spacing es e) = never (λ k. these (element k)) (λ k. none (element k)) es
     stmt-never (if_of bs) = branches-never bs
     stmt-never (case_of v alts) = alternatives-never alts
 

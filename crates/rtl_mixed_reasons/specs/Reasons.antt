@@ -41,8 +41,7 @@ naming_two kind at net second =
 
 -- ---- the ifs of a body
 
--- the byte at which an if or a case starts; of another statement the netlist has none, and the one that is given
--- stands for it
+-- the byte at which an if or a case starts; for that of another statement the one stands that is given
 abbrev pub at_or : (given : ℕ) → Statement → ℕ
 at_or given (s.If' at shape branches last) = at
 at_or given (s.Case' at selector shape alternatives of_last last) = at

@@ -90,6 +90,8 @@ fn computes_in(wide: bool, at: u32, statement: &Statement) -> Option<Reason>
             }
             Some(Reason::plain(ReasonKind::ResetComputes, at))
         }
+        Statement::AssignAt { .. } => Some(Reason::plain(ReasonKind::ResetComputes, at)),
+        Statement::SetAt { .. } => Some(Reason::plain(ReasonKind::ResetComputes, at)),
         Statement::If { .. } => Some(Reason::plain(ReasonKind::ResetComputes, at)),
         Statement::Case { .. } => Some(Reason::plain(ReasonKind::ResetComputes, at)),
     }

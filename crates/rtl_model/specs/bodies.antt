@@ -1,5 +1,6 @@
 -- The bodies of processes after elaboration: what they read and assign, and what a run of one does. In order of
 -- reading:
+pub mod Rows
 pub mod Body
 pub mod Values
 pub mod Tests

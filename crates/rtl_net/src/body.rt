@@ -4,10 +4,11 @@
 
 use crate::indices::Indices;
 use drops::take_apart;
-use vhdl_values::{Cmp, Counted, Logic, Nine, Vec9};
+use vhdl_numbers::{Conversion, SignedOperator};
+use vhdl_values::{Cmp, Counted, Logic, Nine, Shift, Vec9};
 
 /// An operator on two vectors (9.2; numeric_std for the arithmetic ones).
-#[derive(Clone, Copy)]
+#[derive(Clone, Copy, PartialEq, Eq)]
 pub enum Operator {
     Logical(Logic),
     /// `&`.
@@ -15,6 +16,28 @@ pub enum Operator {
     Add,
     Subtract,
     Multiply,
+    /// On numbers in two's complement.
+    Signed(SignedOperator),
+}
+
+/// How rows lie in a list: how long each is, and how much further than the one before it it begins.
+#[derive(Clone, Copy)]
+pub struct Spacing {
+    pub len: u32,
+    pub step: u32,
+}
+
+/// What rows lie in: the nets of a signal's name, the elements of a variable's, or constants.
+pub enum RowsOf {
+    Signals(Indices),
+    Variables(Indices),
+    Constants(Vec<Nine>),
+}
+
+impl Drop for RowsOf {
+    fn drop(self) {
+        take_apart!(self: Signals(_) | Variables(_) | Constants(_));
+    }
 }
 
 /// An expression of one element or of a vector of the nine values. A natural number beside a vector
@@ -46,6 +69,23 @@ pub enum Expr {
         count: u32,
         operand: Box<Expr>,
     },
+    /// A shift whose count a run computes: a number in two's complement.
+    Shifted {
+        operator: Shift,
+        count: Box<Expr>,
+        operand: Box<Expr>,
+    },
+    /// A function of one vector, whose result is as long.
+    Converted {
+        conversion: Conversion,
+        operand: Box<Expr>,
+    },
+    /// The row with the number of the index, which is one in two's complement.
+    Chosen {
+        index: Box<Expr>,
+        spacing: Spacing,
+        rows: RowsOf,
+    },
 }
 
 impl Drop for Expr {
@@ -53,7 +93,8 @@ impl Drop for Expr {
     fn drop(self) {
         take_apart!(self: Signal(_) | Variable(_) | Constant(_) | Inverse(_)
             | Filled { len, element } | Chain { first, rest }
-            | Counted { operator, count, operand });
+            | Counted { operator, count, operand } | Shifted { operator, count, operand }
+            | Converted { conversion, operand } | Chosen { index, spacing, rows });
     }
 }
 
@@ -166,6 +207,24 @@ pub enum Statement {
         elements: Indices,
         value: Value,
     },
+    /// A signal assignment to the row with the number of the index, which is one in two's
+    /// complement. The rows lie in these drivers. `at` is the byte of the source at which it
+    /// starts.
+    AssignAt {
+        at: u32,
+        index: Expr,
+        spacing: Spacing,
+        places: Indices,
+        value: Expr,
+    },
+    /// A variable assignment: the same, to these elements.
+    SetAt {
+        at: u32,
+        index: Expr,
+        spacing: Spacing,
+        elements: Indices,
+        value: Expr,
+    },
     /// `if` (10.8): the first branch that holds is taken, else `otherwise`. `else null;` is `Some`
     /// of one `Null`. `at` is the byte of the source at which it starts.
     If {
@@ -187,6 +246,8 @@ impl Drop for Statement {
     #[cycle(statement)]
     fn drop(self) {
         take_apart!(self: Null | Assign { places, value } | Set { elements, value }
+            | AssignAt { at, index, spacing, places, value }
+            | SetAt { at, index, spacing, elements, value }
             | If { at, branches, otherwise } | Case { at, selector, alternatives, others });
     }
 }

@@ -18,7 +18,8 @@ mod signal;
 mod walk;
 
 pub use body::{
-    Alternative, Branch, Choice, Expr, Link, Operator, Statement, Test, TestLink, Value,
+    Alternative, Branch, Choice, Expr, Link, Operator, RowsOf, Spacing, Statement, Test, TestLink,
+    Value,
 };
 pub use building::{IdlePort, Parts};
 pub use indices::Indices;
@@ -27,4 +28,4 @@ pub use net::{Net, NetKind, NoMemory, Source};
 pub use process::{Driver, Process, Variable};
 pub use shown::Shown;
 pub use signal::{Scope, Signal, SignalKind};
-pub use walk::{Leaf, Visit, walk_body, walk_test, walk_value};
+pub use walk::{Leaf, Visit, walk_body, walk_expr, walk_test, walk_value};

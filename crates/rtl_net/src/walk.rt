@@ -3,10 +3,10 @@
 
 ghost use Rattle.std.specs.Prelude.{List, [], ◌∷◌, ◌++◌, flat_map};
 ghost use Rattle.rtl_model.specs.bodies.Leaves as m;
-ghost use Rattle.rtl_net.specs.Bodies.{expr_view, value_view, test_view, statements_of};
+ghost use Rattle.rtl_net.specs.Bodies.{rows_view, expr_view, value_view, test_view, statements_of};
 ghost use Rattle.rtl_net.specs.Visits.{leaf_view, Tells, link_leaves, test_link_leaves, statement_leaves, branch_leaves, alternative_leaves};
 
-use crate::body::{Alternative, Branch, Expr, Link, Statement, Test, TestLink, Value};
+use crate::body::{Alternative, Branch, Expr, Link, RowsOf, Statement, Test, TestLink, Value};
 use crate::indices::Indices;
 
 /// What an expression or a test looks at.
@@ -51,6 +51,26 @@ pub fn walk_expr<V: Visit>(expr: &Expr, visitor: &mut V)
             walk_links(rest, visitor);
         }
         Expr::Counted { operand, .. } => walk_expr(operand, visitor),
+        Expr::Shifted { count, operand, .. } => {
+            walk_expr(count, visitor);
+            walk_expr(operand, visitor);
+        }
+        Expr::Converted { operand, .. } => walk_expr(operand, visitor),
+        Expr::Chosen { index, rows, .. } => {
+            walk_expr(index, visitor);
+            walk_rows(rows, visitor);
+        }
+    }
+}
+
+/// Tells of what rows lie in.
+fn walk_rows<V: Visit>(rows: &RowsOf, visitor: &mut V)
+    ensures { Tells V.takes visitor.old (m.expr_leaves (rows_view rows.now)) visitor.new }
+{
+    match rows {
+        RowsOf::Signals(nets) => visitor.leaf(Leaf::Nets(nets)),
+        RowsOf::Variables(elements) => visitor.leaf(Leaf::Elements(elements)),
+        RowsOf::Constants(_) => {}
     }
 }
 
@@ -145,6 +165,14 @@ fn walk_statement<V: Visit>(statement: &Statement, visitor: &mut V)
         Statement::Null => {}
         Statement::Assign { value, .. } => walk_value(value, visitor),
         Statement::Set { value, .. } => walk_value(value, visitor),
+        Statement::AssignAt { index, value, .. } => {
+            walk_expr(index, visitor);
+            walk_expr(value, visitor);
+        }
+        Statement::SetAt { index, value, .. } => {
+            walk_expr(index, visitor);
+            walk_expr(value, visitor);
+        }
         Statement::If {
             branches,
             otherwise,

@@ -1,5 +1,5 @@
 -- Bodies that aren't one assignment copy nothing.
-use Rattle.std.proofs.Common.{◌≡◌, ℕ, List, [], ◌∷◌, length, get_or, None, refl, sym, ap, ◌∙◌, arith}
+use Rattle.std.proofs.Common.{◌≡◌, List, [], ◌∷◌, length, get_or, None, refl, ap, ◌∙◌, arith}
 use Rattle.rtl_model.specs.bodies.Body.{signal, inverse, elements, Stmt, assign, Stmts, done, step}
 use Rattle.rtl_model.specs.bodies.Copies.{copying}
 use Rattle.rtl_net.specs.declared.body.Statement.{Statement}
@@ -20,6 +20,8 @@ other_copies_nothing : (x : Statement) → ((places : _) (value : _) → x ≡ v
 other_copies_nothing vs.Null n = refl
 other_copies_nothing (vs.Assign places value) n = absurd (n places value refl)
 other_copies_nothing (vs.Set es value) n = refl
+other_copies_nothing (vs.AssignAt at index spacing places value) n = refl
+other_copies_nothing (vs.SetAt at index spacing es value) n = refl
 other_copies_nothing (vs.If' at shape branches last) n = refl
 other_copies_nothing (vs.Case' at selector shape alternatives of_last last) n = refl
 

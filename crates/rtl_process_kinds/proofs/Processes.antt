@@ -10,7 +10,7 @@ use Rattle.rtl_model.specs.bodies.Kinds as k
 use Rattle.rtl_model.specs.nets.FlatNetlist.{FlatProcess}
 use Rattle.rtl_model.specs.nets.CoreNetlist.{core_process, core_kind, core_reset, acting_branch}
 use Rattle.rtl_model.specs.simulation.Netlist as m
-use Rattle.rtl_model.specs.simulation.Netlist.{Netlist, ProcessKind, Combinational, Clocked, Mixed, Edge, Reset, process, no_process}
+use Rattle.rtl_model.specs.simulation.Netlist.{Netlist, ProcessKind, Mixed, Edge, process, no_process}
 use Rattle.rtl_model.proofs.basics.Lists.{get_or-map_within}
 use Rattle.rtl_model.proofs.bodies.Clocking.{clocked_is, resets_read_nothing}
 use Rattle.rtl_body_facts.proofs.Members.{in_append}

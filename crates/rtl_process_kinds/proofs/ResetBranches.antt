@@ -1,5 +1,5 @@
 -- The branch of a reset stands where it is said to.
-use Rattle.std.proofs.Common.{◌≡◌, ℕ, zero, suc, ◌-◌, Bool, true, false, List, [], ◌∷◌, length, get_or, vec_len, ◌==◌, refl, sym, ap, ◌∙◌, arith, Vec, Global, Option, Some, None, inl, inr}
+use Rattle.std.proofs.Common.{◌≡◌, ℕ, zero, suc, ◌-◌, Bool, true, false, List, [], ◌∷◌, length, get_or, vec_len, ◌==◌, sym, ap, ◌∙◌, arith, Vec, Global, Option, Some, None, inl, inr}
 use Rattle.std.specs.Prelude.{is_some, option_map}
 use Rattle.std.proofs.lemmas.Bool.{eqb-true, eqb-false}
 use Rattle.rtl_model.specs.bodies.Body.{Stmt, Stmts, if_of, Branches, no_else, otherwise, branch}

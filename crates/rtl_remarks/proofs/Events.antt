@@ -1,5 +1,5 @@
 -- The nets that a walk over a body has found.
-use Rattle.std.proofs.Common.{◌≡◌, ℕ, false, ◌||◌, List, [], ◌∷◌, sym, ap, ◌∙◌, refl}
+use Rattle.std.proofs.Common.{◌≡◌, ℕ, false, ◌||◌, List, [], ◌∷◌, sym, ap, ◌∙◌}
 use Rattle.std.specs.Prelude.{flat_map}
 use Rattle.rtl_model.specs.bodies.Leaves.{Leaf, event_of}
 use Rattle.rtl_net.specs.Visits.{Tells}

@@ -9,7 +9,7 @@ use Rattle.vhdl_values.specs.declared.kinds.Logic.TheVariants.{And, Xor, Xnor}
 use Rattle.rtl_model.specs.bodies.Body.{Operator, logical, joined}
 use Rattle.rtl_model.specs.bodies.Body.{Expr, signal, inverse, filled, binary}
 use Rattle.rtl_model.specs.bodies.Body.{Value, elements, Test, compared, compared_to, combined}
-use Rattle.rtl_model.specs.bodies.Body.{Stmt, assign, if_of, case_of, Stmts, done, step}
+use Rattle.rtl_model.specs.bodies.Body.{Stmt, assign, assign_at, if_of, case_of, Stmts, done, step}
 use Rattle.rtl_model.specs.bodies.Body.{Branches, no_else, otherwise, branch, Alternatives, others, alternative}
 use Rattle.rtl_net.specs.declared.process.Driver.{Driver}
 use Rattle.rtl_body_facts.specs.Paths.{covers}
@@ -90,6 +90,8 @@ counts all n t = all || not (fails n t)
 abbrev mutual
   pub stmt_may : List Driver → (kept : Bool) → (n : ℕ) → Stmt → Bool
   stmt_may drives kept n (assign places v) = list_any (covers drives n) places && is_same kept (keeps n v)
+  stmt_may drives kept n (assign_at index spacing places e) =
+      list_any (covers drives n) places && is_same kept (keeps n (elements e))
   stmt_may drives kept n (if_of bs) = branches_may drives kept n bs
   stmt_may drives kept n (case_of v alts) = alternatives_may drives kept n alts
   stmt_may drives kept n _ = false

@@ -4,17 +4,19 @@ ghost use Rattle.std.specs.Prelude.{◌≡◌, ◌||◌, ◌&&◌, ℕ, IfOk, On
 ghost use Rattle.std.specs.List.{list_any};
 ghost use Rattle.std.specs.List.Sorted.{IsStrictlyIncreasing};
 ghost use Rattle.rtl_model.specs.bodies.Assigns.{stmt_must_assign};
-ghost use Rattle.rtl_net.specs.Bodies.{value_view, statement_view, statements_of};
-ghost use Rattle.rtl_body_facts.specs.Paths.{to_net};
+ghost use Rattle.rtl_model.specs.bodies.Body.{elements};
+ghost use Rattle.rtl_net.specs.Indices.{numbers};
+ghost use Rattle.rtl_net.specs.Bodies.{expr_view, value_view, statement_view, statements_of};
+ghost use Rattle.rtl_body_facts.specs.Paths.{covers, to_net};
 ghost use Rattle.rtl_body_facts.specs.Reading.{is_in};
 ghost use Rattle.rtl_remarks.specs.Undefined as spec;
 ghost use Rattle.rtl_remarks.specs.Tables.{branch_may, alternative_may};
 
 use crate::failing::failing_nets;
 use crate::lists::chosen;
-use crate::undefined::keepers;
-use rtl_body_facts::{assigned_nets, sort_once};
-use rtl_net::{Alternative, Branch, Driver, NoMemory, Statement, Value};
+use crate::undefined::{expr_keepers, keepers};
+use rtl_body_facts::{assigned_nets, sort_once, target_nets};
+use rtl_net::{Alternative, Branch, Driver, Expr, Indices, NoMemory, Statement, Value};
 use std::alloc::Global;
 
 /// Appends those of an assignment of this value.
@@ -32,6 +34,26 @@ fn push_assignment(
 {
     let targets = assigned_nets(alloc, drives, std::slice::from_ref(statement))?;
     let keepers = keepers(alloc, value)?;
+    let found = chosen(alloc, &targets, &keepers, kept)?;
+    nets.extend_from_slice(&found)?;
+    Ok(())
+}
+
+/// Appends those of an assignment of an expression's value to one of several rows.
+fn push_row_assignment(
+    alloc: Global,
+    drives: &[Driver],
+    kept: bool,
+    places: &Indices,
+    value: &Expr,
+    nets: &mut Vec<usize>,
+) -> Result<(), NoMemory>
+    ensures { OnOk result ((n : ℕ) → is_in n nets.new.items ≡ (is_in n nets.old.items
+        || (list_any (covers drives.now n) (numbers places.now)
+        && spec.is_same kept (spec.keeps n (elements (expr_view value.now)))))) }
+{
+    let targets = target_nets(alloc, drives, places)?;
+    let keepers = expr_keepers(alloc, value)?;
     let found = chosen(alloc, &targets, &keepers, kept)?;
     nets.extend_from_slice(&found)?;
     Ok(())
@@ -55,6 +77,10 @@ fn push_statement(
             push_assignment(alloc, drives, kept, statement, value, nets)
         }
         Statement::Set { .. } => Ok(()),
+        Statement::AssignAt { places, value, .. } => {
+            push_row_assignment(alloc, drives, kept, places, value, nets)
+        }
+        Statement::SetAt { .. } => Ok(()),
         Statement::If {
             branches,
             otherwise,

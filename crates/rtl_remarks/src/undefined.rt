@@ -2,6 +2,7 @@
 
 ghost use Rattle.std.specs.Prelude.{◌≡◌, true, false, ℕ, IfOk};
 ghost use Rattle.std.specs.List.Sorted.{IsStrictlyIncreasing};
+ghost use Rattle.rtl_model.specs.bodies.Body.{elements};
 ghost use Rattle.rtl_net.specs.Bodies.{operator_view, expr_view, value_view};
 ghost use Rattle.rtl_body_facts.specs.Reading.{is_in};
 ghost use Rattle.rtl_remarks.specs.Undefined as spec;
@@ -37,7 +38,11 @@ fn passes(operator: Operator) -> bool
 {
     match operator {
         Operator::Logical(logic) => is_exclusive(logic),
-        Operator::Concatenate | Operator::Add | Operator::Subtract | Operator::Multiply => true,
+        Operator::Concatenate
+        | Operator::Add
+        | Operator::Subtract
+        | Operator::Multiply
+        | Operator::Signed(_) => true,
     }
 }
 
@@ -48,7 +53,7 @@ fn whole_of(operator: Operator, left: bool, right: bool) -> bool
     match operator {
         Operator::Logical(_) => left && right,
         Operator::Concatenate => false,
-        Operator::Add | Operator::Subtract | Operator::Multiply => true,
+        Operator::Add | Operator::Subtract | Operator::Multiply | Operator::Signed(_) => true,
     }
 }
 
@@ -109,6 +114,28 @@ fn links_of(alloc: Global, left: Makers, rest: &[Link]) -> Result<Makers, NoMemo
     Ok(Makers { nets, whole })
 }
 
+/// The nets each of which, undefined, makes each element of an expression's value so, rising.
+pub(crate) fn expr_keepers(alloc: Global, expr: &Expr) -> Result<Vec<usize>, NoMemory>
+    ensures rise { IfOk result (λ nets. IsStrictlyIncreasing nets.items) }
+    ensures are { IfOk result (λ nets. (n : ℕ)
+        → is_in n nets.items ≡ spec.keeps n (elements (expr_view expr.now))) }
+{
+    let mut nets = unsorted_expr_keepers(alloc, expr)?;
+    sort_once(&mut nets);
+    Ok(nets)
+}
+
+/// The same in any order.
+fn unsorted_expr_keepers(alloc: Global, expr: &Expr) -> Result<Vec<usize>, NoMemory>
+    ensures { IfOk result (λ nets. (n : ℕ) → is_in n nets.items ≡ spec.keeps n (elements (expr_view expr.now))) }
+{
+    let found = makers_of(alloc, expr)?;
+    if found.whole {
+        return Ok(found.nets);
+    }
+    Ok(Vec::new(alloc))
+}
+
 /// The nets each of which, undefined, makes each element of a value so, rising.
 pub(crate) fn keepers(alloc: Global, value: &Value) -> Result<Vec<usize>, NoMemory>
     ensures rise { IfOk result (λ nets. IsStrictlyIncreasing nets.items) }
@@ -124,13 +151,7 @@ fn unsorted_keepers(alloc: Global, value: &Value) -> Result<Vec<usize>, NoMemory
     ensures { IfOk result (λ nets. (n : ℕ) → is_in n nets.items ≡ spec.keeps n (value_view value.now)) }
 {
     match value {
-        Value::Elements(expr) => {
-            let found = makers_of(alloc, expr)?;
-            if found.whole {
-                return Ok(found.nets);
-            }
-            Ok(Vec::new(alloc))
-        }
+        Value::Elements(expr) => unsorted_expr_keepers(alloc, expr),
         _ => Ok(Vec::new(alloc)),
     }
 }

@@ -5,7 +5,6 @@
 #![tactic(auto)]
 
 mod marks;
-mod numbers;
 mod stored;
 mod walk;
 

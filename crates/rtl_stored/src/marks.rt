@@ -7,7 +7,6 @@ ghost use Rattle.rtl_model.specs.bodies.Leaves.{leaf_looks_at};
 ghost use Rattle.rtl_body_facts.specs.Reading.{is_in};
 ghost use Rattle.rtl_stored.specs.Walks.{unmarked, is_assigned, never, Reads, Walked, Released};
 
-use crate::numbers::{len_of, number_at};
 use rtl_net::{Indices, Leaf, Visit};
 use std::alloc::{AllocError, Global};
 
@@ -79,8 +78,8 @@ impl Marks {
     fn read_all(&mut self, elements: &Indices)
         ensures { Reads (λ e. is_in e (numbers elements.now)) self.old.marks.items self.new.marks.items }
     {
-        for place in 0..len_of(elements) {
-            self.read(number_at(elements, place));
+        for place in 0..elements.len() {
+            self.read(elements.at(place));
         }
     }
 
@@ -110,8 +109,8 @@ impl Marks {
         ensures { OnOk result (Walked never (λ e. is_in e (numbers elements.now))
             self.old.marks.items self.new.marks.items added.old.items added.new.items) }
     {
-        for place in 0..len_of(elements) {
-            self.assign(number_at(elements, place), added)?;
+        for place in 0..elements.len() {
+            self.assign(elements.at(place), added)?;
         }
         Ok(())
     }

@@ -10,7 +10,7 @@ ghost use Rattle.rtl_body_facts.specs.Looks.{branch_assigns, alternative_assigns
 ghost use Rattle.rtl_stored.specs.Walks.{is_assigned, Reads, Walked, Narrows};
 
 use crate::marks::Marks;
-use rtl_net::{Alternative, Branch, Statement, walk_test, walk_value};
+use rtl_net::{Alternative, Branch, Statement, walk_expr, walk_test, walk_value};
 use std::alloc::{AllocError, Global};
 
 /// Marks the elements that a statement stores and those that it assigns on every syntactic path,
@@ -35,6 +35,16 @@ fn walk_statement(
         Statement::Set { elements, value } => {
             walk_value(value, marks);
             marks.assign_named(elements, added)
+        }
+        Statement::AssignAt { index, value, .. } => {
+            walk_expr(index, marks);
+            walk_expr(value, marks);
+            Ok(())
+        }
+        Statement::SetAt { index, value, .. } => {
+            walk_expr(index, marks);
+            walk_expr(value, marks);
+            Ok(())
         }
         Statement::If {
             branches,

@@ -8,7 +8,7 @@ use Rattle.std.proofs.lemmas.List.Elements.{All-contains}
 use Rattle.std.proofs.lemmas.Option.{slice_get_within}
 use Rattle.rtl_model.specs.basics.Valuations.{AgreeOn}
 use Rattle.rtl_model.specs.bodies.Assigns.{is_element, must_assign, stmts_assign}
-use Rattle.rtl_model.specs.bodies.Body.{null_of, assign, set, if_of, case_of, Stmts, done, step, no_else, branch}
+use Rattle.rtl_model.specs.bodies.Body.{null_of, assign, set, assign_at, set_at, if_of, case_of, Stmts, done, step, no_else, branch}
 use Rattle.rtl_model.specs.bodies.Effect.{effect}
 use Rattle.rtl_model.specs.bodies.Fits.{Scope, DrivesType, Fits}
 use Rattle.rtl_model.specs.bodies.Laws.{SeesTypes}
@@ -44,6 +44,8 @@ places_below scope known seen (step (assign ps v) rest) f g = (
 )
 places_below scope known seen (step (set es v) rest) f g =
     places_below scope (knows_more known es) (after_stmt seen (set es v)) rest f.1 (and_parts (is_known known v) (gives_constants (knows_more known es) rest) g).1
+places_below scope known seen (step (assign_at index spacing ps v) rest) f g = absurd cc
+places_below scope known seen (step (set_at index spacing es v) rest) f g = absurd cc
 places_below scope known seen (step (if_of bs) rest) f g = absurd cc
 places_below scope known seen (step (case_of v alts) rest) f g = absurd cc
 
@@ -67,6 +69,8 @@ sets_within scope known (step (set es v) rest) f g e h =
     go : (must_assign (is_element e) rest ≡ true → e < length scope.variables) → (list_any (λ k. k == e) es ≡ true) ⊎ (must_assign (is_element e) rest ≡ true) → e < length scope.variables
     go k (inl n) = slice_get_within scope.variables e f.0.0 (All-contains (HasType scope.variables f.0.0) es e f.0.3 (in_contains es e n))
     go k (inr n) = k n
+sets_within scope known (step (assign_at index spacing ps v) rest) f g e h = absurd cc
+sets_within scope known (step (set_at index spacing es v) rest) f g e h = absurd cc
 sets_within scope known (step (if_of bs) rest) f g e h = absurd cc
 sets_within scope known (step (case_of v alts) rest) f g e h = absurd cc
 

@@ -1,13 +1,13 @@
 -- A body that fits still fits among more nets and drivers.
 use Rattle.std.proofs.Common.{◌≡◌, ℕ, slice_get, Some}
 use Rattle.std.proofs.lemmas.List.Elements.{All-weaker}
-use Rattle.rtl_model.specs.bodies.Body.{Expr, signal, variable, constant, inverse, filled, binary, counted}
+use Rattle.rtl_model.specs.bodies.Body.{Expr, signal, variable, constant, inverse, filled, binary, counted, shifted, converted, chosen}
 use Rattle.rtl_model.specs.bodies.Body.{Value, elements, position, position_of, position_in}
 use Rattle.rtl_model.specs.bodies.Body.{Test, condition, decided, equal, unequal, level, compared, compared_to}
 use Rattle.rtl_model.specs.bodies.Body.{rising, falling, event, negated, combined}
-use Rattle.rtl_model.specs.bodies.Body.{Stmt, null_of, assign, set, if_of, case_of, Stmts, done, step}
+use Rattle.rtl_model.specs.bodies.Body.{Stmt, null_of, assign, set, assign_at, set_at, if_of, case_of, Stmts, done, step}
 use Rattle.rtl_model.specs.bodies.Body.{Branches, no_else, otherwise, branch, Alternatives, others, alternative}
-use Rattle.rtl_model.specs.bodies.Fits.{Scope, FitsExpr, FitsAs, FitBoth, FitsTest, DrivesType, FitsStmt, Fits, FitsBranches, FitsAlternatives}
+use Rattle.rtl_model.specs.bodies.Fits.{Scope, HoldsRows, FitsExpr, FitsAs, FitBoth, FitsTest, DrivesType, FitsStmt, Fits, FitsBranches, FitsAlternatives}
 use Rattle.rtl_model.specs.bodies.Types.{ElementType, nine_valued, enumeration, HasType}
 
 pub record Extends (small large : Scope) : Type 0 where
@@ -16,6 +16,12 @@ pub record Extends (small large : Scope) : Type 0 where
   pub targets : (place net : ℕ) → slice_get small.targets place ≡ Some net → slice_get large.targets place ≡ Some net
 
 module _ (small large : Scope) (more : Extends small large) where
+  rows_hold : (rows : Expr) → HoldsRows small rows → HoldsRows large rows
+  rows_hold (signal nets) h = All-weaker (HasType small.nets nine_valued) (HasType large.nets nine_valued) (more.nets nine_valued) nets h
+  rows_hold (variable es) h = All-weaker (HasType small.variables nine_valued) (HasType large.variables nine_valued) (more.variables nine_valued) es h
+  rows_hold (constant values) h = h
+  rows_hold _ h = absurd h
+
   expr_fits : (e : Expr) → FitsExpr small e → FitsExpr large e
   expr_fits (signal nets) h = (h.0, All-weaker (HasType small.nets nine_valued) (HasType large.nets nine_valued) (more.nets nine_valued) nets h.1)
   expr_fits (variable es) h = (h.0, All-weaker (HasType small.variables nine_valued) (HasType large.variables nine_valued) (more.variables nine_valued) es h.1)
@@ -24,6 +30,9 @@ module _ (small large : Scope) (more : Extends small large) where
   expr_fits (filled len e) h = (h.0, expr_fits e h.1, h.2)
   expr_fits (binary op d e) h = (h.0, expr_fits d h.1, expr_fits e h.2, h.3)
   expr_fits (counted op count e) h = (h.0, expr_fits e h.1)
+  expr_fits (shifted by count e) h = (expr_fits count h.0, expr_fits e h.1)
+  expr_fits (converted by e) h = expr_fits e h
+  expr_fits (chosen index spacing rows) h = (h.0, expr_fits index h.1, rows_hold rows h.2, h.3)
 
   pub value_fits : (t : ElementType) (v : Value) → FitsAs small t v → FitsAs large t v
   value_fits nine_valued (elements e) h = expr_fits e h
@@ -57,6 +66,10 @@ module _ (small large : Scope) (more : Extends small large) where
     stmt_fits null_of h = h
     stmt_fits (assign places v) h = (h.0, value_fits h.0 v h.1, h.2, All-weaker (DrivesType small h.0) (DrivesType large h.0) (drives_fit h.0) places h.3)
     stmt_fits (set es v) h = (h.0, value_fits h.0 v h.1, h.2, All-weaker (HasType small.variables h.0) (HasType large.variables h.0) (more.variables h.0) es h.3)
+    stmt_fits (assign_at index spacing places e) h =
+        (h.0, expr_fits index h.1, expr_fits e h.2, h.3, All-weaker (DrivesType small nine_valued) (DrivesType large nine_valued) (drives_fit nine_valued) places h.4, h.5)
+    stmt_fits (set_at index spacing es e) h =
+        (h.0, expr_fits index h.1, expr_fits e h.2, h.3, All-weaker (HasType small.variables nine_valued) (HasType large.variables nine_valued) (more.variables nine_valued) es h.4, h.5)
     stmt_fits (if_of bs) h = branches_fit bs h
     stmt_fits (case_of v alts) h = (h.0, value_fits h.0 v h.1, alternatives_fit h.0 _ alts h.2)
 

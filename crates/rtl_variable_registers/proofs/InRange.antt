@@ -8,7 +8,7 @@ use Rattle.std.proofs.lemmas.List.{length-map, length-append, length-replicate, 
 use Rattle.std.proofs.lemmas.List.Elements.{All-map, All-append, All-weaker, All-contains, All-nil, All-cons, All-head, All-tail, All-replicate, Contains-get_or, Contains-append_left, Contains-append_right, Contains-append_cases}
 use Rattle.std.proofs.lemmas.Option.{slice_get-map, slice_get_within, slice_get-get_or, get_or_from_slice_get}
 use Rattle.rtl_model.specs.basics.Lists.{is_empty}
-use Rattle.rtl_model.specs.bodies.Body.{Test, null_of, assign, set, if_of, case_of, Stmts, done, step, no_else, branch, followed_by}
+use Rattle.rtl_model.specs.bodies.Body.{Test, null_of, assign, set, assign_at, set_at, if_of, case_of, Stmts, done, step, no_else, branch, followed_by}
 use Rattle.rtl_model.specs.bodies.Assigns.{is_element, must_assign}
 use Rattle.rtl_model.specs.bodies.Fits.{Scope, DrivesType, FitsStmt, Fits}
 use Rattle.rtl_model.specs.bodies.Leaves.{value_leaves}
@@ -239,6 +239,8 @@ module _ (types all : List ElementType) (more : (t : ElementType) (n : ℕ) → 
         ),
         reset_fits rest c.1 (λ e i. k e (or_right (list_any (λ j. j == e) es) (must_assign (is_element e) rest) i)) h.1,
       )
+  reset_fits (step (assign_at index spacing ps v) rest) g k h = absurd cc
+  reset_fits (step (set_at index spacing es v) rest) g k h = absurd cc
   reset_fits (step (if_of bs) rest) g k h = absurd cc
   reset_fits (step (case_of v alts) rest) g k h = absurd cc
 

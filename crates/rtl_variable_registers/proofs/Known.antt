@@ -1,29 +1,32 @@
 -- What no statement sets keeps its value, and the branch of a reset does the same with constants in the place of what is
 -- known.
-use Rattle.std.proofs.Common.{◌≡◌, ℕ, ◌<◌, ◌≤◌, Bool, true, false, cond, not, ◌&&◌, ◌||◌, ◌==◌, List, [], ◌∷◌, ◌++◌, Option, None, length, drop, flat_map, slice_index, slice_set}
+use Rattle.std.proofs.Common.{◌≡◌, ℕ, ◌<◌, ◌≤◌, Bool, true, false, cond, not, ◌&&◌, ◌||◌, ◌==◌, List, [], ◌∷◌, ◌++◌, Option, None, length, drop, map, flat_map, slice_index, slice_set}
 use Rattle.std.proofs.Common.{refl, sym, ap, ◌∙◌, subst, arith, ◌⊎◌, inl, inr}
 use Rattle.std.specs.List.{list_any, list_all}
 use Rattle.std.proofs.lemmas.Bool.{and_parts, and_from, or_cases, eq-eqb, eqb-true, cases_lt}
 use Rattle.std.proofs.lemmas.List.{get_or-set_same, get_or-set_other, get_or_past, length-set}
+use Rattle.vhdl_values.specs.Scalar.{code_of}
 use Rattle.rtl_model.specs.basics.Lists.{is_empty}
 use Rattle.rtl_model.specs.basics.Valuations.{or_else}
 use Rattle.rtl_model.specs.bodies.Assigns.{Target, is_element, stmt_must_assign, must_assign, stmt_assigns, stmts_assign, branches_assign, alternatives_assign}
-use Rattle.rtl_model.specs.bodies.Body.{Expr, signal, variable, constant, inverse, filled, binary, counted}
+use Rattle.rtl_model.specs.bodies.Body.{Expr, signal, variable, constant, inverse, filled, binary, counted, shifted, converted, chosen}
 use Rattle.rtl_model.specs.bodies.Body.{Value, elements, position, position_of, position_in}
-use Rattle.rtl_model.specs.bodies.Body.{Stmt, null_of, assign, set, if_of, case_of, Stmts, done, step}
+use Rattle.rtl_model.specs.bodies.Body.{Stmt, null_of, assign, set, assign_at, set_at, if_of, case_of, Stmts, done, step}
 use Rattle.rtl_model.specs.bodies.Body.{Branches, no_else, otherwise, branch, Alternatives, others, alternative}
 use Rattle.rtl_model.specs.bodies.Effect.{entries, effect}
-use Rattle.rtl_model.specs.bodies.Fits.{Scope, FitsExpr, FitsAs, DrivesType, FitsTarget, Fits, IsWidth, value_width}
+use Rattle.rtl_model.specs.bodies.Fits.{Scope, HoldsRows, FitsExpr, FitsAs, DrivesType, FitsTarget, Fits, IsWidth, value_width}
 use Rattle.rtl_model.specs.bodies.Kinds.{assigns_constants}
+use Rattle.rtl_model.specs.bodies.Rows.{row_at}
 use Rattle.rtl_model.specs.bodies.Leaves.{Leaf, of_nets, of_event, of_elements, expr_leaves, value_leaves, leaves, read_of}
 use Rattle.rtl_model.specs.bodies.Reads.{value_reads, reads}
 use Rattle.rtl_model.specs.bodies.Tests.{same, is_met}
 use Rattle.rtl_model.specs.bodies.Types.{ElementType, nine_valued, enumeration, HasType, KeepsTypes}
-use Rattle.rtl_model.specs.bodies.Values.{Seen, value_of}
+use Rattle.rtl_model.specs.bodies.Values.{Seen, elements_of, targets_at, given_at, value_of}
 use Rattle.rtl_model.specs.bodies.Variables.{values_put, stmt_variables, variables_after, branches_variables, alternatives_variables, after_stmt}
 use Rattle.rtl_model.proofs.basics.Lists.{is_nil, nil_parts}
 use Rattle.rtl_model.proofs.bodies.Leaves.{leaves_tell}
 use Rattle.rtl_model.proofs.bodies.Ranges.{entries_keep_types}
+use Rattle.rtl_model.proofs.bodies.Rows.{none-targets}
 use Rattle.rtl_model.proofs.bodies.Widths.{has_its_width}
 use Rattle.rtl_variable_registers.specs.Known.{leaf_is_known, is_known, gives_constants, never_set, constant_of, as_constant, with_constant, with_constants}
 use Rattle.rtl_variable_registers.proofs.Recalling.{length-values_put}
@@ -55,6 +58,11 @@ module _ (e : ℕ) where
     stmt_unset null_of seen h = refl
     stmt_unset (assign places v) seen h = refl
     stmt_unset (set es v) seen h = put_elsewhere es (value_of seen v) seen.variables e h
+    stmt_unset (assign_at index spacing places v) seen h = refl
+    stmt_unset (set_at index spacing es v) seen h =
+        let i = elements_of seen index in
+        put_elsewhere (targets_at es (row_at spacing es i)) (given_at es (row_at spacing es i) (map code_of (elements_of seen v))) seen.variables e
+        (none-targets (λ d. d == e) spacing es i h)
     stmt_unset (if_of bs) seen h = branches_unset bs seen h
     stmt_unset (case_of v alts) seen h = alternatives_unset alts (value_of seen v) seen h
 
@@ -190,6 +198,8 @@ made_constants known seen (step (set es v) rest) h =
     let (c, d) = and_parts (is_known known v) (gives_constants (knows_more known es) rest) h in
     and_from (is_empty (value_leaves (as_constant seen v))) _ (ap is_empty (constant_leaves seen v))
     (made_constants (knows_more known es) (after_stmt seen (set es v)) rest d)
+made_constants known seen (step (assign_at index spacing ps v) rest) h = absurd cc
+made_constants known seen (step (set_at index spacing es v) rest) h = absurd cc
 made_constants known seen (step (if_of bs) rest) h = absurd cc
 made_constants known seen (step (case_of v alts) rest) h = absurd cc
 
@@ -204,6 +214,8 @@ gives_bare known known' (step (set es v) rest) h n =
     let (c, d) = nil_parts (value_leaves v) (leaves rest) n in
     and_from (is_known known' v) _ (ap (list_all (leaf_is_known known')) c)
     (gives_bare (knows_more known es) (knows_more known' es) rest (and_parts (is_known known v) (gives_constants (knows_more known es) rest) h).1 d)
+gives_bare known known' (step (assign_at index spacing ps v) rest) h n = absurd cc
+gives_bare known known' (step (set_at index spacing es v) rest) h n = absurd cc
 gives_bare known known' (step (if_of bs) rest) h n = absurd cc
 gives_bare known known' (step (case_of v alts) rest) h n = absurd cc
 
@@ -212,6 +224,8 @@ stmt_same : (these : Target → Bool) (seen : Seen) (s : Stmt) → stmt_must_ass
 stmt_same these seen null_of = refl
 stmt_same these seen (assign ps v) = refl
 stmt_same these seen (set es v) = refl
+stmt_same these seen (assign_at index spacing ps v) = refl
+stmt_same these seen (set_at index spacing es v) = refl
 stmt_same these seen (if_of bs) = refl
 stmt_same these seen (case_of v alts) = refl
 
@@ -248,6 +262,8 @@ constants_run known seen left (step (set es v) rest) h agree l =
           ∙ ap (λ (o : Option ℕ). or_else o None) (more.entries q);
       variables = ap (λ (values : List ℕ). variables_after (record left { variables = values_put es values left.variables }) (with_constants next rest)) as_it ∙ more.variables;
     }
+constants_run known seen left (step (assign_at index spacing ps v) rest) h agree l = absurd cc
+constants_run known seen left (step (set_at index spacing es v) rest) h agree l = absurd cc
 constants_run known seen left (step (if_of bs) rest) h agree l = absurd cc
 constants_run known seen left (step (case_of v alts) rest) h agree l = absurd cc
 
@@ -260,6 +276,10 @@ bare_stays seen (step (assign ps v) rest) h =
 bare_stays seen (step (set es v) rest) h =
     let (c, d) = nil_parts (value_leaves v) (leaves rest) h in
     on_both (λ w r. step (set es w) r) (constant_bare seen v c) (bare_stays (after_stmt seen (set es v)) rest d)
+bare_stays seen (step (assign_at index spacing ps v) rest) h =
+    ap (step (assign_at index spacing ps v)) (bare_stays (after_stmt seen (assign_at index spacing ps v)) rest (nil_parts _ (leaves rest) h).1)
+bare_stays seen (step (set_at index spacing es v) rest) h =
+    ap (step (set_at index spacing es v)) (bare_stays (after_stmt seen (set_at index spacing es v)) rest (nil_parts _ (leaves rest) h).1)
 bare_stays seen (step (if_of bs) rest) h = ap (step (if_of bs)) (bare_stays (after_stmt seen (if_of bs)) rest (nil_parts _ (leaves rest) h).1)
 bare_stays seen (step (case_of v alts) rest) h = ap (step (case_of v alts)) (bare_stays (after_stmt seen (case_of v alts)) rest (nil_parts _ (leaves rest) h).1)
 
@@ -284,12 +304,20 @@ reads_stay known seen (step (assign ps v) rest) h =
 reads_stay known seen (step (set es v) rest) h =
     let (c, d) = and_parts (is_known known v) (gives_constants (knows_more known es) rest) h in
     on_both (λ (xs ys : List ℕ). xs ++ ys) (value_reads_stay known seen v c) (reads_stay (knows_more known es) (after_stmt seen (set es v)) rest d)
+reads_stay known seen (step (assign_at index spacing ps v) rest) h = absurd cc
+reads_stay known seen (step (set_at index spacing es v) rest) h = absurd cc
 reads_stay known seen (step (if_of bs) rest) h = absurd cc
 reads_stay known seen (step (case_of v alts) rest) h = absurd cc
 
 -- ---- what fits
 
 module _ (scope : Scope) where
+  bare_rows : (any : Scope) (rows : Expr) → expr_leaves rows ≡ [] → HoldsRows scope rows → HoldsRows any rows
+  bare_rows any (signal nets) n h = absurd cc
+  bare_rows any (variable es) n h = absurd cc
+  bare_rows any (constant vs) n h = h
+  bare_rows any _ n h = absurd h
+
   bare_fits : (any : Scope) (e : Expr) → expr_leaves e ≡ [] → FitsExpr scope e → FitsExpr any e
   bare_fits any (signal nets) n h = absurd cc
   bare_fits any (variable es) n h = absurd cc
@@ -299,6 +327,11 @@ module _ (scope : Scope) where
   bare_fits any (binary op d e) n h =
       let (c, k) = nil_parts (expr_leaves d) (expr_leaves e) n in (h.0, bare_fits any d c h.1, bare_fits any e k h.2, h.3)
   bare_fits any (counted op count e) n h = (h.0, bare_fits any e n h.1)
+  bare_fits any (shifted by count e) n h =
+      let (c, k) = nil_parts (expr_leaves count) (expr_leaves e) n in (bare_fits any count c h.0, bare_fits any e k h.1)
+  bare_fits any (converted by e) n h = bare_fits any e n h
+  bare_fits any (chosen index spacing rows) n h =
+      let (c, k) = nil_parts (expr_leaves index) (expr_leaves rows) n in (h.0, bare_fits any index c h.1, bare_rows any rows k h.2, h.3)
 
   -- the constant fits among any nets
   value_fits : (any : Scope) (t : ElementType) (v : Value) → value_leaves v ≡ [] → FitsAs scope t v → FitsAs any t v
@@ -353,5 +386,7 @@ module _ (scope : Scope) where
         target_fits scope known seen (HasType scope.variables) es v typed c f.0,
         constants_fit (knows_more known es) (after_stmt seen (set es v)) rest (typed_after known seen es v typed c f.0) d f.1,
       )
+  constants_fit known seen (step (assign_at index spacing ps v) rest) typed h f = absurd cc
+  constants_fit known seen (step (set_at index spacing es v) rest) typed h f = absurd cc
   constants_fit known seen (step (if_of bs) rest) typed h f = absurd cc
   constants_fit known seen (step (case_of v alts) rest) typed h f = absurd cc

@@ -6,7 +6,7 @@ use Rattle.std.proofs.lemmas.Bool.{and_parts}
 use Rattle.rtl_model.specs.basics.Lists.{is_empty}
 use Rattle.rtl_model.specs.basics.Valuations.{or_else}
 use Rattle.rtl_model.specs.bodies.Assigns.{is_element, stmt_must_assign, must_assign}
-use Rattle.rtl_model.specs.bodies.Body.{Stmt, null_of, assign, set, if_of, case_of, Stmts, done, step, Value}
+use Rattle.rtl_model.specs.bodies.Body.{Stmt, null_of, assign, set, assign_at, set_at, if_of, case_of, Stmts, done, step, Value}
 use Rattle.rtl_model.specs.bodies.Effect.{entries, effect}
 use Rattle.rtl_model.specs.bodies.Leaves.{value_leaves}
 use Rattle.rtl_model.specs.bodies.Values.{Seen, value_of}
@@ -70,6 +70,8 @@ module _ (many : ℕ) (net place : ℕ → ℕ) (IsKept : ℕ → Type 0) (above
       let (c, d) = and_parts (is_empty (value_leaves v)) (are_constants rest) g in
       on_both or_else (same_entries rest d (rest_kept (set es v) rest k) (after_stmt left (set es v)) other q l)
       (no_entry (map place es) (value_of other v) q (λ p i s. let (e, j, at) = in_mapped place es p i in let b = above e (set_kept es v rest k e j) in omega arith))
+  same_entries (step (assign_at index spacing ps v) rest) g k left other q l = absurd cc
+  same_entries (step (set_at index spacing es v) rest) g k left other q l = absurd cc
   same_entries (step (if_of bs) rest) g k left other q l = absurd cc
   same_entries (step (case_of v alts) rest) g k left other q l = absurd cc
 
@@ -95,5 +97,7 @@ module _ (many : ℕ) (net place : ℕ → ℕ) (IsKept : ℕ → Type 0) (above
       ∙ ap (λ (o : Option ℕ). unwrap_or (effect other (at_reset net place rest) (place e)) (unwrap_or o old)) (first ∙ same)
       ∙ ap (unwrap_or (effect other (at_reset net place rest) (place e))) (sym (put_is_entry es (value_of left v) left.variables e l))
       ∙ kept_entries rest d (rest_kept (set es v) rest k) b (after_stmt left (set es v)) other e i (omega (arith, length-values_put es (value_of left v) left.variables))
+  kept_entries (step (assign_at index spacing ps v) rest) g k b left other e i l = absurd cc
+  kept_entries (step (set_at index spacing es v) rest) g k b left other e i l = absurd cc
   kept_entries (step (if_of bs) rest) g k b left other e i l = absurd cc
   kept_entries (step (case_of v alts) rest) g k b left other e i l = absurd cc

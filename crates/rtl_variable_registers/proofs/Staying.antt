@@ -3,13 +3,12 @@ use Rattle.std.proofs.Common.{◌≡◌, ℕ, ◌+◌, ◌<◌, ◌≤◌, Bool,
 use Rattle.std.specs.List.{list_any, list_all, range_with_len}
 use Rattle.std.proofs.lemmas.Bool.{and_parts, eq-eqb}
 use Rattle.std.proofs.lemmas.List.{append-nil, length-append}
-use Rattle.std.proofs.lemmas.List.Folds.{list_all-append}
 use Rattle.std.proofs.lemmas.List.FromFn.{length-range_with_len, get_or-range_with_len}
 use Rattle.rtl_model.specs.basics.Lists.{is_empty}
 use Rattle.rtl_model.specs.bodies.Assigns.{is_element, must_assign}
-use Rattle.rtl_model.specs.bodies.Body.{null_of, assign, set, if_of, case_of, Stmts, done, step, no_else, branch, followed_by}
-use Rattle.rtl_model.specs.bodies.Body.{Expr, signal, variable, constant, inverse, filled, binary, counted, Value, elements, position, position_of, position_in}
-use Rattle.rtl_model.specs.bodies.Fits.{Scope, Fits, FitsExpr, FitsAs, value_width}
+use Rattle.rtl_model.specs.bodies.Body.{null_of, assign, set, assign_at, set_at, if_of, case_of, Stmts, done, step, no_else, branch, followed_by}
+use Rattle.rtl_model.specs.bodies.Body.{Expr, signal, variable, constant, inverse, filled, binary, counted, shifted, converted, chosen, Value, elements, position, position_of, position_in}
+use Rattle.rtl_model.specs.bodies.Fits.{Scope, HoldsRows, Fits, FitsExpr, FitsAs, width, value_width}
 use Rattle.rtl_model.specs.bodies.Kinds.{assigns_constants}
 use Rattle.rtl_model.specs.bodies.Leaves.{Leaf, expr_leaves, value_leaves, leaves}
 use Rattle.rtl_model.specs.bodies.Reads.{value_reads}
@@ -29,7 +28,7 @@ use Rattle.rtl_variable_registers.proofs.Recalling.{all_elements}
 use Rattle.rtl_variable_registers.proofs.Resetting.{told, or_left, or_right}
 use Rattle.rtl_variable_registers.proofs.Straight.{unmarked}
 use Rattle.rtl_variable_registers.proofs.Timing.{reset_same}
-use Rattle.rtl_variable_registers.proofs.Values.{on_both}
+use Rattle.rtl_variable_registers.proofs.Values.{on_both, parts_known}
 
 -- ---- variables
 
@@ -67,8 +66,18 @@ module _ (scope : Scope) where
   sets_none known (step (set [] v) rest) f g h = absurd (let l = has_element scope f.0.0 v f.0.1 in let m : 0 ≡ value_width v = f.0.2 in omega arith)
   sets_none known (step (set (e ∷ es) v) rest) f g h =
       absurd (h e (or_left ((e == e) || list_any (λ j. j == e) es) (must_assign (is_element e) rest) (or_left (e == e) (list_any (λ j. j == e) es) (eq-eqb e e refl))))
+  sets_none known (step (assign_at index spacing ps v) rest) f g h = absurd cc
+  sets_none known (step (set_at index spacing es v) rest) f g h = absurd cc
   sets_none known (step (if_of bs) rest) f g h = absurd cc
   sets_none known (step (case_of v alts) rest) f g h = absurd cc
+
+  rows_bare : (known : ℕ → Bool) (rows : Expr) → HoldsRows scope rows → 1 ≤ width rows → list_all (leaf_is_known known) (expr_leaves rows) ≡ true
+      → ((k : ℕ) → expr_looks_at k rows ≡ true → ⊥) → expr_leaves rows ≡ []
+  rows_bare known (signal nets) f some c n = absurd cc
+  rows_bare known (variable []) f some c n = absurd (omega (arith, some))
+  rows_bare known (variable (k ∷ ks)) f some c n = absurd (n k (or_left (k == k) (list_any (λ j. j == k) ks) (eq-eqb k k refl)))
+  rows_bare known (constant vs) f some c n = refl
+  rows_bare known _ f some c n = absurd f
 
   expr_bare : (known : ℕ → Bool) (e : Expr) → FitsExpr scope e → list_all (leaf_is_known known) (expr_leaves e) ≡ true → ((k : ℕ) → expr_looks_at k e ≡ true → ⊥) → expr_leaves e ≡ []
   expr_bare known (signal nets) f c n = absurd cc
@@ -78,11 +87,19 @@ module _ (scope : Scope) where
   expr_bare known (inverse e) f c n = expr_bare known e f c n
   expr_bare known (filled len e) f c n = expr_bare known e f.1 c n
   expr_bare known (binary op d e) f c n =
-      let all = list_all (leaf_is_known known) in
-      let (x, y) = and_parts (all (expr_leaves d)) (all (expr_leaves e)) (sym (list_all-append (leaf_is_known known) (expr_leaves d) (expr_leaves e)) ∙ c) in
+      let (x, y) = parts_known known d e c in
       on_both (λ (ls ms : List Leaf). ls ++ ms) (expr_bare known d f.1 x (λ k i. n k (or_left (expr_looks_at k d) (expr_looks_at k e) i)))
       (expr_bare known e f.2 y (λ k i. n k (or_right (expr_looks_at k d) (expr_looks_at k e) i)))
   expr_bare known (counted op count e) f c n = expr_bare known e f.1 c n
+  expr_bare known (shifted by count e) f c n =
+      let (x, y) = parts_known known count e c in
+      on_both (λ (ls ms : List Leaf). ls ++ ms) (expr_bare known count f.0 x (λ k i. n k (or_left (expr_looks_at k count) (expr_looks_at k e) i)))
+      (expr_bare known e f.1 y (λ k i. n k (or_right (expr_looks_at k count) (expr_looks_at k e) i)))
+  expr_bare known (converted by e) f c n = expr_bare known e f c n
+  expr_bare known (chosen index spacing rows) f c n =
+      let (x, y) = parts_known known index rows c in
+      on_both (λ (ls ms : List Leaf). ls ++ ms) (expr_bare known index f.1 x (λ k i. n k (or_left (expr_looks_at k index) (expr_looks_at k rows) i)))
+      (rows_bare known rows f.2 (let l = f.0.0.0 in let m = f.3 in omega arith) y (λ k i. n k (or_right (expr_looks_at k index) (expr_looks_at k rows) i)))
 
   value_bare : (known : ℕ → Bool) (t : ElementType) (v : Value) → FitsAs scope t v → is_known known v ≡ true → ((k : ℕ) → value_looks_at k v ≡ true → ⊥) → value_leaves v ≡ []
   value_bare known nine_valued (elements e) f c n = expr_bare known e f c n

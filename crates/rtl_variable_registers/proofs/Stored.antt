@@ -6,7 +6,7 @@ use Rattle.std.proofs.lemmas.Bool.{cases_Bool, and_parts}
 use Rattle.std.proofs.lemmas.List.Elements.{Contains-append_cases}
 use Rattle.rtl_model.specs.basics.Lists.{is_empty}
 use Rattle.rtl_model.specs.bodies.Assigns.{is_element, must_assign}
-use Rattle.rtl_model.specs.bodies.Body.{Test, null_of, assign, set, if_of, case_of, Stmts, done, step, no_else, branch, followed_by, Value}
+use Rattle.rtl_model.specs.bodies.Body.{Test, null_of, assign, set, assign_at, set_at, if_of, case_of, Stmts, done, step, no_else, branch, followed_by, Value}
 use Rattle.rtl_model.specs.bodies.Kinds.{IsEdgeTest, rising_call, falling_call, event_and_level, level_and_event}
 use Rattle.rtl_model.specs.bodies.Leaves.{value_leaves, leaf_looks_at}
 use Rattle.rtl_model.specs.bodies.Stored.{value_looks_at, test_looks_at, stores_element}
@@ -63,6 +63,8 @@ reset_stores_none net place (step (assign ps v) rest) g e =
 reset_stores_none net place (step (set es v) rest) g e =
     let (c, d) = and_parts (is_empty (value_leaves v)) (are_constants rest) g in
     or_none (value_looks_at e v) _ (constant_looks_none v c e) (and_none _ (stores_element e (at_reset net place rest)) (reset_stores_none net place rest d e))
+reset_stores_none net place (step (assign_at index spacing ps v) rest) g e = absurd cc
+reset_stores_none net place (step (set_at index spacing es v) rest) g e = absurd cc
 reset_stores_none net place (step (if_of bs) rest) g e = absurd cc
 reset_stores_none net place (step (case_of v alts) rest) g e = absurd cc
 

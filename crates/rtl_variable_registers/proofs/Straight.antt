@@ -4,7 +4,7 @@ use Rattle.std.specs.List.{list_any, list_all}
 use Rattle.std.proofs.lemmas.Bool.{and_parts, and_from}
 use Rattle.std.proofs.lemmas.List.Elements.{Contains-append_left, Contains-append_right}
 use Rattle.rtl_model.specs.basics.Lists.{is_empty}
-use Rattle.rtl_model.specs.bodies.Body.{Value, null_of, assign, set, if_of, case_of, Stmts, done, step}
+use Rattle.rtl_model.specs.bodies.Body.{Value, null_of, assign, set, assign_at, set_at, if_of, case_of, Stmts, done, step}
 use Rattle.rtl_model.specs.bodies.Kinds.{assigns_constants}
 use Rattle.rtl_model.specs.bodies.Leaves.{Leaf, of_nets, of_event, of_elements, value_leaves, leaves, leaf_looks_at}
 use Rattle.rtl_model.specs.bodies.Reads.{value_reads}
@@ -32,6 +32,8 @@ gives_straight known (step null_of rest) h = gives_straight known rest h
 gives_straight known (step (assign ps v) rest) h = gives_straight known rest (and_parts (is_known known v) (gives_constants known rest) h).1
 gives_straight known (step (set es v) rest) h =
     gives_straight (knows_more known es) rest (and_parts (is_known known v) (gives_constants (knows_more known es) rest) h).1
+gives_straight known (step (assign_at index spacing ps v) rest) h = absurd cc
+gives_straight known (step (set_at index spacing es v) rest) h = absurd cc
 gives_straight known (step (if_of bs) rest) h = absurd cc
 gives_straight known (step (case_of v alts) rest) h = absurd cc
 
@@ -40,6 +42,8 @@ straight_sets these done h = refl
 straight_sets these (step null_of rest) h = straight_sets these rest h
 straight_sets these (step (assign ps v) rest) h = ap (λ (b : Bool). list_any (λ q. these (driver q)) ps || b) (straight_sets these rest h)
 straight_sets these (step (set es v) rest) h = ap (λ (b : Bool). list_any (λ e. these (element e)) es || b) (straight_sets these rest h)
+straight_sets these (step (assign_at index spacing ps v) rest) h = absurd cc
+straight_sets these (step (set_at index spacing es v) rest) h = absurd cc
 straight_sets these (step (if_of bs) rest) h = absurd cc
 straight_sets these (step (case_of v alts) rest) h = absurd cc
 
@@ -88,6 +92,8 @@ straight_gives known (step (set es v) rest) s only k =
     more : (e : ℕ) → stores_element e rest ≡ true → (b : Bool) → list_any (λ d. d == e) es ≡ b → knows_more known es e ≡ true
     more e m true h = or_right (known e) (list_any (λ d. d == e) es) h
     more e m false h = or_left (known e) (list_any (λ d. d == e) es) (k e (or_right (value_looks_at e v) _ (ap (λ (b : Bool). not b && stores_element e rest) h ∙ m)))
+straight_gives known (step (assign_at index spacing ps v) rest) s only k = absurd cc
+straight_gives known (step (set_at index spacing es v) rest) s only k = absurd cc
 straight_gives known (step (if_of bs) rest) s only k = absurd cc
 straight_gives known (step (case_of v alts) rest) s only k = absurd cc
 

@@ -3,7 +3,7 @@ use Rattle.std.proofs.Common.{◌≡◌, ℕ, ◌+◌, Bool, true, false, cond, 
 use Rattle.std.specs.Option.{option_map}
 use Rattle.std.proofs.lemmas.Bool.{and_from, and_parts}
 use Rattle.rtl_model.specs.basics.Lists.{is_empty}
-use Rattle.rtl_model.specs.bodies.Body.{null_of, assign, set, if_of, case_of, Stmts, done, step, no_else, branch, followed_by, Value}
+use Rattle.rtl_model.specs.bodies.Body.{null_of, assign, set, assign_at, set_at, if_of, case_of, Stmts, done, step, no_else, branch, followed_by, Value}
 use Rattle.rtl_model.specs.bodies.Kinds.{EdgeTest, edge_test, ResetTest, reset_test, assigns_constants, ResetPart, Clocking, IsClocked, clocking_of, with_reset, clocking}
 use Rattle.rtl_model.specs.bodies.Leaves.{leaves, value_leaves, read_of}
 use Rattle.rtl_model.specs.bodies.Reads.{value_reads, events}
@@ -45,6 +45,8 @@ reset_leaves net place (step (assign ps v) rest) g =
     let (c, d) = and_parts (is_empty (value_leaves v)) (are_constants rest) g in λ i. is_nil (value_leaves v) c i ++ reset_leaves net place rest d i
 reset_leaves net place (step (set es v) rest) g =
     let (c, d) = and_parts (is_empty (value_leaves v)) (are_constants rest) g in λ i. is_nil (value_leaves v) c i ++ reset_leaves net place rest d i
+reset_leaves net place (step (assign_at index spacing ps v) rest) g = absurd cc
+reset_leaves net place (step (set_at index spacing es v) rest) g = absurd cc
 reset_leaves net place (step (if_of bs) rest) g = absurd cc
 reset_leaves net place (step (case_of v alts) rest) g = absurd cc
 
@@ -55,6 +57,8 @@ reset_constants net place (step (assign ps v) rest) g =
     let (c, d) = and_parts (is_empty (value_leaves v)) (are_constants rest) g in rw (reads_nothing v c) (reset_constants net place rest d)
 reset_constants net place (step (set es v) rest) g =
     let (c, d) = and_parts (is_empty (value_leaves v)) (are_constants rest) g in rw (reads_nothing v c) (reset_constants net place rest d)
+reset_constants net place (step (assign_at index spacing ps v) rest) g = absurd cc
+reset_constants net place (step (set_at index spacing es v) rest) g = absurd cc
 reset_constants net place (step (if_of bs) rest) g = absurd cc
 reset_constants net place (step (case_of v alts) rest) g = absurd cc
 

@@ -1,5 +1,5 @@
 -- Values that look at what is known alone, and values of nets and of elements.
-use Rattle.std.proofs.Common.{◌≡◌, ℕ, ◌<◌, Bool, true, false, ◌&&◌, List, [], ◌∷◌, length, map, replicate, slice_index, slice_index_or, refl, sym, ap, ◌∙◌, arith, Contains}
+use Rattle.std.proofs.Common.{◌≡◌, ℕ, ◌<◌, Bool, true, false, ◌&&◌, List, [], ◌∷◌, ◌++◌, length, map, replicate, slice_index, slice_index_or, refl, sym, ap, ◌∙◌, arith, Contains}
 use Rattle.std.specs.List.{list_all}
 use Rattle.std.proofs.lemmas.Bool.{and_parts}
 use Rattle.std.proofs.lemmas.List.Folds.{list_all-append}
@@ -9,11 +9,14 @@ use Rattle.vhdl_values.specs.Logic.{not_of_all}
 use Rattle.vhdl_values.specs.Planes.{code_of-value_of_code}
 use Rattle.vhdl_values.specs.Scalar.{code_of, value_of_code}
 use Rattle.vhdl_values.specs.Shifts.{counted_of}
-use Rattle.rtl_model.specs.bodies.Body.{Expr, signal, variable, constant, inverse, filled, binary, counted}
+use Rattle.vhdl_numbers.specs.Converted as numbers
+use Rattle.vhdl_numbers.specs.Counts.{shifted_by}
+use Rattle.rtl_model.specs.bodies.Rows.{row_at}
+use Rattle.rtl_model.specs.bodies.Body.{Expr, signal, variable, constant, inverse, filled, binary, counted, shifted, converted, chosen}
 use Rattle.rtl_model.specs.bodies.Body.{Value, elements, position, position_of, position_in}
 use Rattle.rtl_model.specs.bodies.Leaves.{expr_leaves, value_leaves}
 use Rattle.rtl_model.specs.bodies.Types.{ElementType, nine_valued, enumeration, limit_of}
-use Rattle.rtl_model.specs.bodies.Values.{Seen, element_at, elements_of, value_of, operation_result}
+use Rattle.rtl_model.specs.bodies.Values.{Seen, element_at, elements_of, value_of, operation_result, chosen_of}
 use Rattle.rtl_model.proofs.basics.Lists.{Contains-first}
 use Rattle.rtl_variable_registers.specs.Bodies.{of_nets, variable_value}
 use Rattle.rtl_variable_registers.specs.Known.{leaf_is_known, is_known}
@@ -27,6 +30,13 @@ on_both f p q i = f (p i) (q i)
 -- what is known of the variables is the same in both
 abbrev pub Agree : (known : ℕ → Bool) → (a b : Seen) → Type 0
 Agree known a b = (e : ℕ) → known e ≡ true → slice_index a.variables e ≡ slice_index b.variables e
+
+-- in both parts of what looks at known elements alone
+pub parts_known : (known : ℕ → Bool) (d e : Expr) → list_all (leaf_is_known known) (expr_leaves d ++ expr_leaves e) ≡ true
+    → (list_all (leaf_is_known known) (expr_leaves d) ≡ true) × (list_all (leaf_is_known known) (expr_leaves e) ≡ true)
+parts_known known d e h =
+    and_parts (list_all (leaf_is_known known) (expr_leaves d)) (list_all (leaf_is_known known) (expr_leaves e))
+    (sym (list_all-append (leaf_is_known known) (expr_leaves d) (expr_leaves e)) ∙ h)
 
 module _ (known : ℕ → Bool) (a b : Seen) (agree : Agree known a b) where
   names_known : (es : List ℕ) → list_all known es ≡ true → map (element_at a.variables) es ≡ map (element_at b.variables) es
@@ -42,10 +52,15 @@ module _ (known : ℕ → Bool) (a b : Seen) (agree : Agree known a b) where
   expr_known (inverse e) h = ap not_of_all (expr_known e h)
   expr_known (filled len e) h = ap (λ vs. replicate len (slice_index_or vs 0 X)) (expr_known e h)
   expr_known (binary op d e) h =
-      let all = list_all (leaf_is_known known) in
-      let (c, k) = and_parts (all (expr_leaves d)) (all (expr_leaves e)) (sym (list_all-append (leaf_is_known known) (expr_leaves d) (expr_leaves e)) ∙ h) in
+      let (c, k) = parts_known known d e h in
       on_both (operation_result op) (expr_known d c) (expr_known e k)
   expr_known (counted op count e) h = ap (counted_of Zero op count) (expr_known e h)
+  expr_known (shifted by count e) h =
+      let (c, k) = parts_known known count e h in on_both (shifted_by by) (expr_known count c) (expr_known e k)
+  expr_known (converted by e) h = ap (numbers.converted by) (expr_known e h)
+  expr_known (chosen index spacing rows) h =
+      let (c, k) = parts_known known index rows h in
+      on_both (λ (i vs : List Nine). chosen_of spacing.len (row_at spacing vs i)) (expr_known index c) (expr_known rows k)
 
   pub value_known : (v : Value) → is_known known v ≡ true → value_of a v ≡ value_of b v
   value_known (elements e) h = ap (map code_of) (expr_known e h)

@@ -52,7 +52,7 @@ constant_of seen (position_in e) = position (slice_index seen.variables e)
 abbrev pub as_constant : Seen → Value → Value
 as_constant seen v = if is_empty (value_leaves v) then v else constant_of seen v
 
--- Neither an if nor a case gives constants: these stay.
+-- Neither an if nor a case gives constants, nor an assignment at an index: these stay.
 abbrev pub with_constant : Seen → Stmt → Stmt
 with_constant seen (assign places v) = assign places (as_constant seen v)
 with_constant seen (set es v) = set es (as_constant seen v)

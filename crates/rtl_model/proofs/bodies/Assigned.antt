@@ -3,7 +3,7 @@ use Rattle.std.proofs.Common.{◌≡◌, ℕ, Bool, true, false, List, [], ◌�
 use Rattle.std.specs.List.{list_any}
 use Rattle.std.proofs.lemmas.Bool.{or_cases, and_parts, eq-eqb}
 use Rattle.rtl_model.specs.basics.Valuations.{or_else}
-use Rattle.rtl_model.specs.bodies.Body.{Stmt, null_of, assign, set, if_of, case_of, Stmts, done, step}
+use Rattle.rtl_model.specs.bodies.Body.{Stmt, null_of, assign, set, assign_at, set_at, if_of, case_of, Stmts, done, step}
 use Rattle.rtl_model.specs.bodies.Body.{Branches, no_else, otherwise, branch, Alternatives, others, alternative}
 use Rattle.rtl_model.specs.bodies.Values.{Seen, value_of}
 use Rattle.rtl_model.specs.bodies.Tests.{same, is_met}
@@ -58,6 +58,8 @@ module _ (these : ℕ → Bool) where
     of_stmt null_of seen h = absurd cc
     of_stmt (assign places v) seen h = of_places places (value_of seen v) h
     of_stmt (set es v) seen h = absurd (no_element es h)
+    of_stmt (assign_at index spacing places e) seen h = absurd cc
+    of_stmt (set_at index spacing es e) seen h = absurd cc
     of_stmt (if_of bs) seen h = of_branches bs seen h
     of_stmt (case_of v alts) seen h = of_alternatives alts (value_of seen v) seen h
 

@@ -4,11 +4,11 @@ use Rattle.std.specs.Prelude.{flat_map}
 use Rattle.std.specs.List.{list_any}
 use Rattle.std.proofs.lemmas.Grind.{flat_map-append}
 use Rattle.std.proofs.lemmas.List.Folds.{list_any-append}
-use Rattle.rtl_model.specs.bodies.Body.{Expr, signal, variable, inverse, filled, binary, counted}
+use Rattle.rtl_model.specs.bodies.Body.{Expr, signal, variable, inverse, filled, binary, counted, shifted, converted, chosen}
 use Rattle.rtl_model.specs.bodies.Body.{Value, elements, position_in}
 use Rattle.rtl_model.specs.bodies.Body.{Test, condition, equal, unequal, compared, compared_to}
 use Rattle.rtl_model.specs.bodies.Body.{negated, combined}
-use Rattle.rtl_model.specs.bodies.Body.{Stmt, null_of, assign, set, if_of, case_of, Stmts, done, step}
+use Rattle.rtl_model.specs.bodies.Body.{Stmt, null_of, assign, set, assign_at, set_at, if_of, case_of, Stmts, done, step}
 use Rattle.rtl_model.specs.bodies.Body.{Branches, no_else, otherwise, branch, Alternatives, others, alternative}
 use Rattle.rtl_model.specs.bodies.Reads.{expr_reads, value_reads, test_reads, stmt_reads, reads, branches_reads, alternatives_reads}
 use Rattle.rtl_model.specs.bodies.Reads.{test_events, stmt_events, events, branches_events, alternatives_events}
@@ -36,6 +36,9 @@ expr_reads_are (inverse e) = expr_reads_are e
 expr_reads_are (filled len e) = expr_reads_are e
 expr_reads_are (binary op d e) = both read_of (expr_leaves d) (expr_leaves e) _ _ (expr_reads_are d) (expr_reads_are e)
 expr_reads_are (counted op count e) = expr_reads_are e
+expr_reads_are (shifted by count e) = both read_of (expr_leaves count) (expr_leaves e) _ _ (expr_reads_are count) (expr_reads_are e)
+expr_reads_are (converted by e) = expr_reads_are e
+expr_reads_are (chosen index spacing rows) = both read_of (expr_leaves index) (expr_leaves rows) _ _ (expr_reads_are index) (expr_reads_are rows)
 expr_reads_are _ = refl
 
 value_reads_are : (v : Value) → value_reads v ≡ flat_map read_of (value_leaves v)
@@ -57,6 +60,8 @@ mutual
   stmt_reads_are null_of = refl
   stmt_reads_are (assign places v) = value_reads_are v
   stmt_reads_are (set es v) = value_reads_are v
+  stmt_reads_are (assign_at index spacing places e) = both read_of (expr_leaves index) (expr_leaves e) _ _ (expr_reads_are index) (expr_reads_are e)
+  stmt_reads_are (set_at index spacing es e) = both read_of (expr_leaves index) (expr_leaves e) _ _ (expr_reads_are index) (expr_reads_are e)
   stmt_reads_are (if_of bs) = branches_reads_are bs
   stmt_reads_are (case_of v alts) = both read_of (value_leaves v) (alternatives_leaves alts) _ _ (value_reads_are v) (alternatives_reads_are alts)
 
@@ -82,6 +87,9 @@ expr_events_are (inverse e) = expr_events_are e
 expr_events_are (filled len e) = expr_events_are e
 expr_events_are (binary op d e) = both event_of (expr_leaves d) (expr_leaves e) [] [] (expr_events_are d) (expr_events_are e)
 expr_events_are (counted op count e) = expr_events_are e
+expr_events_are (shifted by count e) = both event_of (expr_leaves count) (expr_leaves e) [] [] (expr_events_are count) (expr_events_are e)
+expr_events_are (converted by e) = expr_events_are e
+expr_events_are (chosen index spacing rows) = both event_of (expr_leaves index) (expr_leaves rows) [] [] (expr_events_are index) (expr_events_are rows)
 expr_events_are _ = refl
 
 value_events_are : (v : Value) → [] ≡ flat_map event_of (value_leaves v)
@@ -103,6 +111,8 @@ mutual
   stmt_events_are null_of = refl
   stmt_events_are (assign places v) = value_events_are v
   stmt_events_are (set es v) = value_events_are v
+  stmt_events_are (assign_at index spacing places e) = both event_of (expr_leaves index) (expr_leaves e) [] [] (expr_events_are index) (expr_events_are e)
+  stmt_events_are (set_at index spacing es e) = both event_of (expr_leaves index) (expr_leaves e) [] [] (expr_events_are index) (expr_events_are e)
   stmt_events_are (if_of bs) = branches_events_are bs
   stmt_events_are (case_of v alts) = both event_of (value_leaves v) (alternatives_leaves alts) [] _ (value_events_are v) (alternatives_events_are alts)
 
@@ -130,6 +140,9 @@ module _ (k : ℕ) where
   expr_looks_are (filled len e) = expr_looks_are e
   expr_looks_are (binary op d e) = either (leaf_looks_at k) (expr_leaves d) (expr_leaves e) _ _ (expr_looks_are d) (expr_looks_are e)
   expr_looks_are (counted op count e) = expr_looks_are e
+  expr_looks_are (shifted by count e) = either (leaf_looks_at k) (expr_leaves count) (expr_leaves e) _ _ (expr_looks_are count) (expr_looks_are e)
+  expr_looks_are (converted by e) = expr_looks_are e
+  expr_looks_are (chosen index spacing rows) = either (leaf_looks_at k) (expr_leaves index) (expr_leaves rows) _ _ (expr_looks_are index) (expr_looks_are rows)
   expr_looks_are _ = refl
 
   value_looks_are : (v : Value) → value_looks_at k v ≡ list_any (leaf_looks_at k) (value_leaves v)

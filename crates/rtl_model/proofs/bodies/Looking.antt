@@ -1,88 +1,30 @@
 -- Runs that see the same where a driver looks have the same entry for it.
-use Rattle.std.proofs.Common.{◌≡◌, ℕ, ◌<◌, ◌≤◌, Bool, true, false, cond, ◌==◌, List, [], ◌∷◌, ◌++◌, Option, Some, None}
-use Rattle.std.proofs.Common.{length, drop, slice_index, slice_index_or, slice_set, refl, sym, ap, ◌∙◌, arith, ◌⊎◌, inl, inr}
+use Rattle.std.proofs.Common.{◌≡◌, ℕ, Bool, true, false, cond, ◌==◌, List, [], ◌∷◌, ◌++◌, Option, Some, None}
+use Rattle.std.proofs.Common.{length, drop, slice_index, slice_index_or, slice_set, refl, sym, ap, ◌∙◌, ◌⊎◌, inl, inr}
+use Rattle.std.specs.Prelude.{flat_map, map, replicate, slice_get, option_and_then}
 use Rattle.std.specs.List.{list_any}
-use Rattle.std.proofs.lemmas.Bool.{eq-eqb, eqb-true, cases_lt}
-use Rattle.std.proofs.lemmas.List.{get_or-set_same, get_or-set_other, get_or_past, length-set}
+use Rattle.std.proofs.Common.{zero, suc, subst}
+use Rattle.vhdl_values.specs.declared.scalar.Nine.TheVariants.{X}
+use Rattle.vhdl_values.specs.Scalar.{code_of}
+use Rattle.vhdl_numbers.specs.Counts.{natural_of}
+use Rattle.std.proofs.lemmas.Bool.{eqb-true}
+use Rattle.std.proofs.lemmas.List.{get_or-set_other, length-set}
 use Rattle.rtl_model.specs.basics.Valuations.{or_else}
-use Rattle.rtl_model.specs.bodies.Body.{Stmt, null_of, assign, set, if_of, case_of, Stmts, done, step}
+use Rattle.rtl_model.specs.bodies.Body.{Stmt, null_of, assign, set, assign_at, set_at, if_of, case_of, Stmts, done, step}
 use Rattle.rtl_model.specs.bodies.Body.{decided, Branches, no_else, otherwise, branch, Alternatives, others, alternative}
-use Rattle.rtl_model.specs.bodies.Values.{Seen, value_of}
+use Rattle.rtl_model.specs.bodies.Rows.{Spacing, all_rows, row_at}
+use Rattle.rtl_model.specs.bodies.Values.{Seen, targets_at, given_at, elements_of, value_of}
 use Rattle.rtl_model.specs.bodies.Tests.{same, is_met}
-use Rattle.rtl_model.specs.bodies.Variables.{values_put, stmt_variables, variables_after, branches_variables, alternatives_variables, after_stmt}
-use Rattle.rtl_model.specs.bodies.Effect.{Entries, no_entries, later_over, one_entry, entries, entries_if, stmt_effect, effect, branches_effect, alternatives_effect}
+use Rattle.rtl_model.specs.bodies.Variables.{variables_after, branches_variables, alternatives_variables}
+use Rattle.rtl_model.specs.bodies.Effect.{Entries, no_entries, later_over, effect, branches_effect, alternatives_effect}
 use Rattle.rtl_model.specs.bodies.Assigns.{Target, driver, element}
-use Rattle.rtl_model.specs.bodies.Looks.{Sight, element_kept, Looks, first_looks, whole, value_looks, test_looks}
-use Rattle.rtl_model.specs.bodies.Looks.{replaced, put, stmt_looks, body_looks, branches_look, alternatives_look}
+use Rattle.rtl_model.specs.bodies.Looks.{Sight, element_kept, Looks, first_looks, whole, expr_looks, value_looks, test_looks}
+use Rattle.rtl_model.specs.bodies.Looks.{replaced, put, put_rows, stmt_looks, body_looks, branches_look, alternatives_look}
 use Rattle.rtl_model.specs.bodies.Laws.{EachLooks}
 use Rattle.rtl_model.proofs.basics.Lists.{Contains-first}
-use Rattle.rtl_model.proofs.bodies.Sequences.{or_else-none, or_else-assoc}
-use Rattle.rtl_model.proofs.bodies.Agreeing.{Agree, agree_left, agree_right, Alike, alike_whole, alike_first, alike_drop, value_alike, test_alike}
-
--- ---- what a run has done so far
-
-record Done : Type 0 where
-  entered : Entries
-  variables : List ℕ
-
--- what a target has then
-abbrev held : Done → Target → Option ℕ
-held d (driver place) = d.entered place
-held d (element e) = Some (slice_index d.variables e)
-
-abbrev sees : Seen → Done → Seen
-sees x d = record x { variables = d.variables }
-
-abbrev stmt_done : Seen → Stmt → Done → Done
-stmt_done x s d = record { entered = later_over (stmt_effect (sees x d) s) d.entered; variables = stmt_variables (sees x d) s }
-
-abbrev body_done : Seen → Stmts → Done → Done
-body_done x s d = record { entered = later_over (effect (sees x d) s) d.entered; variables = variables_after (sees x d) s }
-
-abbrev branches_done : Seen → Branches → Done → Done
-branches_done x bs d = record { entered = later_over (branches_effect (sees x d) bs) d.entered; variables = branches_variables (sees x d) bs }
-
-abbrev alternatives_done : Seen → (value : List ℕ) → Alternatives → Done → Done
-alternatives_done x value alts d = record { entered = later_over (alternatives_effect (sees x d) value alts) d.entered; variables = alternatives_variables (sees x d) value alts }
-
--- by the one or the other
-abbrev either_done : Bool → (f g : Entries) → (v w : List ℕ) → Done → Done
-either_done m f g v w d = record { entered = later_over (entries_if m f g) d.entered; variables = cond m v w }
-
-abbrev places_done : (places values : List ℕ) → Done → Done
-places_done ps values d = record d { entered = later_over (entries ps values) d.entered }
-
-abbrev elements_done : (es values : List ℕ) → Done → Done
-elements_done es values d = record { entered = later_over no_entries d.entered; variables = values_put es values d.variables }
-
-held_none : (d : Done) (v : List ℕ) (t : Target) → held (record { entered = later_over no_entries d.entered; variables = v }) t ≡ held (record d { variables = v }) t
-held_none d v (driver place) = refl
-held_none d v (element e) = refl
-
-held_next : (x : Seen) (s : Stmt) (rest : Stmts) (d : Done) (t : Target) → held (body_done x (step s rest) d) t ≡ held (body_done x rest (stmt_done x s d)) t
-held_next x s rest d (driver place) = or_else-assoc (effect (after_stmt (sees x d) s) rest place) (stmt_effect (sees x d) s place) (d.entered place)
-held_next x s rest d (element e) = refl
-
--- one place or element, and then the others
-abbrev place_done : (p x : ℕ) → Done → Done
-place_done p x d = record d { entered = later_over (one_entry p x) d.entered }
-
-abbrev element_done : (e x : ℕ) → Done → Done
-element_done e x d = record d { variables = slice_set d.variables e x }
-
-held_places : (p : ℕ) (ps values : List ℕ) (d : Done) (t : Target) → held (places_done (p ∷ ps) values d) t ≡ held (places_done ps (drop 1 values) (place_done p (slice_index values 0) d)) t
-held_places p ps values d (driver place) = or_else-assoc (entries ps (drop 1 values) place) (one_entry p (slice_index values 0) place) (d.entered place)
-held_places p ps values d (element e) = refl
-
-other_element : (d e : ℕ) → d == e ≡ false → e ≡ d → ⊥
-other_element d e n s = let t = eq-eqb d e (sym s) in cc
-
-set_same : (v w : List ℕ) (d x : ℕ) → length v ≡ length w → slice_index (slice_set v d x) d ≡ slice_index (slice_set w d x) d
-set_same v w d x l = go (cases_lt d (length v))
-  where
-    go : (d < length v) ⊎ (length v ≤ d) → slice_index (slice_set v d x) d ≡ slice_index (slice_set w d x) d
-    go (inl k) = get_or-set_same v d x 0 k ∙ sym (get_or-set_same w d x 0 (omega arith))
-    go (inr k) = get_or_past (slice_set v d x) d 0 (omega (arith, length-set v d x)) ∙ sym (get_or_past (slice_set w d x) d 0 (omega (arith, length-set w d x)))
+use Rattle.rtl_model.proofs.bodies.Sequences.{or_else-none}
+use Rattle.rtl_model.proofs.bodies.Agreeing.{Agree, agree_left, agree_right, Alike, alike_whole, alike_first, alike_drop, alike_map, alike_replicate, expr_alike, value_alike, test_alike}
+use Rattle.rtl_model.proofs.bodies.DoneSoFar.{Done, held, sees, stmt_done, body_done, branches_done, alternatives_done, either_done, places_done, elements_done, held_none, held_next, place_done, element_done, held_places, other_element, set_same}
 
 module _ (a b : Seen) where
   -- ---- what a part of a body may touch
@@ -155,6 +97,50 @@ module _ (a b : Seen) where
       let rest = touches_elements round es (drop 1 ls) (drop 1 values) (replaced (element e) (round ++ slice_index_or ls 0 []) looks) (element_done e (slice_index values 0) d) in
       record { as_many = rest.as_many ∙ first.as_many; at = λ t. touched_then (first.at t) (rest.at t) }
 
+  -- ---- rows: a target looks at what it would look at behind an assignment to any of them, or of X to all
+
+  agree_row : (f : List ℕ → List Sight) (rows : List (List ℕ)) (n : ℕ) (row : List ℕ) → slice_get rows n ≡ Some row → Agree a b (flat_map f rows) → Agree a b (f row)
+  agree_row f [] n row e g = absurd cc
+  agree_row f (r ∷ rows) zero row e g = subst (λ (x : List ℕ). Agree a b (f x)) (let s : r ≡ row = cc in s) (agree_left a b (f r) (flat_map f rows) g)
+  agree_row f (r ∷ rows) (suc n) row e g = agree_row f rows n row e (agree_right a b (f r) (flat_map f rows) g)
+
+  module _ (at : ℕ → Target) (round : List Sight) (spacing : Spacing) (rows : List ℕ) (ls : List (List Sight)) (looks : Looks) (t : Target) where
+    abbrev at_all : List Sight
+    at_all = put at round rows (replicate (length rows) []) looks t
+
+    abbrev at_each : List Sight
+    at_each = flat_map (λ row. put at round row ls looks t) (all_rows spacing rows)
+
+    agree_all : Agree a b (put_rows at round spacing rows ls looks t) → Agree a b at_all
+    agree_all g = agree_left a b at_all at_each (agree_right a b (looks t) (at_all ++ at_each) g)
+
+    agree_one : (n : ℕ) (row : List ℕ) → slice_get (all_rows spacing rows) n ≡ Some row → Agree a b (put_rows at round spacing rows ls looks t) → Agree a b (put at round row ls looks t)
+    agree_one n row e g = agree_row (λ r. put at round r ls looks t) (all_rows spacing rows) n row e (agree_right a b at_all at_each (agree_right a b (looks t) (at_all ++ at_each) g))
+
+  -- a row that an index chose, or none
+  data Chosen (rows : List (List ℕ)) (o : Option (List ℕ)) : Type 0 where
+    no_row : o ≡ None → Chosen rows o
+    one_row : (n : ℕ) (row : List ℕ) → slice_get rows n ≡ Some row → o ≡ Some row → Chosen rows o
+
+  chosen_row : (rows : List (List ℕ)) (p : Option ℕ) → Chosen rows (option_and_then (slice_get rows) p)
+  chosen_row rows None = no_row refl
+  chosen_row rows (Some n) = go (slice_get rows n) refl
+    where
+      go : (o : Option (List ℕ)) → slice_get rows n ≡ o → Chosen rows (slice_get rows n)
+      go None e = no_row e
+      go (Some row) e = one_row n row e e
+
+  module _ (at : ℕ → Target) (putting : (places values : List ℕ) → Done → Done)
+      (touching : (round : List Sight) (ps : List ℕ) (ls : List (List Sight)) (values : List ℕ) (looks : Looks) (d : Done) → Touches round looks (put at round ps ls looks) d (putting ps values d)) where
+    touches_chosen : (round : List Sight) (spacing : Spacing) (rows : List ℕ) (ls : List (List Sight)) (o : Option (List ℕ)) → Chosen (all_rows spacing rows) o → (values : List ℕ) (looks : Looks) (d : Done)
+        → Touches round looks (put_rows at round spacing rows ls looks) d (putting (targets_at rows o) (given_at rows o values) d)
+    touches_chosen round spacing rows ls o (one_row n row e is) values looks d =
+        let h = touching round row ls values looks d in
+        rw is (record { as_many = h.as_many; at = λ t. touched_more (agree_one at round spacing rows ls looks t n row e) (h.at t) })
+    touches_chosen round spacing rows ls o (no_row is) values looks d =
+        let h = touching round rows (replicate (length rows) []) (replicate (length rows) (code_of X)) looks d in
+        rw is (record { as_many = h.as_many; at = λ t. touched_more (agree_all at round spacing rows ls looks t) (h.at t) })
+
   -- one of two branches
   touches_either : (m : Bool) {round : List Sight} {looks l1 l2 : Looks} (f g : Entries) (v w : List ℕ) (d : Done)
       → Touches round looks l1 d (record { entered = later_over f d.entered; variables = v }) → Touches round looks l2 d (record { entered = later_over g d.entered; variables = w })
@@ -168,6 +154,14 @@ module _ (a b : Seen) where
       stmt_touches null_of round looks d = touches_none round looks d
       stmt_touches (assign places v) round looks d = touches_places round places (value_looks looks v) (value_of (sees x d) v) looks d
       stmt_touches (set es v) round looks d = touches_elements round es (value_looks looks v) (value_of (sees x d) v) looks d
+      stmt_touches (assign_at index spacing places e) round looks d =
+          touches_fewer round (whole (expr_looks looks index))
+          (touches_chosen driver places_done touches_places (round ++ whole (expr_looks looks index)) spacing places (expr_looks looks e) _
+          (chosen_row (all_rows spacing places) (natural_of (elements_of (sees x d) index))) (map code_of (elements_of (sees x d) e)) looks d)
+      stmt_touches (set_at index spacing es e) round looks d =
+          touches_fewer round (whole (expr_looks looks index))
+          (touches_chosen element elements_done touches_elements (round ++ whole (expr_looks looks index)) spacing es (expr_looks looks e) _
+          (chosen_row (all_rows spacing es) (natural_of (elements_of (sees x d) index))) (map code_of (elements_of (sees x d) e)) looks d)
       stmt_touches (if_of bs) round looks d = branches_touch bs round looks d
       stmt_touches (case_of v alts) round looks d =
           touches_fewer round (whole (value_looks looks v)) (alternatives_touch alts (value_of (sees x d) v) (round ++ whole (value_looks looks v)) looks d)
@@ -237,6 +231,36 @@ module _ (a b : Seen) where
       let more = known_elements round es (alike_drop a b 1 h) (known_element round (slice_index_or ls 0 []) e (slice_index xs 0) (slice_index ys 0) (alike_first a b 0 h) K) in
       record { as_many = more.as_many; at = more.at }
 
+  -- rows that an index chose in both runs
+  module _ (at : ℕ → Target) (putting : (places values : List ℕ) → Done → Done)
+      (touching : (round : List Sight) (ps : List ℕ) (ls : List (List Sight)) (values : List ℕ) (looks : Looks) (d : Done) → Touches round looks (put at round ps ls looks) d (putting ps values d))
+      (knowing : (round : List Sight) (ps : List ℕ) (ls : List (List Sight)) (xs ys : List ℕ) (looks : Looks) (d d' : Done) → Alike a b ls xs ys → Known looks d d' → Known (put at round ps ls looks) (putting ps xs d) (putting ps ys d')) where
+    known_same : (round : List Sight) (spacing : Spacing) (rows : List ℕ) (o : Option (List ℕ)) {ls : List (List Sight)} {xs ys : List ℕ} {looks : Looks} {d d' : Done} → Chosen (all_rows spacing rows) o → Alike a b ls xs ys → Known looks d d'
+        → (t : Target) → Agree a b (put_rows at round spacing rows ls looks t) → held (putting (targets_at rows o) (given_at rows o xs) d) t ≡ held (putting (targets_at rows o) (given_at rows o ys) d') t
+    known_same round spacing rows o {ls} {xs} {ys} {looks} {d} {d'} (one_row n row e is) h K t g =
+        rw is ((knowing round row ls xs ys looks d d' h K).at t (agree_one at round spacing rows ls looks t n row e g))
+    known_same round spacing rows o {ls} {xs} {ys} {looks} {d} {d'} (no_row is) h K t g =
+        let n = length rows in
+        rw is ((knowing round rows (replicate n []) (replicate n (code_of X)) (replicate n (code_of X)) looks d d' (alike_replicate a b n [] (code_of X) (code_of X) (λ g. refl)) K).at t (agree_all at round spacing rows ls looks t g))
+
+    known_chosen : (round : List Sight) (spacing : Spacing) (rows : List ℕ) (o p : Option (List ℕ)) {ls : List (List Sight)} {xs ys : List ℕ} {looks : Looks} {d d' : Done} → Chosen (all_rows spacing rows) o → Chosen (all_rows spacing rows) p
+        → (Agree a b round → o ≡ p) → Alike a b ls xs ys → Known looks d d' → Known (put_rows at round spacing rows ls looks) (putting (targets_at rows o) (given_at rows o xs) d) (putting (targets_at rows p) (given_at rows p ys) d')
+    known_chosen round spacing rows o p {ls} {xs} {ys} {looks} {d} {d'} c c' e h K =
+        let first = touches_chosen at putting touching round spacing rows ls o c xs looks d in
+        let other = touches_chosen at putting touching round spacing rows ls p c' ys looks d' in
+        record { as_many = first.as_many ∙ K.as_many ∙ sym other.as_many; at = λ t g. go t g (first.at t) (other.at t) }
+      where
+        alike : (t : Target) → Agree a b (put_rows at round spacing rows ls looks t) → o ≡ p → held (putting (targets_at rows o) (given_at rows o xs) d) t ≡ held (putting (targets_at rows p) (given_at rows p ys) d') t
+        alike t g same = known_same round spacing rows o c h K t g ∙ ap (λ (q : Option (List ℕ)). held (putting (targets_at rows q) (given_at rows q ys) d') t) same
+
+        go : (t : Target) → Agree a b (put_rows at round spacing rows ls looks t)
+            → Touched round (looks t) (put_rows at round spacing rows ls looks t) (held d t) (held (putting (targets_at rows o) (given_at rows o xs) d) t)
+            → Touched round (looks t) (put_rows at round spacing rows ls looks t) (held d' t) (held (putting (targets_at rows p) (given_at rows p ys) d') t)
+            → held (putting (targets_at rows o) (given_at rows o xs) d) t ≡ held (putting (targets_at rows p) (given_at rows p ys) d') t
+        go t g (inl f) k = alike t g (e (f g))
+        go t g (inr f) (inl k) = alike t g (e (k g))
+        go t g (inr f) (inr k) = f.1 ∙ K.at t (f.0 g) ∙ sym k.1
+
   -- where the conditions round two branches differ, neither run has touched the target
   apart : {round r r1 r2 : List Sight} {o o1 o' o2 : Option ℕ} → (Agree a b round → ⊥) → Touched round r r1 o o1 → Touched round r r2 o' o2 → (Agree a b r → o ≡ o') → Agree a b r1 → Agree a b r2 → o1 ≡ o2
   apart never (inl c) k K g g' = absurd (never (c g))
@@ -265,6 +289,16 @@ module _ (a b : Seen) where
     stmt_known null_of round looks d d' K = record { as_many = K.as_many; at = λ t g. held_none d d.variables t ∙ K.at t g ∙ sym (held_none d' d'.variables t) }
     stmt_known (assign places v) round looks d d' K = known_places round places (value_alike a b looks d.variables d'.variables (of_elements K) v) K
     stmt_known (set es v) round looks d d' K = known_elements round es (value_alike a b looks d.variables d'.variables (of_elements K) v) K
+    stmt_known (assign_at index spacing places e) round looks d d' K =
+        known_chosen driver places_done touches_places (λ r ps ls xs ys looks d d' h K. known_places r ps h K) (round ++ whole (expr_looks looks index)) spacing places _ _
+        (chosen_row (all_rows spacing places) (natural_of (elements_of (sees a d) index))) (chosen_row (all_rows spacing places) (natural_of (elements_of (sees b d') index)))
+        (λ g. ap (row_at spacing places) (alike_whole a b (expr_alike a b looks d.variables d'.variables (of_elements K) index) (agree_right a b round (whole (expr_looks looks index)) g)))
+        (alike_map a b code_of (expr_alike a b looks d.variables d'.variables (of_elements K) e)) K
+    stmt_known (set_at index spacing es e) round looks d d' K =
+        known_chosen element elements_done touches_elements (λ r ps ls xs ys looks d d' h K. known_elements r ps h K) (round ++ whole (expr_looks looks index)) spacing es _ _
+        (chosen_row (all_rows spacing es) (natural_of (elements_of (sees a d) index))) (chosen_row (all_rows spacing es) (natural_of (elements_of (sees b d') index)))
+        (λ g. ap (row_at spacing es) (alike_whole a b (expr_alike a b looks d.variables d'.variables (of_elements K) index) (agree_right a b round (whole (expr_looks looks index)) g)))
+        (alike_map a b code_of (expr_alike a b looks d.variables d'.variables (of_elements K) e)) K
     stmt_known (if_of bs) round looks d d' K = branches_known bs round looks d d' K
     stmt_known (case_of v alts) round looks d d' K =
         alternatives_known alts (value_of (sees a d) v) (value_of (sees b d') v) (round ++ whole (value_looks looks v)) looks d d'

@@ -1,24 +1,31 @@
 -- Each entry is that of a driver, and a value of its net's type; and variables keep their types.
 use Rattle.std.proofs.Common.{◌≡◌, ℕ, zero, suc, ◌<◌, ◌≤◌, Bool, true, false, cond, ◌==◌, List, [], ◌∷◌, length, get_or, map, slice_get, slice_index, slice_set}
 use Rattle.std.proofs.Common.{Option, Some, None, refl, sym, ◌∙◌, subst, arith, All, ◌⊎◌, inl, inr}
+use Rattle.std.specs.Prelude.{option_and_then, replicate}
 use Rattle.std.specs.List.{list_any}
+use Rattle.std.proofs.lemmas.List.{length-map, length-replicate}
+use Rattle.vhdl_values.specs.declared.scalar.Nine.TheVariants.{X}
+use Rattle.vhdl_numbers.specs.Counts.{natural_of}
 use Rattle.std.proofs.lemmas.Bool.{eqb-true, cases_eq, cases_lt}
 use Rattle.std.proofs.lemmas.List.{get_or-set_same, get_or-set_other, get_or_past, length-set}
 use Rattle.vhdl_values.specs.declared.scalar.Nine.{Nine}
 use Rattle.vhdl_values.specs.Scalar.{code_of}
 use Rattle.vhdl_values.proofs.Codes.{code_of_below}
 use Rattle.rtl_model.specs.basics.Valuations.{or_else}
-use Rattle.rtl_model.specs.bodies.Body.{Value, elements, position, position_of, position_in, Stmt, null_of, assign, set, if_of, case_of, Stmts, done, step}
+use Rattle.rtl_model.specs.bodies.Rows.{Spacing, all_rows, row_at}
+use Rattle.rtl_model.specs.bodies.Body.{Expr, Value, elements, position, position_of, position_in}
+use Rattle.rtl_model.specs.bodies.Body.{Stmt, null_of, assign, set, assign_at, set_at, if_of, case_of, Stmts, done, step}
 use Rattle.rtl_model.specs.bodies.Body.{Branches, no_else, otherwise, branch, Alternatives, others, alternative}
-use Rattle.rtl_model.specs.bodies.Values.{Seen, elements_of, value_of}
+use Rattle.rtl_model.specs.bodies.Values.{Seen, targets_at, given_at, elements_of, value_of}
 use Rattle.rtl_model.specs.bodies.Tests.{same, is_met}
 use Rattle.rtl_model.specs.bodies.Variables.{values_put, stmt_variables, variables_after, branches_variables, alternatives_variables, after_stmt}
 use Rattle.rtl_model.specs.bodies.Effect.{Entries, no_entries, later_over, one_entry, entries, entries_if}
 use Rattle.rtl_model.specs.bodies.Effect.{stmt_effect, effect, branches_effect, alternatives_effect}
 use Rattle.rtl_model.specs.bodies.Types.{ElementType, nine_valued, enumeration, limit_of, HasType, KeepsTypes}
-use Rattle.rtl_model.specs.bodies.Fits.{Scope, FitsAs, DrivesType, FitsStmt, Fits, FitsBranches, FitsAlternatives, value_width}
+use Rattle.rtl_model.specs.bodies.Fits.{Scope, FitsExpr, FitsAs, DrivesType, FitsStmt, Fits, FitsBranches, FitsAlternatives, width, value_width}
 use Rattle.rtl_model.specs.bodies.Laws.{SeesTypes, EntriesKeepTypes}
-use Rattle.rtl_model.proofs.bodies.Widths.{length-value_of}
+use Rattle.rtl_model.proofs.bodies.Rows.{slice_get-all, length-all_rows, all-all_rows}
+use Rattle.rtl_model.proofs.bodies.Widths.{length-value_of, row_as_value}
 
 -- ---- values
 
@@ -117,6 +124,42 @@ module _ (scope : Scope) where
       puts t ds vs (slice_set old d v) (omega arith) (λ k e m. h (suc k) e (omega arith)) (λ k m. below (suc k) (omega arith))
       (one_put t d v old (h 0 0 (omega arith)) (below 0 (omega arith)) keeps)
 
+  -- ---- rows
+
+  -- X's are values
+  unknowns_below : (n : ℕ) → IsBelow 9 (replicate n (code_of X))
+  unknowns_below zero k l = absurd (omega arith)
+  unknowns_below (suc n) zero l = code_of_below X
+  unknowns_below (suc n) (suc k) l = unknowns_below n k (omega arith)
+
+  -- what is assigned to, and the values
+  record Assigned (P : ℕ → Type 0) (targets values : List ℕ) : Type 0 where
+    as_many : length targets ≡ length values
+    typed : All P targets
+    below : IsBelow 9 values
+
+  unknowns : (P : ℕ → Type 0) (rows : List ℕ) → All P rows → Assigned P rows (replicate (length rows) (code_of X))
+  unknowns P rows typed = record { as_many = sym (length-replicate (length rows) (code_of X)); typed = typed; below = unknowns_below (length rows) }
+
+  of_row : (P : ℕ → Type 0) (spacing : Spacing) (rows values : List ℕ) (number : Option ℕ) → spacing.len ≡ length values → All P rows → IsBelow 9 values
+      → Assigned P (targets_at rows (option_and_then (slice_get (all_rows spacing rows)) number)) (given_at rows (option_and_then (slice_get (all_rows spacing rows)) number) values)
+  of_row P spacing rows values None long typed below = unknowns P rows typed
+  of_row P spacing rows values (Some n) long typed below = go (slice_get (all_rows spacing rows) n) refl
+    where
+      go : (o : Option (List ℕ)) → slice_get (all_rows spacing rows) n ≡ o → Assigned P (targets_at rows o) (given_at rows o values)
+      go None e = unknowns P rows typed
+      go (Some row) e = record {
+        as_many = slice_get-all (λ r. length r ≡ spacing.len) (all_rows spacing rows) n row e (length-all_rows spacing rows) ∙ long;
+        typed = slice_get-all (All P) (all_rows spacing rows) n row e (all-all_rows spacing rows P typed);
+        below = below;
+      }
+
+  -- the row at an index, from a value that fits
+  at_index : (P : ℕ → Type 0) (seen : Seen) (index : Expr) (spacing : Spacing) (rows : List ℕ) (e : Expr) → spacing.len ≡ width e → FitsExpr scope e → All P rows
+      → Assigned P (targets_at rows (row_at spacing rows (elements_of seen index))) (given_at rows (row_at spacing rows (elements_of seen index)) (map code_of (elements_of seen e)))
+  at_index P seen index spacing rows e same fits typed =
+      of_row P spacing rows (map code_of (elements_of seen e)) (natural_of (elements_of seen index)) (row_as_value scope seen spacing.len e same fits ∙ sym (length-map (elements_of seen e) code_of)) typed (codes_below (elements_of seen e))
+
   -- ---- statements
 
   record Fine (e : Entries) (values : List ℕ) : Type 0 where
@@ -138,6 +181,12 @@ module _ (scope : Scope) where
       entries = none;
       variables = puts h.0 es (value_of seen v) seen.variables (h.2 ∙ sym (length-value_of scope seen h.0 v h.1)) h.3 (of_value h.0 v seen sees h.1) sees.variables;
     }
+    of_stmt (assign_at index spacing places e) seen sees h =
+        let a = at_index (DrivesType scope nine_valued) seen index spacing places e h.3 h.2 h.4 in
+        record { entries = of_target nine_valued _ _ a.as_many a.typed a.below; variables = sees.variables }
+    of_stmt (set_at index spacing es e) seen sees h =
+        let a = at_index (HasType scope.variables nine_valued) seen index spacing es e h.3 h.2 h.4 in
+        record { entries = none; variables = puts nine_valued _ _ seen.variables a.as_many a.typed a.below sees.variables }
     of_stmt (if_of bs) seen sees h = of_branches bs seen sees h
     of_stmt (case_of v alts) seen sees h = of_alternatives h.0 (value_width v) alts (value_of seen v) seen sees h.2
 

@@ -4,18 +4,18 @@ use Rattle.std.specs.List.{list_any}
 use Rattle.std.proofs.lemmas.Bool.{or_cases, and_parts, eqb-true}
 use Rattle.std.proofs.lemmas.List.Elements.{All-append, All-nil, All-cons}
 use Rattle.std.proofs.lemmas.Option.{slice_get_within}
-use Rattle.rtl_model.specs.bodies.Body.{Expr, signal, variable, constant, inverse, filled, binary, counted}
+use Rattle.rtl_model.specs.bodies.Body.{Expr, signal, variable, constant, inverse, filled, binary, counted, shifted, converted, chosen}
 use Rattle.rtl_model.specs.bodies.Body.{Value, elements, position, position_of, position_in}
 use Rattle.rtl_model.specs.bodies.Body.{Test, condition, decided, equal, unequal, level, compared, compared_to}
 use Rattle.rtl_model.specs.bodies.Body.{rising, falling, event, negated, combined}
-use Rattle.rtl_model.specs.bodies.Body.{Stmt, null_of, assign, set, if_of, case_of, Stmts, done, step}
+use Rattle.rtl_model.specs.bodies.Body.{Stmt, null_of, assign, set, assign_at, set_at, if_of, case_of, Stmts, done, step}
 use Rattle.rtl_model.specs.bodies.Body.{Branches, no_else, otherwise, branch, Alternatives, others, alternative}
 use Rattle.rtl_model.specs.bodies.Reads.{expr_reads, value_reads, test_reads, stmt_reads, reads, branches_reads, alternatives_reads}
 use Rattle.rtl_model.specs.bodies.Reads.{test_events, stmt_events, events, branches_events, alternatives_events}
 use Rattle.rtl_model.specs.bodies.Assigns.{is_element, stmt_must_assign}
 use Rattle.rtl_model.specs.bodies.Stored.{expr_looks_at, value_looks_at, test_looks_at, stmt_stores, stores_element, branches_store, alternatives_store}
 use Rattle.rtl_model.specs.bodies.Types.{ElementType, nine_valued, enumeration, HasType}
-use Rattle.rtl_model.specs.bodies.Fits.{Scope, FitsExpr, FitsAs, FitsTest, FitsStmt, Fits, FitsBranches, FitsAlternatives}
+use Rattle.rtl_model.specs.bodies.Fits.{Scope, HoldsRows, FitsExpr, FitsAs, FitsTest, FitsStmt, Fits, FitsBranches, FitsAlternatives}
 use Rattle.rtl_model.specs.bodies.Laws.{EachReadIsThere}
 use Rattle.rtl_model.proofs.basics.Lists.{in_contains}
 
@@ -56,14 +56,29 @@ module _ (scope : Scope) where
   among : (t : ElementType) (xs : List ℕ) → All (HasType scope.variables t) xs → (e : ℕ) → list_any (λ d. d == e) xs ≡ true → e < length scope.variables
   among t xs h e a = let (k, l, at) = in_contains xs e a in slice_get_within scope.variables e t (subst (λ (x : ℕ). HasType scope.variables t x) at (h k e l))
 
+  of_nets : (ns : List ℕ) → All (HasType scope.nets nine_valued) ns → There ns [] (λ e. false)
+  of_nets ns h = record { nets = λ k d l. slice_get_within scope.nets _ nine_valued (h k d l); events = All-nil _; elements = λ e t. absurd cc }
+
+  of_elements : (es : List ℕ) → All (HasType scope.variables nine_valued) es → There [] [] (λ e. list_any (λ d. d == e) es)
+  of_elements es h = record { nets = All-nil _; events = All-nil _; elements = λ e t. among nine_valued es h e t }
+
+  of_rows : (x : Expr) → HoldsRows scope x → There (expr_reads x) [] (λ e. expr_looks_at e x)
+  of_rows (signal nets) h = of_nets nets h
+  of_rows (variable es) h = of_elements es h
+  of_rows (constant values) h = nothing_there
+  of_rows _ h = elim h [ ]
+
   of_expr : (x : Expr) → FitsExpr scope x → There (expr_reads x) [] (λ e. expr_looks_at e x)
-  of_expr (signal nets) h = record { nets = λ k d l. slice_get_within scope.nets _ nine_valued (h.1 k d l); events = All-nil _; elements = λ e t. absurd cc }
-  of_expr (variable es) h = record { nets = All-nil _; events = All-nil _; elements = λ e t. among nine_valued es h.1 e t }
+  of_expr (signal nets) h = of_nets nets h.1
+  of_expr (variable es) h = of_elements es h.1
   of_expr (constant values) h = nothing_there
   of_expr (inverse x) h = of_expr x h
   of_expr (filled len x) h = of_expr x h.1
   of_expr (binary op x y) h = both (of_expr x h.1) (of_expr y h.2)
   of_expr (counted op count x) h = of_expr x h.1
+  of_expr (shifted by count x) h = both (of_expr count h.0) (of_expr x h.1)
+  of_expr (converted by x) h = of_expr x h
+  of_expr (chosen index spacing rows) h = both (of_expr index h.1) (of_rows rows h.2)
 
   of_value : (t : ElementType) (v : Value) → FitsAs scope t v → There (value_reads v) [] (λ e. value_looks_at e v)
   of_value nine_valued (elements x) h = of_expr x h
@@ -98,6 +113,8 @@ module _ (scope : Scope) where
     of_stmt null_of h = nothing_there
     of_stmt (assign places v) h = of_value h.0 v h.1
     of_stmt (set es v) h = of_value h.0 v h.1
+    of_stmt (assign_at index spacing places x) h = both (of_expr index h.1) (of_expr x h.2)
+    of_stmt (set_at index spacing es x) h = both (of_expr index h.1) (of_expr x h.2)
     of_stmt (if_of bs) h = of_branches bs h
     of_stmt (case_of v alts) h = both (of_value h.0 v h.1) (of_alternatives h.0 _ alts h.2)
 

@@ -8,13 +8,16 @@ use Rattle.vhdl_values.specs.Scalar.{code_of}
 use Rattle.vhdl_values.specs.Logic.{not_of}
 use Rattle.vhdl_values.specs.Shifts.{counted_length}
 use Rattle.vhdl_values.proofs.Lengths.{length-logic_of_all, length-sum_of, length-difference_of, length-product_of, length-counted_of, counted_within}
-use Rattle.rtl_model.specs.bodies.Body.{Operator, logical, joined, plus, minus, times, Expr, signal, variable, constant}
-use Rattle.rtl_model.specs.bodies.Body.{inverse, filled, binary, counted}
+use Rattle.rtl_model.specs.bodies.Body.{Operator, logical, joined, plus, minus, times, signed, Expr, signal, variable, constant}
+use Rattle.rtl_model.specs.bodies.Body.{inverse, filled, binary, counted, shifted, converted, chosen}
+use Rattle.rtl_model.specs.bodies.Rows.{all_rows}
 use Rattle.rtl_model.specs.bodies.Body.{Value, elements, position, position_of, position_in, Alternatives, others, alternative}
 use Rattle.rtl_model.specs.bodies.Values.{Seen, element_at, operation_result, elements_of, value_of}
 use Rattle.rtl_model.specs.bodies.Types.{ElementType, nine_valued, enumeration}
 use Rattle.rtl_model.specs.bodies.Fits.{operated_width, width, value_width, IsWidth, FitsOperands, Scope, FitsExpr, FitsAs}
 use Rattle.rtl_model.specs.bodies.Fits.{FitsChoice, FitsAlternatives}
+use Rattle.vhdl_numbers.proofs.Lengths.{length-converted, length-signed_of, length-shifted_by}
+use Rattle.rtl_model.proofs.bodies.Rows.{length-at, length-all_rows}
 use Rattle.rtl_model.specs.bodies.Laws.{HasItsWidth, is_of_elements, IsChoice, EachPartIsSafe}
 
 length-operated : (op : Operator) (a b : List Nine) → FitsOperands op (length a) (length b) → length (operation_result op a b) ≡ operated_width op (length a) (length b)
@@ -23,11 +26,15 @@ length-operated joined a b h = length-append a b
 length-operated plus a b h = length-sum_of a b
 length-operated minus a b h = length-difference_of a b
 length-operated times a b h = length-product_of a b
+length-operated (signed op) a b h = length-signed_of op a b
 
 is_width : (scope : Scope) (e : Expr) → FitsExpr scope e → IsWidth (width e)
 is_width scope (constant values) h = h
 is_width scope (inverse e) h = is_width scope e h
 is_width scope (counted op count e) h = counted_within op count (width e) h.0 (is_width scope e h.1)
+is_width scope (shifted by count e) h = is_width scope e h.1
+is_width scope (converted by e) h = is_width scope e h
+is_width scope (chosen index spacing rows) h = h.0.0
 is_width scope _ h = h.0
 
 module _ (scope : Scope) (seen : Seen) where
@@ -43,6 +50,14 @@ module _ (scope : Scope) (seen : Seen) where
       length-operated op (elements_of seen d) (elements_of seen e) (rw (p, q) h.3)
       ∙ λ i. operated_width op (p i) (q i)
   length-elements_of (counted op count e) h = length-counted_of Zero op count (elements_of seen e) ∙ ap (counted_length op count) (length-elements_of e h.1)
+  length-elements_of (shifted by count e) h = length-shifted_by by (elements_of seen count) (elements_of seen e) ∙ length-elements_of e h.1
+  length-elements_of (converted by e) h = length-converted by (elements_of seen e) ∙ length-elements_of e h
+  length-elements_of (chosen index spacing rows) h =
+      length-at spacing.len (all_rows spacing (elements_of seen rows)) X _ (length-all_rows spacing (elements_of seen rows))
+
+  -- a row that is assigned is as long as the value
+  pub row_as_value : (len : ℕ) (e : Expr) → len ≡ width e → FitsExpr scope e → len ≡ length (elements_of seen e)
+  row_as_value len e same fits = same ∙ sym (length-elements_of e fits)
 
   pub length-value_of : (t : ElementType) (v : Value) → FitsAs scope t v → length (value_of seen v) ≡ value_width v
   length-value_of nine_valued (elements e) h = length-map (elements_of seen e) code_of ∙ length-elements_of e h
@@ -85,4 +100,6 @@ each_part_is_safe scope seen = record {
       (f.0 ∙ sym (length-value_of scope seen h.0 v h.1), (h.0, h.1, f.1));
   places_fit = λ places v h. (h.2 ∙ sym (length-value_of scope seen h.0 v h.1), λ k d l. let p = h.3 k d l in slice_get_within scope.targets _ p.0 p.1);
   elements_fit = λ es v h. (h.2 ∙ sym (length-value_of scope seen h.0 v h.1), λ k d l. slice_get_within scope.variables _ h.0 (h.3 k d l));
+  places_at_fit = λ index spacing places e h. (row_as_value scope seen spacing.len e h.3 h.2, λ k d l. let p = h.4 k d l in slice_get_within scope.targets _ p.0 p.1);
+  elements_at_fit = λ index spacing es e h. (row_as_value scope seen spacing.len e h.3 h.2, λ k d l. slice_get_within scope.variables _ nine_valued (h.4 k d l));
 }

@@ -1,8 +1,9 @@
--- What a body assigns on every syntactic path, and on some. A net may be reached by several drivers of a process, under
--- several port names; `these` are targets, and an assignment to any of them assigns it.
+-- What a body assigns on every syntactic path, and on some. An assignment to one of several rows assigns none of them
+-- on every path, since the run decides which, and each of them on some. A net may be reached by several drivers of a
+-- process, under several port names; `these` are targets, and an assignment to any of them assigns it.
 use Rattle.std.specs.Prelude.{ℕ, Bool, false, ◌&&◌, ◌||◌, ◌==◌}
 use Rattle.std.specs.List.{list_any}
-use Rattle.rtl_model.specs.bodies.Body.{Stmt, null_of, assign, set, if_of, case_of, Stmts, done, step}
+use Rattle.rtl_model.specs.bodies.Body.{Stmt, null_of, assign, set, assign_at, set_at, if_of, case_of, Stmts, done, step}
 use Rattle.rtl_model.specs.bodies.Body.{Branches, no_else, otherwise, branch, Alternatives, others, alternative}
 
 -- what an assignment assigns: a driver, by its place, or an element of a variable
@@ -30,6 +31,8 @@ abbrev mutual
   stmt_must_assign these null_of = false
   stmt_must_assign these (assign places v) = list_any (λ place. these (driver place)) places
   stmt_must_assign these (set ks v) = list_any (λ k. these (element k)) ks
+  stmt_must_assign these (assign_at index spacing places e) = false
+  stmt_must_assign these (set_at index spacing ks e) = false
   stmt_must_assign these (if_of bs) = branches_must_assign these bs
   stmt_must_assign these (case_of v alts) = alternatives_must_assign these alts
 
@@ -57,6 +60,8 @@ abbrev mutual
   stmt_assigns these null_of = false
   stmt_assigns these (assign places v) = list_any (λ place. these (driver place)) places
   stmt_assigns these (set ks v) = list_any (λ k. these (element k)) ks
+  stmt_assigns these (assign_at index spacing places e) = list_any (λ place. these (driver place)) places
+  stmt_assigns these (set_at index spacing ks e) = list_any (λ k. these (element k)) ks
   stmt_assigns these (if_of bs) = branches_assign these bs
   stmt_assigns these (case_of v alts) = alternatives_assign these alts
 

@@ -2,12 +2,14 @@
 -- it, and each length is one that a vector can have, and the one that is wanted of it.
 use Rattle.std.specs.Prelude.{◌≡◌, ℕ, ◌+◌, ◌<◌, ◌≤◌, max, ⊤, All, List, length, slice_get, Some}
 use Rattle.vhdl_values.specs.Shifts.{counted_length, IsCount}
-use Rattle.rtl_model.specs.bodies.Body.{Operator, logical, joined, plus, minus, times, Expr, signal, variable, constant}
-use Rattle.rtl_model.specs.bodies.Body.{inverse, filled, binary, counted}
+use Rattle.vhdl_numbers.specs.Operators.{signed_length}
+use Rattle.rtl_model.specs.bodies.Body.{Operator, logical, joined, plus, minus, times, signed, Expr, signal, variable, constant}
+use Rattle.rtl_model.specs.bodies.Body.{inverse, filled, binary, counted, shifted, converted, chosen}
 use Rattle.rtl_model.specs.bodies.Body.{Value, elements, position, position_of, position_in}
+use Rattle.rtl_model.specs.bodies.Rows.{Spacing}
 use Rattle.rtl_model.specs.bodies.Body.{Test, condition, decided, equal, unequal, level, compared, compared_to}
 use Rattle.rtl_model.specs.bodies.Body.{rising, falling, event, negated, combined}
-use Rattle.rtl_model.specs.bodies.Body.{Stmt, null_of, assign, set, if_of, case_of, Stmts, done, step}
+use Rattle.rtl_model.specs.bodies.Body.{Stmt, null_of, assign, set, assign_at, set_at, if_of, case_of, Stmts, done, step}
 use Rattle.rtl_model.specs.bodies.Body.{Branches, no_else, otherwise, branch, Alternatives, others, alternative}
 use Rattle.rtl_model.specs.bodies.Types.{ElementType, nine_valued, enumeration, limit_of, HasType}
 
@@ -20,6 +22,7 @@ operated_width joined m n = m + n
 operated_width plus m n = max m n
 operated_width minus m n = max m n
 operated_width times m n = m + n
+operated_width (signed op) m n = signed_length op m n
 
 abbrev pub width : Expr → ℕ
 width (signal nets) = length nets
@@ -29,6 +32,9 @@ width (inverse e) = width e
 width (filled len e) = len
 width (binary op d e) = operated_width op (width d) (width e)
 width (counted op count e) = counted_length op count (width e)
+width (shifted by count e) = width e
+width (converted by e) = width e
+width (chosen index spacing rows) = spacing.len
 
 abbrev pub value_width : Value → ℕ
 value_width (elements e) = width e
@@ -45,6 +51,10 @@ abbrev pub FitsOperands : Operator → ℕ → ℕ → Type 0
 FitsOperands (logical op) m n = m ≡ n
 FitsOperands _ m n = ⊤
 
+-- rows that a vector can have, each of which begins behind the one before it
+abbrev pub IsSpacing : Spacing → Type 0
+IsSpacing spacing = IsWidth spacing.len × (1 ≤ spacing.step)
+
 -- ---- the parts of a body
 
 -- what a body stands in: the types of the nets and of the process's variable elements, and the nets of its drivers
@@ -54,6 +64,13 @@ pub record Scope : Type 0 where
   pub targets : List ℕ
 
 module _ (scope : Scope) where
+  -- what rows lie in: a name or a constant, however long it is
+  abbrev pub HoldsRows : Expr → Type 0
+  HoldsRows (signal nets) = All (HasType scope.nets nine_valued) nets
+  HoldsRows (variable es) = All (HasType scope.variables nine_valued) es
+  HoldsRows (constant values) = ⊤
+  HoldsRows _ = ⊥
+
   abbrev pub FitsExpr : Expr → Type 0
   FitsExpr (signal nets) = IsWidth (length nets) × All (HasType scope.nets nine_valued) nets
   FitsExpr (variable es) = IsWidth (length es) × All (HasType scope.variables nine_valued) es
@@ -63,6 +80,10 @@ module _ (scope : Scope) where
   FitsExpr (binary op d e) =
       IsWidth (operated_width op (width d) (width e)) × FitsExpr d × FitsExpr e × FitsOperands op (width d) (width e)
   FitsExpr (counted op count e) = IsCount op count × FitsExpr e
+  FitsExpr (shifted by count e) = FitsExpr count × FitsExpr e
+  FitsExpr (converted by e) = FitsExpr e
+  FitsExpr (chosen index spacing rows) =
+      IsSpacing spacing × FitsExpr index × HoldsRows rows × (spacing.len ≤ width rows)
 
   -- the value's elements are of this type, or it is one of this enumeration's
   abbrev pub FitsAs : ElementType → Value → Type 0
@@ -98,6 +119,12 @@ module _ (scope : Scope) where
   abbrev pub FitsTarget : (OfType : ElementType → ℕ → Type 0) → (target : List ℕ) → Value → Type 0
   FitsTarget OfType target v = (t : ElementType) × FitsAs t v × (length target ≡ value_width v) × All (OfType t) target
 
+  -- the same of a row, whose elements are of the nine values, and there is one
+  abbrev pub FitsTargetAt : (OfType : ElementType → ℕ → Type 0) → Expr → Spacing → (target : List ℕ) → Expr → Type 0
+  FitsTargetAt OfType index spacing target e =
+      IsSpacing spacing × FitsExpr index × FitsExpr e × (spacing.len ≡ width e) × All (OfType nine_valued) target
+      × (spacing.len ≤ length target)
+
   -- a choice is as long as the value, and of its type
   abbrev pub FitsChoice : ElementType → (len : ℕ) → List ℕ → Type 0
   FitsChoice t len choice = (length choice ≡ len) × All (λ n. n < limit_of t) choice
@@ -107,6 +134,8 @@ module _ (scope : Scope) where
     FitsStmt null_of = ⊤
     FitsStmt (assign places v) = FitsTarget DrivesType places v
     FitsStmt (set es v) = FitsTarget (HasType scope.variables) es v
+    FitsStmt (assign_at index spacing places e) = FitsTargetAt DrivesType index spacing places e
+    FitsStmt (set_at index spacing es e) = FitsTargetAt (HasType scope.variables) index spacing es e
     FitsStmt (if_of bs) = FitsBranches bs
     FitsStmt (case_of v alts) = (t : ElementType) × FitsAs t v × FitsAlternatives t (value_width v) alts
 

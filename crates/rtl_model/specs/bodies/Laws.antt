@@ -4,8 +4,9 @@ use Rattle.std.specs.Prelude.{List, [], ◌++◌, length, slice_index, slice_get
 use Rattle.std.specs.List.{list_any}
 use Rattle.vhdl_values.specs.declared.kinds.Edge.{Edge}
 use Rattle.rtl_model.specs.basics.Valuations.{or_else, clocked_entry}
+use Rattle.rtl_model.specs.bodies.Rows.{Spacing}
 use Rattle.rtl_model.specs.bodies.Body.{Expr, filled, Value, elements, Test, condition, equal, unequal}
-use Rattle.rtl_model.specs.bodies.Body.{assign, set, case_of, Stmts, Alternatives, others, alternative, followed_by}
+use Rattle.rtl_model.specs.bodies.Body.{assign, set, assign_at, set_at, case_of, Stmts, Alternatives, others, alternative, followed_by}
 use Rattle.rtl_model.specs.bodies.Values.{Seen, elements_of, value_of}
 use Rattle.rtl_model.specs.bodies.Tests.{edge_at}
 use Rattle.rtl_model.specs.bodies.Variables.{variables_after, after, alternatives_variables}
@@ -198,6 +199,12 @@ pub record PartsAreSafe (scope : Scope) (seen : Seen) : Type 0 where
       → (length places ≡ length (value_of seen v)) × All (λ place. place < length scope.targets) places
   pub elements_fit : (es : List ℕ) (v : Value) → FitsStmt scope (set es v)
       → (length es ≡ length (value_of seen v)) × All (λ e. e < length scope.variables) es
+  pub places_at_fit : (index : Expr) (spacing : Spacing) (places : List ℕ) (e : Expr)
+      → FitsStmt scope (assign_at index spacing places e)
+      → (spacing.len ≡ length (elements_of seen e)) × All (λ place. place < length scope.targets) places
+  pub elements_at_fit : (index : Expr) (spacing : Spacing) (es : List ℕ) (e : Expr)
+      → FitsStmt scope (set_at index spacing es e)
+      → (spacing.len ≡ length (elements_of seen e)) × All (λ k. k < length scope.variables) es
 
 abbrev pub EachPartIsSafe : Type 0
 EachPartIsSafe = (scope : Scope) (seen : Seen) → PartsAreSafe scope seen

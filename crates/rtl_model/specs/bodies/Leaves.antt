@@ -1,11 +1,12 @@
 -- The leaves of a body: what its expressions and tests look at, in order of the text, in each branch, taken or not.
 use Rattle.std.specs.Prelude.{ℕ, Bool, false, ◌==◌, List, [], ◌∷◌, ◌++◌}
 use Rattle.std.specs.List.{list_any}
-use Rattle.rtl_model.specs.bodies.Body.{Expr, signal, variable, constant, inverse, filled, binary, counted}
+use Rattle.rtl_model.specs.bodies.Body.{Expr, signal, variable, constant, inverse, filled, binary}
+use Rattle.rtl_model.specs.bodies.Body.{counted, shifted, converted, chosen}
 use Rattle.rtl_model.specs.bodies.Body.{Value, elements, position, position_of, position_in}
 use Rattle.rtl_model.specs.bodies.Body.{Test, condition, decided, equal, unequal, level, compared, compared_to}
 use Rattle.rtl_model.specs.bodies.Body.{rising, falling, event, negated, combined}
-use Rattle.rtl_model.specs.bodies.Body.{Stmt, null_of, assign, set, if_of, case_of, Stmts, done, step}
+use Rattle.rtl_model.specs.bodies.Body.{Stmt, null_of, assign, set, assign_at, set_at, if_of, case_of, Stmts, done, step}
 use Rattle.rtl_model.specs.bodies.Body.{Branches, no_else, otherwise, branch, Alternatives, others, alternative}
 
 pub data Leaf : Type 0 where
@@ -24,6 +25,9 @@ expr_leaves (inverse e) = expr_leaves e
 expr_leaves (filled len e) = expr_leaves e
 expr_leaves (binary op d e) = expr_leaves d ++ expr_leaves e
 expr_leaves (counted op count e) = expr_leaves e
+expr_leaves (shifted by count e) = expr_leaves count ++ expr_leaves e
+expr_leaves (converted by e) = expr_leaves e
+expr_leaves (chosen index spacing rows) = expr_leaves index ++ expr_leaves rows
 
 abbrev pub value_leaves : Value → List Leaf
 value_leaves (elements e) = expr_leaves e
@@ -50,6 +54,8 @@ abbrev mutual
   stmt_leaves null_of = []
   stmt_leaves (assign places v) = value_leaves v
   stmt_leaves (set es v) = value_leaves v
+  stmt_leaves (assign_at index spacing places e) = expr_leaves index ++ expr_leaves e
+  stmt_leaves (set_at index spacing es e) = expr_leaves index ++ expr_leaves e
   stmt_leaves (if_of bs) = branches_leaves bs
   stmt_leaves (case_of v alts) = value_leaves v ++ alternatives_leaves alts
 

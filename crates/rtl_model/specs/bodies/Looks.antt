@@ -5,11 +5,13 @@ use Rattle.std.specs.Prelude.{ℕ, if◌then◌else◌, List, [], ◌∷◌, ◌
 use Rattle.std.specs.Prelude.{flat_map, slice_index, slice_index_or}
 use Rattle.vhdl_values.specs.Logic.{zip_with}
 use Rattle.vhdl_values.specs.Shifts.{counted_of}
-use Rattle.rtl_model.specs.bodies.Body.{Operator, logical, joined, Expr, signal, variable, constant, inverse, filled, binary, counted}
+use Rattle.rtl_model.specs.bodies.Body.{Operator, logical, joined, Expr, signal, variable, constant}
+use Rattle.rtl_model.specs.bodies.Body.{inverse, filled, binary, counted, shifted, converted, chosen}
 use Rattle.rtl_model.specs.bodies.Body.{Value, elements, position, position_of, position_in}
+use Rattle.rtl_model.specs.bodies.Rows.{Spacing, all_rows}
 use Rattle.rtl_model.specs.bodies.Body.{Test, condition, decided, equal, unequal, level, compared, compared_to}
 use Rattle.rtl_model.specs.bodies.Body.{rising, falling, event, negated, combined}
-use Rattle.rtl_model.specs.bodies.Body.{Stmt, null_of, assign, set, if_of, case_of, Stmts, done, step}
+use Rattle.rtl_model.specs.bodies.Body.{Stmt, null_of, assign, set, assign_at, set_at, if_of, case_of, Stmts, done, step}
 use Rattle.rtl_model.specs.bodies.Body.{Branches, no_else, otherwise, branch, Alternatives, others, alternative}
 use Rattle.rtl_model.specs.bodies.Values.{Seen}
 use Rattle.rtl_model.specs.bodies.Assigns.{Target, driver, element, is_target}
@@ -44,13 +46,21 @@ whole = flat_map (λ sights. sights)
 -- ---- values: what each of their elements looks at
 
 -- Each element of a logical operator's result looks at both operands' elements at its place, of `&` at the one element
--- that stands there (9.2.2, 9.2.5), and of a sum, difference or product at all of both operands.
+-- that stands there (9.2.2, 9.2.5), and of an operator on numbers at all of both operands.
 abbrev pub operation_looks : Operator → List (List Sight) → List (List Sight) → List (List Sight)
 operation_looks (logical op) ls rs = zip_with (λ l r. l ++ r) ls rs
 operation_looks joined ls rs = ls ++ rs
 operation_looks op ls rs = replicate (operated_width op (length ls) (length rs)) (whole ls ++ whole rs)
 
--- what a shift or `resize` lets in looks at nothing
+-- each element of a row that an index chooses looks at the index, and at the element at its place of every row
+abbrev pub chosen_looks : (index : List Sight) → (len : ℕ) → (rows : List (List (List Sight))) → List (List Sight)
+chosen_looks index len [] = replicate len index
+chosen_looks index len (row ∷ rows) = zip_with (λ l r. l ++ r) row (chosen_looks index len rows)
+
+-- ---- expressions and values
+
+-- What a shift or `resize` lets in looks at nothing, or, where it is the sign, at the sign. Where a run computes the
+-- count, and where a vector counts by its number, each element looks at all.
 abbrev pub expr_looks : Looks → Expr → List (List Sight)
 expr_looks so_far (signal nets) = map (λ n. net_now n ∷ []) nets
 expr_looks so_far (variable es) = map (λ e. so_far (element e)) es
@@ -59,6 +69,11 @@ expr_looks so_far (inverse e) = expr_looks so_far e
 expr_looks so_far (filled len e) = replicate len (slice_index_or (expr_looks so_far e) 0 [])
 expr_looks so_far (binary op d e) = operation_looks op (expr_looks so_far d) (expr_looks so_far e)
 expr_looks so_far (counted op count e) = counted_of [] op count (expr_looks so_far e)
+expr_looks so_far (shifted by count e) =
+    replicate (length (expr_looks so_far e)) (whole (expr_looks so_far count) ++ whole (expr_looks so_far e))
+expr_looks so_far (converted by e) = replicate (length (expr_looks so_far e)) (whole (expr_looks so_far e))
+expr_looks so_far (chosen index spacing rows) =
+    chosen_looks (whole (expr_looks so_far index)) spacing.len (all_rows spacing (expr_looks so_far rows))
 
 abbrev pub value_looks : Looks → Value → List (List Sight)
 value_looks so_far (elements e) = expr_looks so_far e
@@ -95,11 +110,23 @@ put at round [] values so_far = so_far
 put at round (k ∷ ks) values so_far =
     put at round ks (drop 1 values) (replaced (at k) (round ++ slice_index_or values 0 []) so_far)
 
+-- Behind an assignment to the row at an index a target looks at what it did before, and at all that it would look at
+-- behind an assignment of X to all that the rows lie in, or of the value to any row; what the index looks at is among
+-- `round`.
+abbrev pub put_rows : (at : ℕ → Target) → List Sight → Spacing → (rows : List ℕ) → List (List Sight) → Looks → Looks
+put_rows at round spacing rows values so_far target =
+    so_far target ++ (put at round rows (replicate (length rows) []) so_far target
+    ++ flat_map (λ row. put at round row values so_far target) (all_rows spacing rows))
+
 abbrev mutual
   pub stmt_looks : (round : List Sight) → Looks → Stmt → Looks
   stmt_looks round so_far null_of = so_far
   stmt_looks round so_far (assign places v) = put driver round places (value_looks so_far v) so_far
   stmt_looks round so_far (set es v) = put element round es (value_looks so_far v) so_far
+  stmt_looks round so_far (assign_at index spacing places e) =
+      put_rows driver (round ++ whole (expr_looks so_far index)) spacing places (expr_looks so_far e) so_far
+  stmt_looks round so_far (set_at index spacing es e) =
+      put_rows element (round ++ whole (expr_looks so_far index)) spacing es (expr_looks so_far e) so_far
   stmt_looks round so_far (if_of bs) = branches_look round so_far bs
   stmt_looks round so_far (case_of v alts) = alternatives_look (round ++ whole (value_looks so_far v)) so_far alts
 

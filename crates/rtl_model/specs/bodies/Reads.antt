@@ -1,14 +1,15 @@
 -- What a body reads, in each branch, taken or not: the nets whose values or whose events it looks at, and those whose
 -- events alone. Variables are no nets.
 use Rattle.std.specs.Prelude.{ℕ, List, [], ◌∷◌, ◌++◌}
-use Rattle.rtl_model.specs.bodies.Body.{Expr, signal, variable, constant, inverse, filled, binary, counted}
+use Rattle.rtl_model.specs.bodies.Body.{Expr, signal, variable, constant, inverse, filled, binary}
+use Rattle.rtl_model.specs.bodies.Body.{counted, shifted, converted, chosen}
 use Rattle.rtl_model.specs.bodies.Body.{Value, elements, position, position_of, position_in}
 use Rattle.rtl_model.specs.bodies.Body.{Test, condition, decided, equal, unequal, level, compared, compared_to}
 use Rattle.rtl_model.specs.bodies.Body.{rising, falling, event, negated, combined}
-use Rattle.rtl_model.specs.bodies.Body.{Stmt, null_of, assign, set, if_of, case_of, Stmts, done, step}
+use Rattle.rtl_model.specs.bodies.Body.{Stmt, null_of, assign, set, assign_at, set_at, if_of, case_of, Stmts, done, step}
 use Rattle.rtl_model.specs.bodies.Body.{Branches, no_else, otherwise, branch, Alternatives, others, alternative}
 
--- ---- what is read
+-- ---- what is read: of rows all, whichever is chosen, and the index of a target too
 
 abbrev pub expr_reads : Expr → List ℕ
 expr_reads (signal nets) = nets
@@ -18,6 +19,9 @@ expr_reads (inverse e) = expr_reads e
 expr_reads (filled len e) = expr_reads e
 expr_reads (binary op d e) = expr_reads d ++ expr_reads e
 expr_reads (counted op count e) = expr_reads e
+expr_reads (shifted by count e) = expr_reads count ++ expr_reads e
+expr_reads (converted by e) = expr_reads e
+expr_reads (chosen index spacing rows) = expr_reads index ++ expr_reads rows
 
 abbrev pub value_reads : Value → List ℕ
 value_reads (elements e) = expr_reads e
@@ -44,6 +48,8 @@ abbrev mutual
   stmt_reads null_of = []
   stmt_reads (assign places v) = value_reads v
   stmt_reads (set ks v) = value_reads v
+  stmt_reads (assign_at index spacing places e) = expr_reads index ++ expr_reads e
+  stmt_reads (set_at index spacing ks e) = expr_reads index ++ expr_reads e
   stmt_reads (if_of bs) = branches_reads bs
   stmt_reads (case_of v alts) = value_reads v ++ alternatives_reads alts
 
@@ -75,6 +81,8 @@ abbrev mutual
   stmt_events null_of = []
   stmt_events (assign places v) = []
   stmt_events (set ks v) = []
+  stmt_events (assign_at index spacing places e) = []
+  stmt_events (set_at index spacing ks e) = []
   stmt_events (if_of bs) = branches_events bs
   stmt_events (case_of v alts) = alternatives_events alts
 

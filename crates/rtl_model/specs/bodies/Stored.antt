@@ -2,11 +2,12 @@
 -- every syntactic path. Its value would be the one that the run before left.
 use Rattle.std.specs.Prelude.{ℕ, Bool, false, not, ◌&&◌, ◌||◌, ◌==◌}
 use Rattle.std.specs.List.{list_any}
-use Rattle.rtl_model.specs.bodies.Body.{Expr, signal, variable, constant, inverse, filled, binary, counted}
+use Rattle.rtl_model.specs.bodies.Body.{Expr, signal, variable, constant, inverse, filled, binary}
+use Rattle.rtl_model.specs.bodies.Body.{counted, shifted, converted, chosen}
 use Rattle.rtl_model.specs.bodies.Body.{Value, elements, position, position_of, position_in}
 use Rattle.rtl_model.specs.bodies.Body.{Test, condition, equal, unequal, compared, compared_to}
 use Rattle.rtl_model.specs.bodies.Body.{negated, combined}
-use Rattle.rtl_model.specs.bodies.Body.{Stmt, null_of, assign, set, if_of, case_of, Stmts, done, step}
+use Rattle.rtl_model.specs.bodies.Body.{Stmt, null_of, assign, set, assign_at, set_at, if_of, case_of, Stmts, done, step}
 use Rattle.rtl_model.specs.bodies.Body.{Branches, no_else, otherwise, branch, Alternatives, others, alternative}
 use Rattle.rtl_model.specs.bodies.Assigns.{is_element, stmt_must_assign}
 
@@ -21,6 +22,9 @@ module _ (k : ℕ) where
   expr_looks_at (filled len d) = expr_looks_at d
   expr_looks_at (binary op c d) = expr_looks_at c || expr_looks_at d
   expr_looks_at (counted op count d) = expr_looks_at d
+  expr_looks_at (shifted by count d) = expr_looks_at count || expr_looks_at d
+  expr_looks_at (converted by d) = expr_looks_at d
+  expr_looks_at (chosen index spacing rows) = expr_looks_at index || expr_looks_at rows
 
   abbrev pub value_looks_at : Value → Bool
   value_looks_at (elements d) = expr_looks_at d
@@ -45,6 +49,8 @@ module _ (k : ℕ) where
     stmt_stores null_of = false
     stmt_stores (assign places v) = value_looks_at v
     stmt_stores (set ks v) = value_looks_at v
+    stmt_stores (assign_at index spacing places d) = expr_looks_at index || expr_looks_at d
+    stmt_stores (set_at index spacing ks d) = expr_looks_at index || expr_looks_at d
     stmt_stores (if_of bs) = branches_store bs
     stmt_stores (case_of v alts) = value_looks_at v || alternatives_store alts
 

@@ -15,9 +15,9 @@ loop-at-preserved c =
     let m : i < length vs = omega (arith, c.loop-at-test.true) in
     let put : List ℕ → Outcome = λ es. record o { variables = es } in
     record {
-      each_element = ap (λ (o : Outcome). length o.variables) c.set_variable.ensures ∙ length-set o.variables c.number_at.result (slice_index vs i) ∙ c.loop-at.invariant.each_element;
+      each_element = ap (λ (o : Outcome). length o.variables) c.set_variable.ensures ∙ length-set o.variables c.at.result (slice_index vs i) ∙ c.loop-at.invariant.each_element;
       whole = ap (λ (o : Outcome). record o { variables = values_put (drop (i + 1) ns) (drop (i + 1) vs) o.variables }) c.set_variable.ensures
-          ∙ ap put (ap (λ n. values_put (drop (i + 1) ns) (drop (i + 1) vs) (slice_set o.variables n (slice_index vs i))) c.number_at.ensures
+          ∙ ap put (ap (λ n. values_put (drop (i + 1) ns) (drop (i + 1) vs) (slice_set o.variables n (slice_index vs i))) c.at.ensures
           ∙ put_more ns vs i o.variables (omega (arith, m, c.requires.as_many)) m) ∙ c.loop-at.invariant.whole;
     }
 

@@ -1,11 +1,12 @@
 use Rattle.std.proofs.Common.{◌≡◌, arith, ◌+◌, List, drop, ap, sym, ◌∙◌, subst}
 use Rattle.vhdl_values.specs.declared.scalar.Nine.{Nine}
 use Rattle.rtl_model.specs.bodies.Body as bodies
-use Rattle.rtl_model.specs.bodies.Values.{operation_result, elements_of}
+use Rattle.rtl_model.specs.bodies.Rows.{row_at}
+use Rattle.rtl_model.specs.bodies.Values.{operation_result, elements_of, chosen_of}
 use Rattle.rtl_model.specs.bodies.Fits.{FitsExpr}
 use Rattle.rtl_net.specs.declared.body.Expr.{Expr}
 use Rattle.rtl_net.specs.declared.body.Link.{Link}
-use Rattle.rtl_net.specs.Bodies.{operator_view, expr_view, links_of}
+use Rattle.rtl_net.specs.Bodies.{operator_view, spacing_view, rows_view, expr_view, links_of}
 use Rattle.rtl_net.proofs.Rows.{view_chain}
 use Rattle.rtl_eval.specs.Seeing.{seen_of, Within}
 use Rattle.rtl_eval.proofs.Chains.{within-map, same_value, fits_reduced, link_fits, rest_at, chain_at, within_link, within_first, within_rest}
@@ -61,3 +62,12 @@ value-chain-requires t c =
     let w = within_rest (seen_of c.args.seen) c.args.expr.now c.in-Chain.first c.in-Chain.rest c.deref-in-Chain.result.now c.value-in-Chain.result c.deref-in-Chain-2.result.now
     c.requires c.in-Chain.is c.deref-in-Chain.ensures c.value-in-Chain.ensures c.deref-in-Chain-2.ensures.value in
     (omega (arith, c.decreases, ap weight c.in-Chain.is, chain_weight c.in-Chain.first c.in-Chain.rest, ap links_weight c.deref-in-Chain-2.ensures.value), w)
+
+pub value-returns-in-Chosen : goal.value-returns-in-Chosen
+value-returns-in-Chosen t c =
+    let i = c.in-Chosen in
+    let seen = seen_of c.args.seen in
+    let index = c.value-in-Chosen.ensures ∙ ap (λ (x : Expr). elements_of seen (expr_view x)) c.deref-in-Chosen.ensures in
+    c.chosen.ensures
+    ∙ ap (λ (vs : List Nine). chosen_of i.spacing.len (row_at (spacing_view i.spacing) (elements_of seen (rows_view i.rows)) vs)) index
+    ∙ sym (ap (λ (x : Expr). elements_of seen (expr_view x)) i.is)

@@ -1,13 +1,16 @@
-use Rattle.std.proofs.Common.{◌<◌, length, map, drop, ap, ◌∙◌, arith, subst}
+use Rattle.std.proofs.Common.{◌<◌, length, map, drop, refl, sym, ap, ◌∙◌, arith, subst}
 use Rattle.std.proofs.lemmas.List.{drop_all, length-map}
 use Rattle.rtl_model.specs.bodies.Body as bodies
-use Rattle.rtl_model.specs.bodies.Values.{Seen, value_of}
+use Rattle.vhdl_values.specs.Scalar.{code_of}
+use Rattle.rtl_model.specs.bodies.Rows.{row_at}
+use Rattle.rtl_model.specs.bodies.Values.{Seen, elements_of, value_of, targets_at, given_at}
+use Rattle.rtl_model.specs.bodies.Variables.{values_put}
 use Rattle.rtl_net.specs.Indices.{numbers}
-use Rattle.rtl_net.specs.Bodies.{value_view, statement_view, statements_of}
+use Rattle.rtl_net.specs.Bodies.{spacing_view, expr_view, value_view, statement_view, statements_of}
 use Rattle.rtl_eval.specs.Evaluations.{codes_of}
 use Rattle.rtl_eval.specs.Seeing.{seen_of}
-use Rattle.rtl_eval.specs.Running.{seen_by, IsFirstTrue, NoneIsTrue, else_of, met_by, chosen_by}
-use Rattle.rtl_eval.proofs.Doing.{does_assign, places_fit, elements_fit}
+use Rattle.rtl_eval.specs.Running.{seen_by, assigned, IsFirstTrue, NoneIsTrue, else_of, met_by, chosen_by}
+use Rattle.rtl_eval.proofs.Doing.{does_assign, does_put, places_fit, elements_fit, rows_fit, rows_of_elements_fit}
 use Rattle.rtl_eval.proofs.Ready.{part, whole, if_ready, if_done, else_ready, else_done, no_else_done, case_ready, case_done, first_ready, rest_ready, all_done, none_left}
 use Rattle.rtl_eval.proofs.Ready.{tests_ready, branch_ready, last_ready, branch_done, last_done, alternative_ready, others_ready, alternative_done, others_done}
 use Rattle.rtl_eval.proofs.StatementWeights.{weight, weight_of, branches_weight, otherwise_weight, alternatives_weight, branch_weight, alternative_weight, if_weight, case_weight}
@@ -39,6 +42,58 @@ run-set-requires t c =
     let codes = c.evaluate-value-in-Set.ensures ∙ ap (λ (seen : Seen). value_of seen v) c.seeing-in-Set.ensures in
     let fit = elements_fit c.args.nets o (numbers c.in-Set.elements) (codes_of c.evaluate-value-in-Set.result) v (part c.args.nets o c.args.statement.now (bodies.set (numbers c.in-Set.elements) v) c.requires (ap statement_view c.in-Set.is)) codes in
     record { as_many = fit.0; there = fit.1 }
+
+-- ---- assignments to rows
+
+pub run-assign_row-requires : goal.run-assign_row-requires
+run-assign_row-requires t c =
+    let o = c.args.out.now in
+    let i = c.in-AssignAt in
+    let x = bodies.assign_at (expr_view i.index) (spacing_view i.spacing) (numbers i.places) (expr_view i.value) in
+    let fit = rows_fit c.args.nets o (expr_view i.index) (spacing_view i.spacing) (expr_view i.value) (numbers i.places) (part c.args.nets o c.args.statement.now x c.requires (ap statement_view i.is)) in
+    let value = c.value-value.ensures ∙ ap (λ (seen : Seen). elements_of seen (expr_view i.value)) c.seeing-in-AssignAt-2.ensures in
+    record { spacing = fit.0; as_long = fit.1 ∙ ap length (sym value); there = fit.2 }
+
+pub run-returns-in-AssignAt : goal.run-returns-in-AssignAt
+run-returns-in-AssignAt t c =
+    let o = c.args.out.now in
+    let i = c.in-AssignAt in
+    let x = bodies.assign_at (expr_view i.index) (spacing_view i.spacing) (numbers i.places) (expr_view i.value) in
+    let index = c.value-index.ensures ∙ ap (λ (seen : Seen). elements_of seen (expr_view i.index)) c.seeing-in-AssignAt.ensures in
+    let value = c.value-value.ensures ∙ ap (λ (seen : Seen). elements_of seen (expr_view i.value)) c.seeing-in-AssignAt-2.ensures in
+    let row = row_at (spacing_view i.spacing) (numbers i.places) (elements_of (seen_by c.args.nets o) (expr_view i.index)) in
+    let given = given_at (numbers i.places) row (map code_of (elements_of (seen_by c.args.nets o) (expr_view i.value))) in
+    whole c.args.nets o c.args.statement.now x c.assign_row.new.out (ap statement_view i.is)
+    (does_assign (targets_at (numbers i.places) row) given given o c.assign_row.new.out refl
+    (c.assign_row.ensures ∙ (λ k. record o {
+      entries = assigned (targets_at (numbers i.places) (row_at (spacing_view i.spacing) (numbers i.places) (index k)))
+          (given_at (numbers i.places) (row_at (spacing_view i.spacing) (numbers i.places) (index k)) (map code_of (value k))) o.entries;
+    })))
+
+pub run-set_row-requires : goal.run-set_row-requires
+run-set_row-requires t c =
+    let o = c.args.out.now in
+    let i = c.in-SetAt in
+    let x = bodies.set_at (expr_view i.index) (spacing_view i.spacing) (numbers i.targets) (expr_view i.value) in
+    let fit = rows_of_elements_fit c.args.nets o (expr_view i.index) (spacing_view i.spacing) (expr_view i.value) (numbers i.targets) (part c.args.nets o c.args.statement.now x c.requires (ap statement_view i.is)) in
+    let value = c.value-value-in-SetAt.ensures ∙ ap (λ (seen : Seen). elements_of seen (expr_view i.value)) c.seeing-in-SetAt-2.ensures in
+    record { spacing = fit.0; as_long = fit.1 ∙ ap length (sym value); there = fit.2 }
+
+pub run-returns-in-SetAt : goal.run-returns-in-SetAt
+run-returns-in-SetAt t c =
+    let o = c.args.out.now in
+    let i = c.in-SetAt in
+    let x = bodies.set_at (expr_view i.index) (spacing_view i.spacing) (numbers i.targets) (expr_view i.value) in
+    let index = c.value-index-in-SetAt.ensures ∙ ap (λ (seen : Seen). elements_of seen (expr_view i.index)) c.seeing-in-SetAt.ensures in
+    let value = c.value-value-in-SetAt.ensures ∙ ap (λ (seen : Seen). elements_of seen (expr_view i.value)) c.seeing-in-SetAt-2.ensures in
+    let row = row_at (spacing_view i.spacing) (numbers i.targets) (elements_of (seen_by c.args.nets o) (expr_view i.index)) in
+    let given = given_at (numbers i.targets) row (map code_of (elements_of (seen_by c.args.nets o) (expr_view i.value))) in
+    whole c.args.nets o c.args.statement.now x c.set_row.new.out (ap statement_view i.is)
+    (does_put (targets_at (numbers i.targets) row) given given o c.set_row.new.out refl
+    (c.set_row.ensures ∙ (λ k. record o {
+      variables = values_put (targets_at (numbers i.targets) (row_at (spacing_view i.spacing) (numbers i.targets) (index k)))
+          (given_at (numbers i.targets) (row_at (spacing_view i.spacing) (numbers i.targets) (index k)) (map code_of (value k))) o.variables;
+    })))
 
 -- ---- an if
 

@@ -71,6 +71,12 @@ mark_set-returns-in-Assign t c = marked_as _ _ _ _ (λ e. sym (ap (λ (s : State
 pub mark_set-returns-in-Set : goal.mark_set-returns-in-Set
 mark_set-returns-in-Set t c = marked_as _ _ _ _ (λ e. sym (ap (λ (s : Statement). stmt_assigns (is_element e) (statement_view s)) c.in-Set.is)) c.mark_named.ensures
 
+pub mark_set-returns-in-AssignAt : goal.mark_set-returns-in-AssignAt
+mark_set-returns-in-AssignAt t c = marked_as _ _ _ _ (λ e. sym (ap (λ (s : Statement). stmt_assigns (is_element e) (statement_view s)) c.in-AssignAt.is ∙ none_of (numbers c.before.in-AssignAt.places))) (marked_none c.args.marks.now)
+
+pub mark_set-returns-in-SetAt : goal.mark_set-returns-in-SetAt
+mark_set-returns-in-SetAt t c = marked_as _ _ _ _ (λ e. sym (ap (λ (s : Statement). stmt_assigns (is_element e) (statement_view s)) c.in-SetAt.is)) c.mark_named-in-SetAt.ensures
+
 pub mark_set-returns-in-Some : goal.mark_set-returns-in-Some
 mark_set-returns-in-Some t c =
     let i = c.in-If in

@@ -1,8 +1,5 @@
-use Rattle.std.proofs.Common.{◌≡◌, ap, ◌∙◌, nat_eq}
-use Rattle.std.specs.HashMap.{get}
+use Rattle.std.proofs.Common.{ap, ◌∙◌}
 use Rattle.std.proofs.lemmas.Result.{IfOk-weaker}
-use Rattle.rtl_body_facts.specs.Paths.{to_net}
-use Rattle.rtl_latches.specs.Omissions.{omission_of}
 use Rattle.rtl_latches.specs.Parts.{Told, left_at}
 use Rattle.rtl_latches.proofs.drivers.omissions.Goals as goal
 

@@ -15,7 +15,7 @@ use Rattle.rtl_latches.specs.declared.choosing.Counted.TheVariants as counted
 use Rattle.rtl_latches.specs.declared.parts.Part.{Part}
 use Rattle.rtl_latches.specs.Parts.{Told, told, told_of, of_branch, of_alternative, both, only_must, only_left, where_so, numbered, together, is_touched}
 use Rattle.rtl_latches.proofs.Telling.{both-nothing, any-map, rises-last}
-use Rattle.rtl_latches.proofs.Statements.{null-told, set-told, assign-told, if_alone-told, if-told, case-told, told-more, parts-more, parts-last}
+use Rattle.rtl_latches.proofs.Statements.{null-told, set-told, set_at-told, assign-told, assign_at-told, if_alone-told, if-told, case-told, told-more, parts-more, parts-last}
 use Rattle.rtl_latches.proofs.gathering.+gathering.Goals as goal
 
 pub gather-loop-statement-init : goal.gather-loop-statement-init
@@ -98,6 +98,20 @@ pub gather_statement-returns-in-Set : goal.gather_statement-returns-in-Set
 gather_statement-returns-in-Set t c =
     λ n. sym (ap (both (told n c.args.part.now)) (set-told c.args.drives.now n c.args.statement.now c.in-Set.elements c.in-Set.value c.in-Set.is) ∙ both-nothing (told n c.args.part.now))
 
+pub gather_statement-returns-in-SetAt : goal.gather_statement-returns-in-SetAt
+gather_statement-returns-in-SetAt t c =
+    let i = c.in-SetAt in
+    λ n. sym (ap (both (told n c.args.part.now)) (set_at-told c.args.drives.now n c.args.statement.now i.at i.index i.spacing i.elements i.value i.is) ∙ both-nothing (told n c.args.part.now))
+
+pub gather_statement-returns-in-AssignAt : goal.gather_statement-returns-in-AssignAt
+gather_statement-returns-in-AssignAt t c =
+    let i = c.in-AssignAt in
+    on_ok_weaker c.leave_out.result
+    (λ h. λ n. h n ∙ (ap (λ (b : Bool). both (told n c.args.part.now) (only_left (where_so b (Some (o.Row i.at)))))
+    (ap (is_in n) c.deref-in-AssignAt.ensures.value ∙ (c.in_ok-nets-in-AssignAt).ensures n)
+    ∙ ap (both (told n c.args.part.now)) (sym (assign_at-told c.args.drives.now n c.args.statement.now i.at i.index i.spacing i.places i.value i.is))))
+    c.leave_out.ensures
+
 pub gather_statement-returns-in-Assign : goal.gather_statement-returns-in-Assign
 gather_statement-returns-in-Assign t c =
     let i = c.in-Assign in
@@ -114,14 +128,14 @@ gather_statement-returns-in-None t c =
     let i = c.in-If in
     let st = c.args.statement.now in
     let is : st ≡ vs.If i.at i.branches None = i.is ∙ ap (λ (o : Option (Vec Statement Global)). vs.If i.at i.branches o) c.in-None.is in
-    on_ok_weaker c.leave_out.result
+    on_ok_weaker c.leave_out-in-None.result
     (λ h. λ n. h n ∙ (ap (λ (b : Bool). both (told n c.args.part.now) (only_left (where_so b (Some (o.NoElse i.at)))))
     (ap (is_in n) c.deref-in-None-2.ensures.value ∙ ((c.in_ok-nets-in-None).ensures.are n
     ∙ (ap (list_any (λ (p : Part). is_touched (told n p))) c.deref-in-None.ensures.value
     ∙ (any-map is_touched (told n) c.in_ok-parts-in-If.parts.items
     ∙ ap (list_any is_touched) ((c.in_ok-parts-in-If).ensures.told n ∙ ap (map (of_branch c.args.drives.now n)) c.deref-in-If.ensures.value)))))
     ∙ ap (both (told n c.args.part.now)) (sym (if_alone-told c.args.drives.now n st i.at i.branches is))))
-    c.leave_out.ensures
+    c.leave_out-in-None.ensures
 
 pub gather_statement-returns-in-If : goal.gather_statement-returns-in-If
 gather_statement-returns-in-If t c =

@@ -41,6 +41,16 @@ walk_statement-returns-in-Set t c =
     on_ok_weaker c.walk_assignment-in-Set.result
     (λ w. as_walked _ (λ sights so_far s. sym (ap (λ (x : Statement). stmt_looks sights so_far (statement_view x) s) c.in-Set.is)) w) c.walk_assignment-in-Set.ensures
 
+pub walk_statement-returns-in-AssignAt : goal.walk_statement-returns-in-AssignAt
+walk_statement-returns-in-AssignAt t c =
+    on_ok_weaker c.walk_rows.result
+    (λ w. as_walked _ (λ sights so_far s. sym (ap (λ (x : Statement). stmt_looks sights so_far (statement_view x) s) c.in-AssignAt.is)) w) c.walk_rows.ensures
+
+pub walk_statement-returns-in-SetAt : goal.walk_statement-returns-in-SetAt
+walk_statement-returns-in-SetAt t c =
+    on_ok_weaker c.walk_rows-in-SetAt.result
+    (λ w. as_walked _ (λ sights so_far s. sym (ap (λ (x : Statement). stmt_looks sights so_far (statement_view x) s) c.in-SetAt.is)) w) c.walk_rows-in-SetAt.ensures
+
 pub walk_branch-returns-clause-branched : goal.walk_branch-returns-clause-branched
 walk_branch-returns-clause-branched t c =
     let x = c.args.branch.now in

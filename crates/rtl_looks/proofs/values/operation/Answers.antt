@@ -38,3 +38,9 @@ returns-in-Multiply c =
     IfOk-weaker c.all_in_each-in-Multiply.result _ _
     (λ v h. subst (λ (o : Operator). Combines (operation_looks (operator_view o)) c.args.hubs.now.hubs.items c.all_in_each-in-Multiply.new.hubs.hubs.items c.args.left.now c.args.right.now v.items) (sym c.in-Multiply.is)
     (arithmetic _ m.times (λ ls rs. refl) refl h)) c.all_in_each-in-Multiply.ensures
+
+pub returns-in-Signed : goal.returns-in-Signed
+returns-in-Signed c =
+    IfOk-weaker c.all_in_each-in-Signed.result _ _
+    (λ v h. subst (λ (o : Operator). Combines (operation_looks (operator_view o)) c.args.hubs.now.hubs.items c.all_in_each-in-Signed.new.hubs.hubs.items c.args.left.now c.args.right.now v.items) (sym c.in-Signed.is)
+    (arithmetic _ (m.signed c.in-Signed.operator) (λ ls rs. refl) c.length.ensures h)) c.all_in_each-in-Signed.ensures

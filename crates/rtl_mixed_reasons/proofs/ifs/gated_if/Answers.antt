@@ -1,8 +1,8 @@
-use Rattle.std.proofs.Common.{◌≡◌, ℕ, Bool, ◌||◌, List, Option, Some, None, length, drop, ap, sym, ◌∙◌}
+use Rattle.std.proofs.Common.{◌≡◌, ℕ, ◌||◌, List, Some, None, length, drop, ap, sym, ◌∙◌}
 use Rattle.std.specs.Prelude.{is_some, nat_lt, option_map}
 use Rattle.rtl_net.specs.declared.body.Branch.{Branch}
 use Rattle.rtl_mixed_reasons.specs.declared.reason.ReasonKind.{ReasonKind}
-use Rattle.rtl_mixed_reasons.specs.Reasons.{plain, first_gated, gated_kind, gated_edge, tests_of}
+use Rattle.rtl_mixed_reasons.specs.Reasons.{plain, first_gated, gated_kind, tests_of}
 use Rattle.rtl_mixed_reasons.proofs.Branching.{gated-is}
 use Rattle.rtl_mixed_reasons.proofs.ifs.gated_if.Goals as goal
 

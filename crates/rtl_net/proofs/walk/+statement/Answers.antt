@@ -1,5 +1,5 @@
-use Rattle.std.proofs.Common.{refl, rules}
-use Rattle.rtl_net.specs.declared.body.Statement.{the_lemmas}
+use Rattle.std.proofs.Common.{refl, ap, rules}
+use Rattle.rtl_net.specs.declared.body.Statement.{Statement, the_lemmas}
 use Rattle.rtl_net.specs.Visits.{statement_leaves, branch_leaves, alternative_leaves}
 use Rattle.rtl_net.proofs.Walks.{tells_both, tells_same, tells_goes, if_leaves, if_alone_leaves, case_leaves}
 use Rattle.rtl_net.proofs.walk.+statement.Goals as goal
@@ -13,6 +13,14 @@ walk_statement-walk_alternatives-requires g t c κs within = (search (rules, the
 pub walk_statement-walk_statements-requires-in-Case :
     goal.walk_statement-walk_statements-requires-in-Case
 walk_statement-walk_statements-requires-in-Case g t c κs within = (search (rules, the_lemmas), within)
+
+pub walk_statement-returns-in-AssignAt : goal.walk_statement-returns-in-AssignAt
+walk_statement-returns-in-AssignAt g t c =
+    tells_both g.V.Visit.takes _ _ _ _ _ _ (ap (λ (x : Statement). statement_leaves x) c.in-AssignAt.is) c.walk_expr.ensures c.walk_expr-in-AssignAt.ensures
+
+pub walk_statement-returns-in-SetAt : goal.walk_statement-returns-in-SetAt
+walk_statement-returns-in-SetAt g t c =
+    tells_both g.V.Visit.takes _ _ _ _ _ _ (ap (λ (x : Statement). statement_leaves x) c.in-SetAt.is) c.walk_expr-in-SetAt.ensures c.walk_expr-in-SetAt-2.ensures
 
 pub walk_statement-returns-in-None : goal.walk_statement-returns-in-None
 walk_statement-returns-in-None g t c =

@@ -1,4 +1,4 @@
-use Rattle.std.proofs.Common.{◌<◌, All, List, ℕ, length, get_or, sym, ap, subst, ◌∙◌}
+use Rattle.std.proofs.Common.{◌<◌, All, List, length, get_or, sym, ap, subst, ◌∙◌}
 use Rattle.rtl_model.specs.simulation.Netlist as m
 use Rattle.rtl_net.specs.declared.process.Process.{Process}
 use Rattle.rtl_process_kinds.proofs.Processes.{process_is}

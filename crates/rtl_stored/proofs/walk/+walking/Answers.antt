@@ -1,15 +1,17 @@
-use Rattle.std.proofs.Common.{◌≡◌, ◌||◌, ◌&&◌, ◌+◌, Bool, List, take, refl, sym, ap, ◌∙◌, Option, Some, None, Vec, Global}
+use Rattle.std.proofs.Common.{◌≡◌, ℕ, not, ◌||◌, ◌&&◌, ◌+◌, Bool, List, take, refl, sym, ap, ◌∙◌, Option, Some, None, Vec, Global}
 use Rattle.std.specs.List.{list_any, list_all}
 use Rattle.std.proofs.lemmas.List.{take_all}
 use Rattle.std.proofs.lemmas.Result.{on_ok_weaker}
+use Rattle.rtl_model.specs.bodies.Body.{elements}
+use Rattle.rtl_net.specs.declared.body.Expr.{Expr}
 use Rattle.rtl_net.specs.declared.body.Statement.{Statement}
 use Rattle.rtl_net.specs.declared.body.Statement.TheVariants as vs
 use Rattle.rtl_net.specs.declared.body.Branch.{Branch}
 use Rattle.rtl_net.specs.declared.body.Alternative.{Alternative}
-use Rattle.rtl_net.specs.Bodies.{statement_view, statements_of, value_view, test_view}
+use Rattle.rtl_net.specs.Bodies.{statement_view, statements_of, expr_view, value_view, test_view}
 use Rattle.rtl_model.specs.bodies.Assigns.{is_element, stmt_must_assign, must_assign}
-use Rattle.rtl_model.specs.bodies.Stored.{value_looks_at, test_looks_at, stmt_stores, stores_element}
-use Rattle.rtl_model.specs.bodies.Leaves.{leaf_looks_at, value_leaves}
+use Rattle.rtl_model.specs.bodies.Stored.{expr_looks_at, value_looks_at, test_looks_at, stmt_stores, stores_element}
+use Rattle.rtl_model.specs.bodies.Leaves.{leaf_looks_at, expr_leaves, value_leaves}
 use Rattle.rtl_model.proofs.bodies.Leaves.{leaves_tell}
 use Rattle.rtl_body_facts.specs.Looks.{branch_assigns, alternative_assigns, branch_stores, alternative_stores}
 use Rattle.rtl_body_facts.proofs.Anys.{or_none}
@@ -20,6 +22,13 @@ use Rattle.rtl_stored.specs.Walks.{never}
 use Rattle.rtl_stored.proofs.Walking.{then_walked, as_walked, then_reads, as_reads, reads_walked, no_walk, no_reads, no_narrows, as_narrows, then_narrows, told_reads, fresh, fresh_there, part_reads, part_narrows, whole_walked}
 use Rattle.rtl_stored.proofs.Sequences.{stores_more, assigns_more}
 use Rattle.rtl_stored.proofs.walk.+walking.Goals as goal
+
+-- what one expression stores, and another behind it
+exprs_stored : (e : ℕ) (x y : Expr) → list_any (leaf_looks_at e) (expr_leaves (expr_view x)) || (not (never e) && list_any (leaf_looks_at e) (expr_leaves (expr_view y))) ≡ (expr_looks_at e (expr_view x) || expr_looks_at e (expr_view y))
+exprs_stored e x y =
+    let p = sym (leaves_tell.value_looks_are e (elements (expr_view x))) in
+    let q = sym (leaves_tell.value_looks_are e (elements (expr_view y))) in
+    λ i. p i || q i
 
 pub walk_statements-loop-statement-init : goal.walk_statements-loop-statement-init
 walk_statements-loop-statement-init t c = no_walk c.args.marks.now.marks.items c.args.added.now.items
@@ -50,6 +59,20 @@ walk_statement-returns-in-Assign t c =
     as_walked _ _ (λ e. sym (leaves_tell.value_looks_are e v) ∙ sym (ap (λ (s : Statement). stmt_stores e (statement_view s)) c.in-Assign.is))
     (λ e. sym (assign_assigns e c.args.statement.now c.in-Assign.places c.in-Assign.value c.in-Assign.is))
     (reads_walked c.args.added.now.items (told_reads _ _ _ c.walk_value.ensures))
+
+pub walk_statement-returns-in-AssignAt : goal.walk_statement-returns-in-AssignAt
+walk_statement-returns-in-AssignAt t c =
+    let i = c.in-AssignAt in
+    as_walked _ _ (λ e. exprs_stored e i.index i.value ∙ sym (ap (λ (s : Statement). stmt_stores e (statement_view s)) i.is))
+    (λ e. sym (ap (λ (s : Statement). stmt_must_assign (is_element e) (statement_view s)) i.is))
+    (then_walked (reads_walked c.args.added.now.items (told_reads _ _ _ c.walk_expr.ensures)) (reads_walked c.args.added.now.items (told_reads _ _ _ c.walk_expr-in-AssignAt.ensures)))
+
+pub walk_statement-returns-in-SetAt : goal.walk_statement-returns-in-SetAt
+walk_statement-returns-in-SetAt t c =
+    let i = c.in-SetAt in
+    as_walked _ _ (λ e. exprs_stored e i.index i.value ∙ sym (ap (λ (s : Statement). stmt_stores e (statement_view s)) i.is))
+    (λ e. sym (ap (λ (s : Statement). stmt_must_assign (is_element e) (statement_view s)) i.is))
+    (then_walked (reads_walked c.args.added.now.items (told_reads _ _ _ c.walk_expr-in-SetAt.ensures)) (reads_walked c.args.added.now.items (told_reads _ _ _ c.walk_expr-in-SetAt-2.ensures)))
 
 pub walk_last-release-requires : goal.walk_last-release-requires
 walk_last-release-requires t c = fresh_there c.deref.result.now c.new-added.ensures.items c.in_ok-walk_statements.ensures c.deref.ensures.value

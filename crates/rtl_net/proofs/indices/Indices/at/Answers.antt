@@ -3,7 +3,7 @@ use Rattle.std.proofs.lemmas.List.FromFn.{length-range_with_len, get_or-range_wi
 use Rattle.rtl_net.specs.declared.indices.Indices.{Indices}
 use Rattle.rtl_net.specs.declared.indices.Indices.TheVariants as v
 use Rattle.rtl_net.specs.Indices.{numbers}
-use Rattle.rtl_stored.proofs.numbers.number_at.Goals as goal
+use Rattle.rtl_net.proofs.indices.Indices.at.Goals as goal
 
 within : {place first len : ℕ} {indices : Indices} → place < length (numbers indices) → indices ≡ v.Run first len → place < len
 within {place} {first} {len} l is = subst (λ n. place < n) (length-range_with_len first len) (subst (λ (i : Indices). place < length (numbers i)) is l)
