@@ -14,17 +14,15 @@ use Rattle.vhdl_names_rules.specs.declared.fault.NameFault.{NameFault}
 use Rattle.vhdl_names_rules.specs.declared.fault.NameFault.TheVariants.{NoMemory}
 use Rattle.vhdl_names_rules.specs.declared.fault.NameProblem.TheVariants.{TypeMismatch}
 use Rattle.vhdl_names_rules.specs.declared.integer.Static as integers
-use Rattle.vhdl_names_rules.specs.declared.operator.Arithmetic.TheVariants.{Power}
 use Rattle.vhdl_names_rules.specs.declared.typed.Typed as code
-use Rattle.vhdl_names_rules.specs.units.Expressions as u
 use Rattle.vhdl_names_rules.specs.Gives.{Gives}
 use Rattle.vhdl_names_rules.specs.Rules.{◌>>=◌}
 use Rattle.vhdl_names_rules.specs.Visibility.{Sight, Declared, declaration}
 use Rattle.vhdl_names_rules.specs.Names.{Suffix}
 use Rattle.vhdl_names_rules.specs.Types.{TypedElements}
 use Rattle.vhdl_names_rules.specs.Expressions as are
-use Rattle.vhdl_names_rules.specs.Expressions.{as_integer, in_parentheses, signed}
-use Rattle.vhdl_names_rules.specs.Operators.{Typed, integer, composite, inverse, integral, operated}
+use Rattle.vhdl_names_rules.specs.Expressions.{as_integer, in_parentheses}
+use Rattle.vhdl_names_rules.specs.Operators.{Typed, as_computed, composite, inverse, raised, operated}
 use Rattle.vhdl_names_rules.specs.views.Integers.{static_view}
 use Rattle.vhdl_names_rules.specs.views.Expressions.{typed_view}
 use Rattle.vhdl_names_rules.specs.problems.Broken.{Broken, Tells, refused, ◌▸◌, lacking}
@@ -171,11 +169,11 @@ module _ (sight : Sight) (e d : Expr) (at : ℕ) (box : Box Expr Global) where
 
   pub absolute_passed : e ≡ x.Abs at box → Passed
   absolute_passed is = λ f r same.
-      of_operand (λ y. as_integer y >>= λ k. Some (integer (u.absolute at k))) f r (absolute_gives sight e d at box is same) (absolute_first sight e d at box f is same)
+      of_operand (are.absolute at) f r (absolute_gives sight e d at box is same) (absolute_first sight e d at box f is same)
 
   pub sign_passed : (sign : Sign) → e ≡ x.Signed sign at box → Passed
   sign_passed sign is = λ f r same.
-      of_operand (λ y. as_integer y >>= λ k. Some (integer (signed at sign k))) f r (sign_gives sight e d at box sign is same) (sign_first sight e d at box sign f is same)
+      of_operand (are.signed at sign) f r (sign_gives sight e d at box sign is same) (sign_first sight e d at box sign f is same)
 
   module _ (v : Typed) (r : Result code.Typed NameFault) (same : d ≡ box.value) (given : are.typed sight (view d) ≡ Some v) where
     abbrev Whole : Type 0
@@ -196,15 +194,15 @@ module _ (sight : Sight) (e d : Expr) (at : ℕ) (box : Box Expr Global) where
       told = negation_told sight e d at box v r is same given a.told;
     }
 
-    pub absolute_answer : e ≡ x.Abs at box → Answer typed_view (as_integer v >>= λ k. Some (integer (u.absolute at k))) (lacking TypeMismatch at (as_integer v)) r → Whole
+    pub absolute_answer : e ≡ x.Abs at box → Answer typed_view (are.absolute at v) (lacking TypeMismatch at (as_computed v)) r → Whole
     absolute_answer is a = record {
-      given = gives_whole (λ y. as_integer y >>= λ k. Some (integer (u.absolute at k))) (absolute_gives sight e d at box is same) a.given;
+      given = gives_whole (are.absolute at) (absolute_gives sight e d at box is same) a.given;
       told = absolute_told sight e d at box v r is same given a.told;
     }
 
-    pub sign_answer : (sign : Sign) → e ≡ x.Signed sign at box → Answer typed_view (as_integer v >>= λ k. Some (integer (signed at sign k))) (lacking TypeMismatch at (as_integer v)) r → Whole
+    pub sign_answer : (sign : Sign) → e ≡ x.Signed sign at box → Answer typed_view (are.signed at sign v) (lacking TypeMismatch at (as_computed v)) r → Whole
     sign_answer sign is a = record {
-      given = gives_whole (λ y. as_integer y >>= λ k. Some (integer (signed at sign k))) (sign_gives sight e d at box sign is same) a.given;
+      given = gives_whole (are.signed at sign) (sign_gives sight e d at box sign is same) a.given;
       told = sign_told sight e d at box sign v r is same given a.told;
     }
 
@@ -232,9 +230,9 @@ module _ (sight : Sight) (d e : t.Expr) (at : ℕ) where
       passed typed_view (are.typed sight (t.power d at e)) (typed sight (t.power d at e)) (are.typed sight e) (typed sight e) f r (no_exponent sight d e at v base) (exponent_told sight d e at v f base)
 
   pub power_answers : (v w : Typed) (r : Result code.Typed NameFault) → are.typed sight d ≡ Some v → are.typed sight e ≡ Some w →
-      Answer typed_view (integral at Power v w) (refused TypeMismatch at) r → Answer typed_view (are.typed sight (t.power d at e)) (typed sight (t.power d at e)) r
+      Answer typed_view (raised at v w) (refused TypeMismatch at) r → Answer typed_view (are.typed sight (t.power d at e)) (typed sight (t.power d at e)) r
   power_answers v w r base exponent a = record {
-    given = gives_along typed_view (are.typed sight (t.power d at e)) (integral at Power v w) r (power_is sight d e at v w base exponent) a.given;
+    given = gives_along typed_view (are.typed sight (t.power d at e)) (raised at v w) r (power_is sight d e at v w base exponent) a.given;
     told = power_told sight d e at typed_view v w r base exponent a.given a.told;
   }
 

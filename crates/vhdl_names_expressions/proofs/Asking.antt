@@ -15,10 +15,10 @@ use Rattle.vhdl_names_rules.specs.declared.kind.ElementKind.TheVariants.{Element
 use Rattle.vhdl_names_rules.specs.declared.kind.ObjectType.TheVariants.{Elements}
 use Rattle.vhdl_names_rules.specs.units.Statements.{filled}
 use Rattle.vhdl_names_rules.specs.Expressions.{typed, typed_suffix, named, static_range, condition, value_given, as_range, as_test, as_static_test, as_value, as_filled}
-use Rattle.vhdl_names_expressions.specs.Asked.{unattributed, subtype_range}
+use Rattle.vhdl_names_expressions.specs.Asked.{unattributed, subtype_range, driven_target}
 use Rattle.vhdl_names_expressions.proofs.Chains.{named_in_turn}
 use Rattle.vhdl_names_rules.proofs.laws.Ranged.{range_alone}
-use Rattle.vhdl_names_rules.specs.Statements.{signal, target, variable, as_signal, as_variable, is_input}
+use Rattle.vhdl_names_rules.specs.Statements.{signal, as_signal, is_input, mode_of, Target, as_signal_target, as_variable_target, signal_target, variable_target, target_by}
 
 pub condition_is : (sight : Sight) (e : t.Expr) → condition sight e ≡ (typed sight e >>= as_test)
 unfolding condition
@@ -77,16 +77,45 @@ signal_in_turn sight n = turned (is_none n.attribute) (typed_suffix sight n.suff
 pub signal_by : (sight : Sight) (n : t.Name) (m : Declared × Suffix) → unattributed sight n ≡ Some m → signal sight n ≡ as_signal n.identifier.at m.0 m.1
 signal_by sight n m h = signal_in_turn sight n ∙ ap (λ (o : Option (Declared × Suffix)). o >>= λ p. as_signal n.identifier.at p.0 p.1) h
 
-pub variable_in_turn : (sight : Sight) (n : t.Name) → variable sight n ≡ (unattributed sight n >>= λ m. as_variable n.identifier.at m.0 m.1)
-unfolding variable
-variable_in_turn sight n = turned (is_none n.attribute) (typed_suffix sight n.suffix) (declaration sight n.identifier.text) (as_variable n.identifier.at)
+-- targets
 
-pub variable_by : (sight : Sight) (n : t.Name) (m : Declared × Suffix) → unattributed sight n ≡ Some m → variable sight n ≡ as_variable n.identifier.at m.0 m.1
-variable_by sight n m h = variable_in_turn sight n ∙ ap (λ (o : Option (Declared × Suffix)). o >>= λ p. as_variable n.identifier.at p.0 p.1) h
+abbrev pub target_at : (is_variable : Bool) → (at : ℕ) → Declared → Suffix → Option Target
+target_at true = as_variable_target
+target_at false = driven_target
 
-pub target_is : (sight : Sight) (n : t.Name) → target sight n ≡ (signal sight n >>= λ x. (met (not (is_input x.mode)) >> Some x))
-unfolding target
-target_is sight n = refl
+signal_target_in_turn : (sight : Sight) (n : t.Name) → signal_target sight n ≡ (unattributed sight n >>= λ m. driven_target n.identifier.at m.0 m.1)
+unfolding signal_target
+signal_target_in_turn sight n = turned (is_none n.attribute) (typed_suffix sight n.suffix) (declaration sight n.identifier.text) (driven_target n.identifier.at)
+
+variable_target_in_turn : (sight : Sight) (n : t.Name) → variable_target sight n ≡ (unattributed sight n >>= λ m. as_variable_target n.identifier.at m.0 m.1)
+unfolding variable_target
+variable_target_in_turn sight n = turned (is_none n.attribute) (typed_suffix sight n.suffix) (declaration sight n.identifier.text) (as_variable_target n.identifier.at)
+
+pub target_in_turn : (sight : Sight) (is_variable : Bool) (n : t.Name) → target_by sight is_variable n ≡ (unattributed sight n >>= λ m. target_at is_variable n.identifier.at m.0 m.1)
+target_in_turn sight true n = variable_target_in_turn sight n
+target_in_turn sight false n = signal_target_in_turn sight n
+
+pub target_found : (sight : Sight) (is_variable : Bool) (n : t.Name) (m : Declared × Suffix) → unattributed sight n ≡ Some m
+    → target_by sight is_variable n ≡ target_at is_variable n.identifier.at m.0 m.1
+target_found sight is_variable n m h = target_in_turn sight is_variable n ∙ ap (λ (o : Option (Declared × Suffix)). o >>= λ p. target_at is_variable n.identifier.at p.0 p.1) h
+
+-- a signal that is an in port, or another one
+module _ (at : ℕ) (d : Declared) (s : Suffix) where
+  abbrev if_driven : Bool → Option Target → Option Target
+  if_driven b o = o >>= λ x. (met (not b) >> Some x)
+
+  not_driven : (o : Option Target) → if_driven true o ≡ None
+  not_driven None = refl
+  not_driven (Some x) = refl
+
+  pub no_target : as_signal_target at d s ≡ None → driven_target at d s ≡ None
+  no_target h = ap (if_driven (is_input (mode_of d.meaning))) h
+
+  pub input_target : is_input (mode_of d.meaning) ≡ true → driven_target at d s ≡ None
+  input_target h = ap (λ b. if_driven b (as_signal_target at d s)) h ∙ not_driven (as_signal_target at d s)
+
+  pub output_target : (x : Target) → is_input (mode_of d.meaning) ≡ false → as_signal_target at d s ≡ Some x → driven_target at d s ≡ Some x
+  output_target x h g = ap (λ b. if_driven b (as_signal_target at d s)) h ∙ ap (if_driven false) g
 
 -- what is no vector is not filled
 pub no_filled : (k : ElementKind) (x : Typed) → is_vector k ≡ false → as_filled (Elements k) x ≡ None

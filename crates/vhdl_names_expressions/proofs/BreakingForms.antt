@@ -2,7 +2,8 @@
 use Rattle.std.proofs.Common.{◌≡◌, ℕ, suc, ◌<◌, List, map, length, get_or, drop, drop-cons, Option, Some, None, Result, Ok, Err, IfErr, Vec, Box, Global, refl, sym, ap, ◌∙◌}
 use Rattle.vhdl_tree.specs.Tree as t
 use Rattle.vhdl_tree.specs.Tree.{Ident, Attribute, exprs_of}
-use Rattle.vhdl_tree.specs.View.{view, suffix_view, range_view}
+use Rattle.vhdl_tree.specs.View.{view, suffix_view}
+use Rattle.vhdl_tree.specs.declared.operator.Direction.{Direction}
 use Rattle.vhdl_tree.specs.declared.operator.Sign.{Sign}
 use Rattle.vhdl_tree.specs.declared.expression.Range.{Range}
 use Rattle.vhdl_tree.specs.declared.expression.Suffix as f
@@ -13,21 +14,23 @@ use Rattle.vhdl_tree.proofs.Rows.{view_arguments}
 use Rattle.vhdl_names_rules.specs.declared.fault.NameFault.{NameFault}
 use Rattle.vhdl_names_rules.specs.declared.fault.NameFault.TheVariants.{At, NoMemory}
 use Rattle.vhdl_names_rules.specs.declared.fault.NameProblem.TheVariants.{TypeMismatch}
-use Rattle.vhdl_names_rules.specs.declared.operator.Arithmetic.TheVariants.{Power}
 use Rattle.vhdl_names_rules.specs.Gives.{Gives}
 use Rattle.vhdl_names_rules.specs.units.Expressions as u
 use Rattle.vhdl_names_rules.specs.Visibility.{Sight, Declared, declaration}
 use Rattle.vhdl_names_rules.specs.Names.{Suffix}
 use Rattle.vhdl_names_rules.specs.Types.{TypedElements}
-use Rattle.vhdl_names_rules.specs.Operators.{Typed, integer, inverse, integral}
+use Rattle.vhdl_names_rules.specs.Operators.{Typed, integer, computed, as_computed, inverse, raised}
 use Rattle.vhdl_names_rules.specs.Expressions as are
 use Rattle.vhdl_names_rules.specs.Expressions.{as_integer, in_parentheses}
 use Rattle.vhdl_names_rules.specs.problems.Broken.{Broken, Tells, refused, ◌▸◌, lacking, where_given}
 use Rattle.vhdl_names_rules.specs.problems.Places.{start}
-use Rattle.vhdl_names_rules.specs.problems.Expressions.{typed, typed_suffix, typed_each, typed_elements, static, static_range, integer_wanted, meaning, named, by_declaration, qualified}
-use Rattle.vhdl_names_rules.proofs.Telling.{behind_kept, told_same, told_left, told_right, told_given, told_on, at_is_told}
+use Rattle.vhdl_names_rules.specs.problems.Expressions.{typed, typed_suffix, typed_each, typed_elements, static, static_range, integer_wanted, computed_wanted, meaning, named, by_declaration, qualified}
+use Rattle.vhdl_names_rules.proofs.Telling.{IsKept, both_kept, given_kept, behind_kept, told_same, told_left, told_right, told_given, told_on, at_is_told}
 use Rattle.vhdl_names_rules.proofs.kept.Expressions.{declared_kept, typed_kept, typed_suffix_kept, typed_elements_kept, static_kept}
-use Rattle.vhdl_names_expressions.proofs.Breaking.{told_as, asked_told}
+use Rattle.vhdl_names_rules.proofs.laws.Rules.{comes}
+use Rattle.vhdl_names_numbers.specs.Integers.{integer_of}
+use Rattle.vhdl_names_expressions.specs.Steps.{computed_of}
+use Rattle.vhdl_names_expressions.proofs.Breaking.{told_as, told_fault, asked_told}
 
 -- ---- names
 
@@ -101,7 +104,7 @@ module _ (sight : Sight) (e d : Expr) (at : ℕ) (box : Box Expr Global) where
   negation_is is e2 = ap (λ v. typed sight (view v)) is ∙ sym (ap (λ v. typed sight (view v) ▸ where_given (are.typed sight (view v)) (λ y. lacking TypeMismatch at (inverse y))) e2)
 
   abbrev integer_breaks : Expr → Broken
-  integer_breaks y = typed sight (view y) ▸ integer_wanted at (are.typed sight (view y))
+  integer_breaks y = typed sight (view y) ▸ computed_wanted at (are.typed sight (view y))
 
   absolute_is : e ≡ x.Abs at box → d ≡ box.value → typed sight (view e) ≡ integer_breaks d
   unfolding typed
@@ -134,25 +137,25 @@ module _ (sight : Sight) (e d : Expr) (at : ℕ) (box : Box Expr Global) where
       (asked_told (typed sight (view d)) (are.typed sight (view d)) (λ y. lacking TypeMismatch at (inverse y)) v r (typed_kept (view d) sight v given) given h)
 
   integer_first : (f : NameFault) → typed sight (view e) ≡ integer_breaks d → Tells (typed sight (view d)) f → Tells (typed sight (view e)) f
-  integer_first f is h = told_same _ _ f (sym is) (told_left (typed sight (view d)) (integer_wanted at (are.typed sight (view d))) f h)
+  integer_first f is h = told_same _ _ f (sym is) (told_left (typed sight (view d)) (computed_wanted at (are.typed sight (view d))) f h)
 
   integer_behind : {X : Type 0} (v : Typed) (r : Result X NameFault) → typed sight (view e) ≡ integer_breaks d → are.typed sight (view d) ≡ Some v →
-      IfErr r (Tells (lacking TypeMismatch at (as_integer v))) → IfErr r (Tells (typed sight (view e)))
+      IfErr r (Tells (lacking TypeMismatch at (as_computed v))) → IfErr r (Tells (typed sight (view e)))
   integer_behind v r is given h =
-      told_as _ _ r (sym is) (asked_told (typed sight (view d)) (are.typed sight (view d)) (λ y. lacking TypeMismatch at (as_integer y)) v r (typed_kept (view d) sight v given) given h)
+      told_as _ _ r (sym is) (asked_told (typed sight (view d)) (are.typed sight (view d)) (λ y. lacking TypeMismatch at (as_computed y)) v r (typed_kept (view d) sight v given) given h)
 
   pub absolute_first : (f : NameFault) → e ≡ x.Abs at box → d ≡ box.value → Tells (typed sight (view d)) f → Tells (typed sight (view e)) f
   absolute_first f is e2 = integer_first f (absolute_is is e2)
 
   pub absolute_told : {X : Type 0} (v : Typed) (r : Result X NameFault) → e ≡ x.Abs at box → d ≡ box.value → are.typed sight (view d) ≡ Some v →
-      IfErr r (Tells (lacking TypeMismatch at (as_integer v))) → IfErr r (Tells (typed sight (view e)))
+      IfErr r (Tells (lacking TypeMismatch at (as_computed v))) → IfErr r (Tells (typed sight (view e)))
   absolute_told v r is e2 = integer_behind v r (absolute_is is e2)
 
   pub sign_first : (sign : Sign) (f : NameFault) → e ≡ x.Signed sign at box → d ≡ box.value → Tells (typed sight (view d)) f → Tells (typed sight (view e)) f
   sign_first sign f is e2 = integer_first f (sign_is sign is e2)
 
   pub sign_told : {X : Type 0} (sign : Sign) (v : Typed) (r : Result X NameFault) → e ≡ x.Signed sign at box → d ≡ box.value → are.typed sight (view d) ≡ Some v →
-      IfErr r (Tells (lacking TypeMismatch at (as_integer v))) → IfErr r (Tells (typed sight (view e)))
+      IfErr r (Tells (lacking TypeMismatch at (as_computed v))) → IfErr r (Tells (typed sight (view e)))
   sign_told sign v r is e2 = integer_behind v r (sign_is sign is e2)
 
 -- ---- powers
@@ -173,14 +176,14 @@ module _ (sight : Sight) (d e : t.Expr) (at : ℕ) where
       told_same _ _ f (sym power_breaks) (told_right (typed sight d) (typed sight e ▸ wanted) f (typed_kept d sight a given) (told_left (typed sight e) wanted f h))
 
   -- one of two operands is no integer
-  no_integers : (a b : Typed) → integral at Power a b ≡ None → (lacking TypeMismatch at (as_integer a) ▸ lacking TypeMismatch at (as_integer b)) ≡ refused TypeMismatch at
+  no_integers : (a b : Typed) → raised at a b ≡ None → (lacking TypeMismatch at (as_integer a) ▸ lacking TypeMismatch at (as_integer b)) ≡ refused TypeMismatch at
   unfolding ◌▸◌
   no_integers (integer s) (integer r) h = absurd cc
   no_integers (integer s) b h = refl
   no_integers a b h = refl
 
   pub power_told : {X : Type 0} (see : X → Typed) (a b : Typed) (r : Result X NameFault) → are.typed sight d ≡ Some a → are.typed sight e ≡ Some b →
-      Gives see (integral at Power a b) r → IfErr r (Tells (refused TypeMismatch at)) → IfErr r (Tells (typed sight (t.power d at e)))
+      Gives see (raised at a b) r → IfErr r (Tells (refused TypeMismatch at)) → IfErr r (Tells (typed sight (t.power d at e)))
   power_told see a b (Ok z) g1 g2 none h = tt
   power_told see a b (Err NoMemory) g1 g2 none h = tt
   power_told see a b (Err (At p place)) g1 g2 none h =
@@ -192,10 +195,60 @@ module _ (sight : Sight) (d e : t.Expr) (at : ℕ) where
 
 -- ---- ranges
 
-pub slice_told : (sight : Sight) (y : f.Suffix) (box : Box Range Global) (w : Range) (f : NameFault) → y ≡ s.Range box → w ≡ box.value →
-    Tells (static_range sight (t.bounds (range_view w))) f → Tells (typed_suffix sight (suffix_view y)) f
-unfolding typed_suffix
-slice_told sight y box w f is e = told_same _ _ f (ap (λ v. static_range sight (t.bounds (range_view v))) e ∙ sym (ap (λ z. typed_suffix sight (suffix_view z)) is))
+-- a slice by its bounds
+abbrev of_slice : Sight → Range → Option Suffix
+of_slice sight w = are.typed_suffix sight (t.sliced (view w.left) w.direction (view w.right))
+
+pub slice_as : (sight : Sight) (y : f.Suffix) (box : Box Range Global) (w : Range) → y ≡ s.Range box → w ≡ box.value → are.typed_suffix sight (suffix_view y) ≡ of_slice sight w
+slice_as sight y box w is e = ap (λ z. are.typed_suffix sight (suffix_view z)) is ∙ sym (ap (of_slice sight) e)
+
+abbrev of_slice_broken : Sight → Range → Broken
+of_slice_broken sight w = typed_suffix sight (t.sliced (view w.left) w.direction (view w.right))
+
+pub slice_broken : (sight : Sight) (y : f.Suffix) (box : Box Range Global) (w : Range) → y ≡ s.Range box → w ≡ box.value → typed_suffix sight (suffix_view y) ≡ of_slice_broken sight w
+slice_broken sight y box w is e = ap (λ z. typed_suffix sight (suffix_view z)) is ∙ sym (ap (of_slice_broken sight) e)
+
+-- an integer, which a run may compute
+module _ (sight : Sight) (e : t.Expr) where
+  abbrev pub bound_breaks : Broken
+  bound_breaks = typed sight e ▸ computed_wanted (start e) (are.typed sight e)
+
+  is_wanted : (at : ℕ) (x i : Typed) → integer_of x ≡ Some i → IsKept (lacking TypeMismatch at (as_computed x))
+  is_wanted at (integer s) i h = refl
+  is_wanted at (computed y) i h = refl
+  is_wanted at x i h = absurd cc
+
+  not_wanted : (at : ℕ) (x : Typed) → integer_of x ≡ None → lacking TypeMismatch at (as_computed x) ≡ refused TypeMismatch at
+  not_wanted at (integer s) h = absurd cc
+  not_wanted at (computed y) h = absurd cc
+  not_wanted at x h = refl
+
+  pub computed_first : (f : NameFault) → Tells (typed sight e) f → Tells bound_breaks f
+  computed_first f = told_left (typed sight e) (computed_wanted (start e) (are.typed sight e)) f
+
+  pub computed_refused : (v : Typed) (at : ℕ) (f : NameFault) → are.typed sight e ≡ Some v → integer_of v ≡ None → at ≡ start e → f ≡ At TypeMismatch at → Tells bound_breaks f
+  computed_refused v at f given none same is =
+      told_right (typed sight e) (computed_wanted (start e) (are.typed sight e)) f (typed_kept e sight v given)
+      (told_given (λ x. lacking TypeMismatch (start e) (as_computed x)) (are.typed sight e) v f given
+      (told_fault (lacking TypeMismatch (start e) (as_computed v)) (At TypeMismatch at) f is (not_wanted (start e) v none ∙ ap (refused TypeMismatch) (sym same))))
+
+  pub bound_kept : (i : Typed) → computed_of sight e ≡ Some i → IsKept bound_breaks
+  bound_kept i h =
+      let v = comes (are.typed sight e) integer_of i h in
+      both_kept (typed sight e) (computed_wanted (start e) (are.typed sight e)) (typed_kept e sight v.value v.is)
+      (given_kept (λ x. lacking TypeMismatch (start e) (as_computed x)) (are.typed sight e) v.value v.is (is_wanted (start e) v.value i v.rest))
+
+module _ (sight : Sight) (d : t.Expr) (way : Direction) (e : t.Expr) where
+  slice_breaks : typed_suffix sight (t.sliced d way e) ≡ (bound_breaks sight d ▸ bound_breaks sight e)
+  unfolding typed_suffix
+  slice_breaks = refl
+
+  pub left_told : (f : NameFault) → Tells (bound_breaks sight d) f → Tells (typed_suffix sight (t.sliced d way e)) f
+  left_told f h = told_same _ _ f (sym slice_breaks) (told_left (bound_breaks sight d) (bound_breaks sight e) f h)
+
+  pub right_told : (l : Typed) (f : NameFault) → computed_of sight d ≡ Some l → Tells (bound_breaks sight e) f → Tells (typed_suffix sight (t.sliced d way e)) f
+  right_told l f given h =
+      told_same _ _ f (sym slice_breaks) (told_right (bound_breaks sight d) (bound_breaks sight e) f (bound_kept sight d l given) h)
 
 pub range_first : (sight : Sight) (w : t.Range) (f : NameFault) → Tells (static sight w.left) f → Tells (static_range sight (t.bounds w)) f
 range_first sight w = told_left (static sight w.left) (static sight w.right)

@@ -1,6 +1,5 @@
 -- The types of chains, names and arguments, each as the code comes to it.
 use Rattle.std.proofs.Common.{◌≡◌, ℕ, suc, ◌<◌, ◌≤◌, Bool, true, false, List, [], ◌∷◌, ◌++◌, map, length, get_or, drop, drop-cons, Option, Some, None, Vec, Box, Global, append_assoc, append-nil, refl, sym, ap, ◌∙◌}
-use Rattle.std.specs.Prelude.{option_map}
 use Rattle.std.proofs.lemmas.List.{drop_all}
 use Rattle.vhdl_tree.specs.Tree as t
 use Rattle.vhdl_tree.specs.Tree.{Ident, Attribute, exprs_of}
@@ -15,12 +14,12 @@ use Rattle.vhdl_tree.specs.declared.expression.Link.{Link}
 use Rattle.vhdl_tree.proofs.Rows.{chain_is, view_arguments}
 use Rattle.vhdl_names_rules.specs.Rules.{◌>>=◌}
 use Rattle.vhdl_names_rules.specs.Visibility.{Sight, Declared, declaration}
-use Rattle.vhdl_names_rules.specs.Names.{Suffix, range}
-use Rattle.vhdl_names_rules.specs.units.Expressions as u
-use Rattle.vhdl_names_rules.specs.Operators.{Typed, operated}
-use Rattle.vhdl_names_rules.specs.Expressions.{typed, typed_suffix, typed_each, named, beside, static, static_range, as_integer}
+use Rattle.vhdl_names_rules.specs.Names.{Suffix}
+use Rattle.vhdl_names_rules.specs.Operators.{Typed, integer, computed, operated}
+use Rattle.vhdl_names_rules.specs.Expressions.{typed, typed_suffix, typed_each, named, beside, sliced, static, as_integer}
 use Rattle.vhdl_names_expressions.specs.Chosen.{arguments_of, started, links_of}
-use Rattle.vhdl_names_expressions.specs.Steps.{is_parens, enclosed_if, linked, all_linked}
+use Rattle.vhdl_names_numbers.specs.Integers.{integer_of}
+use Rattle.vhdl_names_expressions.specs.Steps.{is_parens, enclosed_if, linked, all_linked, computed_of}
 
 -- ---- chains
 
@@ -144,35 +143,40 @@ pub arguments_whole : (sight : Sight) (x : f.Suffix) (all : Vec Expr Global) →
 unfolding typed_suffix
 arguments_whole sight x all is = ap (λ y. typed_suffix sight (suffix_view y)) is ∙ ap (typed_suffix sight) (view_arguments all)
 
--- a slice is a range of static integers
+-- a slice is of two integers, which a run may compute
+sliced_both : (x y : Typed) (way : Direction) → sliced x way y ≡ (integer_of x >>= λ l. (integer_of y >>= λ r. sliced l way r))
+sliced_both (integer s) (integer r) way = refl
+sliced_both (integer s) (computed r) way = refl
+sliced_both (computed s) (integer r) way = refl
+sliced_both (computed s) (computed r) way = refl
+sliced_both x y way = refl
+
 pub sliced_is : (sight : Sight) (d : t.Expr) (way : Direction) (e : t.Expr) →
-    typed_suffix sight (t.sliced d way e) ≡ option_map range (static_range sight (t.bounds (record { left = d; direction = way; right = e })))
-unfolding typed_suffix static static_range
-sliced_is sight d way e = go (typed sight d)
+    typed_suffix sight (t.sliced d way e) ≡ (computed_of sight d >>= λ l. (computed_of sight e >>= λ r. sliced l way r))
+unfolding typed_suffix
+sliced_is sight d way e = go (typed sight d) (typed sight e)
   where
-    made : u.Static → u.Static → u.Range
-    made l r = record { left = l; direction = way; right = r }
+    nothing_left : (o : Option Typed) → None ≡ (o >>= λ l. (None >>= λ r. sliced l way r))
+    nothing_left None = refl
+    nothing_left (Some l) = refl
 
-    last : (l : u.Static) (o : Option Typed) →
-        (o >>= λ y. (as_integer y >>= λ r. Some (range (made l r)))) ≡ option_map range ((o >>= as_integer) >>= λ r. Some (made l r))
-    last l None = refl
-    last l (Some y) = end (as_integer y)
-      where
-        end : (o : Option u.Static) → (o >>= λ r. Some (range (made l r))) ≡ option_map range (o >>= λ r. Some (made l r))
-        end None = refl
-        end (Some r) = refl
+    go : (o p : Option Typed) → (o >>= λ x. (p >>= λ y. sliced x way y)) ≡ ((o >>= integer_of) >>= λ l. ((p >>= integer_of) >>= λ r. sliced l way r))
+    go None p = refl
+    go (Some x) None = nothing_left (integer_of x)
+    go (Some x) (Some y) = sliced_both x y way
 
-    next : (o : Option u.Static) →
-        (o >>= λ l. (typed sight e >>= λ y. (as_integer y >>= λ r. Some (range (made l r)))))
-        ≡ option_map range (o >>= λ l. ((typed sight e >>= as_integer) >>= λ r. Some (made l r)))
-    next None = refl
-    next (Some l) = last l (typed sight e)
+module _ (sight : Sight) (d : t.Expr) (way : Direction) (e : t.Expr) where
+  pub no_left_bound : computed_of sight d ≡ None → typed_suffix sight (t.sliced d way e) ≡ None
+  no_left_bound h = sliced_is sight d way e ∙ ap (λ (o : Option Typed). o >>= λ l. (computed_of sight e >>= λ r. sliced l way r)) h
 
-    go : (o : Option Typed) →
-        (o >>= λ x. (as_integer x >>= λ l. (typed sight e >>= λ y. (as_integer y >>= λ r. Some (range (made l r))))))
-        ≡ option_map range ((o >>= as_integer) >>= λ l. ((typed sight e >>= as_integer) >>= λ r. Some (made l r)))
-    go None = refl
-    go (Some x) = next (as_integer x)
+  with_left_bound : (l : Typed) → computed_of sight d ≡ Some l → typed_suffix sight (t.sliced d way e) ≡ (computed_of sight e >>= λ r. sliced l way r)
+  with_left_bound l h = sliced_is sight d way e ∙ ap (λ (o : Option Typed). o >>= λ l. (computed_of sight e >>= λ r. sliced l way r)) h
+
+  pub no_right_bound : (l : Typed) → computed_of sight d ≡ Some l → computed_of sight e ≡ None → typed_suffix sight (t.sliced d way e) ≡ None
+  no_right_bound l h k = with_left_bound l h ∙ ap (λ (o : Option Typed). o >>= λ r. sliced l way r) k
+
+  pub both_bounds : (l r : Typed) → computed_of sight d ≡ Some l → computed_of sight e ≡ Some r → typed_suffix sight (t.sliced d way e) ≡ sliced l way r
+  both_bounds l r h k = with_left_bound l h ∙ ap (λ (o : Option Typed). o >>= λ r. sliced l way r) k
 
 -- ---- a chain by its beginning and what follows
 

@@ -16,3 +16,4 @@ pub mod Aggregating
 pub mod Namings
 pub mod Answering
 pub mod AnsweringLists
+pub mod AnsweringBounds

@@ -12,14 +12,13 @@ use Rattle.vhdl_tree.specs.declared.operator.Sign.{Sign}
 use Rattle.vhdl_tree.specs.declared.expression.Expr.{Expr}
 use Rattle.vhdl_tree.specs.declared.expression.Expr.TheVariants as x
 use Rattle.vhdl_tree.specs.declared.expression.Link.{Link}
-use Rattle.vhdl_names_rules.specs.declared.operator.Arithmetic.TheVariants as arithmetic
 use Rattle.vhdl_names_rules.specs.units.Expressions as u
 use Rattle.vhdl_names_rules.specs.Rules.{◌>>=◌}
 use Rattle.vhdl_names_rules.specs.Visibility.{Sight, Declared, declaration}
 use Rattle.vhdl_names_rules.specs.Names.{Suffix}
 use Rattle.vhdl_names_rules.specs.Types.{TypedElements}
-use Rattle.vhdl_names_rules.specs.Operators.{Typed, integer, composite, inverse, integral, operated}
-use Rattle.vhdl_names_rules.specs.Expressions.{typed, typed_suffix, typed_elements, named, qualified, in_parentheses, as_integer, signed, static, static_range}
+use Rattle.vhdl_names_rules.specs.Operators.{Typed, composite, inverse, raised, operated}
+use Rattle.vhdl_names_rules.specs.Expressions.{typed, typed_suffix, typed_elements, named, qualified, in_parentheses, absolute, signed, static, static_range}
 use Rattle.vhdl_names_rules.specs.problems.Broken.{Broken}
 use Rattle.vhdl_names_rules.specs.problems.Expressions as broken
 use Rattle.vhdl_names_expressions.specs.Steps.{enclosed_if, linked}
@@ -36,33 +35,33 @@ module _ (sight : Sight) (e d : Expr) (at : ℕ) (box : Box Expr Global) where
   unfolding typed
   negation_gives is same = ap (λ v. typed sight (view v)) is ∙ sym (ap (λ v. typed sight (view v) >>= inverse) same)
 
-  pub absolute_gives : e ≡ x.Abs at box → d ≡ box.value → typed sight (view e) ≡ (typed sight (view d) >>= λ y. as_integer y >>= λ k. Some (integer (u.absolute at k)))
+  pub absolute_gives : e ≡ x.Abs at box → d ≡ box.value → typed sight (view e) ≡ (typed sight (view d) >>= absolute at)
   unfolding typed
-  absolute_gives is same = ap (λ v. typed sight (view v)) is ∙ sym (ap (λ v. typed sight (view v) >>= λ y. as_integer y >>= λ k. Some (integer (u.absolute at k))) same)
+  absolute_gives is same = ap (λ v. typed sight (view v)) is ∙ sym (ap (λ v. typed sight (view v) >>= absolute at) same)
 
   pub sign_gives : (sign : Sign) → e ≡ x.Signed sign at box → d ≡ box.value
-      → typed sight (view e) ≡ (typed sight (view d) >>= λ y. as_integer y >>= λ k. Some (integer (signed at sign k)))
+      → typed sight (view e) ≡ (typed sight (view d) >>= signed at sign)
   unfolding typed
   sign_gives sign is same =
-      ap (λ v. typed sight (view v)) is ∙ sym (ap (λ v. typed sight (view v) >>= λ y. as_integer y >>= λ k. Some (integer (signed at sign k))) same)
+      ap (λ v. typed sight (view v)) is ∙ sym (ap (λ v. typed sight (view v) >>= signed at sign) same)
 
 -- a base, and behind it an exponent
 module _ (sight : Sight) (d e : t.Expr) (at : ℕ) where
-  power_gives : typed sight (t.power d at e) ≡ (typed sight d >>= λ a. typed sight e >>= λ b. integral at arithmetic.Power a b)
+  power_gives : typed sight (t.power d at e) ≡ (typed sight d >>= λ a. typed sight e >>= λ b. raised at a b)
   unfolding typed
   power_gives = refl
 
   pub no_base : typed sight d ≡ None → typed sight (t.power d at e) ≡ None
-  no_base h = power_gives ∙ ap (λ (o : Option Typed). o >>= λ a. typed sight e >>= λ b. integral at arithmetic.Power a b) h
+  no_base h = power_gives ∙ ap (λ (o : Option Typed). o >>= λ a. typed sight e >>= λ b. raised at a b) h
 
-  with_base : (a : Typed) → typed sight d ≡ Some a → typed sight (t.power d at e) ≡ (typed sight e >>= λ b. integral at arithmetic.Power a b)
-  with_base a h = power_gives ∙ ap (λ (o : Option Typed). o >>= λ a. typed sight e >>= λ b. integral at arithmetic.Power a b) h
+  with_base : (a : Typed) → typed sight d ≡ Some a → typed sight (t.power d at e) ≡ (typed sight e >>= λ b. raised at a b)
+  with_base a h = power_gives ∙ ap (λ (o : Option Typed). o >>= λ a. typed sight e >>= λ b. raised at a b) h
 
   pub no_exponent : (a : Typed) → typed sight d ≡ Some a → typed sight e ≡ None → typed sight (t.power d at e) ≡ None
-  no_exponent a h k = with_base a h ∙ ap (λ (o : Option Typed). o >>= λ b. integral at arithmetic.Power a b) k
+  no_exponent a h k = with_base a h ∙ ap (λ (o : Option Typed). o >>= λ b. raised at a b) k
 
-  pub power_is : (a b : Typed) → typed sight d ≡ Some a → typed sight e ≡ Some b → typed sight (t.power d at e) ≡ integral at arithmetic.Power a b
-  power_is a b h k = with_base a h ∙ ap (λ (o : Option Typed). o >>= λ b. integral at arithmetic.Power a b) k
+  pub power_is : (a b : Typed) → typed sight d ≡ Some a → typed sight e ≡ Some b → typed sight (t.power d at e) ≡ raised at a b
+  power_is a b h k = with_base a h ∙ ap (λ (o : Option Typed). o >>= λ b. raised at a b) k
 
 -- ---- names
 

@@ -1,17 +1,18 @@
 -- What is asked of an expression beyond a value: a generate's condition, and what a case selects by; and of an
 -- object's name.
-use Rattle.std.specs.Prelude.{Option, Some, None, is_none}
+use Rattle.std.specs.Prelude.{ℕ, not, Option, Some, None, is_none}
 use Rattle.vhdl_tree.specs.Tree as t
 use Rattle.vhdl_tree.specs.Tree.{Expr, Name}
 use Rattle.vhdl_names_rules.specs.declared.kind.ObjectType.{ObjectType}
 use Rattle.vhdl_names_rules.specs.units.Expressions.{Range, StaticTest, Value}
-use Rattle.vhdl_names_rules.specs.declared.fault.NameProblem.TheVariants.{TypeMismatch, LeftOut}
+use Rattle.vhdl_names_rules.specs.declared.fault.NameProblem.TheVariants.{TypeMismatch, WriteOfIn, LeftOut}
 use Rattle.vhdl_names_rules.specs.Rules.{◌>>=◌, ◌>>◌, rule, wider}
 use Rattle.vhdl_names_rules.specs.Ranges.{named_range}
 use Rattle.vhdl_names_rules.specs.Visibility.{Sight, Declared, declaration}
 use Rattle.vhdl_names_rules.specs.Names.{Suffix}
 use Rattle.vhdl_names_rules.specs.Expressions.{typed, typed_suffix, as_range, as_static_test}
 use Rattle.vhdl_names_rules.specs.Choices.{selector}
+use Rattle.vhdl_names_rules.specs.Statements.{is_input, mode_of, Target, as_signal_target}
 use Rattle.vhdl_names_rules.specs.problems.Broken.{Broken, ◌▸◌, lacking, where_given}
 use Rattle.vhdl_names_rules.specs.problems.Expressions as broken
 
@@ -45,3 +46,10 @@ unattributed sight n = do
   suffix ← typed_suffix sight n.suffix
   rule LeftOut (is_none n.attribute)
   Some (d, suffix)
+
+-- a target that is a signal, and no in port
+abbrev pub driven_target : (at : ℕ) → Declared → Suffix → Option Target
+driven_target at d s = do
+  x ← as_signal_target at d s
+  rule WriteOfIn (not (is_input (mode_of d.meaning)))
+  Some x

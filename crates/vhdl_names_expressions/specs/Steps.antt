@@ -10,6 +10,7 @@ use Rattle.vhdl_names_rules.specs.Names.{Suffix, denoted, attributed}
 use Rattle.vhdl_names_rules.specs.Ranges.{sized_by}
 use Rattle.vhdl_names_rules.specs.Expressions.{typed, enclosed}
 use Rattle.vhdl_names_rules.specs.Operators.{Typed, interval, operated}
+use Rattle.vhdl_names_numbers.specs.Integers.{integer_of}
 
 abbrev pub enclosed_if : Bool → Typed → Typed
 enclosed_if true x = enclosed x
@@ -29,6 +30,10 @@ linked sight b (Some x) l =
 abbrev pub all_linked : Sight → Option Typed → List Link → Option Typed
 all_linked sight o [] = o
 all_linked sight o (l ∷ ls) = all_linked sight (linked sight false o l) ls
+
+-- the integer that an expression is, which a run may compute
+abbrev pub computed_of : Sight → Expr → Option Typed
+computed_of sight e = typed sight e >>= integer_of
 
 -- what a name is as a value, with what follows it and an attribute
 abbrev pub valued : (at : ℕ) → Option Attribute → Meaning → Option DeclaredRange → Suffix → Option Typed

@@ -1,5 +1,5 @@
-//! What statements ask of an expression: a condition (IEEE 1076-2008, 9.2.9), a value of a type
-//! (9.3.3, 10.5) and what a case selects by (10.9). Each takes memory for what is analysed, and
+//! What statements ask of an expression beside a condition: a value of a type (IEEE 1076-2008,
+//! 9.3.3, 10.5) and what a case selects by (10.9). Each takes memory for what is analysed, and
 //! fails at the first byte where a rule is broken.
 
 ghost use Rattle.std.specs.Prelude.{◌≡◌, map, option_map, is_some, IfOk, IfErr};
@@ -11,73 +11,26 @@ ghost use Rattle.vhdl_names_rules.specs.Choices.{selector as selector_of};
 ghost use Rattle.vhdl_names_rules.specs.Expressions as rules;
 ghost use Rattle.vhdl_names_rules.specs.Gives.{Gives};
 ghost use Rattle.vhdl_names_rules.specs.declared.kind.ObjectType.TheVariants.{Elements, Enumeration};
-ghost use Rattle.vhdl_names_rules.specs.views.Tests.{test_view, static_test_view};
 ghost use Rattle.vhdl_tree.specs.Tree as t;
 ghost use Rattle.vhdl_tree.specs.View as trees;
 ghost use Rattle.vhdl_names_rules.specs.views.Expressions.{typed_view, choice_view, typed_elements_view};
 ghost use Rattle.vhdl_names_rules.specs.views.Integers.{target_range_view, option_range_view};
 ghost use Rattle.vhdl_names_rules.specs.problems.Aggregates as aggregates;
-ghost use Rattle.vhdl_names_expressions.specs.Asked.{static_condition as static_condition_of, selected_by};
+ghost use Rattle.vhdl_names_expressions.specs.Asked.{selected_by};
 ghost use Rattle.vhdl_names_expressions.specs.Elements as steps;
 ghost use Rattle.vhdl_names_expressions.specs.Elements.{filling as filling_of, sole_view as filling_view};
 ghost use Rattle.vhdl_names_units.specs.views.Answers.{given_view, selector_view};
 
 use crate::expressions::{start, typed};
 use std::alloc::{AllocError, Global};
-use vhdl_names_operators::aggregate;
+use vhdl_names_operators::{aggregate, is_named};
 use vhdl_names_rules::{
-    ElementKind, NameFault, NameProblem, ObjectType, StaticRange, StaticTest, TargetRange, Test,
-    Typed, TypedChoice, TypedElement, Value, without,
+    ElementKind, NameFault, NameProblem, ObjectType, StaticRange, TargetRange, Typed, TypedChoice,
+    TypedElement, Value, without,
 };
 use vhdl_names_sight::Sight;
 use vhdl_names_units::Given;
 use vhdl_tree::{Expr, Value as TreeValue};
-
-/// The truth that an operand is, which starts at byte `at`; one element is one.
-fn as_test(operand: Typed, at: usize) -> Result<Test, NameFault>
-    ensures given { Gives test_view (rules.as_test (typed_view operand)) result }
-    ensures told { IfErr result (Tells (refused TypeMismatch at)) }
-{
-    match operand {
-        Typed::Truth(test) => Ok(test),
-        Typed::Elements(ElementKind::Element, vector) => Ok(Test::Holds(vector)),
-        _operand => Err(NameProblem::TypeMismatch.at(at)),
-    }
-}
-
-/// A condition: a truth, or one element (9.2.9).
-#[tactic(auto, using(crate::proofs::Asking::condition_is))]
-pub fn condition(sight: &Sight, e: &Expr) -> Result<Test, NameFault>
-    ensures given { Gives test_view (rules.condition sight.now (trees.view e.now)) result }
-    ensures told { IfErr result (Tells (broken.condition sight.now (trees.view e.now))) }
-{
-    let value = typed(sight, e)?;
-    as_test(value, start(e))
-}
-
-/// The truth over static integers alone that an operand is, which starts at byte `at`.
-#[tactic(auto, using(crate::proofs::Asking::not_static))]
-fn as_static_test(operand: Typed, at: usize) -> Result<StaticTest, NameFault>
-    ensures given { Gives static_test_view (rules.as_static_test (typed_view operand)) result }
-    ensures told { IfErr result (Tells (refused TypeMismatch at)) }
-{
-    match operand {
-        Typed::Truth(test) => match test.as_fixed() {
-            Ok(test) => Ok(test),
-            Err(_) => Err(NameProblem::TypeMismatch.at(at)),
-        },
-        _ => Err(NameProblem::TypeMismatch.at(at)),
-    }
-}
-
-/// A generate's condition, which is over static integers alone.
-pub fn static_condition(sight: &Sight, e: &Expr) -> Result<StaticTest, NameFault>
-    ensures given { Gives static_test_view (static_condition_of sight.now (trees.view e.now)) result }
-    ensures told { IfErr result (Tells (broken.static_condition sight.now (trees.view e.now))) }
-{
-    let value = typed(sight, e)?;
-    as_static_test(value, start(e))
-}
 
 /// The value of a kind that an operand is, which starts at byte `at`.
 fn as_elements(
@@ -190,6 +143,39 @@ fn boxed_range(
     }
 }
 
+/// Whether an aggregate has choices, and no range is known of which they are.
+fn lacks_range(range: Option<TargetRange<'_>>, elements: &[TypedElement]) -> bool
+    ensures { result ≡ steps.lacks_range (option_map target_range_view range.entry)
+        (typed_elements_view elements.now) }
+{
+    match range {
+        Some(_) => false,
+        None => is_named(elements),
+    }
+}
+
+/// An aggregate of more than others, likewise.
+fn as_aggregate(
+    alloc: Global,
+    kind: ElementKind,
+    range: Option<TargetRange<'_>>,
+    elements: Vec<TypedElement>,
+    at: usize,
+) -> Result<Given, NameFault>
+    ensures given { Gives given_view
+        (steps.as_listed kind at (option_map target_range_view range.entry) (typed_elements_view elements.items))
+        result }
+    ensures told { IfErr result (Tells
+        (steps.listed_breaks kind at (is_some range.entry) (typed_elements_view elements.items))) }
+{
+    if lacks_range(range, &elements) {
+        return Err(without(elements, NameProblem::LeftOut.at(at)));
+    }
+    let range = boxed_range(alloc, range)?;
+    let vector = aggregate(alloc, kind, at, range, elements)?;
+    Ok(Given::Single(Box::new(alloc, Value::Elements(vector))?))
+}
+
 /// An aggregate that starts at byte `at`, given to what has this kind and range.
 fn as_composite(
     alloc: Global,
@@ -209,11 +195,7 @@ fn as_composite(
     }
     match filling(elements) {
         Ok((place, operand)) => as_filling(alloc, operand, place),
-        Err(elements) => {
-            let range = boxed_range(alloc, range)?;
-            let vector = aggregate(alloc, kind, at, range, elements)?;
-            Ok(Given::Single(Box::new(alloc, Value::Elements(vector))?))
-        }
+        Err(elements) => as_aggregate(alloc, kind, range, elements, at),
     }
 }
 

@@ -2,7 +2,7 @@
 //! of operands before those of their operator.
 
 ghost use Rattle.std.specs.Prelude.{◌≡◌, Some, IfErr};
-ghost use Rattle.vhdl_names_rules.specs.problems.Broken.{Tells, refused};
+ghost use Rattle.vhdl_names_rules.specs.problems.Broken.{Tells, refused, ◌▸◌};
 ghost use Rattle.vhdl_names_rules.specs.problems.Expressions as broken;
 ghost use Rattle.vhdl_names_rules.specs.problems.Places as places;
 ghost use Rattle.vhdl_names_rules.specs.Expressions as rules;
@@ -12,17 +12,19 @@ ghost use Rattle.vhdl_names_rules.specs.views.Integers.{static_view};
 ghost use Rattle.vhdl_tree.specs.Tree as t;
 ghost use Rattle.vhdl_tree.specs.View.{view};
 ghost use Rattle.vhdl_names_expressions.specs.Chosen.{started, links_of};
-ghost use Rattle.vhdl_names_expressions.specs.Steps.{is_parens, enclosed_if, linked, all_linked};
+ghost use Rattle.vhdl_names_expressions.specs.Steps.{is_parens, enclosed_if, linked, all_linked, computed_of};
+ghost use Rattle.vhdl_names_numbers.specs.Integers.{integer_view};
 ghost use Rattle.vhdl_names_expressions.specs.Breaking.{link_breaks, all_break, started_breaks};
 ghost use Rattle.vhdl_names_rules.specs.views.Expressions.{typed_view};
 
 use crate::elements::{qualified, typed_elements};
 use crate::named::named;
+use vhdl_names_numbers::{Integer, absolute, signed};
 use vhdl_names_operators::{
-    absolute, bit_string_literal, character_literal, enclosed, in_parentheses, integer_literal,
-    inverse, operated, power, signed, string_literal,
+    bit_string_literal, character_literal, enclosed, in_parentheses, integer_literal, inverse,
+    operated, power, string_literal,
 };
-use vhdl_names_rules::{NameFault, NameProblem, Static, Typed};
+use vhdl_names_rules::{NameFault, NameProblem, Static, Typed, without};
 use vhdl_names_sight::Sight;
 use vhdl_tree::{Chain, Expr, Link, Power};
 
@@ -186,6 +188,20 @@ fn links(sight: &Sight, links: &[Link], first: Typed) -> Result<Typed, NameFault
         done = link(sight, next, false, done)?;
     }
     Ok(done)
+}
+
+/// The integer that an expression is, which a run may compute.
+#[cycle(typed)]
+pub(crate) fn computed_integer(sight: &Sight, e: &Expr) -> Result<Integer, NameFault>
+    ensures given { Gives integer_view (computed_of sight.now (view e.now)) result }
+    ensures told { IfErr result (Tells (broken.typed sight.now (view e.now)
+        ▸ broken.computed_wanted (places.start (view e.now)) (rules.typed sight.now (view e.now)))) }
+{
+    let value = typed(sight, e)?;
+    match Integer::of(value) {
+        Ok(integer) => Ok(integer),
+        Err(value) => Err(without(value, NameProblem::TypeMismatch.at(start(e)))),
+    }
 }
 
 /// The static integer that an expression is. It takes memory for what is analysed.

@@ -3,14 +3,16 @@
 #![tactic(auto)]
 
 mod asked;
+mod conditions;
 mod elements;
 mod expressions;
 mod named;
 mod objects;
 mod ranges;
 
-pub use asked::{condition, given, given_as, given_expression, selector, static_condition};
+pub use asked::{given, given_as, given_expression, selector};
+pub use conditions::{condition, static_condition};
 pub use expressions::{as_integer, start, static_integer, typed};
 pub use named::{name_of, typed_each, typed_suffix};
-pub use objects::{signal, target, unattributed, variable};
+pub use objects::{signal, target, unattributed};
 pub use ranges::{range_start, static_range};

@@ -18,8 +18,9 @@ ghost use Rattle.vhdl_tree.specs.View.{view, suffix_view, ident_view, attribute_
 ghost use Rattle.vhdl_names_expressions.specs.Chosen.{is_name, arguments_of};
 ghost use Rattle.vhdl_names_expressions.specs.Steps as steps;
 
-use crate::expressions::{static_integer, typed};
+use crate::expressions::{computed_integer, static_integer, typed};
 use vhdl_lexer::Language;
+use vhdl_names_numbers::sliced;
 use vhdl_names_parts::{
     attribute_start, attributed, denoted, is_event, is_of_range, named_range, range_attribute,
     sized_by,
@@ -112,6 +113,7 @@ fn of_no_value(
         }
         TypedSuffix::Arguments(..) => Ok(()),
         TypedSuffix::Range(_) => Ok(()),
+        TypedSuffix::ComputedRange { .. } => Ok(()),
     }
 }
 
@@ -203,7 +205,7 @@ pub(crate) fn named(sight: &Sight, name: &Name) -> Result<Typed, NameFault>
 /// What stands in parentheses after an identifier, with its types. It takes memory for what is
 /// analysed.
 #[cycle(typed)]
-#[tactic(auto, using(crate::proofs::Chains::sliced_is), unfolding(vhdl_names_rules::specs::Expressions::typed_suffix))]
+#[tactic(auto, unfolding(vhdl_names_rules::specs::Expressions::typed_suffix))]
 pub fn typed_suffix(sight: &Sight, suffix: &Suffix) -> Result<TypedSuffix, NameFault>
     ensures given { Gives typed_suffix_view (rules.typed_suffix sight.now (suffix_view suffix.now)) result }
     ensures told { IfErr result (Tells (broken.typed_suffix sight.now (suffix_view suffix.now))) }
@@ -211,11 +213,23 @@ pub fn typed_suffix(sight: &Sight, suffix: &Suffix) -> Result<TypedSuffix, NameF
     match suffix {
         Suffix::Plain => Ok(TypedSuffix::Plain),
         Suffix::Arguments(all) => arguments(sight, all),
-        Suffix::Range(range) => {
-            let range = bounds(sight, range)?;
-            Ok(TypedSuffix::Range(Box::new(sight.alloc, range)?))
-        }
+        Suffix::Range(range) => slice_bounds(sight, range),
     }
+}
+
+/// The bounds of a slice, which a run may compute.
+#[cycle(typed)]
+#[tactic(auto, using(crate::proofs::Chains::sliced_is), unfolding(vhdl_names_rules::specs::Expressions::typed_suffix))]
+fn slice_bounds(sight: &Sight, range: &Range) -> Result<TypedSuffix, NameFault>
+    ensures given { Gives typed_suffix_view
+        (rules.typed_suffix sight.now (t.sliced (view range.now.left) range.now.direction (view range.now.right)))
+        result }
+    ensures told { IfErr result (Tells
+        (broken.typed_suffix sight.now (t.sliced (view range.now.left) range.now.direction (view range.now.right)))) }
+{
+    let left = computed_integer(sight, &range.left)?;
+    let right = computed_integer(sight, &range.right)?;
+    Ok(sliced(sight.alloc, left, range.direction, right)?)
 }
 
 /// Whether an operand is the name of a range.

@@ -13,7 +13,7 @@ use Rattle.vhdl_names_rules.specs.Rules.{◌>>=◌, ◌>>◌, met, then_some}
 use Rattle.vhdl_names_rules.specs.Operators.{is_vector}
 use Rattle.vhdl_names_rules.specs.Aggregates.{arranged}
 use Rattle.vhdl_names_rules.specs.Expressions.{as_value}
-use Rattle.vhdl_names_rules.specs.Subtypes.{are_known}
+use Rattle.vhdl_names_rules.specs.Known.{are_known}
 use Rattle.vhdl_names_rules.specs.Instances.{aggregate_actual, value_as_actual}
 use Rattle.vhdl_names_rules.specs.problems.Broken.{Broken, Tells, ◌▸◌, refused, unless, lacking}
 use Rattle.vhdl_names_rules.specs.problems.Aggregates.{aggregate}

@@ -14,13 +14,14 @@ ghost use Rattle.vhdl_names_units.specs.views.Answers.{fixed_view};
 use crate::actuals::entry_at;
 use std::alloc::Global;
 use vhdl_names_expressions::{given_as, start, static_condition, static_integer, typed};
+use vhdl_names_numbers::are_known;
 use vhdl_names_operators::arranged;
 use vhdl_names_rules::{
     ElementKind, NameFault, NameProblem, ObjectType, Typed, TypedElement, without,
 };
 use vhdl_names_sight::Sight;
 use vhdl_names_units::{Actuals, Fixed};
-use vhdl_names_values::{are_known, as_known};
+use vhdl_names_values::as_known;
 use vhdl_tree::Expr;
 
 /// A generic as it is associated: an integer, a boolean, or of a kind of the nine values.

@@ -19,7 +19,7 @@ use Rattle.vhdl_names_rules.specs.Visibility.{Name, Meaning, DeclaredRange, Decl
 use Rattle.vhdl_names_rules.specs.Expressions.{static}
 use Rattle.vhdl_names_rules.specs.Subtypes as subtypes
 use Rattle.vhdl_names_rules.specs.Subtypes.{Subtype, marked, one_range, index_range, subtype, form_range, form_direction, integer_subtype, numbers_direction, TypeClass, class_of, fixed_value, declaring_literal}
-use Rattle.vhdl_names_rules.specs.Declarations.{is_global, as_kind, single_expression, constant_is_global, static_test, signals, variables, told_at, integer_constants, boolean_constants, other_constants, constants_by, constants_in, if_ranged, is_open, others_declared, as_it_was, subtype_by, subtype_in, literals, enumeration_in}
+use Rattle.vhdl_names_rules.specs.Declarations.{is_global, as_kind, single_expression, constant_is_global, static_test, told_at, integer_constants, boolean_constants, other_constants, constants_by, constants_in, if_ranged, is_open, others_declared, as_it_was, subtype_by, subtype_in, literals, enumeration_in}
 use Rattle.vhdl_names_rules.specs.sound.Expressions.{Inside, static_fits, range_fits, static_test_fits, shape_of}
 use Rattle.vhdl_names_rules.specs.sound.Units as w
 use Rattle.vhdl_names_rules.specs.sound.Units.{form_fits, fixed_fits, subtype_fits, declaration_fits, with_declaration}

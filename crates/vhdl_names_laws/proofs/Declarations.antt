@@ -1,6 +1,5 @@
 -- Each declaration fits with those before it in sight (IEEE 1076-2008, clauses 5 and 6).
 use Rattle.std.proofs.Common.{◌≡◌, ℕ, Bool, true, List, [], ◌∷◌, Some, refl, sym, subst, arith}
-use Rattle.std.specs.Prelude.{if◌then◌else◌}
 use Rattle.vhdl_lexer.specs.declared.language.Language.TheVariants.{Wide}
 use Rattle.vhdl_tree.specs.Tree as t
 use Rattle.vhdl_tree.specs.Tree.{Ident}
@@ -18,7 +17,7 @@ use Rattle.vhdl_names_rules.specs.Files as files
 use Rattle.vhdl_names_rules.specs.sound.Expressions.{Inside, shape_of}
 use Rattle.vhdl_names_rules.specs.sound.Units.{object_fits, declaration_fits, with_declaration}
 use Rattle.vhdl_names_laws.specs.Meanings.{Counts, type_shape, IsCounted}
-use Rattle.vhdl_names_laws.proofs.Statics.{some_same, HasMore, more_of, keeps_all, keeps_before, found}
+use Rattle.vhdl_names_laws.proofs.Statics.{some_same, HasMore, more_of, keeps_all, keeps_before}
 use Rattle.vhdl_names_laws.proofs.Served.{served}
 use Rattle.vhdl_names_laws.proofs.Subtypes.{object_more, subtype_is, no_name, object_is}
 use Rattle.vhdl_names_laws.proofs.InOrder as r

@@ -3,20 +3,21 @@ use Rattle.std.proofs.Common.{◌≡◌, ℕ, Bool, true, false, ◌&&◌, List,
 use Rattle.std.specs.Option.{option_map}
 use Rattle.std.specs.List.{list_all}
 use Rattle.std.proofs.lemmas.Bool.{and_from}
+use Rattle.vhdl_tree.specs.declared.operator.Direction.{Direction}
 use Rattle.vhdl_tree.specs.declared.operator.Sign.{Sign}
 use Rattle.vhdl_tree.specs.declared.operator.Sign.TheVariants.{Plus, Minus}
 use Rattle.vhdl_tree.specs.Tree as t
 use Rattle.vhdl_tree.specs.Tree.{Expr, Exprs}
 use Rattle.vhdl_names_rules.specs.declared.kind.ElementKind.{ElementKind}
 use Rattle.vhdl_names_rules.specs.declared.kind.ElementKind.TheVariants.{Element, OpenVector}
-use Rattle.vhdl_names_rules.specs.declared.operator.Arithmetic.TheVariants.{Power}
 use Rattle.vhdl_names_rules.specs.units.Expressions as e
 use Rattle.vhdl_names_rules.specs.units.Expressions.{Static, Range, Index}
+use Rattle.vhdl_names_rules.specs.Rules.{◌>>=◌}
 use Rattle.vhdl_names_rules.specs.Visibility as visibility
 use Rattle.vhdl_names_rules.specs.Visibility.{Meaning, DeclaredRange, Sight, declaration}
 use Rattle.vhdl_names_rules.specs.Literals.{number_of, nine_of, values_of_string, values_of_bits}
 use Rattle.vhdl_names_rules.specs.Operators as o
-use Rattle.vhdl_names_rules.specs.Operators.{Typed, inverse}
+use Rattle.vhdl_names_rules.specs.Operators.{Typed, as_computed, inverse}
 use Rattle.vhdl_names_rules.specs.Names as n
 use Rattle.vhdl_names_rules.specs.Names.{Suffix}
 use Rattle.vhdl_names_rules.specs.Types as types
@@ -25,15 +26,15 @@ use Rattle.vhdl_names_rules.specs.Ranges.{declared_range, sized_by}
 use Rattle.vhdl_names_rules.specs.Local.{is_local}
 use Rattle.vhdl_names_rules.specs.Aggregates.{aggregate}
 use Rattle.vhdl_names_rules.specs.problems.Places.{start}
-use Rattle.vhdl_names_rules.specs.Expressions.{as_integer, signed, enclosed, in_parentheses, beside, is_one_name, suffix_of, fits, qualified_by, as_index, typed, typed_suffix, typed_each, typed_elements, typed_choices, typed_choice, static, as_range, static_range}
-use Rattle.vhdl_names_rules.specs.sound.Expressions.{Inside, vector, static_fits, range_fits, index_fits}
+use Rattle.vhdl_names_rules.specs.Expressions.{as_integer, signed, absolute, sliced, enclosed, in_parentheses, beside, is_one_name, suffix_of, fits, qualified_by, as_index, typed, typed_suffix, typed_each, typed_elements, typed_choices, typed_choice, static, as_range, static_range}
+use Rattle.vhdl_names_rules.specs.sound.Expressions.{Inside, vector, static_fits, range_fits, index_fits, computed_fits}
 use Rattle.vhdl_names_laws.specs.Meanings.{Counts, kind_shape, choice_fits, MeaningFits, TypedFits, ElementsFit}
 use Rattle.vhdl_names_laws.specs.Laws.{ExpressionsFit}
 use Rattle.vhdl_names_laws.proofs.Statics.{some_same}
 use Rattle.vhdl_names_laws.proofs.Shapes.{given, fitting_kinds}
 use Rattle.vhdl_names_laws.proofs.Aggregates.{aggregate_fits}
 use Rattle.vhdl_names_laws.proofs.Ranges.{RangeFits, EachFits, SuffixFits, any_declared_fits, sized_fits}
-use Rattle.vhdl_names_laws.proofs.Operators.{inverse_fits, integral_fits, operated_fits}
+use Rattle.vhdl_names_laws.proofs.Operators.{inverse_fits, as_computed_fits, raised_fits, operated_fits}
 use Rattle.vhdl_names_rules.proofs.kept.Keeping.{mapped}
 use Rattle.vhdl_names_laws.proofs.Served.{IsServed, served, serving}
 use Rattle.vhdl_names_rules.proofs.laws.Rules.{comes}
@@ -42,9 +43,27 @@ pub as_integer_fits : (i : Inside) (counts : Counts) (x : Typed) (s : Static) �
 as_integer_fits i counts (o.integer r) s h g = subst (λ s. static_fits i s ≡ true) (some_same r s g) h
 as_integer_fits i counts _ s h g = absurd cc
 
-signed_fits : (i : Inside) (at : ℕ) (sign : Sign) (s : Static) → static_fits i s ≡ true → static_fits i (signed at sign s) ≡ true
-signed_fits i at Plus s h = h
-signed_fits i at Minus s h = h
+signed_fits : (i : Inside) (counts : Counts) (at : ℕ) (sign : Sign) (x y : Typed) → TypedFits i counts x → signed at sign x ≡ Some y → TypedFits i counts y
+signed_fits i counts at Plus (o.integer s) y h g = subst (TypedFits i counts) (some_same (o.integer s) y g) h
+signed_fits i counts at Plus (o.computed x) y h g = subst (TypedFits i counts) (some_same (o.computed x) y g) h
+signed_fits i counts at Minus (o.integer s) y h g = subst (TypedFits i counts) (some_same (o.integer (e.Static.negated at s)) y g) h
+signed_fits i counts at Minus (o.computed x) y h g = subst (TypedFits i counts) (some_same (o.computed (e.Computed.negated at x)) y g) h
+signed_fits i counts at Plus _ y h g = absurd cc
+signed_fits i counts at Minus _ y h g = absurd cc
+
+absolute_fits : (i : Inside) (counts : Counts) (at : ℕ) (x y : Typed) → TypedFits i counts x → absolute at x ≡ Some y → TypedFits i counts y
+absolute_fits i counts at (o.integer s) y h g = subst (TypedFits i counts) (some_same (o.integer (e.absolute at s)) y g) h
+absolute_fits i counts at (o.computed x) y h g = subst (TypedFits i counts) (some_same (o.computed (e.magnitude at x)) y g) h
+absolute_fits i counts at _ y h g = absurd cc
+
+sliced_fits : (i : Inside) (counts : Counts) (x y : Typed) (direction : Direction) (s : Suffix) → TypedFits i counts x → TypedFits i counts y → sliced x direction y ≡ Some s → SuffixFits i counts s
+sliced_fits i counts (o.integer l) (o.integer r) direction s h t g =
+    subst (SuffixFits i counts) (some_same (n.range (record { left = l; direction = direction; right = r })) s g) (and_from (static_fits i l) (static_fits i r) h t)
+sliced_fits i counts x y direction s h t g =
+    let l = comes (as_computed x) (λ l. as_computed y >>= λ r. Some (n.computed_range l direction r)) s g in
+    let r = comes (as_computed y) (λ r. Some (n.computed_range l.value direction r)) s l.rest in
+    subst (SuffixFits i counts) (some_same (n.computed_range l.value direction r.value) s r.rest)
+    (and_from (computed_fits i l.value) (computed_fits i r.value) (as_computed_fits i counts x l.value h l.is) (as_computed_fits i counts y r.value t r.is))
 
 -- what stands in parentheses is as it was
 enclosed_fits : (i : Inside) (counts : Counts) (x : Typed) → TypedFits i counts x → TypedFits i counts (enclosed x)
@@ -83,6 +102,7 @@ module _ (i : Inside) (counts : Counts) where
       let a = given (fits k j) (sized_by at (visibility.vector_type k b) d (o.elements k y)) x g in
       subst (TypedFits i counts) a.is (sized_fits i counts at k b d y (r refl) h (f.1 ∙ ap Some (sym (fitting_kinds k j a.holds) ∙ h)))
   qualified_by_fits at p (visibility.vector_type k b) d (types.element [] q (o.integer s) types.no_elements) x r h f g = absurd cc
+  qualified_by_fits at p (visibility.vector_type k b) d (types.element [] q (o.computed s) types.no_elements) x r h f g = absurd cc
   qualified_by_fits at p (visibility.vector_type k b) d (types.element [] q (o.enumerated n c y) types.no_elements) x r h f g = absurd cc
   qualified_by_fits at p (visibility.vector_type k b) d (types.element [] q (o.truth y) types.no_elements) x r h f g = absurd cc
   qualified_by_fits at p (visibility.vector_type k b) d (types.element [] q (o.interval y) types.no_elements) x r h f g = absurd cc
@@ -122,19 +142,15 @@ mutual
       let a = comes (typed sight d) inverse x g in
       inverse_fits i counts a.value x (typed_fits d i counts sight a.value h a.is) a.rest
   typed_fits (t.absolute at d) i counts sight x h g =
-      let a = comes (typed sight d) _ x g in
-      let b = comes (as_integer a.value) _ x a.rest in
-      subst (TypedFits i counts) (some_same (o.integer (e.absolute at b.value)) x b.rest)
-      (as_integer_fits i counts a.value b.value (typed_fits d i counts sight a.value h a.is) b.is)
+      let a = comes (typed sight d) (absolute at) x g in
+      absolute_fits i counts at a.value x (typed_fits d i counts sight a.value h a.is) a.rest
   typed_fits (t.power d at f) i counts sight x h g =
       let a = comes (typed sight d) _ x g in
       let b = comes (typed sight f) _ x a.rest in
-      integral_fits i counts at Power a.value b.value x (typed_fits d i counts sight a.value h a.is) (typed_fits f i counts sight b.value h b.is) b.rest
+      raised_fits i counts at a.value b.value x (typed_fits d i counts sight a.value h a.is) (typed_fits f i counts sight b.value h b.is) b.rest
   typed_fits (t.signed sign at d) i counts sight x h g =
-      let a = comes (typed sight d) _ x g in
-      let b = comes (as_integer a.value) _ x a.rest in
-      subst (TypedFits i counts) (some_same _ x b.rest)
-      (signed_fits i at sign b.value (as_integer_fits i counts a.value b.value (typed_fits d i counts sight a.value h a.is) b.is))
+      let a = comes (typed sight d) (signed at sign) x g in
+      signed_fits i counts at sign a.value x (typed_fits d i counts sight a.value h a.is) a.rest
   typed_fits (t.binary begins op at d f) i counts sight x h g =
       let a = comes (typed sight d) _ x g in
       let b = comes (typed sight f) _ x a.rest in
@@ -156,13 +172,8 @@ mutual
       subst (SuffixFits i counts) a.is (suffix_of_fits i counts (is_one_name es) a.value (each_fits es i counts sight a.value h a.from))
   suffix_fits (t.sliced d direction f) i counts sight x h g =
       let a = comes (typed sight d) _ x g in
-      let l = comes (as_integer a.value) _ x a.rest in
-      let b = comes (typed sight f) _ x l.rest in
-      let r = comes (as_integer b.value) _ x b.rest in
-      subst (SuffixFits i counts) (some_same (n.range (record { left = l.value; direction = direction; right = r.value })) x r.rest)
-      (and_from (static_fits i l.value) (static_fits i r.value)
-      (as_integer_fits i counts a.value l.value (typed_fits d i counts sight a.value h a.is) l.is)
-      (as_integer_fits i counts b.value r.value (typed_fits f i counts sight b.value h b.is) r.is))
+      let b = comes (typed sight f) _ x a.rest in
+      sliced_fits i counts a.value b.value direction x (typed_fits d i counts sight a.value h a.is) (typed_fits f i counts sight b.value h b.is) b.rest
 
   pub each_fits : (es : Exprs) (i : Inside) (counts : Counts) (sight : Sight) (xs : List Typed) → IsServed i counts sight → typed_each sight es ≡ Some xs → EachFits i counts xs
   each_fits t.no_exprs i counts sight xs h g = subst (EachFits i counts) (some_same [] xs g) tt

@@ -22,7 +22,8 @@ use Rattle.vhdl_names_rules.specs.Types.{Typed, TypedElements}
 use Rattle.vhdl_names_rules.specs.Operators.{is_vector}
 use Rattle.vhdl_names_rules.specs.Aggregates.{arranged}
 use Rattle.vhdl_names_rules.specs.Expressions.{typed, static, as_value}
-use Rattle.vhdl_names_rules.specs.Subtypes.{is_known_value, are_known}
+use Rattle.vhdl_names_rules.specs.Known.{are_known}
+use Rattle.vhdl_names_rules.specs.Subtypes.{is_known_value}
 use Rattle.vhdl_names_rules.specs.Declarations.{static_test}
 use Rattle.vhdl_names_rules.specs.Statements.{SignalName, signal, is_input}
 use Rattle.vhdl_names_rules.specs.Interfaces.{EntityView}

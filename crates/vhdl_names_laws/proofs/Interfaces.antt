@@ -33,9 +33,10 @@ use Rattle.vhdl_names_rules.proofs.laws.Parts.{entity_parts}
 fit : {i : Inside} {counts : Counts} (n : Name) (m : Meaning) → MeaningFits i counts m → DeclaredFits i counts (declare n m)
 fit n m h = record { meaning = h; range = tt }
 
-numbers_fit : (i : Inside) (counts : Counts) (b : Bool) → AllFit i counts (if b then numeric_std else [])
-numbers_fit i counts true = (fit _ _ refl, (fit _ _ tt, (fit _ _ tt, (fit _ _ tt, (fit _ _ tt, tt)))))
-numbers_fit i counts false = tt
+numbers_fit : (i : Inside) (counts : Counts) (l : Language) (b : Bool) → AllFit i counts (if b then numeric_std l else [])
+numbers_fit i counts Profile true = (fit _ _ refl, (fit _ _ tt, (fit _ _ tt, (fit _ _ tt, (fit _ _ tt, tt)))))
+numbers_fit i counts Wide true = (fit _ _ refl, (fit _ _ tt, (fit _ _ tt, (fit _ _ tt, (fit _ _ tt, (fit _ _ tt, tt))))))
+numbers_fit i counts l false = tt
 
 logic_fits : (i : Inside) (counts : Counts) (b : Bool) → AllFit i counts (if b then std_logic_1164 else [])
 logic_fits i counts true = (fit _ _ tt, (fit _ _ tt, (fit _ _ refl, (fit _ _ refl, (fit _ _ tt, (fit _ _ tt, tt))))))
@@ -48,7 +49,7 @@ standard_fits i counts Wide = (fit _ _ tt, (fit _ _ tt, (fit _ _ tt, (fit _ _ tt
 visible_fits : (i : Inside) (counts : Counts) (c : Context) → AllFit i counts (visible c)
 visible_fits i counts c =
     let P = DeclaredFits i counts in
-    each_append P (if c.has_numbers then numeric_std else []) ((if c.has_logic then std_logic_1164 else []) ++ standard c.language) (numbers_fit i counts c.has_numbers)
+    each_append P (if c.has_numbers then numeric_std c.language else []) ((if c.has_logic then std_logic_1164 else []) ++ standard c.language) (numbers_fit i counts c.language c.has_numbers)
     (each_append P (if c.has_logic then std_logic_1164 else []) (standard c.language) (logic_fits i counts c.has_logic) (standard_fits i counts c.language))
 
 -- where nothing is declared yet

@@ -5,13 +5,14 @@ use Rattle.std.specs.Option.{option_map}
 use Rattle.std.proofs.lemmas.Bool.{and_parts, and_from}
 use Rattle.std.proofs.lemmas.Option.{slice_get-map}
 use Rattle.vhdl_names_rules.specs.units.Expressions as e
-use Rattle.vhdl_names_rules.specs.units.Expressions.{Static, Range, StaticTest, Signal, Part, SignalPart, Vector, Elements, Index}
+use Rattle.vhdl_names_rules.specs.units.Expressions.{Static, Range, StaticTest, Signal, Part, SignalPart, Computed, Chosen, Vector, Elements, Index}
 use Rattle.vhdl_names_rules.specs.units.Statements as s
 use Rattle.vhdl_names_rules.specs.units.Units as u
 use Rattle.vhdl_names_rules.specs.units.Units.{Form}
 use Rattle.vhdl_names_rules.specs.Rules.{◌>>=◌, then_some}
-use Rattle.vhdl_names_rules.specs.Subtypes.{is_known, are_known, is_known_value}
-use Rattle.vhdl_names_rules.specs.sound.Expressions.{Inside, Shape, one, vector, static_fits, range_fits, static_test_fits, port_form, part_shape, signal_form, place_shape, is_vector, is_elements, operated_shape, with_static, any_range_fits, index_fits, is_one, are_elements, vector_shape, elements_fit, fits_shape}
+use Rattle.vhdl_names_rules.specs.Known.{is_known, are_known}
+use Rattle.vhdl_names_rules.specs.Subtypes.{is_known_value}
+use Rattle.vhdl_names_rules.specs.sound.Expressions.{Inside, Shape, one, vector, static_fits, range_fits, static_test_fits, port_form, part_shape, signal_form, place_shape, is_vector, has_vector, is_vector_shape, chosen_shape, computed_fits, chosen_fits, is_elements, operated_shape, with_static, any_range_fits, index_fits, is_one, are_elements, vector_shape, elements_fit, fits_shape}
 use Rattle.vhdl_names_rules.specs.sound.Statements.{given_fits}
 use Rattle.vhdl_names_rules.specs.sound.Units.{without_objects}
 use Rattle.vhdl_names_rules.proofs.laws.Rules.{comes}
@@ -51,6 +52,10 @@ or_both : (b p q : Bool) → (b || (p && q)) ≡ true → ((b || p) ≡ true) ×
 or_both true p q h = (refl, refl)
 or_both false p q h = and_parts p q h
 
+or_left : (b c : Bool) → b ≡ true → (b || c) ≡ true
+or_left true c h = refl
+or_left false c h = absurd cc
+
 or_false : (b : Bool) → (b || false) ≡ true → b ≡ true
 or_false true h = refl
 or_false false h = h
@@ -83,6 +88,7 @@ part_more i j h _ _ z k = absurd cc
 
 module _ (i j : Inside) (h : HasNumbers i j) (c : Keeps i.constants j.constants) (b : Bool)
     (signals : b ≡ true → (p : SignalPart) (z : Shape) → place_shape i p ≡ Some z → place_shape j p ≡ Some z)
+    (forms : b ≡ true → (x : Signal) (f : Form) → signal_form i x ≡ Some f → signal_form j x ≡ Some f)
     (variables : b ≡ true → Keeps i.variables j.variables) where
   object_more : (fs gs : List Form) (k : ℕ) (p : Part) (z : Shape) → Keeps fs gs
       → (slice_get fs k >>= λ f. part_shape i f p >>= λ x. then_some (is_elements x) x) ≡ Some z
@@ -101,13 +107,49 @@ module _ (i j : Inside) (h : HasNumbers i j) (c : Keeps i.constants j.constants)
       ap (λ o. with_static j o n) (f y.value y.is)
       ∙ ap (λ b. then_some b vector) (and_from (is_vector y.value) (static_fits j n) a.0 (static_more i j h n a.1)) ∙ ap Some g.is
 
+  vector_more_is : (f g : Option Form) → ((z : Form) → f ≡ Some z → g ≡ Some z) → has_vector f ≡ true → has_vector g ≡ true
+  vector_more_is None g stays h = absurd cc
+  vector_more_is (Some z) g stays h = ap has_vector (stays z refl) ∙ h
+
+  vector_stays : (o p : Option Shape) → ((z : Shape) → o ≡ Some z → p ≡ Some z) → is_vector_shape o ≡ true → is_vector_shape p ≡ true
+  vector_stays None p f q = absurd cc
+  vector_stays (Some z) p f q = ap is_vector_shape (f z refl) ∙ q
+
+  -- of an object of these forms
+  chosen_of_more : (f g : Option Form) (x : Chosen) (z : Shape) → ((z : Form) → f ≡ Some z → g ≡ Some z) → (chosen_fits i x ≡ true → chosen_fits j x ≡ true)
+      → then_some (has_vector f && chosen_fits i x) (chosen_shape x) ≡ Some z → then_some (has_vector g && chosen_fits j x) (chosen_shape x) ≡ Some z
+  chosen_of_more f g x z stays k q =
+      let y = given (has_vector f && chosen_fits i x) (chosen_shape x) z q in
+      let a = and_parts (has_vector f) (chosen_fits i x) y.holds in
+      ap (λ b. then_some b (chosen_shape x)) (and_from (has_vector g) (chosen_fits j x) (vector_more_is f g stays a.0) (k a.1)) ∙ ap Some y.is
+
   mutual
+    -- an integer that a run computes names an object
+    computed_more : (x : Computed) → b ≡ true → computed_fits i x ≡ true → computed_fits j x ≡ true
+    computed_more (e.static s) k q = static_more i j h s q
+    computed_more (e.number_of at x) k q = vector_stays (vector_shape i x) (vector_shape j x) (λ z g. vector_more x z (or_left b (is_known x) k) g) q
+    computed_more (e.Computed.negated at x) k q = computed_more x k q
+    computed_more (e.magnitude at x) k q = computed_more x k q
+    computed_more (e.calculated at op x y) k q =
+        let a = and_parts (computed_fits i x) (computed_fits i y) q in
+        and_from (computed_fits j x) (computed_fits j y) (computed_more x k a.0) (computed_more y k a.1)
+
+    chosen_more : (x : Chosen) → b ≡ true → chosen_fits i x ≡ true → chosen_fits j x ≡ true
+    chosen_more (e.element_at x) k q = computed_more x k q
+    chosen_more (e.slice_at x direction y) k q =
+        let a = and_parts (computed_fits i x) (computed_fits i y) q in
+        and_from (computed_fits j x) (computed_fits j y) (computed_more x k a.0) (computed_more y k a.1)
+
     pub vector_more : (x : Vector) (z : Shape) → (b || is_known x) ≡ true → vector_shape i x ≡ Some z → vector_shape j x ≡ Some z
     vector_more (e.of_signal p) z k q =
         let a = comes (place_shape i p) _ z q in
         ap (λ o. o >>= λ x. then_some (is_elements x) x) (signals (or_false b k) p a.value a.is) ∙ a.rest
     vector_more (e.of_variable at n p) z k q = object_more i.variables j.variables n p z (variables (or_false b k)) q
     vector_more (e.of_constant at n p) z k q = object_more i.constants j.constants n p z c q
+    vector_more (e.in_signal at x c) z k q = chosen_of_more (signal_form i x) (signal_form j x) c z (forms (or_false b k) x) (chosen_more c (or_false b k)) q
+    vector_more (e.in_variable at n c) z k q =
+        chosen_of_more (slice_get i.variables n) (slice_get j.variables n) c z (variables (or_false b k) n) (chosen_more c (or_false b k)) q
+    vector_more (e.in_constant at n p) z k q = chosen_of_more (slice_get i.constants n) (slice_get j.constants n) p z (c n) (chosen_more p (or_false b k)) q
     vector_more (e.character v) z k q = q
     vector_more (e.enclosed_character v) z k q = q
     vector_more (e.Vector.literal at vs) z k q = q
@@ -120,6 +162,28 @@ module _ (i j : Inside) (h : HasNumbers i j) (c : Keeps i.constants j.constants)
         ∙ ap (λ o. o >>= λ b. operated_shape op m.value b) (vector_more y n.value w.1 n.is) ∙ n.rest
     vector_more (e.with_integer at op x n) z k q = static_with_more (vector_shape i x) (vector_shape j x) n z (λ z g. vector_more x z k g) q
     vector_more (e.integer_with at op n x) z k q = static_with_more (vector_shape i x) (vector_shape j x) n z (λ z g. vector_more x z k g) q
+    vector_more (e.with_computed at op x n) z k q =
+        let every = or_false b k in
+        let g = given (is_vector_shape (vector_shape i x) && computed_fits i n) vector z q in
+        let a = and_parts (is_vector_shape (vector_shape i x)) (computed_fits i n) g.holds in
+        ap (λ b. then_some b vector) (and_from (is_vector_shape (vector_shape j x)) (computed_fits j n)
+        (vector_stays (vector_shape i x) (vector_shape j x) (λ z g. vector_more x z (or_left b (is_known x) every) g) a.0) (computed_more n every a.1)) ∙ ap Some g.is
+    vector_more (e.computed_with at op n x) z k q =
+        let every = or_false b k in
+        let g = given (computed_fits i n && is_vector_shape (vector_shape i x)) vector z q in
+        let a = and_parts (computed_fits i n) (is_vector_shape (vector_shape i x)) g.holds in
+        ap (λ b. then_some b vector) (and_from (computed_fits j n) (is_vector_shape (vector_shape j x))
+        (computed_more n every a.0) (vector_stays (vector_shape i x) (vector_shape j x) (λ z g. vector_more x z (or_left b (is_known x) every) g) a.1)) ∙ ap Some g.is
+    vector_more (e.computed_encoded at n size) z k q =
+        let g = given (computed_fits i n && static_fits i size) vector z q in
+        let a = and_parts (computed_fits i n) (static_fits i size) g.holds in
+        ap (λ b. then_some b vector) (and_from (computed_fits j n) (static_fits j size) (computed_more n (or_false b k) a.0) (static_more i j h size a.1)) ∙ ap Some g.is
+    vector_more (e.shifted at by x n) z k q =
+        let every = or_false b k in
+        let g = given (is_vector_shape (vector_shape i x) && computed_fits i n) vector z q in
+        let a = and_parts (is_vector_shape (vector_shape i x)) (computed_fits i n) g.holds in
+        ap (λ b. then_some b vector) (and_from (is_vector_shape (vector_shape j x)) (computed_fits j n)
+        (vector_stays (vector_shape i x) (vector_shape j x) (λ z g. vector_more x z (or_left b (is_known x) every) g) a.0) (computed_more n every a.1)) ∙ ap Some g.is
     vector_more (e.Vector.encoded at n size) z k q =
         let g = given (static_fits i n && static_fits i size) vector z q in
         let a = and_parts (static_fits i n) (static_fits i size) g.holds in
@@ -164,14 +228,18 @@ module _ (i j : Inside) (h : HasNumbers i j) (c : Keeps i.constants j.constants)
       by (e.port k) q = absurd cc
       by (e.Signal.signal k) q = absurd cc
 
+  no_form : true ≡ true → (x : Signal) (f : Form) → signal_form (without_objects i) x ≡ Some f → signal_form (without_objects j) x ≡ Some f
+  no_form t (e.port k) f q = absurd cc
+  no_form t (e.Signal.signal k) f q = absurd cc
+
   numbers : HasNumbers (without_objects i) (without_objects j)
   numbers = record { generics = h.generics; integers = h.integers; ranges = h.ranges; generates = h.generates; loops = h.loops }
 
   alone_more : (x : Vector) (z : Shape) → vector_shape (without_objects i) x ≡ Some z → vector_shape (without_objects j) x ≡ Some z
-  alone_more x z q = vector_more (without_objects i) (without_objects j) numbers c true no_place (λ t k y g. g) x z refl q
+  alone_more x z q = vector_more (without_objects i) (without_objects j) numbers c true no_place no_form (λ t k y g. g) x z refl q
 
   pub alone_elements_more : (es : Elements) → elements_fit (without_objects i) es ≡ true → elements_fit (without_objects j) es ≡ true
-  alone_elements_more es q = elements_more (without_objects i) (without_objects j) numbers c true no_place (λ t k y g. g) es refl q
+  alone_elements_more es q = elements_more (without_objects i) (without_objects j) numbers c true no_place no_form (λ t k y g. g) es refl q
 
   pub given_more : (x : Shape) (g : s.Given) → given_fits (without_objects i) x g ≡ true → given_fits (without_objects j) x g ≡ true
   given_more x (s.single (e.Value.position p)) q = q
@@ -194,10 +262,10 @@ module _ (i : Inside) where
   impossible h = absurd cc
 
   known_alone : (x : Vector) (z : Shape) → is_known x ≡ true → vector_shape i x ≡ Some z → vector_shape (without_objects i) x ≡ Some z
-  known_alone x z k q = vector_more i (without_objects i) same (λ k y g. g) false impossible impossible x z k q
+  known_alone x z k q = vector_more i (without_objects i) same (λ k y g. g) false impossible impossible impossible x z k q
 
   pub known_elements : (es : Elements) → are_known es ≡ true → elements_fit i es ≡ true → elements_fit (without_objects i) es ≡ true
-  known_elements es k q = elements_more i (without_objects i) same (λ k y g. g) false impossible impossible es k q
+  known_elements es k q = elements_more i (without_objects i) same (λ k y g. g) false impossible impossible impossible es k q
 
   pub known_given : (x : Shape) (g : s.Given) → is_known_value g ≡ true → given_fits i x g ≡ true → given_fits (without_objects i) x g ≡ true
   known_given x (s.single (e.Value.position p)) k q = q

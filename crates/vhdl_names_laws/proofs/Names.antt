@@ -6,6 +6,8 @@ use Rattle.std.specs.Option.{option_map}
 use Rattle.std.specs.Str.{bytes_eq}
 use Rattle.std.proofs.lemmas.Bool.{and_parts, and_from}
 use Rattle.std.proofs.lemmas.Option.{slice_get-map}
+use Rattle.vhdl_values.specs.declared.kinds.Counted.{Counted}
+use Rattle.vhdl_values.specs.declared.kinds.Counted.TheVariants.{Shift}
 use Rattle.vhdl_values.specs.declared.kinds.Edge.{Edge}
 use Rattle.vhdl_lexer.specs.declared.language.Language.{Language}
 use Rattle.vhdl_tree.specs.Tree as tree
@@ -16,9 +18,9 @@ use Rattle.vhdl_names_rules.specs.declared.kind.ElementKind.TheVariants.{Element
 use Rattle.vhdl_names_rules.specs.declared.kind.ObjectType.{ObjectType}
 use Rattle.vhdl_names_rules.specs.declared.kind.ObjectType.TheVariants.{Elements, Enumeration}
 use Rattle.vhdl_names_rules.specs.declared.kind.Function.{Function}
-use Rattle.vhdl_names_rules.specs.declared.kind.Function.TheVariants.{EdgeCall, ByCount, ToUnsigned}
+use Rattle.vhdl_names_rules.specs.declared.kind.Function.TheVariants.{EdgeCall, ByCount, ToUnsigned, ToInteger}
 use Rattle.vhdl_names_rules.specs.units.Expressions as e
-use Rattle.vhdl_names_rules.specs.units.Expressions.{Static, Range, Part, SignalPart, Signal, Vector}
+use Rattle.vhdl_names_rules.specs.units.Expressions.{Static, Range, Part, Chosen, SignalPart, Signal, Vector}
 use Rattle.vhdl_names_rules.specs.units.Units as u
 use Rattle.vhdl_names_rules.specs.units.Units.{Form}
 use Rattle.vhdl_names_rules.specs.Rules.{◌>>=◌, then_some, wider}
@@ -26,15 +28,16 @@ use Rattle.vhdl_names_rules.specs.Visibility as visibility
 use Rattle.vhdl_names_rules.specs.Visibility.{Meaning, DeclaredRange, Declared}
 use Rattle.vhdl_names_rules.specs.Operators as o
 use Rattle.vhdl_names_rules.specs.Operators.{Typed}
+use Rattle.vhdl_names_rules.specs.Known.{is_known}
 use Rattle.vhdl_names_rules.specs.Names as n
-use Rattle.vhdl_names_rules.specs.Names.{Suffix, part, part_of, place_of, if_plain, read_by, converted, is_static, is_static_part, edge_signal, edge_of, counted, encoding, called, denoted, attributed}
+use Rattle.vhdl_names_rules.specs.Names.{Suffix, AnyPart, part, part_of, chosen, any_part, place_of, if_plain, read_by, signal_part, variable_part, constant_part, converted, is_static, is_static_part, edge_signal, edge_of, counted, encoding, number_of, called, denoted, attributed}
 use Rattle.vhdl_names_rules.specs.Ranges.{range_attribute, sized_by}
 use Rattle.vhdl_names_rules.specs.Expressions.{named}
-use Rattle.vhdl_names_rules.specs.sound.Expressions.{Inside, one, vector, state, shape_of, static_fits, range_fits, part_shape, port_form, signal_form, place_shape, is_elements, with_static, vector_shape, value_shape, state_shape, edge_fits}
+use Rattle.vhdl_names_rules.specs.sound.Expressions.{Inside, one, vector, state, shape_of, static_fits, range_fits, part_shape, port_form, signal_form, place_shape, is_elements, is_vector, has_vector, is_vector_shape, chosen_shape, computed_fits, chosen_fits, with_static, vector_shape, value_shape, state_shape, edge_fits}
 use Rattle.vhdl_names_laws.specs.Meanings.{Counts, kind_shape, type_shape, IsForm, IsCounted, IsPort, MeaningFits, DeclaredFits, TypedFits}
 use Rattle.vhdl_names_laws.proofs.Statics.{some_same}
 use Rattle.vhdl_names_laws.proofs.Ranges.{RangeFits, EachFits, SuffixFits, range_attribute_fits, sized_fits}
-use Rattle.vhdl_names_laws.proofs.Shapes.{given, shape_elements, fits_self, of_either, wider_is}
+use Rattle.vhdl_names_laws.proofs.Shapes.{given, shape_elements, fits_self, kind_is_vector, of_either, wider_is}
 use Rattle.vhdl_names_rules.proofs.kept.Keeping.{mapped}
 use Rattle.vhdl_names_rules.proofs.laws.Rules.{comes, kept}
 
@@ -89,16 +92,48 @@ module _ (i : Inside) (counts : Counts) where
 
   -- ---- objects that are read
 
+  -- what a run chooses of a vector of this kind
+  pub record ChosenFits (k : ElementKind) (p : Chosen × ElementKind) : Type 0 where
+    pub fits : chosen_fits i p.0 ≡ true
+    pub shape : chosen_shape p.0 ≡ kind_shape p.1
+    pub of_vector : kind_shape k ≡ vector
+
+  pub chosen_is : (k : ElementKind) (s : Suffix) (p : Chosen × ElementKind) → SuffixFits i counts s → chosen k s ≡ Some p → ChosenFits k p
+  chosen_is k (n.arguments b (o.computed x ∷ [])) p t g =
+      let a = given (o.is_vector k) (e.element_at x, Element) p g in
+      subst (ChosenFits k) a.is (record { fits = t.0; shape = refl; of_vector = kind_is_vector k a.holds })
+  chosen_is k (n.computed_range l direction r) p t g =
+      let a = given (o.is_vector k) (e.slice_at l direction r, k) p g in
+      subst (ChosenFits k) a.is (record { fits = t; shape = sym (kind_is_vector k a.holds); of_vector = kind_is_vector k a.holds })
+  chosen_is k _ p t g = absurd cc
+
   -- what is read of an object of a form
-  read_fits : (object : Part → Vector) (f : Form) → ((p : Part) → vector_shape i (object p) ≡ (part_shape i f p >>= λ x. then_some (is_elements x) x))
+  read_fits : (object : AnyPart → Vector) (f : Form) → ((p : Part) → vector_shape i (object (n.fixed p)) ≡ (part_shape i f p >>= λ x. then_some (is_elements x) x))
+      → ((c : Chosen) → vector_shape i (object (n.free c)) ≡ then_some (is_vector (shape_of f) && chosen_fits i c) (chosen_shape c))
       → (k : ElementKind) → shape_of f ≡ kind_shape k → (s : Suffix) (x : Typed) → SuffixFits i counts s → read_by object k s ≡ Some x → TypedFits i counts x
-  read_fits object f c k h s x t g =
-      let a = mapped (λ (p : Part × ElementKind). o.elements p.1 (object p.0)) (part k s) x g in
+  read_fits object f c w k h s x t g =
+      let a = mapped (λ (p : AnyPart × ElementKind). o.elements p.1 (object p.0)) (any_part k s) x g in
       subst (TypedFits i counts) a.is
-      (c a.value.0 ∙ ap (λ z. z >>= λ x. then_some (is_elements x) x) (part_fits f k s a.value h t a.from) ∙ ap (λ b. then_some b (kind_shape a.value.1)) (shape_elements a.value.1))
+      (of_either IsRead (option_map (λ (q : Part × ElementKind). (n.fixed q.0, q.1)) (part k s)) (option_map (λ (q : Chosen × ElementKind). (n.free q.0, q.1)) (chosen k s)) a.value
+      (λ z q.
+      let m = mapped (λ (q : Part × ElementKind). (n.fixed q.0, q.1)) (part k s) z q in
+      subst IsRead m.is
+      (c m.value.0 ∙ ap (λ z. z >>= λ x. then_some (is_elements x) x) (part_fits f k s m.value h t m.from) ∙ ap (λ b. then_some b (kind_shape m.value.1)) (shape_elements m.value.1)))
+      (λ z q.
+      let m = mapped (λ (q : Chosen × ElementKind). (n.free q.0, q.1)) (chosen k s) z q in
+      let d = chosen_is k s m.value t m.from in
+      subst IsRead m.is
+      (w m.value.0 ∙ ap (λ b. then_some b (chosen_shape m.value.0)) (and_from (is_vector (shape_of f)) (chosen_fits i m.value.0) (ap is_vector (h ∙ d.of_vector)) d.fits) ∙ ap Some d.shape)) a.from)
+    where
+      IsRead : AnyPart × ElementKind → Type 0
+      IsRead q = vector_shape i (object q.0) ≡ Some (kind_shape q.1)
 
   read_place : (at : ℕ) (z : Signal) (f : Form) → signal_form i z ≡ Some f → (p : Part) → vector_shape i (e.of_signal (place_of at z p)) ≡ (part_shape i f p >>= λ x. then_some (is_elements x) x)
   read_place at z f h p = ap (λ w. (w >>= λ f. part_shape i f p) >>= λ x. then_some (is_elements x) x) h
+
+  read_chosen : (at : ℕ) (z : Signal) (f : Form) → signal_form i z ≡ Some f → (c : Chosen)
+      → vector_shape i (e.in_signal at z c) ≡ then_some (is_vector (shape_of f) && chosen_fits i c) (chosen_shape c)
+  read_chosen at z f h c = ap (λ w. then_some (has_vector w && chosen_fits i c) (chosen_shape c)) h
 
   pub port_form_is : (k : ℕ) (mode : Mode) (kind : ElementKind) (f : IsPort i.ports k mode kind) → signal_form i (e.port k) ≡ Some (port_form f.port)
   port_form_is k mode kind f = slice_get-map port_form i.ports k ∙ ap (option_map port_form) f.at
@@ -136,18 +171,28 @@ module _ (i : Inside) (counts : Counts) where
   converted_fits : (k : ElementKind) (s : Suffix) (y : Typed) → kind_shape k ≡ vector → SuffixFits i counts s → converted k s ≡ Some y → TypedFits i counts y
   converted_fits k s y v t g = let c = converted_is k s y t g in subst (TypedFits i counts) c.is (c.shape ∙ ap Some (sym v))
 
-  counted_fits : (f : Vector → Static → Vector) → ((x : Vector) (s : Static) → vector_shape i (f x s) ≡ with_static i (vector_shape i x) s)
-      → (s : Suffix) (y : Typed) → SuffixFits i counts s → counted f s ≡ Some y → TypedFits i counts y
-  counted_fits f c (n.arguments b (o.elements Unsigned x ∷ o.integer s ∷ [])) y t g =
-      subst (TypedFits i counts) (some_same (o.elements Unsigned (f x s)) y g)
-      (c x s ∙ ap (λ z. with_static i z s) t.0 ∙ ap (λ b. then_some b vector) t.1.0)
-  counted_fits f c _ y t g = absurd cc
+  counted_fits : (at : ℕ) (op : Counted) (s : Suffix) (y : Typed) → SuffixFits i counts s → counted at op s ≡ Some y → TypedFits i counts y
+  counted_fits at op (n.arguments b (o.elements Unsigned x ∷ o.integer s ∷ [])) y t g =
+      subst (TypedFits i counts) (some_same (o.elements Unsigned (e.counted at op x s)) y g)
+      (ap (λ z. with_static i z s) t.0 ∙ ap (λ b. then_some b vector) t.1.0)
+  counted_fits at (Shift by) (n.arguments b (o.elements Unsigned x ∷ o.computed s ∷ [])) y t g =
+      subst (TypedFits i counts) (some_same (o.elements Unsigned (e.shifted at by x s)) y g)
+      (ap (λ b. then_some b vector) (and_from (is_vector_shape (vector_shape i x)) (computed_fits i s) (ap is_vector_shape t.0) t.1.0))
+  counted_fits at op _ y t g = absurd cc
 
   encoding_fits : (at : ℕ) (s : Suffix) (y : Typed) → SuffixFits i counts s → encoding at s ≡ Some y → TypedFits i counts y
   encoding_fits at (n.arguments b (o.integer s ∷ o.integer size ∷ [])) y t g =
       subst (TypedFits i counts) (some_same (o.elements Unsigned (e.Vector.encoded at s size)) y g)
       (ap (λ b. then_some b vector) (and_from (static_fits i s) (static_fits i size) t.0 t.1.0))
+  encoding_fits at (n.arguments b (o.computed x ∷ o.integer size ∷ [])) y t g =
+      subst (TypedFits i counts) (some_same (o.elements Unsigned (e.computed_encoded at x size)) y g)
+      (ap (λ b. then_some b vector) (and_from (computed_fits i x) (static_fits i size) t.0 t.1.0))
   encoding_fits at _ y t g = absurd cc
+
+  number_fits : (at : ℕ) (s : Suffix) (y : Typed) → SuffixFits i counts s → number_of at s ≡ Some y → TypedFits i counts y
+  number_fits at (n.arguments b (o.elements Unsigned x ∷ [])) y t g =
+      subst (TypedFits i counts) (given (not (is_known x)) (o.computed (e.number_of at x)) y g).is (ap is_vector_shape t.0)
+  number_fits at _ y t g = absurd cc
 
   -- ---- edges
 
@@ -205,8 +250,9 @@ module _ (i : Inside) (counts : Counts) where
 
   called_fits : (at : ℕ) (f : Function) (s : Suffix) (y : Typed) → SuffixFits i counts s → called at f s ≡ Some y → TypedFits i counts y
   called_fits at (EdgeCall edge) s y t g = edge_call_fits edge s y t g
-  called_fits at (ByCount op) s y t g = counted_fits (e.counted at op) (λ x s. refl) s y t g
+  called_fits at (ByCount op) s y t g = counted_fits at op s y t g
   called_fits at ToUnsigned s y t g = encoding_fits at s y t g
+  called_fits at ToInteger s y t g = number_fits at s y t g
 
   -- ---- all names
 
@@ -219,24 +265,27 @@ module _ (i : Inside) (counts : Counts) where
   denoted_fits at (visibility.boolean_constant k) s y h t g = plain_fits s (n.known at (e.Static.constant k)) y h g
   denoted_fits at (visibility.boolean_literal b) s y h t g = plain_fits s (n.known at (e.number (if b then 1 else 0))) y refl g
   denoted_fits at (visibility.port k mode kind) s y h t g =
-      read_fits (λ p. e.of_signal (place_of at (e.port k) p)) (port_form h.port) (read_place at (e.port k) (port_form h.port) (port_form_is k mode kind h)) kind h.shape s y t g
+      read_fits (signal_part at (e.port k)) (port_form h.port) (read_place at (e.port k) (port_form h.port) (port_form_is k mode kind h))
+      (read_chosen at (e.port k) (port_form h.port) (port_form_is k mode kind h)) kind h.shape s y t g
   denoted_fits at (visibility.signal k (Elements kind)) s y h t g =
       let f = the_form (Elements kind) (slice_get i.signals k) h in
-      read_fits (λ p. e.of_signal (place_of at (e.Signal.signal k) p)) f.0 (read_place at (e.Signal.signal k) f.0 f.1) kind f.2 s y t g
+      read_fits (signal_part at (e.Signal.signal k)) f.0 (read_place at (e.Signal.signal k) f.0 f.1) (read_chosen at (e.Signal.signal k) f.0 f.1) kind f.2 s y t g
   denoted_fits at (visibility.signal k (Enumeration d count)) s y h t g =
       let f = the_form (Enumeration d count) (slice_get i.signals k) h in
       plain_fits s (o.enumerated d count (e.state_of (e.Signal.signal k))) y
       (fits_self (state count) (value_shape i (e.state_of (e.Signal.signal k))) (ap (λ w. w >>= state_shape) f.1 ∙ state_is f.0 count f.2), h.counted) g
   denoted_fits at (visibility.variable k (Elements kind)) s y h t g =
       let f = the_form (Elements kind) (slice_get i.variables k) h in
-      read_fits (e.of_variable at k) f.0 (λ p. ap (λ w. w >>= λ f. part_shape i f p >>= λ x. then_some (is_elements x) x) f.1) kind f.2 s y t g
+      read_fits (variable_part at k) f.0 (λ p. ap (λ w. w >>= λ f. part_shape i f p >>= λ x. then_some (is_elements x) x) f.1)
+      (λ c. ap (λ w. then_some (has_vector w && chosen_fits i c) (chosen_shape c)) f.1) kind f.2 s y t g
   denoted_fits at (visibility.variable k (Enumeration d count)) s y h t g =
       let f = the_form (Enumeration d count) (slice_get i.variables k) h in
       plain_fits s (o.enumerated d count (e.state_of_variable k)) y
       (fits_self (state count) (value_shape i (e.state_of_variable k)) (ap (λ w. w >>= state_shape) f.1 ∙ state_is f.0 count f.2), h.counted) g
   denoted_fits at (visibility.constant k kind values) s y h t g =
       let f = the_form (Elements kind) (slice_get i.constants k) h.0 in
-      read_fits (e.of_constant at k) f.0 (λ p. ap (λ w. w >>= λ f. part_shape i f p >>= λ x. then_some (is_elements x) x) f.1) kind f.2 s y t g
+      read_fits (constant_part at k) f.0 (λ p. ap (λ w. w >>= λ f. part_shape i f p >>= λ x. then_some (is_elements x) x) f.1)
+      (λ c. ap (λ w. then_some (has_vector w && chosen_fits i c) (chosen_shape c)) f.1) kind f.2 s y t g
   denoted_fits at (visibility.literal d count p) s y h t g = plain_fits s (o.enumerated d count (e.Value.position p)) y h g
   denoted_fits at (visibility.vector_type k r) s y h t g = converted_fits k s y h t g
   denoted_fits at (visibility.function f) s y h t g = called_fits at f s y t g

@@ -9,22 +9,23 @@ use Rattle.vhdl_tree.specs.declared.operator.Operator.TheVariants as op
 use Rattle.vhdl_names_rules.specs.declared.kind.ElementKind.{ElementKind}
 use Rattle.vhdl_names_rules.specs.declared.kind.ElementKind.TheVariants.{Element, LogicVector, Unsigned, OpenVector}
 use Rattle.vhdl_names_rules.specs.declared.operator.Arithmetic.{Arithmetic}
+use Rattle.vhdl_names_rules.specs.declared.operator.Arithmetic.TheVariants.{Power}
 use Rattle.vhdl_names_rules.specs.declared.operator.Numeric.{Numeric}
 use Rattle.vhdl_names_rules.specs.declared.operator.VectorOperator.{VectorOperator}
 use Rattle.vhdl_names_rules.specs.declared.operator.VectorOperator.TheVariants as v
 use Rattle.vhdl_names_rules.specs.units.Expressions as e
-use Rattle.vhdl_names_rules.specs.units.Expressions.{Static, Vector, Value, Test}
+use Rattle.vhdl_names_rules.specs.units.Expressions.{Static, Computed, Vector, Value, Test}
 use Rattle.vhdl_names_rules.specs.Rules.{◌>>=◌, met, then_some}
 use Rattle.vhdl_names_rules.specs.Operators as o
-use Rattle.vhdl_names_rules.specs.Operators.{Typed, common_kind, joined_kind, is_number, are_numbers, binary, both, negated, logical, inverse, concatenated, integral, arithmetic, integers_compared, equal_by, equality, ordering, operated, beside_vector}
+use Rattle.vhdl_names_rules.specs.Operators.{Typed, common_kind, joined_kind, is_number, are_numbers, binary, both, negated, logical, inverse, concatenated, as_computed, computes, raised, integral, arithmetic, integers_compared, compares, equal_by, equality, ordering, operated, beside_vector}
 use Rattle.vhdl_names_rules.specs.Types.{TypedElements}
-use Rattle.vhdl_names_rules.specs.sound.Expressions.{Inside, Shape, one, vector, state, static_fits, static_test_fits, same_shape, is_elements, operated_shape, with_static, vector_shape, value_shape, fits_shape, value_fits, value_fits_beside, values_fit, test_fits}
+use Rattle.vhdl_names_rules.specs.sound.Expressions.{Inside, Shape, one, vector, state, static_fits, static_test_fits, same_shape, is_elements, is_vector_shape, computed_fits, operated_shape, with_static, vector_shape, value_shape, fits_shape, value_fits, value_fits_beside, values_fit, test_fits}
 use Rattle.vhdl_names_laws.specs.Meanings.{Counts, kind_shape, TypedFits, ElementsFit}
 use Rattle.vhdl_names_laws.proofs.Statics.{some_same}
 use Rattle.vhdl_names_laws.proofs.Shapes.{Given, given, shape_elements, same_self, same_shapes, fits_self, kind_is_vector}
 use Rattle.vhdl_names_laws.proofs.Aggregates.{aggregate_fits}
 use Rattle.vhdl_names_rules.proofs.kept.Keeping.{mapped}
-use Rattle.vhdl_names_rules.proofs.laws.Rules.{kept}
+use Rattle.vhdl_names_rules.proofs.laws.Rules.{comes, kept}
 
 -- ---- shapes
 
@@ -148,9 +149,26 @@ module _ (i : Inside) (counts : Counts) where
       ∙ ap Some (sym (joined j k c.value c.from)))
   concatenated_fits at _ _ z h t g = absurd cc
 
-  pub integral_fits : (at : ℕ) (op : Arithmetic) (x y z : Typed) → TypedFits i counts x → TypedFits i counts y → integral at op x y ≡ Some z → TypedFits i counts z
+  -- an integer, which a run may compute
+  pub as_computed_fits : (x : Typed) (y : Computed) → TypedFits i counts x → as_computed x ≡ Some y → computed_fits i y ≡ true
+  as_computed_fits (o.integer s) y h g = subst (λ y. computed_fits i y ≡ true) (some_same (e.static s) y g) h
+  as_computed_fits (o.computed z) y h g = subst (λ y. computed_fits i y ≡ true) (some_same z y g) h
+  as_computed_fits _ y h g = absurd cc
+
+  computes_fits : (at : ℕ) (op : Arithmetic) (x y z : Typed) → TypedFits i counts x → TypedFits i counts y → computes at op x y ≡ Some z → TypedFits i counts z
+  computes_fits at op x y z h t g =
+      let a = comes (as_computed x) (λ a. as_computed y >>= λ b. Some (o.computed (e.calculated at op a b))) z g in
+      let b = comes (as_computed y) (λ b. Some (o.computed (e.calculated at op a.value b))) z a.rest in
+      known (o.computed (e.calculated at op a.value b.value)) z b.rest
+      (and_from (computed_fits i a.value) (computed_fits i b.value) (as_computed_fits x a.value h a.is) (as_computed_fits y b.value t b.is))
+
+  pub raised_fits : (at : ℕ) (x y z : Typed) → TypedFits i counts x → TypedFits i counts y → raised at x y ≡ Some z → TypedFits i counts z
+  raised_fits at (o.integer s) (o.integer r) z h t g = known (o.integer (e.Static.binary at Power s r)) z g (and_from (static_fits i s) (static_fits i r) h t)
+  raised_fits at _ _ z h t g = absurd cc
+
+  integral_fits : (at : ℕ) (op : Arithmetic) (x y z : Typed) → TypedFits i counts x → TypedFits i counts y → integral at op x y ≡ Some z → TypedFits i counts z
   integral_fits at op (o.integer s) (o.integer r) z h t g = known (o.integer (e.Static.binary at op s r)) z g (and_from (static_fits i s) (static_fits i r) h t)
-  integral_fits at op _ _ z h t g = absurd cc
+  integral_fits at op x y z h t g = computes_fits at op x y z h t g
 
   -- a result that is there where operators of numbers are in sight, and something holds
   ruled : (numbers b : Bool) (x y : Typed) → (met numbers >>= λ _. then_some b x) ≡ Some y → Given b x y
@@ -170,9 +188,24 @@ module _ (i : Inside) (counts : Counts) where
   arithmetic_fits numbers at op by (o.integer s) (o.elements k y) z h t g =
       let c = ruled numbers (is_number k) (o.elements Unsigned (e.integer_with at by s y)) z g in
       subst (TypedFits i counts) c.is (with_static_is (vector_shape i y) s (vector_is y k t (number_shape k c.holds)) h)
-  arithmetic_fits numbers at op by _ _ z h t g = absurd cc
+  arithmetic_fits numbers at op by (o.elements j x) (o.computed s) z h t g =
+      let c = ruled numbers (is_number j) (o.elements Unsigned (e.with_computed at by x s)) z g in
+      subst (TypedFits i counts) c.is
+      (ap (λ b. then_some b vector) (and_from (is_vector_shape (vector_shape i x)) (computed_fits i s) (ap is_vector_shape (vector_is x j h (number_shape j c.holds))) t))
+  arithmetic_fits numbers at op by (o.computed s) (o.elements k y) z h t g =
+      let c = ruled numbers (is_number k) (o.elements Unsigned (e.computed_with at by s y)) z g in
+      subst (TypedFits i counts) c.is
+      (ap (λ b. then_some b vector) (and_from (computed_fits i s) (is_vector_shape (vector_shape i y)) h (ap is_vector_shape (vector_is y k t (number_shape k c.holds)))))
+  arithmetic_fits numbers at op by x y z h t g = integral_fits at op x y z h t g
 
   -- ---- relations
+
+  compares_fits : (at : ℕ) (op : Cmp) (x y z : Typed) → TypedFits i counts x → TypedFits i counts y → compares at op x y ≡ Some z → TypedFits i counts z
+  compares_fits at op x y z h t g =
+      let a = comes (as_computed x) (λ a. as_computed y >>= λ b. Some (o.truth (e.computed_compared at op a b))) z g in
+      let b = comes (as_computed y) (λ b. Some (o.truth (e.computed_compared at op a.value b))) z a.rest in
+      known (o.truth (e.computed_compared at op a.value b.value)) z b.rest
+      (and_from (computed_fits i a.value) (computed_fits i b.value) (as_computed_fits x a.value h a.is) (as_computed_fits y b.value t b.is))
 
   -- a test of two values, such as equality or its negation
   abbrev Compares : (Value → Value → Test) → Type 0
@@ -219,7 +252,11 @@ module _ (i : Inside) (counts : Counts) where
   equality_fits at op same c (o.composite p es) (o.elements k y) z h t g =
       let f = mapped (λ x. equal_by at op same x y k) (beside_vector k p es) z g in
       subst (TypedFits i counts) f.is (equal_fits at op same c f.value y k (beside_fits k p es f.value h f.from) t)
-  equality_fits at op same c _ _ z h t g = absurd cc
+  equality_fits at op same c (o.elements Unsigned x) (o.computed s) z h t g =
+      known (o.truth (e.compared_to_computed at op x s)) z g (and_from (fits_shape vector (vector_shape i x)) (computed_fits i s) (fits_self vector (vector_shape i x) h) t)
+  equality_fits at op same c (o.computed s) (o.elements Unsigned y) z h t g =
+      known (o.truth (e.compared_with_computed at op s y)) z g (and_from (computed_fits i s) (fits_shape vector (vector_shape i y)) h (fits_self vector (vector_shape i y) t))
+  equality_fits at op same c x y z h t g = compares_fits at op x y z h t g
 
   ordering_fits : (numbers : Bool) (at : ℕ) (op : Cmp) (x y z : Typed) → TypedFits i counts x → TypedFits i counts y → ordering numbers at op x y ≡ Some z → TypedFits i counts z
   ordering_fits numbers at op (o.integer s) (o.integer r) z h t g = known (integers_compared at op s r) z g (and_from (static_fits i s) (static_fits i r) h t)
@@ -235,7 +272,15 @@ module _ (i : Inside) (counts : Counts) where
       let c = ruled numbers (is_number k) (o.truth (e.compared_with at op s y)) z g in
       subst (TypedFits i counts) c.is
       (and_from (static_fits i s) (fits_shape vector (vector_shape i y)) h (fits_self vector (vector_shape i y) (vector_is y k t (number_shape k c.holds))))
-  ordering_fits numbers at op _ _ z h t g = absurd cc
+  ordering_fits numbers at op (o.elements j x) (o.computed s) z h t g =
+      let c = ruled numbers (is_number j) (o.truth (e.compared_to_computed at op x s)) z g in
+      subst (TypedFits i counts) c.is
+      (and_from (fits_shape vector (vector_shape i x)) (computed_fits i s) (fits_self vector (vector_shape i x) (vector_is x j h (number_shape j c.holds))) t)
+  ordering_fits numbers at op (o.computed s) (o.elements k y) z h t g =
+      let c = ruled numbers (is_number k) (o.truth (e.compared_with_computed at op s y)) z g in
+      subst (TypedFits i counts) c.is
+      (and_from (computed_fits i s) (fits_shape vector (vector_shape i y)) h (fits_self vector (vector_shape i y) (vector_is y k t (number_shape k c.holds))))
+  ordering_fits numbers at op x y z h t g = compares_fits at op x y z h t g
 
   pub operated_fits : (numbers : Bool) (at : ℕ) (by : Operator) (x y z : Typed) → TypedFits i counts x → TypedFits i counts y → operated numbers at by x y ≡ Some z → TypedFits i counts z
   operated_fits numbers at op.Equal x y z h t g = equality_fits at _ (e.alike at) (λ x y. refl) x y z h t g

@@ -1,12 +1,12 @@
 -- What the parts of a signal's and of a variable's name are analysed as, where the whole is.
 use Rattle.std.proofs.Common.{◌≡◌, ℕ, Option, Some}
-use Rattle.std.specs.Prelude.{is_none}
+use Rattle.std.specs.Prelude.{not, is_none}
 use Rattle.vhdl_tree.specs.Tree as t
 use Rattle.vhdl_names_rules.specs.Rules.{◌>>=◌, ◌>>◌, met}
 use Rattle.vhdl_names_rules.specs.Visibility.{Declared, declaration, Sight}
 use Rattle.vhdl_names_rules.specs.Names.{Suffix}
 use Rattle.vhdl_names_rules.specs.Expressions.{typed_suffix}
-use Rattle.vhdl_names_rules.specs.Statements.{SignalName, VariableName, as_signal, as_variable, signal, variable}
+use Rattle.vhdl_names_rules.specs.Statements.{SignalName, as_signal, signal, Target, as_signal_target, as_variable_target, mode_of, is_input, signal_target, variable_target}
 use Rattle.vhdl_names_rules.proofs.laws.Rules.{comes, kept}
 use Rattle.vhdl_names_rules.proofs.laws.Parts.{Given}
 
@@ -28,6 +28,14 @@ pub signal_parts : (sight : Sight) (n : t.Name) (x : SignalName) → signal sigh
 unfolding signal
 signal_parts sight n x h = name_parts as_signal sight n x h
 
-pub variable_parts : (sight : Sight) (n : t.Name) (x : VariableName) → variable sight n ≡ Some x → NameParts as_variable sight n x
-unfolding variable
-variable_parts sight n x h = name_parts as_variable sight n x h
+-- a target that is no in port
+abbrev pub driven : (at : ℕ) → Declared → Suffix → Option Target
+driven at d s = as_signal_target at d s >>= λ x. (met (not (is_input (mode_of d.meaning))) >> Some x)
+
+pub signal_target_parts : (sight : Sight) (n : t.Name) (x : Target) → signal_target sight n ≡ Some x → NameParts driven sight n x
+unfolding signal_target
+signal_target_parts sight n x h = name_parts driven sight n x h
+
+pub variable_target_parts : (sight : Sight) (n : t.Name) (x : Target) → variable_target sight n ≡ Some x → NameParts as_variable_target sight n x
+unfolding variable_target
+variable_target_parts sight n x h = name_parts as_variable_target sight n x h

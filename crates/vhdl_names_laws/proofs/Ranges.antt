@@ -21,7 +21,7 @@ use Rattle.vhdl_names_rules.specs.Names as n
 use Rattle.vhdl_names_rules.specs.Names.{Suffix}
 use Rattle.vhdl_names_rules.specs.Ranges as r
 use Rattle.vhdl_names_rules.specs.Ranges.{Ranged, whole, sliced, ranged, bound_of, least, type_bound, integers_bound, bound, bound_named, declared_range, reversed, range_of, is_reverse_range, named_range, range_attribute, sized_by}
-use Rattle.vhdl_names_rules.specs.sound.Expressions.{Inside, vector, is_vector, static_fits, range_fits, any_range_fits, vector_shape}
+use Rattle.vhdl_names_rules.specs.sound.Expressions.{Inside, vector, is_vector, static_fits, range_fits, any_range_fits, computed_fits, vector_shape}
 use Rattle.vhdl_names_rules.proofs.kept.Keeping.{mapped}
 use Rattle.vhdl_names_rules.proofs.laws.Rules.{comes, kept}
 use Rattle.vhdl_names_laws.specs.Meanings.{Counts, kind_shape, DeclaredFits, TypedFits}
@@ -137,6 +137,7 @@ module _ (i : Inside) where
     subtype_fits m d n.plain h g = plain_fits m d h g
     subtype_fits m d (n.range y) h g = no_slice m d y g
     subtype_fits m d (n.arguments c xs) h g = absurd cc
+    subtype_fits m d (n.computed_range l direction r) h g = absurd cc
 
   module _ (counts : Counts) where
     -- each of several things
@@ -148,11 +149,13 @@ module _ (i : Inside) where
     SuffixFits n.plain = Unit {0}
     SuffixFits (n.arguments b xs) = EachFits xs
     SuffixFits (n.range x) = range_fits i x ≡ true
+    SuffixFits (n.computed_range l direction r) = (computed_fits i l && computed_fits i r) ≡ true
 
     ranged_fits : (d : Declared) (s : Suffix) (y : Ranged) → DeclaredFits i counts d → SuffixFits s → ranged d s ≡ Some y → RangedFits y
     ranged_fits d n.plain y h f g = whole_fits d.meaning d.range y h.range g
     ranged_fits d (n.range x) y h f g = sliced_fits d.meaning d.range x y h.range f g
     ranged_fits d (n.arguments b xs) y h f g = absurd cc
+    ranged_fits d (n.computed_range l direction r) y h f g = absurd cc
 
     named_range_fits : (a : Option Attribute) (d : Declared) (s : Suffix) (x : Range) → DeclaredFits i counts d → SuffixFits s → named_range a d s ≡ Some x → range_fits i x ≡ true
     named_range_fits (Some (t.of_range at)) d s x h f g =

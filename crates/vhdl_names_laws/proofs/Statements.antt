@@ -12,31 +12,33 @@ use Rattle.vhdl_names_rules.specs.declared.kind.ElementKind.TheVariants.{Element
 use Rattle.vhdl_names_rules.specs.declared.kind.ObjectType.{ObjectType}
 use Rattle.vhdl_names_rules.specs.declared.kind.ObjectType.TheVariants.{Elements, Enumeration}
 use Rattle.vhdl_names_rules.specs.units.Expressions as e
-use Rattle.vhdl_names_rules.specs.units.Expressions.{Part}
+use Rattle.vhdl_names_rules.specs.units.Expressions.{Part, Signal, Chosen}
+use Rattle.vhdl_names_rules.specs.units.Units.{Form}
 use Rattle.vhdl_names_rules.specs.units.Statements as s
 use Rattle.vhdl_names_rules.specs.Rules.{◌>>=◌}
 use Rattle.vhdl_names_rules.specs.Visibility as visibility
 use Rattle.vhdl_names_rules.specs.Visibility.{Name, Meaning, DeclaredRange, Sight, label_ends}
 use Rattle.vhdl_names_rules.specs.Operators as o
 use Rattle.vhdl_names_rules.specs.Names as n'
-use Rattle.vhdl_names_rules.specs.Names.{Suffix, part, part_of}
+use Rattle.vhdl_names_rules.specs.Names.{Suffix, AnyPart, part, part_of, chosen, any_part, any_part_of}
 use Rattle.vhdl_names_rules.specs.Expressions.{static_range, condition, value_given}
-use Rattle.vhdl_names_rules.specs.Statements.{part_range, SignalName, named_part, as_signal, signal, is_input, target, VariableName, variable_part, as_variable, variable, Target, target_by, assignment, alone, last_branch, branches, conditional, before, choice_lists, statement, statements, conditionals, otherwise, alternatives}
-use Rattle.vhdl_names_rules.specs.sound.Expressions.{Inside, Shape, range_fits, any_range_fits, part_shape, port_form, place_shape, value_shape, test_fits}
+use Rattle.vhdl_names_rules.specs.Statements.{part_range, SignalName, named_part, as_signal, signal, is_input, mode_of, Target, part_target, assigned_signal, assigned_variable, as_signal_target, as_variable_target, target_by, assignment, alone, last_branch, branches, conditional, before, choice_lists, statement, statements, conditionals, otherwise, alternatives}
+use Rattle.vhdl_names_rules.specs.sound.Expressions.{Inside, Shape, shape_of, is_vector, has_vector, chosen_shape, range_fits, any_range_fits, chosen_fits, part_shape, port_form, signal_form, place_shape, value_shape, test_fits}
 use Rattle.vhdl_names_rules.specs.sound.Statements as w
 use Rattle.vhdl_names_rules.specs.sound.Statements.{given_fits, given_fits_target, is_out, is_driven, selector_fits, statement_fits, statements_fit, branches_fit, alternatives_fit}
-use Rattle.vhdl_names_laws.specs.Meanings.{Counts, type_shape, IsCounted, IsPort, MeaningFits, IsInside}
+use Rattle.vhdl_names_laws.specs.Meanings.{Counts, kind_shape, type_shape, IsCounted, IsPort, MeaningFits, IsInside}
 use Rattle.vhdl_names_laws.proofs.Statics.{some_same, HasMore, more_of, keeps_all, all_more, found}
 use Rattle.vhdl_names_laws.proofs.Ranges.{RangeFits, SuffixFits, any_declared_fits}
 use Rattle.vhdl_names_rules.proofs.kept.Keeping.{mapped}
-use Rattle.vhdl_names_laws.proofs.Names.{part_of_fits, port_form_is, the_form}
+use Rattle.vhdl_names_laws.proofs.Names.{part_fits, part_of_fits, chosen_is, port_form_is, the_form}
+use Rattle.vhdl_names_laws.proofs.Shapes.{of_either}
 use Rattle.vhdl_names_laws.proofs.Served.{served}
 use Rattle.vhdl_names_laws.proofs.Expressions.{typed_fits, suffix_fits, static_range_fits}
 use Rattle.vhdl_names_laws.proofs.Values.{given_is, condition_fits}
 use Rattle.vhdl_names_laws.proofs.Choices.{selector_is, covered_fits, arranged_fits}
 use Rattle.vhdl_names_rules.proofs.laws.Rules.{comes, kept, not_true}
 use Rattle.vhdl_names_rules.proofs.laws.Parts.{case_parts}
-use Rattle.vhdl_names_laws.proofs.Parts.{signal_parts, variable_parts}
+use Rattle.vhdl_names_laws.proofs.Parts.{signal_parts, signal_target_parts, variable_target_parts}
 
 -- ---- names of signals and variables
 
@@ -103,43 +105,129 @@ signal_fits i counts sight n x h q =
     let f = found i counts sight h n.identifier.text d p.meant.is in
     as_signal_fits i counts n.identifier.at d.name d.meaning d.range d.is_global p.suffix.value x f.meaning f.range (suffix_fits n.suffix i counts sight p.suffix.value (served i counts sight h) p.suffix.is) p.is
 
-pub record TargetFits (i : Inside) (counts : Counts) (x : SignalName) : Type 0 where
-  pub fits : SignalFits i counts x
-  pub driven : is_driven i x.place.signal ≡ true
+-- ---- targets
 
-pub target_fits : (i : Inside) (counts : Counts) (sight : Sight) (n : t.Name) (x : SignalName) → IsInside i counts sight → target sight n ≡ Some x → TargetFits i counts x
-unfolding target
-target_fits i counts sight n x h q =
-    let a = comes (signal sight n) _ x q in
-    let b = kept (not (is_input a.value.mode)) _ x a.rest in
-    let f = signal_fits i counts sight n a.value h a.is in
-    subst (TargetFits i counts) (some_same a.value x b.1) (record { fits = f; driven = f.driven (not_true (is_input a.value.mode) b.0) })
-
-pub record VariableFits (i : Inside) (counts : Counts) (x : VariableName) : Type 0 where
-  pub shape : (slice_get i.variables x.number >>= λ f. part_shape i f x.part) ≡ Some (type_shape x.type)
+-- what is given to a target fits, and so does the assignment
+pub record GivenFits (i : Inside) (counts : Counts) (x : Target) : Type 0 where
+  pub fits : (g : s.Given) → given_fits i (type_shape x.type) g ≡ true → statement_fits i (x.assigned g) ≡ true
   pub counted : IsCounted counts x.type
   pub range : any_range_fits i x.range ≡ true
 
-as_variable_fits : (i : Inside) (counts : Counts) (at : ℕ) (name : Name) (d : Meaning) (r : Option DeclaredRange) (b : Bool) (suffix : Suffix) (x : VariableName)
-    → MeaningFits i counts d → RangeFits i r → SuffixFits i counts suffix
-    → as_variable at (record { name = name; meaning = d; range = r; is_global = b }) suffix ≡ Some x → VariableFits i counts x
-as_variable_fits i counts at name (visibility.variable k type) r b suffix x h z f q =
-    let a = mapped (variable_part at k r) (part_of type suffix) x q in
-    let g = the_form i counts type (slice_get i.variables k) h in
-    let p = part_of_fits i counts g.0 type suffix a.value g.2 h.counted f a.from in
-    subst (VariableFits i counts) a.is (record {
-      shape = ap (λ w. w >>= λ f. part_shape i f a.value.0) g.1 ∙ p.0;
-      counted = p.1;
-      range = part_range_fits i counts r z type suffix a.value f a.from;
-    })
-as_variable_fits i counts at name _ r b suffix x h z f q = absurd cc
+-- what is given to a target of a shape
+given_to : (i : Inside) (o : Option Shape) (z : Shape) (g : s.Given) → o ≡ Some z → given_fits i z g ≡ true → given_fits_target i o g ≡ true
+given_to i o z g h f = ap (λ o. given_fits_target i o g) h ∙ f
 
-pub variable_fits : (i : Inside) (counts : Counts) (sight : Sight) (n : t.Name) (x : VariableName) → IsInside i counts sight → variable sight n ≡ Some x → VariableFits i counts x
-variable_fits i counts sight n x h q =
-    let p = variable_parts sight n x q in
+-- to a part of an object of this form
+module _ (i : Inside) (counts : Counts) (at : ℕ) (r : Option DeclaredRange) (ranged : RangeFits i r) (f : Form) (assigned : AnyPart → s.Given → s.Statement)
+    (to_part : (p : Part) (z : Shape) (g : s.Given) → part_shape i f p ≡ Some z → given_fits i z g ≡ true → statement_fits i (assigned (n'.fixed p) g) ≡ true)
+    (to_chosen : (c : Chosen) (g : s.Given) → is_vector (shape_of f) ≡ true → chosen_fits i c ≡ true → given_fits i (chosen_shape c) g ≡ true → statement_fits i (assigned (n'.free c) g) ≡ true) where
+  abbrev IsTarget : AnyPart × ObjectType → Type 0
+  IsTarget p = GivenFits i counts (part_target at r assigned p)
+
+  of_elements : (k : ElementKind) (suffix : Suffix) (p : AnyPart × ElementKind) → shape_of f ≡ kind_shape k → SuffixFits i counts suffix → any_part k suffix ≡ Some p → IsTarget (p.0, Elements p.1)
+  of_elements k suffix p h w q =
+      of_either (λ (p : AnyPart × ElementKind). IsTarget (p.0, Elements p.1)) (option_map (λ (p : Part × ElementKind). (n'.fixed p.0, p.1)) (part k suffix)) (option_map (λ (p : Chosen × ElementKind). (n'.free p.0, p.1)) (chosen k suffix)) p
+      (λ z e.
+      let m = mapped (λ (p : Part × ElementKind). (n'.fixed p.0, p.1)) (part k suffix) z e in
+      subst (λ (p : AnyPart × ElementKind). IsTarget (p.0, Elements p.1)) m.is (record {
+        fits = λ g y. to_part m.value.0 (kind_shape m.value.1) g (part_fits i counts f k suffix m.value h w m.from) y;
+        counted = tt;
+        range = of_part i counts r ranged k suffix m.value w m.from;
+      }))
+      (λ z e.
+      let m = mapped (λ (p : Chosen × ElementKind). (n'.free p.0, p.1)) (chosen k suffix) z e in
+      let d = chosen_is i counts k suffix m.value w m.from in
+      subst (λ (p : AnyPart × ElementKind). IsTarget (p.0, Elements p.1)) m.is (record {
+        fits = λ g y. to_chosen m.value.0 g (ap is_vector (h ∙ d.of_vector)) d.fits (ap (λ z. given_fits i z g) d.shape ∙ y);
+        counted = tt;
+        range = refl;
+      })) q
+
+  of_type : (type : ObjectType) (suffix : Suffix) (p : AnyPart × ObjectType) → shape_of f ≡ type_shape type → IsCounted counts type → SuffixFits i counts suffix → any_part_of type suffix ≡ Some p → IsTarget p
+  of_type (Elements k) suffix p h c w q =
+      let a = mapped (λ (p : AnyPart × ElementKind). (p.0, Elements p.1)) (any_part k suffix) p q in
+      subst IsTarget a.is (of_elements k suffix a.value h w a.from)
+  of_type (Enumeration n count) n'.plain p h c w q =
+      subst IsTarget (some_same (n'.fixed e.whole, Enumeration n count) p q) (record {
+        fits = λ g y. to_part e.whole (type_shape (Enumeration n count)) g (ap Some h) y;
+        counted = c;
+        range = any_declared_fits i r ranged;
+      })
+  of_type (Enumeration n count) _ p h c w q = absurd cc
+
+  pub target_fits : (type : ObjectType) (suffix : Suffix) (x : Target) → shape_of f ≡ type_shape type → IsCounted counts type → SuffixFits i counts suffix
+      → option_map (part_target at r assigned) (any_part_of type suffix) ≡ Some x → GivenFits i counts x
+  target_fits type suffix x h c w q =
+      let a = mapped (part_target at r assigned) (any_part_of type suffix) x q in
+      subst (GivenFits i counts) a.is (of_type type suffix a.value h c w a.from)
+
+-- to a signal that is driven
+module _ (i : Inside) (at : ℕ) (x : Signal) (f : Form) (form : signal_form i x ≡ Some f) (driven_is : is_driven i x ≡ true) where
+  signal_part_fits : (p : Part) (z : Shape) (g : s.Given) → part_shape i f p ≡ Some z → given_fits i z g ≡ true → statement_fits i (assigned_signal at x (n'.fixed p) g) ≡ true
+  unfolding statement_fits
+  signal_part_fits p z g h y =
+      and_from (is_driven i x) (given_fits_target i (place_shape i (n'.place_of at x p)) g) driven_is
+      (given_to i (place_shape i (n'.place_of at x p)) z g (ap (λ w. w >>= λ f. part_shape i f p) form ∙ h) y)
+
+  signal_chosen_fits : (c : Chosen) (g : s.Given) → is_vector (shape_of f) ≡ true → chosen_fits i c ≡ true → given_fits i (chosen_shape c) g ≡ true
+      → statement_fits i (assigned_signal at x (n'.free c) g) ≡ true
+  unfolding statement_fits
+  signal_chosen_fits c g v h y =
+      and_from (is_driven i x && has_vector (signal_form i x) && chosen_fits i c) (given_fits i (chosen_shape c) g)
+      (and_from (is_driven i x && has_vector (signal_form i x)) (chosen_fits i c) (and_from (is_driven i x) (has_vector (signal_form i x)) driven_is (ap has_vector form ∙ v)) h) y
+
+-- to a variable
+module _ (i : Inside) (at k : ℕ) (f : Form) (form : slice_get i.variables k ≡ Some f) where
+  variable_part_fits : (p : Part) (z : Shape) (g : s.Given) → part_shape i f p ≡ Some z → given_fits i z g ≡ true → statement_fits i (assigned_variable at k (n'.fixed p) g) ≡ true
+  unfolding statement_fits
+  variable_part_fits p z g h y =
+      given_to i (slice_get i.variables k >>= λ f. part_shape i f p) z g (ap (λ w. w >>= λ f. part_shape i f p) form ∙ h) y
+
+  variable_chosen_fits : (c : Chosen) (g : s.Given) → is_vector (shape_of f) ≡ true → chosen_fits i c ≡ true → given_fits i (chosen_shape c) g ≡ true
+      → statement_fits i (assigned_variable at k (n'.free c) g) ≡ true
+  unfolding statement_fits
+  variable_chosen_fits c g v h y =
+      and_from (has_vector (slice_get i.variables k) && chosen_fits i c) (given_fits i (chosen_shape c) g)
+      (and_from (has_vector (slice_get i.variables k)) (chosen_fits i c) (ap has_vector form ∙ v) h) y
+
+as_signal_target_fits : (i : Inside) (counts : Counts) (at : ℕ) (name : Name) (d : Meaning) (r : Option DeclaredRange) (b : Bool) (suffix : Suffix) (x : Target)
+    → MeaningFits i counts d → RangeFits i r → SuffixFits i counts suffix → is_input (mode_of d) ≡ false
+    → as_signal_target at (record { name = name; meaning = d; range = r; is_global = b }) suffix ≡ Some x → GivenFits i counts x
+as_signal_target_fits i counts at name (visibility.port k mode kind) r b suffix x h z w m q =
+    let form = port_form_is i counts k mode kind h in
+    let out = out_port i k mode kind h m in
+    target_fits i counts at r z (port_form h.port) (assigned_signal at (e.port k))
+    (signal_part_fits i at (e.port k) (port_form h.port) form out) (signal_chosen_fits i at (e.port k) (port_form h.port) form out) (Elements kind) suffix x h.shape tt w q
+as_signal_target_fits i counts at name (visibility.signal k type) r b suffix x h z w m q =
+    let g = the_form i counts type (slice_get i.signals k) h in
+    target_fits i counts at r z g.0 (assigned_signal at (e.Signal.signal k))
+    (signal_part_fits i at (e.Signal.signal k) g.0 g.1 refl) (signal_chosen_fits i at (e.Signal.signal k) g.0 g.1 refl) type suffix x g.2 h.counted w q
+as_signal_target_fits i counts at name _ r b suffix x h z w m q = absurd cc
+
+as_variable_target_fits : (i : Inside) (counts : Counts) (at : ℕ) (name : Name) (d : Meaning) (r : Option DeclaredRange) (b : Bool) (suffix : Suffix) (x : Target)
+    → MeaningFits i counts d → RangeFits i r → SuffixFits i counts suffix
+    → as_variable_target at (record { name = name; meaning = d; range = r; is_global = b }) suffix ≡ Some x → GivenFits i counts x
+as_variable_target_fits i counts at name (visibility.variable k type) r b suffix x h z w q =
+    let g = the_form i counts type (slice_get i.variables k) h in
+    target_fits i counts at r z g.0 (assigned_variable at k) (variable_part_fits i at k g.0 g.1) (variable_chosen_fits i at k g.0 g.1) type suffix x g.2 h.counted w q
+as_variable_target_fits i counts at name _ r b suffix x h z w q = absurd cc
+
+pub target_is : (i : Inside) (counts : Counts) (sight : Sight) (b : Bool) (n : t.Name) (x : Target) → IsInside i counts sight → target_by sight b n ≡ Some x → GivenFits i counts x
+target_is i counts sight false n x h q =
+    let p = signal_target_parts sight n x q in
     let d = p.meant.value in
     let f = found i counts sight h n.identifier.text d p.meant.is in
-    as_variable_fits i counts n.identifier.at d.name d.meaning d.range d.is_global p.suffix.value x f.meaning f.range (suffix_fits n.suffix i counts sight p.suffix.value (served i counts sight h) p.suffix.is) p.is
+    let y = comes (as_signal_target n.identifier.at d p.suffix.value) _ x p.is in
+    let m = kept (not (is_input (mode_of d.meaning))) _ x y.rest in
+    subst (GivenFits i counts) (some_same y.value x m.1)
+    (as_signal_target_fits i counts n.identifier.at d.name d.meaning d.range d.is_global p.suffix.value y.value f.meaning f.range
+    (suffix_fits n.suffix i counts sight p.suffix.value (served i counts sight h) p.suffix.is) (not_true (is_input (mode_of d.meaning)) m.0) y.is)
+target_is i counts sight true n x h q =
+    let p = variable_target_parts sight n x q in
+    let d = p.meant.value in
+    let f = found i counts sight h n.identifier.text d p.meant.is in
+    as_variable_target_fits i counts n.identifier.at d.name d.meaning d.range d.is_global p.suffix.value x f.meaning f.range
+    (suffix_fits n.suffix i counts sight p.suffix.value (served i counts sight h) p.suffix.is) p.is
 
 -- ---- loops
 
@@ -161,40 +249,6 @@ inside_loop i counts sight n h =
       loop_count = omega (arith, same);
       generate_count = h.generate_count;
     }
-
--- ---- statements
-
--- what is given to a target of a shape
-given_to : (i : Inside) (o : Option Shape) (z : Shape) (g : s.Given) → o ≡ Some z → given_fits i z g ≡ true → given_fits_target i o g ≡ true
-given_to i o z g h f = ap (λ o. given_fits_target i o g) h ∙ f
-
-pub assigned_fits : (i : Inside) (counts : Counts) (x : SignalName) (g : s.Given) → TargetFits i counts x → given_fits i (type_shape x.type) g ≡ true
-    → statement_fits i (s.assign x.place g) ≡ true
-unfolding statement_fits
-assigned_fits i counts x g h f =
-    and_from (is_driven i x.place.signal) (given_fits_target i (place_shape i x.place) g) h.driven
-    (given_to i (place_shape i x.place) (type_shape x.type) g h.fits.shape f)
-
--- what is given to a target fits, and so does the assignment
-pub record GivenFits (i : Inside) (counts : Counts) (x : Target) : Type 0 where
-  pub fits : (g : s.Given) → given_fits i (type_shape x.type) g ≡ true → statement_fits i (x.assigned g) ≡ true
-  pub counted : IsCounted counts x.type
-  pub range : any_range_fits i x.range ≡ true
-
-variable_assigned_fits : (i : Inside) (counts : Counts) (x : VariableName) (g : s.Given) → VariableFits i counts x → given_fits i (type_shape x.type) g ≡ true
-    → statement_fits i (s.set x.at x.number x.part g) ≡ true
-unfolding statement_fits
-variable_assigned_fits i counts x g h f = given_to i (slice_get i.variables x.number >>= λ f. part_shape i f x.part) (type_shape x.type) g h.shape f
-
-pub target_is : (i : Inside) (counts : Counts) (sight : Sight) (b : Bool) (n : t.Name) (x : Target) → IsInside i counts sight → target_by sight b n ≡ Some x → GivenFits i counts x
-target_is i counts sight false n x h q =
-    let a = comes (target sight n) _ x q in
-    let f = target_fits i counts sight n a.value h a.is in
-    subst (GivenFits i counts) (some_same _ x a.rest) (record { fits = λ g z. assigned_fits i counts a.value g f z; counted = f.fits.counted; range = f.fits.range })
-target_is i counts sight true n x h q =
-    let a = comes (variable sight n) _ x q in
-    let f = variable_fits i counts sight n a.value h a.is in
-    subst (GivenFits i counts) (some_same _ x a.rest) (record { fits = λ g z. variable_assigned_fits i counts a.value g f z; counted = f.counted; range = f.range })
 
 -- ---- assignments, of values alone and under conditions
 

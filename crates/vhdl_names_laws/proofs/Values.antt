@@ -1,6 +1,6 @@
 -- Values that are given, conditions, and literals as they stand (IEEE 1076-2008, 10.5, 10.8 and 9.3.2).
 use Rattle.std.proofs.Common.{◌≡◌, ℕ, true, ◌==◌, not, List, [], ◌∷◌, Option, Some, refl, ap, sym, ◌∙◌, subst}
-use Rattle.std.specs.Prelude.{filter}
+use Rattle.std.specs.Prelude.{◌||◌, is_some, filter}
 use Rattle.std.specs.List.{slice_get}
 use Rattle.std.proofs.lemmas.Bool.{and_from, eqb-true}
 use Rattle.vhdl_values.specs.declared.scalar.Nine.{Nine}
@@ -24,7 +24,7 @@ use Rattle.vhdl_names_rules.specs.Operators as o
 use Rattle.vhdl_names_rules.specs.Operators.{Typed}
 use Rattle.vhdl_names_rules.specs.Types as types
 use Rattle.vhdl_names_rules.specs.Types.{TypedElements}
-use Rattle.vhdl_names_rules.specs.Aggregates.{aggregate}
+use Rattle.vhdl_names_rules.specs.Aggregates.{is_named, aggregate}
 use Rattle.vhdl_names_rules.specs.Expressions.{typed, fits, as_aggregate, as_composite, as_value, as_filled, value_given, as_test, condition, as_static_test}
 use Rattle.vhdl_names_rules.specs.Subtypes.{literal_values}
 use Rattle.vhdl_names_rules.specs.sound.Expressions.{Inside, one, vector, state, is_vector, any_range_fits, vector_shape, fits_shape, value_fits, test_fits, static_test_fits}
@@ -58,7 +58,8 @@ as_aggregate_fits : (i : Inside) (counts : Counts) (k : ElementKind) (at : ℕ) 
     → as_aggregate k at r es ≡ Some g → given_fits i (kind_shape k) g ≡ true
 as_aggregate_fits i counts k at r es g f h q =
     let v = kept (o.is_vector k) _ g q in
-    let a = comes (aggregate k at r es) _ g v.1 in
+    let c = kept (is_some r || not (is_named es)) _ g v.1 in
+    let a = comes (aggregate k at r es) _ g c.1 in
     subst (λ g. given_fits i (kind_shape k) g ≡ true) (some_same (s.single (e.Value.elements a.value)) g a.rest)
     (fits_self (kind_shape k) (vector_shape i a.value) (aggregate_fits i counts k at r es a.value f h a.is ∙ ap Some (sym (kind_is_vector k v.0))))
 

@@ -15,7 +15,7 @@ use Rattle.vhdl_names_rules.specs.Operators as o
 use Rattle.vhdl_names_rules.specs.Operators.{Typed}
 use Rattle.vhdl_names_rules.specs.Types as types
 use Rattle.vhdl_names_rules.specs.Types.{TypedChoice, TypedElements}
-use Rattle.vhdl_names_rules.specs.sound.Expressions.{Inside, Shape, one, vector, state, shape_of, static_fits, range_fits, index_fits, vector_shape, value_fits, test_fits}
+use Rattle.vhdl_names_rules.specs.sound.Expressions.{Inside, Shape, one, vector, state, shape_of, static_fits, range_fits, index_fits, computed_fits, vector_shape, value_fits, test_fits}
 use Rattle.vhdl_names_rules.specs.sound.Units.{fixed_fits}
 
 -- ---- types
@@ -106,6 +106,7 @@ choice_fits i (types.place is_local x) = index_fits i x
 abbrev mutual
   pub TypedFits : Inside → Counts → Typed → Type 0
   TypedFits i counts (o.integer s) = IsTrue (static_fits i s)
+  TypedFits i counts (o.computed x) = IsTrue (computed_fits i x)
   TypedFits i counts (o.elements kind x) = vector_shape i x ≡ Some (kind_shape kind)
   TypedFits i counts (o.enumerated e count x) =
       IsTrue (value_fits i (state count) x) × (slice_get counts e ≡ Some count)

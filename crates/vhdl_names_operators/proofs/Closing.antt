@@ -5,7 +5,7 @@ use Rattle.vhdl_values.specs.declared.scalar.Nine.{Nine}
 use Rattle.vhdl_names_rules.specs.declared.kind.ElementKind.TheVariants.{Element}
 use Rattle.vhdl_names_rules.specs.declared.vector.Vector.{Vector}
 use Rattle.vhdl_names_rules.specs.declared.vector.Vector.TheVariants as v
-use Rattle.vhdl_names_rules.specs.declared.vector.Vector.TheBlock.{Row_of-VectorLink, end_of-VectorLink, more_of-VectorLink}
+use Rattle.vhdl_names_rules.specs.declared.vector.Chosen.TheBlock.{Row_of-VectorLink, end_of-VectorLink, more_of-VectorLink}
 use Rattle.vhdl_names_rules.specs.declared.vector.VectorLink.{VectorLink}
 use Rattle.vhdl_names_rules.specs.declared.vector.VectorLink.TheVariants as l
 use Rattle.vhdl_names_rules.specs.Expressions as expressions
@@ -17,6 +17,7 @@ use Rattle.vhdl_names_operators.specs.Steps.{closed}
 chain_kept : (left : u.Vector) (x : VectorLink) (n : Count) (row : Row_of-VectorLink n) → closed (links_view (linked left x) row) ≡ links_view (linked left x) row
 chain_kept left (l.Vector op at y) n end_of-VectorLink = refl
 chain_kept left (l.Integer op at s) n end_of-VectorLink = refl
+chain_kept left (l.Computed op at y) n end_of-VectorLink = refl
 chain_kept left x n (more_of-VectorLink y rest) = chain_kept (linked left x) y _ rest
 
 pub no_character : (x : Vector) → ((at : ℕ) (c : Nine) → x ≡ v.Character at c → ⊥) → closed (vector_view x) ≡ vector_view x

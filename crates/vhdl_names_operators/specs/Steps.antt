@@ -4,15 +4,14 @@ use Rattle.vhdl_lexer.specs.declared.byte.ByteClass.TheVariants.{Hexadecimal, Oc
 use Rattle.vhdl_values.specs.declared.kinds.Cmp.{Cmp}
 use Rattle.vhdl_values.specs.declared.kinds.Cmp.TheVariants.{Ne}
 use Rattle.vhdl_names_rules.specs.units.Expressions as u
-use Rattle.vhdl_tree.specs.declared.operator.Sign.{Sign}
-use Rattle.vhdl_names_rules.specs.Rules.{◌>>=◌, ◌>>◌, rule, given_that}
-use Rattle.vhdl_names_rules.specs.Expressions.{as_integer, signed}
+use Rattle.vhdl_names_rules.specs.Rules.{◌>>◌, rule, given_that}
+use Rattle.vhdl_names_numbers.specs.Integers.{integers_of}
 use Rattle.vhdl_names_rules.specs.Literals.{number_of}
-use Rattle.std.specs.Prelude.{ℕ, Bool, true, List, Option, Some, None, option_map}
+use Rattle.std.specs.Prelude.{ℕ, Bool, true, List, Option, option_map}
 use Rattle.vhdl_names_rules.specs.declared.kind.ElementKind.TheVariants.{Unsigned}
 use Rattle.vhdl_names_rules.specs.declared.operator.Arithmetic.{Arithmetic}
 use Rattle.vhdl_names_rules.specs.declared.operator.Numeric.{Numeric}
-use Rattle.vhdl_names_rules.specs.Operators.{Typed, integer, elements, is_number, are_numbers, arithmetic, ordering}
+use Rattle.vhdl_names_rules.specs.Operators.{Typed, integer, computed, elements, is_number, are_numbers, arithmetic, ordering}
 use Rattle.vhdl_names_rules.specs.declared.fault.NameProblem.TheVariants.{TypeMismatch, NotVisible}
 use Rattle.vhdl_names_rules.specs.units.Expressions.{Vector, Value, Test}
 use Rattle.vhdl_names_operators.specs.declared.literals.Base.{Base}
@@ -32,12 +31,13 @@ found numbers are_numbers p = do
 -- the numbers that operands are, as integers and unsigned ones; all but two integers need the operators of numeric_std
 -- in sight
 abbrev pub numbers_of : (numbers : Bool) → Typed → Typed → Option (Typed × Typed)
-numbers_of numbers (integer s) (integer t) = Some (integer s, integer t)
 numbers_of numbers (elements j x) (elements k y) =
     found numbers (are_numbers j k) (elements Unsigned x, elements Unsigned y)
 numbers_of numbers (elements j x) (integer t) = found numbers (is_number j) (elements Unsigned x, integer t)
 numbers_of numbers (integer s) (elements k y) = found numbers (is_number k) (integer s, elements Unsigned y)
-numbers_of numbers _ _ = None
+numbers_of numbers (elements j x) (computed t) = found numbers (is_number j) (elements Unsigned x, computed t)
+numbers_of numbers (computed s) (elements k y) = found numbers (is_number k) (computed s, elements Unsigned y)
+numbers_of numbers x y = integers_of x y
 
 -- what is calculated of numbers, and how they are compared
 abbrev pub calculation : (at : ℕ) → Arithmetic → Numeric → Typed × Typed → Option Typed
@@ -62,11 +62,3 @@ closed x = x
 -- an integer literal
 abbrev pub integer_literal : List ℕ → Option Typed
 integer_literal text = option_map (λ n. integer (u.number n)) (number_of text)
-
--- a sign before an operand
-abbrev pub signed_by : (at : ℕ) → Sign → Typed → Option Typed
-signed_by at sign x = as_integer x >>= λ s. Some (integer (signed at sign s))
-
--- `abs` before an operand
-abbrev pub absolute_of : (at : ℕ) → Typed → Option Typed
-absolute_of at x = as_integer x >>= λ s. Some (integer (u.absolute at s))

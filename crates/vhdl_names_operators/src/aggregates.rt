@@ -38,7 +38,7 @@ fn choice_start(choice: &TypedChoice) -> usize
 }
 
 /// Whether the first element has choices.
-fn is_named(elements: &[TypedElement]) -> bool
+pub fn is_named(elements: &[TypedElement]) -> bool
     ensures { result ≡ broken.is_named (typed_elements_view elements.now) }
 {
     match elements.first() {

@@ -9,10 +9,10 @@ mod numbers;
 mod operands;
 mod operators;
 
-pub use aggregates::{aggregate, arranged};
+pub use aggregates::{aggregate, arranged, is_named};
 pub use literals::{bit_string_values, string_values};
 pub use operands::{
-    absolute, bit_string_literal, character_literal, enclosed, in_parentheses, integer_literal,
-    signed, string_literal,
+    bit_string_literal, character_literal, enclosed, in_parentheses, integer_literal,
+    string_literal,
 };
 pub use operators::{inverse, operated, power};

@@ -1,32 +1,31 @@
-//! Numbers: static integers, and the vectors that numeric_std takes for numbers (IEEE 1076-2008,
-//! 16.8).
+//! Numbers: integers, and the vectors that numeric_std takes for numbers (IEEE 1076-2008, 16.8).
 
 ghost use Rattle.vhdl_names_rules.specs.problems.Broken.{Tells, refused};
 ghost use Rattle.vhdl_names_rules.specs.problems.Operators.{is_numeric};
 ghost use Rattle.vhdl_names_rules.specs.declared.fault.NameProblem.TheVariants.{NotVisible};
 ghost use Rattle.std.specs.Prelude.{◌≡◌, ◌&&◌, if◌then◌else◌, Some, IfOk, IfErr};
 ghost use Rattle.vhdl_names_rules.specs.Gives.{Gives};
-ghost use Rattle.vhdl_names_rules.specs.Operators as table;
-ghost use Rattle.vhdl_names_rules.specs.views.Integers.{static_view};
+ghost use Rattle.vhdl_names_numbers.specs.Integers.{integer_view};
 ghost use Rattle.vhdl_names_operators.specs.Steps as steps;
 ghost use Rattle.vhdl_names_operators.specs.Steps.{numbers_of, calculation, comparing};
 ghost use Rattle.vhdl_names_rules.specs.views.Expressions.{typed_view};
 ghost use Rattle.vhdl_names_operators.specs.Views.{numbers_view};
 
 use std::alloc::{AllocError, Global};
+use vhdl_names_numbers::{Integer, compared_to, compared_with, integers_compared};
 use vhdl_names_rules::{
-    Arithmetic, ElementKind, NameFault, NameProblem, Numeric, Static, StaticTest, Test, Typed,
-    Vector, VectorLink, VectorOperator, without,
+    Arithmetic, ElementKind, NameFault, NameProblem, Numeric, Test, Typed, Vector, VectorLink,
+    VectorOperator, without,
 };
 use vhdl_values::Cmp;
 
 /// Operands of + - * and of < <= > >=: two integers, two numbers, or a number and an integer.
 #[derive(Drop)]
 pub(crate) enum Numbers {
-    Integers(Static, Static),
+    Integers(Integer, Integer),
     Vectors(Vector, Vector),
-    IntegerSecond(Vector, Static),
-    IntegerFirst(Static, Vector),
+    IntegerSecond(Vector, Integer),
+    IntegerFirst(Integer, Vector),
 }
 
 /// The numbers that were found for an operator of numeric_std. It asks for operands that it takes
@@ -50,6 +49,30 @@ fn numeric(
     Ok(found)
 }
 
+/// The numbers that an integer and the operand behind it are.
+fn beside_integer(
+    numbers: bool,
+    at: usize,
+    problem: NameProblem,
+    integer: Integer,
+    operand: Typed,
+) -> Result<Numbers, NameFault>
+    ensures given { Gives numbers_view (numbers_of numbers (integer_view integer) (typed_view operand)) result }
+    ensures told { IfErr result (Tells
+        (refused (if is_numeric (typed_view operand) then NotVisible else problem) at)) }
+{
+    match operand {
+        Typed::Elements(k, y) => {
+            let found = Numbers::IntegerFirst(integer, y);
+            numeric(found, numbers, k.is_number(), problem, at)
+        }
+        operand => match Integer::of(operand) {
+            Ok(t) => Ok(Numbers::Integers(integer, t)),
+            Err(operand) => Err(without((integer, operand), problem.at(at))),
+        },
+    }
+}
+
 /// The numbers that operands are; where they are none, there is this problem.
 pub(crate) fn as_numbers(
     numbers: bool,
@@ -64,36 +87,23 @@ pub(crate) fn as_numbers(
 {
     let (left, right) = operands;
     match left {
-        Typed::Integer(s) => match right {
-            Typed::Integer(t) => Ok(Numbers::Integers(s, t)),
-            Typed::Elements(k, y) => {
-                numeric(
-                    Numbers::IntegerFirst(s, y),
-                    numbers,
-                    k.is_number(),
-                    problem,
-                    at,
-                )
-            }
-            right => Err(without((s, right), problem.at(at))),
-        },
         Typed::Elements(j, x) => match right {
             Typed::Elements(k, y) => {
                 let are_numbers = j.is_number() && k.is_number();
                 numeric(Numbers::Vectors(x, y), numbers, are_numbers, problem, at)
             }
-            Typed::Integer(t) => {
-                numeric(
-                    Numbers::IntegerSecond(x, t),
-                    numbers,
-                    j.is_number(),
-                    problem,
-                    at,
-                )
-            }
-            right => Err(without((x, right), problem.at(at))),
+            right => match Integer::of(right) {
+                Ok(t) => {
+                    let found = Numbers::IntegerSecond(x, t);
+                    numeric(found, numbers, j.is_number(), problem, at)
+                }
+                Err(right) => Err(without((x, right), problem.at(at))),
+            },
         },
-        left => Err(without((left, right), problem.at(at))),
+        left => match Integer::of(left) {
+            Ok(s) => beside_integer(numbers, at, problem, s, right),
+            Err(left) => Err(without((left, right), problem.at(at))),
+        },
     }
 }
 
@@ -108,22 +118,27 @@ pub(crate) fn calculated(
     ensures { IfOk result (λ t. calculation at operator by (numbers_view numbers) ≡ Some (typed_view t)) }
 {
     let made = match numbers {
-        Numbers::Integers(s, t) => return Ok(Typed::Integer(s.binary(alloc, operator, at, t)?)),
+        Numbers::Integers(s, t) => return s.binary(alloc, operator, at, t),
         Numbers::Vectors(x, y) => {
             let operator = VectorOperator::Arithmetic(by);
             x.with_link(alloc, VectorLink::Vector(operator, at, y))?
         }
-        Numbers::IntegerSecond(x, t) => x.with_link(alloc, VectorLink::Integer(by, at, t))?,
-        Numbers::IntegerFirst(s, y) => Vector::integer_with(alloc, by, at, s, y)?,
+        Numbers::IntegerSecond(x, t) => {
+            let link = match t {
+                Integer::Static(t) => VectorLink::Integer(by, at, t),
+                Integer::Computed(t) => VectorLink::Computed(by, at, t),
+            };
+            x.with_link(alloc, link)?
+        }
+        Numbers::IntegerFirst(s, y) => match s {
+            Integer::Static(s) => Vector::integer_with(alloc, by, at, s, y)?,
+            Integer::Computed(s) => {
+                let s = Box::new(alloc, s)?;
+                Vector::ComputedWith(by, at, s, Box::new(alloc, y)?)
+            }
+        },
     };
     Ok(Typed::Elements(ElementKind::Unsigned, made))
-}
-
-/// A relation of two static integers.
-pub(crate) fn integers_compared(comparison: Cmp, at: usize, left: Static, right: Static) -> Typed
-    ensures { typed_view result ≡ table.integers_compared at comparison (static_view left) (static_view right) }
-{
-    Typed::Truth(Test::Fixed(StaticTest::Compared(comparison, at, left, right)))
 }
 
 /// < <= > >= of numbers.
@@ -136,10 +151,10 @@ pub(crate) fn compared(
     ensures { IfOk result (λ t. comparing at comparison (numbers_view numbers) ≡ Some (typed_view t)) }
 {
     let test = match numbers {
-        Numbers::Integers(s, t) => return Ok(integers_compared(comparison, at, s, t)),
+        Numbers::Integers(s, t) => return integers_compared(alloc, comparison, at, s, t),
         Numbers::Vectors(x, y) => Test::compared(alloc, comparison, at, x, y)?,
-        Numbers::IntegerSecond(x, t) => Test::compared_to(alloc, comparison, at, x, t)?,
-        Numbers::IntegerFirst(s, y) => Test::compared_with(alloc, comparison, at, s, y)?,
+        Numbers::IntegerSecond(x, t) => compared_to(alloc, comparison, at, x, t)?,
+        Numbers::IntegerFirst(s, y) => compared_with(alloc, comparison, at, s, y)?,
     };
     Ok(Typed::Truth(test))
 }

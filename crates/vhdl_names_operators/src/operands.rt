@@ -1,4 +1,4 @@
-//! Operands: literals (IEEE 1076-2008, 9.3.2), and what stands behind a sign or in parentheses.
+//! Operands: literals (IEEE 1076-2008, 9.3.2), and what stands in parentheses.
 
 ghost use Rattle.vhdl_names_rules.specs.problems.Broken.{Tells, lacking};
 ghost use Rattle.vhdl_names_rules.specs.problems.Operators.{string_problem};
@@ -11,7 +11,7 @@ ghost use Rattle.vhdl_names_rules.specs.Operators as table;
 ghost use Rattle.vhdl_names_rules.specs.declared.kind.ElementKind.TheVariants.{Element, OpenVector};
 ghost use Rattle.vhdl_names_rules.specs.units.Expressions as u;
 ghost use Rattle.vhdl_names_rules.specs.views.Vectors.{vector_view};
-ghost use Rattle.vhdl_names_operators.specs.Steps.{closed, integer_literal as integer_of, signed_by, absolute_of};
+ghost use Rattle.vhdl_names_operators.specs.Steps.{closed, integer_literal as integer_of};
 ghost use Rattle.vhdl_names_rules.specs.views.Expressions.{typed_view};
 
 use crate::literals::{bit_string_values, string_values};
@@ -20,7 +20,7 @@ use vhdl_lexer::integer_value;
 use vhdl_names_rules::{
     ElementKind, NameFault, NameProblem, Static, Typed, Vector, nine_of, without,
 };
-use vhdl_tree::{Literal, Sign};
+use vhdl_tree::Literal;
 
 /// An integer literal, of at most 2,147,483,647 (IEEE 1076-2008, 5.2.3.2); a greater one is
 /// LeftOut.
@@ -73,35 +73,6 @@ pub fn bit_string_literal(alloc: Global, literal: &Literal) -> Result<Typed, Nam
 {
     let values = bit_string_values(alloc, literal)?;
     Ok(Typed::Elements(ElementKind::OpenVector, Vector::Literal(literal.at, values)))
-}
-
-/// A sign at byte `at`, before an integer (9.2.6), or else there is TypeMismatch. It takes the
-/// memory of a box.
-#[inline(never)]
-pub fn signed(alloc: Global, sign: Sign, operand: Typed, at: usize) -> Result<Typed, NameFault>
-    ensures given { Gives typed_view (signed_by at sign (typed_view operand)) result }
-    ensures told { IfErr result (Tells (lacking TypeMismatch at (rules.as_integer (typed_view operand)))) }
-{
-    match operand {
-        Typed::Integer(integer) => match sign {
-            Sign::Plus => Ok(Typed::Integer(integer)),
-            Sign::Minus => Ok(Typed::Integer(Static::negated(alloc, at, integer)?)),
-        },
-        operand => Err(without(operand, NameProblem::TypeMismatch.at(at))),
-    }
-}
-
-/// `abs` at byte `at`, before an integer (9.2.8), or else there is TypeMismatch. It takes the
-/// memory of a box.
-#[inline(never)]
-pub fn absolute(alloc: Global, operand: Typed, at: usize) -> Result<Typed, NameFault>
-    ensures given { Gives typed_view (absolute_of at (typed_view operand)) result }
-    ensures told { IfErr result (Tells (lacking TypeMismatch at (rules.as_integer (typed_view operand)))) }
-{
-    match operand {
-        Typed::Integer(integer) => Ok(Typed::Integer(Static::absolute(alloc, at, integer)?)),
-        operand => Err(without(operand, NameProblem::TypeMismatch.at(at))),
-    }
 }
 
 /// A vector as it counts in parentheses.

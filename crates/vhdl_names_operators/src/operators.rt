@@ -8,15 +8,16 @@ ghost use Rattle.std.specs.Prelude.{◌≡◌, ◌==◌, true, ◌||◌, if◌th
 ghost use Rattle.vhdl_names_rules.specs.Gives.{Gives};
 ghost use Rattle.vhdl_names_rules.specs.Rules.{given_that};
 ghost use Rattle.vhdl_names_rules.specs.Operators as table;
-ghost use Rattle.vhdl_names_rules.specs.views.Vectors.{value_view};
+ghost use Rattle.vhdl_names_rules.specs.views.Vectors.{value_view, vector_view};
 ghost use Rattle.vhdl_names_operators.specs.Steps.{same_by};
 ghost use Rattle.vhdl_names_operators.specs.Resolving.{is_plain, kind_of as kind_seen, operand_breaks};
-ghost use Rattle.vhdl_names_rules.specs.declared.operator.Arithmetic.TheVariants.{Power};
+ghost use Rattle.vhdl_names_numbers.specs.Integers.{integer_view};
 ghost use Rattle.vhdl_names_rules.specs.views.Expressions.{typed_view};
 
 use crate::beside::{kind_of, resolved};
-use crate::numbers::{as_numbers, calculated, compared, integers_compared};
+use crate::numbers::{as_numbers, calculated, compared};
 use std::alloc::{AllocError, Global};
+use vhdl_names_numbers::{Integer, as_integers, compared_to, compared_with, integers_compared};
 use vhdl_names_rules::{
     Arithmetic, ElementKind, NameFault, NameProblem, Numeric, Test, Typed, Value, Vector,
     VectorLink, VectorOperator, without,
@@ -102,14 +103,9 @@ fn integral(
         (table.integral at operator (typed_view operands.0) (typed_view operands.1)) result }
     ensures told { IfErr result (Tells (refused TypeMismatch at)) }
 {
-    let (left, right) = operands;
-    let problem = NameProblem::TypeMismatch;
-    match left {
-        Typed::Integer(x) => match right {
-            Typed::Integer(y) => Ok(Typed::Integer(x.binary(alloc, operator, at, y)?)),
-            right => Err(without((x, right), problem.at(at))),
-        },
-        left => Err(without((left, right), problem.at(at))),
+    match as_integers(operands) {
+        Ok((left, right)) => Ok(left.binary(alloc, operator, at, right)?),
+        Err(operands) => Err(without(operands, NameProblem::TypeMismatch.at(at))),
     }
 }
 
@@ -170,6 +166,77 @@ fn same_of(
     Ok(same(alloc, comparison, at, value, beside)?)
 }
 
+/// = and /=, at byte `at`, of elements, and what stands beside them: elements of one kind, or an
+/// integer beside a number.
+fn elements_equal(
+    alloc: Global,
+    at: usize,
+    comparison: Cmp,
+    left: (ElementKind, Vector),
+    right: Typed,
+) -> Result<Typed, NameFault>
+    requires right { is_plain (typed_view right) ≡ true }
+    ensures given { Gives typed_view
+        (table.equality at comparison (same_by at comparison) (table.elements left.0 (vector_view left.1))
+        (typed_view right)) result }
+    ensures told { IfErr result (Tells (refused TypeMismatch at)) }
+{
+    let (j, x) = left;
+    let problem = NameProblem::TypeMismatch;
+    match right {
+        Typed::Elements(k, y) => match j.common(k) {
+            None => Err(without((x, y), problem.at(at))),
+            Some(ElementKind::Unsigned) => {
+                Ok(Typed::Truth(Test::compared(alloc, comparison, at, x, y)?))
+            }
+            Some(_) => Ok(same(
+                alloc,
+                comparison,
+                at,
+                Value::Elements(x),
+                Value::Elements(y),
+            )?),
+        },
+        right => match Integer::of(right) {
+            Ok(t) => match j {
+                ElementKind::Unsigned => {
+                    Ok(Typed::Truth(compared_to(alloc, comparison, at, x, t)?))
+                }
+                _ => Err(without((x, t), problem.at(at))),
+            },
+            Err(right) => Err(without((x, right), problem.at(at))),
+        },
+    }
+}
+
+/// = and /=, at byte `at`, of an integer, and an integer or a number.
+fn integer_equals(
+    alloc: Global,
+    at: usize,
+    comparison: Cmp,
+    left: Integer,
+    right: Typed,
+) -> Result<Typed, NameFault>
+    requires right { is_plain (typed_view right) ≡ true }
+    ensures given { Gives typed_view
+        (table.equality at comparison (same_by at comparison) (integer_view left) (typed_view right)) result }
+    ensures told { IfErr result (Tells (refused TypeMismatch at)) }
+{
+    let problem = NameProblem::TypeMismatch;
+    match right {
+        Typed::Elements(k, y) => match k {
+            ElementKind::Unsigned => {
+                Ok(Typed::Truth(compared_with(alloc, comparison, at, left, y)?))
+            }
+            _ => Err(without((left, y), problem.at(at))),
+        },
+        right => match Integer::of(right) {
+            Ok(right) => Ok(integers_compared(alloc, comparison, at, left, right)?),
+            Err(right) => Err(without((left, right), problem.at(at))),
+        },
+    }
+}
+
 /// = and /=, at byte `at`.
 fn equality(
     alloc: Global,
@@ -186,35 +253,7 @@ fn equality(
     let (left, right) = operands;
     let problem = NameProblem::TypeMismatch;
     match left {
-        Typed::Integer(s) => match right {
-            Typed::Integer(t) => Ok(integers_compared(comparison, at, s, t)),
-            Typed::Elements(ElementKind::Unsigned, y) => {
-                Ok(Typed::Truth(Test::compared_with(alloc, comparison, at, s, y)?))
-            }
-            right => Err(without((s, right), problem.at(at))),
-        },
-        Typed::Elements(j, x) => match right {
-            Typed::Elements(k, y) => match j.common(k) {
-                None => Err(without((x, y), problem.at(at))),
-                Some(ElementKind::Unsigned) => {
-                    Ok(Typed::Truth(Test::compared(alloc, comparison, at, x, y)?))
-                }
-                Some(_) => Ok(same(
-                    alloc,
-                    comparison,
-                    at,
-                    Value::Elements(x),
-                    Value::Elements(y),
-                )?),
-            },
-            Typed::Integer(t) => match j {
-                ElementKind::Unsigned => {
-                    Ok(Typed::Truth(Test::compared_to(alloc, comparison, at, x, t)?))
-                }
-                _ => Err(without((x, t), problem.at(at))),
-            },
-            right => Err(without((x, right), problem.at(at))),
-        },
+        Typed::Elements(j, x) => elements_equal(alloc, at, comparison, (j, x), right),
         Typed::Enumerated { number, value, .. } => match right {
             Typed::Enumerated {
                 number: other,
@@ -223,7 +262,10 @@ fn equality(
             } => same_of(alloc, comparison, at, (number, value), (other, beside)),
             right => Err(without((value, right), problem.at(at))),
         },
-        left => Err(without((left, right), problem.at(at))),
+        left => match Integer::of(left) {
+            Ok(integer) => integer_equals(alloc, at, comparison, integer, right),
+            Err(left) => Err(without((left, right), problem.at(at))),
+        },
     }
 }
 
@@ -271,10 +313,17 @@ fn ordering(
 /// `**`, at byte `at`.
 #[inline(never)]
 pub fn power(alloc: Global, at: usize, base: Typed, exponent: Typed) -> Result<Typed, NameFault>
-    ensures given { Gives typed_view (table.integral at Power (typed_view base) (typed_view exponent)) result }
+    ensures given { Gives typed_view (table.raised at (typed_view base) (typed_view exponent)) result }
     ensures told { IfErr result (Tells (refused TypeMismatch at)) }
 {
-    integral(alloc, at, Arithmetic::Power, (base, exponent))
+    let problem = NameProblem::TypeMismatch;
+    match base {
+        Typed::Integer(x) => match exponent {
+            Typed::Integer(y) => { Ok(Typed::Integer(x.binary(alloc, Arithmetic::Power, at, y)?)) }
+            exponent => Err(without((x, exponent), problem.at(at))),
+        },
+        base => Err(without((base, exponent), problem.at(at))),
+    }
 }
 
 /// A binary operator, at byte `at`, on operands of which none is an aggregate.

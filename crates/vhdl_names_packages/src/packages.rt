@@ -17,7 +17,7 @@ use vhdl_lexer::Language;
 use vhdl_names_declarations::declare_name;
 use vhdl_names_rules::{ElementKind, Function, IntegerType, NameFault};
 use vhdl_names_sight::{Meaning, Region, Sight, names_are_apart};
-use vhdl_values::{Counted, Edge};
+use vhdl_values::{Counted, Edge, Shift};
 
 /// What a package declares.
 #[derive(Clone, Copy)]
@@ -112,17 +112,23 @@ pub const NUMERIC_STD: [Row; 5] = [
     },
     Row {
         name: b"shift_left",
-        builtin: Builtin::Call(Function::ByCount(Counted::ShiftLeft)),
+        builtin: Builtin::Call(Function::ByCount(Counted::Shift(Shift::Left))),
     },
     Row {
         name: b"shift_right",
-        builtin: Builtin::Call(Function::ByCount(Counted::ShiftRight)),
+        builtin: Builtin::Call(Function::ByCount(Counted::Shift(Shift::Right))),
     },
     Row {
         name: b"to_unsigned",
         builtin: Builtin::Call(Function::ToUnsigned),
     },
 ];
+
+/// What the wider language has of it besides.
+pub const TO_INTEGER: [Row; 1] = [Row {
+    name: b"to_integer",
+    builtin: Builtin::Call(Function::ToInteger),
+}];
 
 impl Builtin {
     fn meaning(self) -> Meaning
@@ -176,11 +182,17 @@ pub fn visible(alloc: Global, context: Context) -> Result<Region, NameFault>
     ensures told { IfErr result (Tells (nothing)) }
 {
     let mut region = IndexMap::new(alloc);
+    let is_wide = context.language == Language::Wide;
     add_used(alloc, &mut region, context.has_numbers, &NUMERIC_STD)?;
+    add_used(
+        alloc,
+        &mut region,
+        context.has_numbers && is_wide,
+        &TO_INTEGER,
+    )?;
     add_used(alloc, &mut region, context.has_logic, &STD_LOGIC_1164)?;
     add_rows(alloc, &mut region, &INTEGERS)?;
-    let has_booleans = context.language == Language::Wide;
-    add_used(alloc, &mut region, has_booleans, &BOOLEANS)?;
+    add_used(alloc, &mut region, is_wide, &BOOLEANS)?;
     Ok(region)
 }
 

@@ -12,5 +12,5 @@ mod ranges;
 pub use edges::is_static_part;
 pub use local::{is_local, subtype_is_local};
 pub use names::{attribute_start, attributed, denoted, is_event};
-pub use parts::{part_of, two_arguments};
+pub use parts::{any_part_of, part_of, two_arguments};
 pub use ranges::{is_of_range, named_range, range_attribute, sized_by, sized_range};

@@ -10,26 +10,29 @@ ghost use Rattle.vhdl_names_rules.specs.Gives.{Gives};
 ghost use Rattle.vhdl_names_rules.specs.Names as rules;
 ghost use Rattle.vhdl_names_rules.specs.Operators as table;
 ghost use Rattle.vhdl_names_rules.specs.Visibility as visibility;
-ghost use Rattle.vhdl_names_rules.specs.units.Expressions as units;
 ghost use Rattle.vhdl_names_rules.specs.views.Integers.{static_view};
-ghost use Rattle.vhdl_names_rules.specs.views.Vectors.{signal_view, value_view, vector_view};
+ghost use Rattle.vhdl_names_rules.specs.views.Vectors.{signal_view, value_view};
 ghost use Rattle.vhdl_tree.specs.View.{attribute_view};
-ghost use Rattle.vhdl_names_parts.specs.Steps.{conversion, counting, encoded_by, two};
+ghost use Rattle.vhdl_names_parts.specs.Steps.{conversion, counting, encoding, two};
 ghost use Rattle.vhdl_names_sight.specs.Views.{meaning_view};
 ghost use Rattle.vhdl_names_rules.specs.views.Expressions.{typed_view, typed_suffix_view};
 
 use crate::edges::{edge_of, edge_signal};
 use crate::parts::{if_plain, part, sole_argument, two_arguments};
 use std::alloc::Global;
+use vhdl_names_numbers::{count_of, encoded, number_of};
 use vhdl_names_rules::{
-    ElementKind, Function, NameFault, NameProblem, ObjectType, Signal, SignalPart, Static,
+    AnyPart, ElementKind, Function, NameFault, NameProblem, ObjectType, Signal, SignalPart, Static,
     StaticTest, Test, Typed, TypedSuffix, Value, Vector, without,
 };
 use vhdl_names_sight::Meaning;
 use vhdl_tree::Attribute;
+use vhdl_values::Counted;
 
-/// A port or signal of the nine values, or a part of it.
+/// A port or signal of the nine values, or a part of it. It may take the memory of a box, as a
+/// constant and a variable do.
 fn read_signal(
+    alloc: Global,
     signal: Signal,
     kind: ElementKind,
     suffix: TypedSuffix,
@@ -40,22 +43,31 @@ fn read_signal(
     ensures told { IfErr result (Tells (refused TypeMismatch at)) }
 {
     let (part, kind) = part(kind, suffix, at)?;
-    Ok(Typed::Elements(kind, Vector::Signal(SignalPart { at, signal, part })))
+    let vector = match part {
+        AnyPart::Static(part) => Vector::Signal(SignalPart { at, signal, part }),
+        AnyPart::Chosen(part) => Vector::InSignal(at, signal, Box::new(alloc, part)?),
+    };
+    Ok(Typed::Elements(kind, vector))
 }
 
 /// A constant of the nine values, or a part of it.
 fn read_constant(
+    alloc: Global,
     number: usize,
     kind: ElementKind,
     suffix: TypedSuffix,
     at: usize,
 ) -> Result<Typed, NameFault>
-    ensures given { Gives typed_view (rules.read_by (units.of_constant at number) kind (typed_suffix_view suffix))
-        result }
+    ensures given { Gives typed_view
+        (rules.read_by (rules.constant_part at number) kind (typed_suffix_view suffix)) result }
     ensures told { IfErr result (Tells (refused TypeMismatch at)) }
 {
     let (part, kind) = part(kind, suffix, at)?;
-    Ok(Typed::Elements(kind, Vector::Constant(at, number, part)))
+    let vector = match part {
+        AnyPart::Static(part) => Vector::Constant(at, number, part),
+        AnyPart::Chosen(part) => Vector::InConstant(at, number, Box::new(alloc, part)?),
+    };
+    Ok(Typed::Elements(kind, vector))
 }
 
 /// A vector as one of another kind.
@@ -86,48 +98,37 @@ fn converted(kind: ElementKind, suffix: TypedSuffix, at: usize) -> Result<Typed,
     }
 }
 
-/// A number and a count, which a call at byte `at` is of.
-fn number_and_count(arguments: Vec<Typed>, at: usize) -> Result<(Vector, Static), NameFault>
-    ensures given { Gives (λ p. (vector_view p.0, static_view p.1))
-        (counting (option_map (λ p. (typed_view p.0, typed_view p.1)) (two arguments.items))) result }
-    ensures told { IfErr result (Tells (refused TypeMismatch at)) }
-{
-    let Some((first, second)) = two_arguments(arguments) else {
-        return Err(NameProblem::TypeMismatch.at(at));
-    };
-    let problem = NameProblem::TypeMismatch;
-    match first {
-        Typed::Elements(ElementKind::Unsigned, number) => match second {
-            Typed::Integer(count) => Ok((number, count)),
-            second => Err(without((number, second), problem.at(at))),
-        },
-        first => Err(without(first, problem.at(at))),
-    }
-}
-
-/// to_unsigned, whose name is at byte `at`, of a number and a size.
-fn encoded(arguments: Vec<Typed>, at: usize) -> Result<Typed, NameFault>
+/// An operator on a number and a count, whose name is at byte `at`.
+fn counted(
+    alloc: Global,
+    operator: Counted,
+    arguments: Vec<Typed>,
+    at: usize,
+) -> Result<Typed, NameFault>
     ensures given { Gives typed_view
-        (encoded_by at (option_map (λ p. (typed_view p.0, typed_view p.1)) (two arguments.items))) result }
+        (counting at operator (option_map (λ p. (typed_view p.0, typed_view p.1)) (two arguments.items))) result }
     ensures told { IfErr result (Tells (refused TypeMismatch at)) }
 {
-    let Some((first, second)) = two_arguments(arguments) else {
+    let Some((number, count)) = two_arguments(arguments) else {
         return Err(NameProblem::TypeMismatch.at(at));
     };
-    let problem = NameProblem::TypeMismatch;
-    match first {
-        Typed::Integer(number) => match second {
-            Typed::Integer(size) => {
-                Ok(Typed::Elements(ElementKind::Unsigned, Vector::Encoded(at, number, size)))
-            }
-            second => Err(without((number, second), problem.at(at))),
-        },
-        first => Err(without(first, problem.at(at))),
-    }
+    count_of(alloc, operator, number, count, at)
 }
 
-/// A function of the packages, whose name is at byte `at`. It takes the memory of a box.
-#[tactic(auto, using(crate::proofs::Meant::counted_two, crate::proofs::Meant::encoding_two, crate::proofs::Meant::other_call))]
+/// to_unsigned, whose name is at byte `at`, of an integer and a size.
+fn encoded_by(alloc: Global, arguments: Vec<Typed>, at: usize) -> Result<Typed, NameFault>
+    ensures given { Gives typed_view
+        (encoding at (option_map (λ p. (typed_view p.0, typed_view p.1)) (two arguments.items))) result }
+    ensures told { IfErr result (Tells (refused TypeMismatch at)) }
+{
+    let Some((number, size)) = two_arguments(arguments) else {
+        return Err(NameProblem::TypeMismatch.at(at));
+    };
+    encoded(alloc, number, size, at)
+}
+
+/// A function of the packages, whose name is at byte `at`. It takes the memory of boxes.
+#[tactic(auto, using(crate::proofs::Meant::counted_two, crate::proofs::Meant::encoding_two, crate::proofs::Meant::number_sole, crate::proofs::Meant::number_told, crate::proofs::Meant::other_call, crate::proofs::Meant::no_call))]
 fn called(
     alloc: Global,
     function: Function,
@@ -144,13 +145,11 @@ fn called(
     let TypedSuffix::Arguments(_, arguments) = suffix else {
         return Err(NameProblem::TypeMismatch.at(at));
     };
-    let Function::ByCount(operator) = function else {
-        return encoded(arguments, at);
-    };
-    let (number, count) = number_and_count(arguments, at)?;
-    let number = Box::new(alloc, number)?;
-    let vector = Vector::Counted(at, operator, number, count);
-    Ok(Typed::Elements(ElementKind::Unsigned, vector))
+    match function {
+        Function::ByCount(operator) => counted(alloc, operator, arguments, at),
+        Function::ToInteger => number_of(alloc, sole_argument(arguments), at),
+        _ => encoded_by(alloc, arguments, at),
+    }
 }
 
 /// A value of an enumeration, by its number and its count of literals.
@@ -166,6 +165,7 @@ fn enumerated(number: usize, count: u16, value: Value) -> Typed
 
 /// A signal, or part of one, whose name is at byte `at`.
 fn signal_of(
+    alloc: Global,
     number: usize,
     object_type: ObjectType,
     suffix: TypedSuffix,
@@ -177,7 +177,7 @@ fn signal_of(
 {
     let signal = Signal::Signal(number);
     match object_type {
-        ObjectType::Elements(kind) => read_signal(signal, kind, suffix, at),
+        ObjectType::Elements(kind) => read_signal(alloc, signal, kind, suffix, at),
         ObjectType::Enumeration { number, count } => {
             if_plain(
                 suffix,
@@ -190,6 +190,7 @@ fn signal_of(
 
 /// A variable, or part of one, whose name is at byte `at`.
 fn variable_of(
+    alloc: Global,
     number: usize,
     object_type: ObjectType,
     suffix: TypedSuffix,
@@ -202,7 +203,11 @@ fn variable_of(
     match object_type {
         ObjectType::Elements(kind) => {
             let (part, kind) = part(kind, suffix, at)?;
-            Ok(Typed::Elements(kind, Vector::Variable(at, number, part)))
+            let vector = match part {
+                AnyPart::Static(part) => Vector::Variable(at, number, part),
+                AnyPart::Chosen(part) => Vector::InVariable(at, number, Box::new(alloc, part)?),
+            };
+            Ok(Typed::Elements(kind, vector))
         }
         ObjectType::Enumeration {
             number: enumeration,
@@ -257,10 +262,10 @@ pub fn denoted(
             let position = Static::Number(position_of(*is_true));
             if_plain(suffix, known(position, at), at)
         }
-        Meaning::Port(k, _, kind) => read_signal(Signal::Port(*k), *kind, suffix, at),
-        Meaning::Signal(k, object_type) => signal_of(*k, *object_type, suffix, at),
-        Meaning::Variable(k, object_type) => variable_of(*k, *object_type, suffix, at),
-        Meaning::Constant(k, kind, _) => read_constant(*k, *kind, suffix, at),
+        Meaning::Port(k, _, kind) => read_signal(alloc, Signal::Port(*k), *kind, suffix, at),
+        Meaning::Signal(k, object_type) => signal_of(alloc, *k, *object_type, suffix, at),
+        Meaning::Variable(k, object_type) => variable_of(alloc, *k, *object_type, suffix, at),
+        Meaning::Constant(k, kind, _) => read_constant(alloc, *k, *kind, suffix, at),
         Meaning::Literal {
             number,
             count,

@@ -8,10 +8,13 @@ ghost use Rattle.vhdl_names_rules.specs.Gives.{Gives};
 ghost use Rattle.vhdl_names_rules.specs.Names as rules;
 ghost use Rattle.vhdl_names_rules.specs.views.Vectors.{part_view};
 ghost use Rattle.vhdl_names_parts.specs.Steps.{sole, two, indexed};
+ghost use Rattle.vhdl_names_rules.specs.views.Expressions.{any_part_view};
 ghost use Rattle.vhdl_names_rules.specs.views.Expressions.{typed_view, typed_suffix_view};
 
+use vhdl_names_numbers::chosen;
 use vhdl_names_rules::{
-    ElementKind, NameFault, NameProblem, ObjectType, Part, Typed, TypedSuffix, without,
+    AnyPart, Chosen, ElementKind, NameFault, NameProblem, ObjectType, Part, Typed, TypedSuffix,
+    without,
 };
 
 /// The argument that stands alone.
@@ -48,49 +51,71 @@ fn element(
     kind: ElementKind,
     index: Option<Typed>,
     at: usize,
-) -> Result<(Part, ElementKind), NameFault>
-    ensures given { Gives (λ p. (part_view p.0, p.1)) (indexed kind (option_map typed_view index)) result }
+) -> Result<(AnyPart, ElementKind), NameFault>
+    ensures given { Gives (λ p. (any_part_view p.0, p.1)) (indexed kind (option_map typed_view index)) result }
     ensures told { IfErr result (Tells (refused TypeMismatch at)) }
 {
+    let problem = NameProblem::TypeMismatch;
     match index {
-        Some(Typed::Integer(index)) => match kind {
-            ElementKind::LogicVector | ElementKind::Unsigned => Ok((
-                Part::Element(index),
-                ElementKind::Element,
-            )),
-            _ => Err(without(index, NameProblem::TypeMismatch.at(at))),
-        },
-        index => Err(without(index, NameProblem::TypeMismatch.at(at))),
+        Some(Typed::Integer(index)) => {
+            if kind.is_vector() {
+                Ok((AnyPart::Static(Part::Element(index)), ElementKind::Element))
+            } else {
+                Err(without(index, problem.at(at)))
+            }
+        }
+        Some(Typed::Computed(index)) => {
+            let (part, kind) = chosen(kind, Chosen::Element(index), at)?;
+            Ok((AnyPart::Chosen(part), kind))
+        }
+        index => Err(without(index, problem.at(at))),
     }
 }
 
 /// The part of an object of a kind that stands behind its name at byte `at`, and its kind.
-#[tactic(auto, using(crate::proofs::Meant::part_indexed))]
+#[tactic(auto, using(crate::proofs::Meant::part_indexed, crate::proofs::Meant::part_ranged))]
 pub(crate) fn part(
     kind: ElementKind,
     suffix: TypedSuffix,
     at: usize,
-) -> Result<(Part, ElementKind), NameFault>
-    ensures given { Gives (λ p. (part_view p.0, p.1)) (rules.part kind (typed_suffix_view suffix)) result }
+) -> Result<(AnyPart, ElementKind), NameFault>
+    ensures given { Gives (λ p. (any_part_view p.0, p.1)) (rules.any_part kind (typed_suffix_view suffix)) result }
     ensures told { IfErr result (Tells (refused TypeMismatch at)) }
 {
     match suffix {
-        TypedSuffix::Plain => Ok((Part::Whole, kind)),
+        TypedSuffix::Plain => Ok((AnyPart::Static(Part::Whole), kind)),
         TypedSuffix::Arguments(_, arguments) => element(kind, sole_argument(arguments), at),
-        TypedSuffix::Range(range) => match kind {
-            ElementKind::LogicVector | ElementKind::Unsigned => Ok((Part::Slice(range), kind)),
-            _ => Err(NameProblem::TypeMismatch.at(at)),
-        },
+        TypedSuffix::Range(range) => {
+            if kind.is_vector() {
+                Ok((AnyPart::Static(Part::Slice(range)), kind))
+            } else {
+                Err(without(range, NameProblem::TypeMismatch.at(at)))
+            }
+        }
+        TypedSuffix::ComputedRange {
+            left,
+            direction,
+            right,
+        } => {
+            let slice = Chosen::Slice {
+                left,
+                direction,
+                right,
+            };
+            let (part, kind) = chosen(kind, slice, at)?;
+            Ok((AnyPart::Chosen(part), kind))
+        }
     }
 }
 
 /// The part of an object of a type that stands behind its name at byte `at`, and its type.
-pub fn part_of(
+pub fn any_part_of(
     object_type: ObjectType,
     suffix: TypedSuffix,
     at: usize,
-) -> Result<(Part, ObjectType), NameFault>
-    ensures given { Gives (λ p. (part_view p.0, p.1)) (rules.part_of object_type (typed_suffix_view suffix)) result }
+) -> Result<(AnyPart, ObjectType), NameFault>
+    ensures given { Gives (λ p. (any_part_view p.0, p.1))
+        (rules.any_part_of object_type (typed_suffix_view suffix)) result }
     ensures told { IfErr result (Tells (refused TypeMismatch at)) }
 {
     match object_type {
@@ -99,9 +124,26 @@ pub fn part_of(
             Ok((part, ObjectType::Elements(kind)))
         }
         ObjectType::Enumeration { .. } => match suffix {
-            TypedSuffix::Plain => Ok((Part::Whole, object_type)),
-            _ => Err(NameProblem::TypeMismatch.at(at)),
+            TypedSuffix::Plain => Ok((AnyPart::Static(Part::Whole), object_type)),
+            suffix => Err(without(suffix, NameProblem::TypeMismatch.at(at))),
         },
+    }
+}
+
+/// The same, which no run chooses.
+#[tactic(auto, using(crate::proofs::Meant::part_unchosen))]
+pub fn part_of(
+    object_type: ObjectType,
+    suffix: TypedSuffix,
+    at: usize,
+) -> Result<(Part, ObjectType), NameFault>
+    ensures given { Gives (λ p. (part_view p.0, p.1)) (rules.part_of object_type (typed_suffix_view suffix)) result }
+    ensures told { IfErr result (Tells (refused TypeMismatch at)) }
+{
+    let (part, object_type) = any_part_of(object_type, suffix, at)?;
+    match part {
+        AnyPart::Static(part) => Ok((part, object_type)),
+        AnyPart::Chosen(part) => Err(without(part, NameProblem::TypeMismatch.at(at))),
     }
 }
 

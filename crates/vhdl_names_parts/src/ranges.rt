@@ -72,6 +72,7 @@ fn ranged_as(entry: &Entry, suffix: TypedSuffix) -> Option<Ranged>
         TypedSuffix::Plain => whole(entry),
         TypedSuffix::Range(slice) => sliced(entry, slice),
         TypedSuffix::Arguments(..) => None,
+        TypedSuffix::ComputedRange { .. } => None,
     }
 }
 

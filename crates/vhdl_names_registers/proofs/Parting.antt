@@ -12,7 +12,7 @@ use Rattle.vhdl_names_rules.specs.declared.vector.Value.{Value}
 use Rattle.vhdl_names_rules.specs.declared.vector.Value.TheVariants as e
 use Rattle.vhdl_names_rules.specs.declared.vector.Vector.{Vector}
 use Rattle.vhdl_names_rules.specs.declared.vector.Vector.TheVariants as v
-use Rattle.vhdl_names_rules.specs.declared.vector.Vector.TheBlock.{Row_of-VectorLink, end_of-VectorLink, more_of-VectorLink}
+use Rattle.vhdl_names_rules.specs.declared.vector.Chosen.TheBlock.{Row_of-VectorLink, end_of-VectorLink, more_of-VectorLink}
 use Rattle.vhdl_names_rules.specs.declared.vector.VectorLink.{VectorLink}
 use Rattle.vhdl_names_rules.specs.declared.vector.VectorLink.TheVariants as k
 use Rattle.vhdl_values.specs.declared.scalar.Nine.{Nine}
@@ -73,6 +73,7 @@ last_link x (k ∷ ls) l = last_link (u.Static.binary k.at k.operator x (static_
 chain_no_signal : (left : u.Vector) (x : VectorLink) (n : Count) (row : Row_of-VectorLink n) → signal_of (vector_links (linked left x) row) ≡ None
 chain_no_signal left (k.Vector op at y) n end_of-VectorLink = refl
 chain_no_signal left (k.Integer op at y) n end_of-VectorLink = refl
+chain_no_signal left (k.Computed op at y) n end_of-VectorLink = refl
 chain_no_signal left x n (more_of-VectorLink y rest) = chain_no_signal (linked left x) y _ rest
 
 pub no_signal : (x : Vector) → ((p : SignalPart) → x ≡ v.Signal p → ⊥) → signal_of (vector_view x) ≡ None
@@ -88,6 +89,7 @@ signal_if_any x (Err y) h other = sym (no_signal x other)
 chain_no_character : (left : u.Vector) (x : VectorLink) (n : Count) (row : Row_of-VectorLink n) → character_of (vector_links (linked left x) row) ≡ None
 chain_no_character left (k.Vector op at y) n end_of-VectorLink = refl
 chain_no_character left (k.Integer op at y) n end_of-VectorLink = refl
+chain_no_character left (k.Computed op at y) n end_of-VectorLink = refl
 chain_no_character left x n (more_of-VectorLink y rest) = chain_no_character (linked left x) y _ rest
 
 pub no_character : (x : Vector) → ((at : ℕ) (c : Nine) → x ≡ v.Character at c → ⊥) → character_of (vector_view x) ≡ None

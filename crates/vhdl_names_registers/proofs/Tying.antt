@@ -15,6 +15,8 @@ registered_is (s.step s.null_of rest) = registered_is rest
 registered_is (s.step (s.if_of at bs) rest) = ap (followed at (last_edge_first at bs)) (registered_is rest)
 registered_is (s.step (s.assign p g) rest) = ap (s.step (s.assign p g)) (registered_is rest)
 registered_is (s.step (s.set at k p g) rest) = ap (s.step (s.set at k p g)) (registered_is rest)
+registered_is (s.step (s.assign_in at x c g) rest) = ap (s.step (s.assign_in at x c g)) (registered_is rest)
+registered_is (s.step (s.set_in at k c g) rest) = ap (s.step (s.set_in at k c g)) (registered_is rest)
 registered_is (s.step (s.case_of at x alts) rest) = ap (s.step (s.case_of at x alts)) (registered_is rest)
 registered_is (s.step (s.for_of at r body) rest) = ap (s.step (s.for_of at r body)) (registered_is rest)
 

@@ -33,6 +33,11 @@ are form no_elements = true
 are form (element cs at x no_elements) = form cs || is_others cs
 are form (element cs at x (element ds p y es)) = form cs && are form (element ds p y es)
 
+-- whether the first element has choices
+abbrev pub is_named : TypedElements → Bool
+is_named (element cs at x es) = not (is_listed cs)
+is_named no_elements = false
+
 -- elements are listed from the left, or chosen by their indexes
 abbrev pub are_arranged : TypedElements → Bool
 are_arranged es = are is_listed es || are is_chosen es

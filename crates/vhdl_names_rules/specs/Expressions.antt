@@ -1,6 +1,6 @@
 -- The types of expressions (IEEE 1076-2008, clause 9): what an expression is, given the declarations in sight; None
 -- where a rule is broken. No rule comes before another.
-use Rattle.std.specs.Prelude.{ℕ, ◌==◌, Bool, true, false, ◌&&◌, List, [], ◌∷◌, Option, Some, None, option_map}
+use Rattle.std.specs.Prelude.{ℕ, ◌==◌, Bool, true, false, not, ◌&&◌, ◌||◌, is_some, List, [], ◌∷◌, Option, Some, None, option_map}
 use Rattle.std.specs.Option.{option_or}
 use Rattle.vhdl_lexer.specs.declared.language.Language.{Language}
 use Rattle.vhdl_tree.specs.declared.operator.Sign.{Sign}
@@ -11,32 +11,49 @@ use Rattle.vhdl_names_rules.specs.declared.kind.ElementKind.{ElementKind}
 use Rattle.vhdl_names_rules.specs.declared.kind.ElementKind.TheVariants.{Element, LogicVector, Unsigned, OpenVector}
 use Rattle.vhdl_names_rules.specs.declared.kind.ObjectType.{ObjectType}
 use Rattle.vhdl_names_rules.specs.declared.kind.ObjectType.TheVariants.{Elements, Enumeration}
-use Rattle.vhdl_names_rules.specs.declared.operator.Arithmetic.TheVariants.{Power}
 use Rattle.vhdl_names_rules.specs.units.Expressions as u
-use Rattle.vhdl_names_rules.specs.units.Expressions.{Static, Test}
+use Rattle.vhdl_names_rules.specs.units.Expressions.{Static, Computed, Test}
+use Rattle.vhdl_tree.specs.declared.operator.Direction.{Direction}
 use Rattle.vhdl_names_rules.specs.units.Statements.{Given, single, filled}
-use Rattle.vhdl_names_rules.specs.declared.fault.NameProblem.TheVariants.{TypeMismatch}
+use Rattle.vhdl_names_rules.specs.declared.fault.NameProblem.TheVariants.{TypeMismatch, LeftOut}
 use Rattle.vhdl_names_rules.specs.Rules.{◌>>=◌, ◌>>◌, rule, given_that, wider}
 use Rattle.vhdl_names_rules.specs.Visibility as visibility
 use Rattle.vhdl_names_rules.specs.Visibility.{Meaning, DeclaredRange, Declared, Sight, declaration}
 use Rattle.vhdl_names_rules.specs.Literals.{number_of, nine_of, values_of_string, values_of_bits}
-use Rattle.vhdl_names_rules.specs.Operators.{Typed, integer, elements, enumerated, truth, interval, composite, is_vector, inverse, integral, operated}
+use Rattle.vhdl_names_rules.specs.Operators.{Typed, integer, computed, elements, enumerated, truth, interval, composite, is_vector, inverse, as_computed, raised, operated}
 use Rattle.vhdl_names_rules.specs.Types as types
 use Rattle.vhdl_names_rules.specs.Types.{TypedChoice, place, TypedElements}
-use Rattle.vhdl_names_rules.specs.Names.{Suffix, plain, arguments, range, denoted, attributed}
+use Rattle.vhdl_names_rules.specs.Names.{Suffix, plain, arguments, range, computed_range, denoted, attributed}
 use Rattle.vhdl_names_rules.specs.Ranges.{declared_range, range_attribute, sized_by}
 use Rattle.vhdl_names_rules.specs.Local.{is_local}
-use Rattle.vhdl_names_rules.specs.Aggregates.{aggregate}
+use Rattle.vhdl_names_rules.specs.Aggregates.{is_named, aggregate}
 use Rattle.vhdl_names_rules.specs.problems.Places.{start}
 
 abbrev pub as_integer : Typed → Option Static
 as_integer (integer s) = Some s
 as_integer _ = None
 
--- a sign stands before integers alone (9.2.6)
-abbrev pub signed : (at : ℕ) → Sign → Static → Static
-signed at Plus s = s
-signed at Minus s = u.Static.negated at s
+-- signs and `abs` stand before integers alone (9.2.6, 9.2.8)
+abbrev pub signed : (at : ℕ) → Sign → Typed → Option Typed
+signed at Plus (integer s) = Some (integer s)
+signed at Plus (computed x) = Some (computed x)
+signed at Minus (integer s) = Some (integer (u.Static.negated at s))
+signed at Minus (computed x) = Some (computed (u.Computed.negated at x))
+signed at _ _ = None
+
+abbrev pub absolute : (at : ℕ) → Typed → Option Typed
+absolute at (integer s) = Some (integer (u.absolute at s))
+absolute at (computed x) = Some (computed (u.magnitude at x))
+absolute at _ = None
+
+-- bounds of a slice, which a run may compute (8.5)
+abbrev pub sliced : Typed → Direction → Typed → Option Suffix
+sliced (integer l) direction (integer r) =
+    Some (range (record { left = l; direction = direction; right = r }))
+sliced x direction y = do
+  l ← as_computed x
+  r ← as_computed y
+  Some (computed_range l direction r)
 
 -- in parentheses a character literal is no part of an edge test
 abbrev pub enclosed : Typed → Typed
@@ -123,18 +140,12 @@ unfoldable mutual
   typed sight (t.parens at e) = typed sight e >>= in_parentheses
   -- operators (9.2)
   typed sight (t.negation at e) = typed sight e >>= inverse
-  typed sight (t.absolute at e) = do
-    x ← typed sight e
-    s ← as_integer x
-    Some (integer (u.absolute at s))
+  typed sight (t.absolute at e) = typed sight e >>= absolute at
   typed sight (t.power d at e) = do
     x ← typed sight d
     y ← typed sight e
-    integral at Power x y
-  typed sight (t.signed sign at e) = do
-    x ← typed sight e
-    s ← as_integer x
-    Some (integer (signed at sign s))
+    raised at x y
+  typed sight (t.signed sign at e) = typed sight e >>= signed at sign
   typed sight (t.binary begins op at d e) = do
     x ← typed sight d
     y ← typed sight e
@@ -151,10 +162,8 @@ unfoldable mutual
   typed_suffix sight (t.arguments es) = option_map (suffix_of (is_one_name es)) (typed_each sight es)
   typed_suffix sight (t.sliced d direction e) = do
     x ← typed sight d
-    l ← as_integer x
     y ← typed sight e
-    r ← as_integer y
-    Some (range (record { left = l; direction = direction; right = r }))
+    sliced x direction y
 
   pub typed_each : Sight → Exprs → Option (List Typed)
   typed_each sight t.no_exprs = Some []
@@ -236,9 +245,12 @@ abbrev pub as_filled : ObjectType → Typed → Option Given
 as_filled (Elements k) (elements Element x) = given_that TypeMismatch (is_vector k) (filled x)
 as_filled _ _ = None
 
+-- where the range of its indexes isn't known, its elements are listed: what a run chooses has the direction of its own
+-- bounds (own)
 abbrev pub as_aggregate : ElementKind → (at : ℕ) → Option u.Range → TypedElements → Option Given
 as_aggregate k at r es = do
   rule TypeMismatch (is_vector k)
+  rule LeftOut (is_some r || not (is_named es))
   x ← aggregate k at r es
   Some (single (u.elements x))
 

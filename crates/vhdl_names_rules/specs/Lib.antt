@@ -8,6 +8,7 @@ pub mod Literals
 pub mod Types
 pub mod Aggregates
 pub mod Operators
+pub mod Known
 pub mod Names
 pub mod Ranges
 pub mod Local

@@ -1,7 +1,10 @@
 -- What names in expressions are (IEEE 1076-2008, clause 8): objects with their indexed and slice names, conversions and
 -- calls of the packages' functions (9.3.4, 9.3.6), and the attribute 'event (16.2.4).
-use Rattle.std.specs.Prelude.{ℕ, Bool, true, false, ◌&&◌, if◌then◌else◌, List, [], ◌∷◌, Option, Some, None, option_map, bytes_eq, codes}
+use Rattle.std.specs.Prelude.{ℕ, Bool, true, false, not, ◌&&◌, if◌then◌else◌, List, [], ◌∷◌, Option, Some, None, option_map, bytes_eq, codes}
+use Rattle.vhdl_values.specs.declared.kinds.Counted.{Counted}
+use Rattle.vhdl_values.specs.declared.kinds.Counted.TheVariants.{Shift}
 use Rattle.vhdl_values.specs.declared.kinds.Edge.{Edge}
+use Rattle.vhdl_tree.specs.declared.operator.Direction.{Direction}
 use Rattle.vhdl_tree.specs.Tree as t
 use Rattle.vhdl_tree.specs.Tree.{Attribute}
 use Rattle.vhdl_names_rules.specs.declared.kind.ElementKind.{ElementKind}
@@ -9,14 +12,16 @@ use Rattle.vhdl_names_rules.specs.declared.kind.ElementKind.TheVariants.{Element
 use Rattle.vhdl_names_rules.specs.declared.kind.ObjectType.{ObjectType}
 use Rattle.vhdl_names_rules.specs.declared.kind.ObjectType.TheVariants.{Elements, Enumeration}
 use Rattle.vhdl_names_rules.specs.declared.kind.Function.{Function}
-use Rattle.vhdl_names_rules.specs.declared.kind.Function.TheVariants.{EdgeCall, ByCount, ToUnsigned}
+use Rattle.vhdl_names_rules.specs.declared.kind.Function.TheVariants.{EdgeCall, ByCount, ToUnsigned, ToInteger}
 use Rattle.vhdl_names_rules.specs.units.Expressions as u
-use Rattle.vhdl_names_rules.specs.units.Expressions.{Static, Part, SignalPart, Signal, Vector}
-use Rattle.vhdl_names_rules.specs.declared.fault.NameProblem.TheVariants.{LeftOut}
-use Rattle.vhdl_names_rules.specs.Rules.{◌>>=◌, ◌>>◌, rule}
+use Rattle.vhdl_names_rules.specs.units.Expressions.{Static, Computed, Part, Chosen, SignalPart, Signal, Vector}
+use Rattle.vhdl_names_rules.specs.declared.fault.NameProblem.TheVariants.{TypeMismatch, LeftOut}
+use Rattle.vhdl_names_rules.specs.Rules.{◌>>=◌, ◌>>◌, rule, given_that}
+use Rattle.vhdl_names_rules.specs.Known.{is_known}
 use Rattle.vhdl_names_rules.specs.Visibility as visibility
 use Rattle.vhdl_names_rules.specs.Visibility.{Meaning}
-use Rattle.vhdl_names_rules.specs.Operators.{Typed, integer, elements, enumerated, truth}
+use Rattle.std.specs.Option.{option_or}
+use Rattle.vhdl_names_rules.specs.Operators.{Typed, integer, computed, elements, enumerated, truth, is_vector}
 
 -- ---- parts of an object
 
@@ -26,6 +31,8 @@ pub data Suffix : Type 0 where
   -- whether it is one name alone, and what is there
   arguments : (is_name : Bool) → List Typed → Suffix
   range : u.Range → Suffix
+  -- bounds of which a run computes one at least
+  computed_range : (left : Computed) → Direction → (right : Computed) → Suffix
 
 -- the whole; an element of a vector (8.4); a slice of a vector, which is of its kind (8.5)
 abbrev pub part : ElementKind → Suffix → Option (Part × ElementKind)
@@ -42,6 +49,26 @@ part_of (Elements k) s = option_map (λ p. (p.0, Elements p.1)) (part k s)
 part_of (Enumeration e count) plain = Some (u.whole, Enumeration e count)
 part_of (Enumeration e count) _ = None
 
+-- what a run chooses: an element of a vector by its index, and a slice of one by its bounds
+abbrev pub chosen : ElementKind → Suffix → Option (Chosen × ElementKind)
+chosen k (arguments b (computed x ∷ [])) = given_that TypeMismatch (is_vector k) (u.element_at x, Element)
+chosen k (computed_range l direction r) = given_that TypeMismatch (is_vector k) (u.slice_at l direction r, k)
+chosen _ _ = None
+
+-- a part that is there before the run, or one that a run chooses
+pub data AnyPart : Type 0 where
+  fixed : Part → AnyPart
+  free : Chosen → AnyPart
+
+abbrev pub any_part : ElementKind → Suffix → Option (AnyPart × ElementKind)
+any_part k s =
+    option_or (option_map (λ p. (fixed p.0, p.1)) (part k s)) (option_map (λ p. (free p.0, p.1)) (chosen k s))
+
+abbrev pub any_part_of : ObjectType → Suffix → Option (AnyPart × ObjectType)
+any_part_of (Elements k) s = option_map (λ p. (p.0, Elements p.1)) (any_part k s)
+any_part_of (Enumeration e count) plain = Some (fixed u.whole, Enumeration e count)
+any_part_of (Enumeration e count) _ = None
+
 -- by the byte at which its name starts
 abbrev pub place_of : (at : ℕ) → Signal → Part → SignalPart
 place_of at s p = record { at = at; signal = s; part = p }
@@ -51,11 +78,23 @@ if_plain plain t = Some t
 if_plain _ t = None
 
 -- elements of the nine values, by what they are part of
-abbrev pub read_by : (Part → Vector) → ElementKind → Suffix → Option Typed
-read_by object k s = option_map (λ p. elements p.1 (object p.0)) (part k s)
+abbrev pub read_by : (AnyPart → Vector) → ElementKind → Suffix → Option Typed
+read_by object k s = option_map (λ p. elements p.1 (object p.0)) (any_part k s)
+
+abbrev pub signal_part : (at : ℕ) → Signal → AnyPart → Vector
+signal_part at x (fixed p) = u.of_signal (place_of at x p)
+signal_part at x (free c) = u.in_signal at x c
+
+abbrev pub variable_part : (at : ℕ) → ℕ → AnyPart → Vector
+variable_part at k (fixed p) = u.of_variable at k p
+variable_part at k (free c) = u.in_variable at k c
+
+abbrev pub constant_part : (at : ℕ) → ℕ → AnyPart → Vector
+constant_part at k (fixed p) = u.of_constant at k p
+constant_part at k (free c) = u.in_constant at k c
 
 abbrev pub read_signal : (at : ℕ) → Signal → ElementKind → Suffix → Option Typed
-read_signal at x k s = read_by (λ p. u.of_signal (place_of at x p)) k s
+read_signal at x k s = read_by (signal_part at x) k s
 
 -- ---- conversions and calls
 
@@ -91,20 +130,32 @@ abbrev pub edge_of : Edge → Suffix → Option Typed
 edge_of e (arguments true (x ∷ [])) = option_map (λ p. truth (u.edge e p)) (edge_signal x)
 edge_of e _ = None
 
--- a number by a count
-abbrev pub counted : (Vector → Static → Vector) → Suffix → Option Typed
-counted f (arguments b (elements Unsigned x ∷ integer n ∷ [])) = Some (elements Unsigned (f x n))
-counted f _ = None
+-- a number by a count, which a run may compute for a shift
+abbrev pub counted : (at : ℕ) → Counted → Suffix → Option Typed
+counted at op (arguments b (elements Unsigned x ∷ integer n ∷ [])) = Some (elements Unsigned (u.counted at op x n))
+counted at (Shift by) (arguments b (elements Unsigned x ∷ computed n ∷ [])) =
+    Some (elements Unsigned (u.shifted at by x n))
+counted at op _ = None
 
+-- a size is static
 abbrev pub encoding : (at : ℕ) → Suffix → Option Typed
 encoding at (arguments b (integer n ∷ integer size ∷ [])) = Some (elements Unsigned (u.encoded at n size))
+encoding at (arguments b (computed n ∷ integer size ∷ [])) = Some (elements Unsigned (u.computed_encoded at n size))
 encoding at _ = None
+
+-- the integer that a number is, which names a signal or a variable: else an index by it would be static (8.1), and a
+-- constant of an integer type serves; of an open vector it isn't known whether it has a sign
+abbrev pub number_of : (at : ℕ) → Suffix → Option Typed
+number_of at (arguments b (elements Unsigned x ∷ [])) =
+    given_that LeftOut (not (is_known x)) (computed (u.number_of at x))
+number_of at _ = None
 
 -- the name of the function starts at this byte
 abbrev pub called : (at : ℕ) → Function → Suffix → Option Typed
 called at (EdgeCall e) = edge_of e
-called at (ByCount op) = counted (u.counted at op)
+called at (ByCount op) = counted at op
 called at ToUnsigned = encoding at
+called at ToInteger = number_of at
 
 -- ---- all names
 
@@ -125,9 +176,9 @@ denoted at (visibility.port k mode kind) s = read_signal at (u.port k) kind s
 denoted at (visibility.signal k (Elements kind)) s = read_signal at (u.Signal.signal k) kind s
 denoted at (visibility.signal k (Enumeration e count)) s =
     if_plain s (enumerated e count (u.state_of (u.Signal.signal k)))
-denoted at (visibility.variable k (Elements kind)) s = read_by (u.of_variable at k) kind s
+denoted at (visibility.variable k (Elements kind)) s = read_by (variable_part at k) kind s
 denoted at (visibility.variable k (Enumeration e count)) s = if_plain s (enumerated e count (u.state_of_variable k))
-denoted at (visibility.constant k kind values) s = read_by (u.of_constant at k) kind s
+denoted at (visibility.constant k kind values) s = read_by (constant_part at k) kind s
 denoted at (visibility.literal e count p) s = if_plain s (enumerated e count (u.position p))
 denoted at (visibility.vector_type k is_resolved) s = converted k s
 denoted at (visibility.function f) s = called at f s

@@ -15,10 +15,10 @@ use Rattle.vhdl_names_rules.specs.declared.operator.Numeric.TheVariants as n
 use Rattle.vhdl_names_rules.specs.declared.operator.VectorOperator.{VectorOperator}
 use Rattle.vhdl_names_rules.specs.declared.operator.VectorOperator.TheVariants as v
 use Rattle.vhdl_names_rules.specs.units.Expressions as u
-use Rattle.vhdl_names_rules.specs.units.Expressions.{Static, StaticTest, Vector, Value, Test}
+use Rattle.vhdl_names_rules.specs.units.Expressions.{Static, Computed, StaticTest, Vector, Value, Test}
 use Rattle.vhdl_names_rules.specs.declared.fault.NameProblem.TheVariants.{TypeMismatch, NotVisible, LeftOut}
-use Rattle.vhdl_names_rules.specs.Rules.{◌>>◌, rule, given_that}
-pub use Rattle.vhdl_names_rules.specs.Types.{Typed, integer, elements, enumerated, truth, interval, composite}
+use Rattle.vhdl_names_rules.specs.Rules.{◌>>=◌, ◌>>◌, rule, given_that}
+pub use Rattle.vhdl_names_rules.specs.Types.{Typed, integer, computed, elements, enumerated, truth, interval, composite}
 use Rattle.vhdl_names_rules.specs.Types.{TypedElements}
 use Rattle.vhdl_names_rules.specs.Aggregates.{aggregate}
 
@@ -86,14 +86,30 @@ concatenated at _ _ = None
 
 -- ---- arithmetic operators (9.2.5, 9.2.7)
 
--- / mod rem: integers
+-- an integer, which a run may compute
+abbrev pub as_computed : Typed → Option Computed
+as_computed (integer s) = Some (u.static s)
+as_computed (computed x) = Some x
+as_computed _ = None
+
+abbrev pub computes : (at : ℕ) → Arithmetic → Typed → Typed → Option Typed
+computes at op x y = do
+  a ← as_computed x
+  b ← as_computed y
+  Some (computed (u.calculated at op a b))
+
+-- ** : static integers
+abbrev pub raised : (at : ℕ) → Typed → Typed → Option Typed
+raised at (integer s) (integer t) = Some (integer (u.Static.binary at a.Power s t))
+raised at _ _ = None
+
+-- / mod rem: integers; where a run computes one of them, it computes what they make
 abbrev pub integral : (at : ℕ) → Arithmetic → Typed → Typed → Option Typed
 integral at op (integer s) (integer t) = Some (integer (u.Static.binary at op s t))
-integral at _ _ _ = None
+integral at op x y = computes at op x y
 
 -- + - *: integers; numbers; a number and an integer. Numbers need the operators of numeric_std in sight
 abbrev pub arithmetic : (numbers : Bool) → (at : ℕ) → Arithmetic → Numeric → Typed → Typed → Option Typed
-arithmetic numbers at op by (integer s) (integer t) = Some (integer (u.Static.binary at op s t))
 arithmetic numbers at op by (elements j x) (elements k y) = do
   rule NotVisible numbers
   given_that TypeMismatch (are_numbers j k) (elements Unsigned (u.Vector.binary at (v.Arithmetic by) x y))
@@ -103,12 +119,25 @@ arithmetic numbers at op by (elements j x) (integer t) = do
 arithmetic numbers at op by (integer s) (elements k y) = do
   rule NotVisible numbers
   given_that TypeMismatch (is_number k) (elements Unsigned (u.integer_with at by s y))
-arithmetic numbers at op by _ _ = None
+arithmetic numbers at op by (elements j x) (computed t) = do
+  rule NotVisible numbers
+  given_that TypeMismatch (is_number j) (elements Unsigned (u.with_computed at by x t))
+arithmetic numbers at op by (computed s) (elements k y) = do
+  rule NotVisible numbers
+  given_that TypeMismatch (is_number k) (elements Unsigned (u.computed_with at by s y))
+arithmetic numbers at op by x y = integral at op x y
 
 -- ---- relations (9.2.3)
 
 abbrev pub integers_compared : (at : ℕ) → Cmp → Static → Static → Typed
 integers_compared at op s t = truth (u.fixed (u.StaticTest.compared at op s t))
+
+-- two integers, of which a run computes one at least
+abbrev pub compares : (at : ℕ) → Cmp → Typed → Typed → Option Typed
+compares at op x y = do
+  a ← as_computed x
+  b ← as_computed y
+  Some (truth (u.computed_compared at op a b))
 
 -- = and /= of one kind: numbers are compared as numbers, all else by its values
 abbrev pub equal_by : (at : ℕ) → Cmp → (Value → Value → Test) → Vector → Vector → ElementKind → Typed
@@ -133,12 +162,14 @@ equality at op same (integer s) (integer t) = Some (integers_compared at op s t)
 equality at op same (elements j x) (elements k y) = option_map (equal_by at op same x y) (common_kind j k)
 equality at op same (elements Unsigned x) (integer t) = Some (truth (u.compared_to at op x t))
 equality at op same (integer s) (elements Unsigned y) = Some (truth (u.compared_with at op s y))
+equality at op same (elements Unsigned x) (computed t) = Some (truth (u.compared_to_computed at op x t))
+equality at op same (computed s) (elements Unsigned y) = Some (truth (u.compared_with_computed at op s y))
 equality at op same (enumerated d m x) (enumerated e n y) = given_that TypeMismatch (d == e) (truth (same x y))
 equality at op same (elements k x) (composite p es) =
     option_map (λ y. equal_by at op same x y k) (beside_vector k p es)
 equality at op same (composite p es) (elements k y) =
     option_map (λ x. equal_by at op same x y k) (beside_vector k p es)
-equality at op same _ _ = None
+equality at op same x y = compares at op x y
 
 -- < <= > >=: integers; numbers; a number and an integer
 abbrev pub ordering : (numbers : Bool) → (at : ℕ) → Cmp → Typed → Typed → Option Typed
@@ -152,7 +183,13 @@ ordering numbers at op (elements j x) (integer t) = do
 ordering numbers at op (integer s) (elements k y) = do
   rule NotVisible numbers
   given_that LeftOut (is_number k) (truth (u.compared_with at op s y))
-ordering numbers at op _ _ = None
+ordering numbers at op (elements j x) (computed t) = do
+  rule NotVisible numbers
+  given_that LeftOut (is_number j) (truth (u.compared_to_computed at op x t))
+ordering numbers at op (computed s) (elements k y) = do
+  rule NotVisible numbers
+  given_that LeftOut (is_number k) (truth (u.compared_with_computed at op s y))
+ordering numbers at op x y = compares at op x y
 
 -- ---- all binary operators
 

@@ -3,11 +3,12 @@ use Rattle.std.specs.Prelude.{Bool, true, false, ◌&&◌, ◌||◌, if◌then�
 use Rattle.std.specs.List.{list_any, list_all}
 use Rattle.vhdl_lexer.specs.declared.language.Language.{Language}
 use Rattle.vhdl_lexer.specs.declared.language.Language.TheVariants.{Profile, Wide}
-use Rattle.vhdl_values.specs.declared.kinds.Counted.TheVariants.{Resize, ShiftLeft, ShiftRight}
+use Rattle.vhdl_values.specs.declared.kinds.Counted.TheVariants.{Resize, Shift}
+use Rattle.vhdl_values.specs.declared.kinds.Shift.TheVariants.{Left, Right}
 use Rattle.vhdl_values.specs.declared.kinds.Edge.TheVariants.{Rising, Falling}
 use Rattle.vhdl_tree.specs.Tree.{Ident, Selected, ContextItem, library, uses}
 use Rattle.vhdl_names_rules.specs.declared.kind.ElementKind.TheVariants.{LogicVector, Unsigned}
-use Rattle.vhdl_names_rules.specs.declared.kind.Function.TheVariants.{EdgeCall, ByCount, ToUnsigned}
+use Rattle.vhdl_names_rules.specs.declared.kind.Function.TheVariants.{EdgeCall, ByCount, ToUnsigned, ToInteger}
 use Rattle.vhdl_names_rules.specs.declared.operator.IntegerType.TheVariants.{Integer, Natural, Positive}
 use Rattle.vhdl_names_rules.specs.declared.fault.NameProblem.TheVariants.{Undeclared, LeftOut}
 use Rattle.vhdl_names_rules.specs.Rules.{◌>>◌, rule}
@@ -38,12 +39,17 @@ std_logic_1164 =
     ∷ declare (codes "falling_edge") (function (EdgeCall Falling)) ∷ []
 
 -- package numeric_std of library ieee (16.8); its operators stand in the rules of expressions
-abbrev pub numeric_std : List Declared
-numeric_std =
+abbrev pub numbers : List Declared
+numbers =
     declare (codes "unsigned") (vector_type Unsigned true) ∷ declare (codes "resize") (function (ByCount Resize))
-    ∷ declare (codes "shift_left") (function (ByCount ShiftLeft))
-    ∷ declare (codes "shift_right") (function (ByCount ShiftRight))
+    ∷ declare (codes "shift_left") (function (ByCount (Shift Left)))
+    ∷ declare (codes "shift_right") (function (ByCount (Shift Right)))
     ∷ declare (codes "to_unsigned") (function ToUnsigned) ∷ []
+
+-- the wider language has its integers that a run computes
+abbrev pub numeric_std : Language → List Declared
+numeric_std Profile = numbers
+numeric_std Wide = numbers ++ declare (codes "to_integer") (function ToInteger) ∷ []
 
 -- ---- context clauses
 
@@ -88,7 +94,7 @@ context before (uses ss ∷ rest) = do
 -- the packages' declarations that are in sight
 abbrev pub visible : Context → List Declared
 visible c =
-    (if c.has_numbers then numeric_std else [])
+    (if c.has_numbers then numeric_std c.language else [])
     ++ ((if c.has_logic then std_logic_1164 else []) ++ standard c.language)
 
 -- where nothing is declared yet

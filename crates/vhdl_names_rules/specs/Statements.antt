@@ -13,7 +13,7 @@ use Rattle.vhdl_names_rules.specs.declared.fault.NameProblem.TheVariants.{WrongK
 use Rattle.vhdl_names_rules.specs.Rules.{◌>>=◌, ◌>>◌, rule}
 use Rattle.vhdl_names_rules.specs.Visibility as visibility
 use Rattle.vhdl_names_rules.specs.Visibility.{Name, Meaning, DeclaredRange, Declared, Sight, declaration, label_ends, within_loop}
-use Rattle.vhdl_names_rules.specs.Names.{Suffix, part_of, place_of}
+use Rattle.vhdl_names_rules.specs.Names.{Suffix, part_of, AnyPart, fixed, free, any_part_of, place_of}
 use Rattle.vhdl_names_rules.specs.Ranges.{declared_range}
 use Rattle.vhdl_names_rules.specs.Expressions.{typed, typed_suffix, static_range, condition, value_given}
 use Rattle.vhdl_names_rules.specs.Choices.{covered, selector, arranged}
@@ -54,46 +54,13 @@ signal sight n = do
   d ← declaration sight n.identifier.text
   as_signal n.identifier.at d suffix
 
--- an in port is never assigned (6.5.2)
 abbrev pub is_input : Option Mode → Bool
 is_input (Some In) = true
 is_input (Some Out) = false
 is_input None = false
 
--- the target of a signal assignment (10.5)
-unfoldable pub target : Sight → t.Name → Option SignalName
-target sight n = do
-  x ← signal sight n
-  rule WriteOfIn (not (is_input x.mode))
-  Some x
-
--- a variable, or part of one, and where its name starts
-pub record VariableName : Type 0 where
-  pub at : ℕ
-  pub number : ℕ
-  pub part : Part
-  pub type : ObjectType
-  pub range : Option u.Range
-
-abbrev pub variable_part : (at number : ℕ) → Option DeclaredRange → Part × ObjectType → VariableName
-variable_part at k r p = record { at = at; number = k; part = p.0; type = p.1; range = part_range r p.0 }
-
-abbrev pub as_variable : (at : ℕ) → Declared → Suffix → Option VariableName
-as_variable at d suffix = by d.meaning
-  where
-    by : Meaning → Option VariableName
-    by (visibility.variable k type) = option_map (variable_part at k d.range) (part_of type suffix)
-    by _ = None
-
--- the target of a variable assignment (10.6)
-unfoldable pub variable : Sight → t.Name → Option VariableName
-variable sight n = do
-  rule LeftOut (is_none n.attribute)
-  suffix ← typed_suffix sight n.suffix
-  d ← declaration sight n.identifier.text
-  as_variable n.identifier.at d suffix
-
--- ---- assignments (10.5, 10.6): where a target's name starts, and what the statement is that gives it a value
+-- ---- targets (10.5, 10.6): where the name starts, its type, its range if it has a static one, and the statement that
+-- gives it a value
 
 pub record Target : Type 0 where
   pub at : ℕ
@@ -101,15 +68,67 @@ pub record Target : Type 0 where
   pub range : Option u.Range
   pub assigned : s.Given → s.Statement
 
-abbrev pub signal_target : Sight → t.Name → Option Target
-signal_target sight n = do
-  x ← target sight n
-  Some (record { at = x.place.at; type = x.type; range = x.range; assigned = s.assign x.place })
+-- the bounds of what a run chooses aren't known before
+abbrev pub any_part_range : Option DeclaredRange → AnyPart → Option u.Range
+any_part_range r (fixed p) = part_range r p
+any_part_range r (free c) = None
 
-abbrev pub variable_target : Sight → t.Name → Option Target
+-- a part of an object, with its type
+abbrev pub part_target : (at : ℕ) → Option DeclaredRange → (AnyPart → s.Given → s.Statement) → AnyPart × ObjectType
+    → Target
+part_target at r assigned p = record { at = at; type = p.1; range = any_part_range r p.0; assigned = assigned p.0 }
+
+-- of an object of this type, with what follows its name
+abbrev pub target_of : (at : ℕ) → Option DeclaredRange → ObjectType → Suffix
+    → (AnyPart → s.Given → s.Statement) → Option Target
+target_of at r type suffix assigned = option_map (part_target at r assigned) (any_part_of type suffix)
+
+abbrev pub assigned_signal : (at : ℕ) → Signal → AnyPart → s.Given → s.Statement
+assigned_signal at x (fixed p) = s.assign (place_of at x p)
+assigned_signal at x (free c) = s.assign_in at x c
+
+abbrev pub assigned_variable : (at : ℕ) → ℕ → AnyPart → s.Given → s.Statement
+assigned_variable at k (fixed p) = s.set at k p
+assigned_variable at k (free c) = s.set_in at k c
+
+-- a signal or port
+abbrev pub as_signal_target : (at : ℕ) → Declared → Suffix → Option Target
+as_signal_target at d suffix = by d.meaning
+  where
+    by : Meaning → Option Target
+    by (visibility.port k mode kind) = target_of at d.range (Elements kind) suffix (assigned_signal at (u.port k))
+    by (visibility.signal k type) = target_of at d.range type suffix (assigned_signal at (u.Signal.signal k))
+    by _ = None
+
+abbrev pub as_variable_target : (at : ℕ) → Declared → Suffix → Option Target
+as_variable_target at d suffix = by d.meaning
+  where
+    by : Meaning → Option Target
+    by (visibility.variable k type) = target_of at d.range type suffix (assigned_variable at k)
+    by _ = None
+
+abbrev pub mode_of : Meaning → Option Mode
+mode_of (visibility.port k mode kind) = Some mode
+mode_of _ = None
+
+-- an in port is never assigned (6.5.2)
+unfoldable pub signal_target : Sight → t.Name → Option Target
+signal_target sight n = do
+  rule LeftOut (is_none n.attribute)
+  suffix ← typed_suffix sight n.suffix
+  d ← declaration sight n.identifier.text
+  x ← as_signal_target n.identifier.at d suffix
+  rule WriteOfIn (not (is_input (mode_of d.meaning)))
+  Some x
+
+unfoldable pub variable_target : Sight → t.Name → Option Target
 variable_target sight n = do
-  x ← variable sight n
-  Some (record { at = x.at; type = x.type; range = x.range; assigned = s.set x.at x.number x.part })
+  rule LeftOut (is_none n.attribute)
+  suffix ← typed_suffix sight n.suffix
+  d ← declaration sight n.identifier.text
+  as_variable_target n.identifier.at d suffix
+
+-- ---- assignments
 
 abbrev pub assignment : Sight → Target → t.Value → Option s.Statement
 assignment sight x v = option_map x.assigned (value_given sight x.type x.range v)

@@ -1,5 +1,5 @@
 -- Subtype indications (IEEE 1076-2008, 6.3), and the values of constants and defaults.
-use Rattle.std.specs.Prelude.{ℕ, ◌==◌, Bool, true, false, ◌&&◌, List, [], ◌∷◌, Option, Some, None, option_map, is_some}
+use Rattle.std.specs.Prelude.{ℕ, ◌==◌, Bool, true, false, List, [], ◌∷◌, Option, Some, None, option_map, is_some}
 use Rattle.std.specs.Option.{option_or}
 use Rattle.vhdl_values.specs.declared.scalar.Nine.{Nine}
 use Rattle.vhdl_tree.specs.Tree as t
@@ -11,7 +11,7 @@ use Rattle.vhdl_names_rules.specs.declared.kind.ObjectType.{ObjectType}
 use Rattle.vhdl_names_rules.specs.declared.kind.ObjectType.TheVariants.{Elements, Enumeration}
 use Rattle.vhdl_names_rules.specs.declared.kind.Function.TheVariants.{ToUnsigned}
 use Rattle.vhdl_names_rules.specs.units.Expressions as e
-use Rattle.vhdl_names_rules.specs.units.Expressions.{Range, Vector}
+use Rattle.vhdl_names_rules.specs.units.Expressions.{Range}
 use Rattle.vhdl_names_rules.specs.units.Statements.{Given, single, filled}
 use Rattle.vhdl_names_rules.specs.units.Units as u
 use Rattle.vhdl_names_rules.specs.units.Units.{Form, Fixed, IntegerSubtype, Object}
@@ -19,6 +19,7 @@ use Rattle.vhdl_names_rules.specs.declared.fault.NameProblem.TheVariants.{TypeMi
 use Rattle.vhdl_names_rules.specs.Rules.{◌>>=◌, ◌>>◌, rule, if_any, given_that, wider}
 use Rattle.vhdl_names_rules.specs.Visibility as visibility
 use Rattle.vhdl_names_rules.specs.Visibility.{Meaning, DeclaredRange, Declared, Sight, meaning, declaration}
+use Rattle.vhdl_names_rules.specs.Known.{is_known}
 use Rattle.vhdl_names_rules.specs.Literals.{nine_of, values_of_string, values_of_bits}
 use Rattle.vhdl_names_rules.specs.Operators.{Typed, integer, is_vector}
 use Rattle.vhdl_names_rules.specs.Ranges.{declared_range}
@@ -175,25 +176,6 @@ plain_value sight type (t.single e) = fixed sight type e
 plain_value sight type (t.others at e) = filled_value type e
 
 -- ---- any value that names no signal and no variable (9.4), in the wider language
-
-abbrev mutual
-  pub is_known : Vector → Bool
-  is_known (e.of_signal p) = false
-  is_known (e.of_variable at k p) = false
-  is_known (e.Vector.inverse x) = is_known x
-  is_known (e.Vector.binary at op x y) = is_known x && is_known y
-  is_known (e.with_integer at op x n) = is_known x
-  is_known (e.integer_with at op n x) = is_known x
-  is_known (e.counted at op x n) = is_known x
-  is_known (e.aggregate at r es) = are_known es
-  is_known (e.sized at r x) = is_known x
-  is_known x = true
-
-  pub are_known : e.Elements → Bool
-  are_known e.no_elements = true
-  are_known (e.next x es) = is_known x && are_known es
-  are_known (e.chosen is x es) = is_known x && are_known es
-  are_known (e.Elements.others x) = is_known x
 
 abbrev pub is_known_value : Given → Bool
 is_known_value (single (e.Value.elements x)) = is_known x

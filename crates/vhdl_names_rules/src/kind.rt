@@ -27,6 +27,8 @@ pub enum Function {
     /// A number by a count.
     ByCount(Counted),
     ToUnsigned,
+    /// In the wider language.
+    ToInteger,
 }
 
 impl ElementKind {

@@ -27,4 +27,7 @@ pub use literal::nine_of;
 pub use operator::{Arithmetic, Bound, IntegerType, Numeric, VectorOperator};
 pub use test::{StaticTest, StaticTestLink, StaticTestStart, Test, TestLink, TestStart};
 pub use typed::{Typed, TypedChoice, TypedElement, TypedSuffix};
-pub use vector::{Part, Signal, SignalPart, Value, Vector, VectorElement, VectorLink, VectorStart};
+pub use vector::{
+    AnyPart, Chosen, Computed, ComputedLink, ComputedStart, Part, Signal, SignalPart, Value,
+    Vector, VectorElement, VectorLink, VectorStart,
+};

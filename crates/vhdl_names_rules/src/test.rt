@@ -10,7 +10,7 @@ ghost use Rattle.vhdl_names_rules.specs.views.Tests.{static_test_view, test_view
 
 use crate::chains::{chain_of, chain_with, parted_chain, static_chain_of, static_chain_with};
 use crate::integer::Static;
-use crate::vector::{SignalPart, Value, Vector};
+use crate::vector::{Computed, SignalPart, Value, Vector};
 use drops::take_apart;
 use std::alloc::{AllocError, Global};
 use vhdl_values::{Cmp, Edge, Logic};
@@ -74,6 +74,11 @@ pub enum Test {
     Compared(Cmp, usize, Box<Vector>, Box<Vector>),
     ComparedTo(Cmp, usize, Box<Vector>, Static),
     ComparedWith(Cmp, usize, Static, Box<Vector>),
+    /// The same, where a run computes the integer, and of two integers of which it computes one at
+    /// least.
+    ComparedToComputed(Cmp, usize, Box<Vector>, Box<Computed>),
+    ComparedWithComputed(Cmp, usize, Box<Computed>, Box<Vector>),
+    ComputedCompared(Cmp, usize, Box<Computed>, Box<Computed>),
     /// `rising_edge` and `falling_edge`, and `'event`.
     Edge(Edge, SignalPart),
     Event(SignalPart),
@@ -86,8 +91,9 @@ impl Drop for Test {
     #[cycle(truth)]
     fn drop(self) {
         take_apart!(self: Holds(_) | Fixed(_) | Alike(_, _, _) | Unlike(_, _, _)
-            | Compared(_, _, _, _) | ComparedTo(_, _, _, _) | ComparedWith(_, _, _, _) | Edge(_, _)
-            | Event(_) | Not(_) | Chain(_, _));
+            | Compared(_, _, _, _) | ComparedTo(_, _, _, _) | ComparedWith(_, _, _, _)
+            | ComparedToComputed(_, _, _, _) | ComparedWithComputed(_, _, _, _)
+            | ComputedCompared(_, _, _, _) | Edge(_, _) | Event(_) | Not(_) | Chain(_, _));
     }
 }
 

@@ -7,14 +7,16 @@ ghost use Rattle.vhdl_names_rules.specs.views.Expressions.{typed_view, typed_ele
 use crate::integer::{Index, Static, StaticRange};
 use crate::kind::ElementKind;
 use crate::test::Test;
-use crate::vector::{Value, Vector};
+use crate::vector::{Computed, Value, Vector};
+use vhdl_tree::Direction;
 
-/// What an expression is: a static integer, one element or a vector of a kind, a value of the
-/// enumeration of this number, which has so many literals, or a truth.
+/// What an expression is: a static integer, one that a run computes, one element or a vector of a
+/// kind, a value of the enumeration of this number, which has so many literals, or a truth.
 #[cycle(typed)]
 #[derive(Drop)]
 pub enum Typed {
     Integer(Static),
+    Computed(Computed),
     Elements(ElementKind, Vector),
     Enumerated {
         number: usize,
@@ -52,6 +54,12 @@ pub enum TypedSuffix {
     /// Whether it is one name alone, and what is there.
     Arguments(bool, Vec<Typed>),
     Range(Box<StaticRange>),
+    /// Bounds of which a run computes one at least.
+    ComputedRange {
+        left: Computed,
+        direction: Direction,
+        right: Computed,
+    },
 }
 
 impl Typed {

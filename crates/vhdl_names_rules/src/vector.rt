@@ -5,13 +5,14 @@ ghost use Rattle.vhdl_names_rules.specs.declared.vector.SignalPart.{SignalPart};
 ghost use Rattle.vhdl_names_rules.specs.declared.vector.Vector.TheVariants as vectors;
 ghost use Rattle.vhdl_names_rules.specs.units.Expressions as units;
 ghost use Rattle.vhdl_names_rules.specs.views.Integers.{static_view, range_view, option_range_view};
-ghost use Rattle.vhdl_names_rules.specs.views.Vectors.{vector_view, start_view, linked, vector_chained, elements_view};
+ghost use Rattle.vhdl_names_rules.specs.views.Vectors.{vector_view, start_view, linked, vector_chained, elements_view, computed_view, computed_start_view, computed_chained};
 
 use crate::integer::{Index, Static, StaticRange};
-use crate::operator::{Numeric, VectorOperator};
+use crate::operator::{Arithmetic, Numeric, VectorOperator};
 use drops::take_apart;
 use std::alloc::{AllocError, Global};
-use vhdl_values::{Counted, Nine};
+use vhdl_tree::Direction;
+use vhdl_values::{Counted, Nine, Shift};
 
 /// A port or signal of the unit, by its number.
 #[derive(Clone, Copy)]
@@ -55,6 +56,10 @@ pub enum Vector {
     Variable(usize, usize, Part),
     /// The constant of this number that is no integer, or a part of it.
     Constant(usize, usize, Part),
+    /// What a run chooses of a signal, of a variable, and of a constant.
+    InSignal(usize, Signal, Box<Chosen>),
+    InVariable(usize, usize, Box<Chosen>),
+    InConstant(usize, usize, Box<Chosen>),
     /// A character literal with no parentheses round it, nor round the operand on its left.
     Character(usize, Nine),
     /// Any other character literal.
@@ -66,10 +71,15 @@ pub enum Vector {
     Chain(Box<VectorStart>, Vec<VectorLink>),
     /// A static integer, an operator, and a number.
     IntegerWith(Numeric, usize, Static, Box<Vector>),
-    /// `to_unsigned`, of a number and a size.
+    /// An integer that a run computes, an operator, and a number.
+    ComputedWith(Numeric, usize, Box<Computed>, Box<Vector>),
+    /// `to_unsigned`, of a number and a size; the number may be computed.
     Encoded(usize, Static, Static),
+    ComputedEncoded(usize, Box<Computed>, Static),
     /// An operator, a number and a count.
     Counted(usize, Counted, Box<Vector>, Static),
+    /// A shift, a number, and how many places, which a run computes.
+    Shifted(usize, Shift, Box<Vector>, Box<Computed>),
     /// An aggregate: the range of its indexes where it is given to what has one, and its elements.
     Aggregate(usize, Option<Box<StaticRange>>, Vec<VectorElement>),
     /// As long as this range.
@@ -79,9 +89,11 @@ pub enum Vector {
 impl Drop for Vector {
     #[cycle(vector)]
     fn drop(self) {
-        take_apart!(self: Signal(_) | Variable(_, _, _) | Constant(_, _, _) | Character(_, _)
+        take_apart!(self: Signal(_) | Variable(_, _, _) | Constant(_, _, _) | InSignal(_, _, _)
+            | InVariable(_, _, _) | InConstant(_, _, _) | Character(_, _)
             | EnclosedCharacter(_, _) | Literal(_, _) | Not(_, _) | Chain(_, _)
-            | IntegerWith(_, _, _, _) | Encoded(_, _, _) | Counted(_, _, _, _)
+            | IntegerWith(_, _, _, _) | ComputedWith(_, _, _, _) | Encoded(_, _, _)
+            | ComputedEncoded(_, _, _) | Counted(_, _, _, _) | Shifted(_, _, _, _)
             | Aggregate(_, _, _) | Sized(_, _, _));
     }
 }
@@ -107,12 +119,13 @@ impl Drop for VectorElement {
 pub enum VectorLink {
     Vector(VectorOperator, usize, Vector),
     Integer(Numeric, usize, Static),
+    Computed(Numeric, usize, Computed),
 }
 
 impl Drop for VectorLink {
     #[cycle(vector)]
     fn drop(self) {
-        take_apart!(self: Vector(_, _, _) | Integer(_, _, _));
+        take_apart!(self: Vector(_, _, _) | Integer(_, _, _) | Computed(_, _, _));
     }
 }
 
@@ -128,6 +141,82 @@ impl Drop for VectorStart {
     fn drop(self) {
         take_apart!(self: { first, link });
     }
+}
+
+/// An integer that a run computes. Offsets are the bytes at which a call or an operator starts.
+#[cycle(vector)]
+pub enum Computed {
+    /// A static one beside such.
+    Static(Static),
+    /// `to_integer`, of a number.
+    Number(usize, Box<Vector>),
+    /// A minus sign.
+    Negated(usize, Box<Computed>),
+    /// `abs`.
+    Magnitude(usize, Box<Computed>),
+    /// Operators, grouped from the left: the first one, and those after it.
+    Chain(Box<ComputedStart>, Vec<ComputedLink>),
+}
+
+impl Drop for Computed {
+    #[cycle(vector)]
+    fn drop(self) {
+        take_apart!(self: Static(_) | Number(_, _) | Negated(_, _) | Magnitude(_, _) | Chain(_, _));
+    }
+}
+
+/// An operator on integers that a run computes, the byte at which it starts, and its right operand.
+#[cycle(vector)]
+pub struct ComputedLink {
+    pub operator: Arithmetic,
+    pub at: usize,
+    pub operand: Computed,
+}
+
+impl Drop for ComputedLink {
+    #[cycle(vector)]
+    fn drop(self) {
+        take_apart!(self: { operator, at, operand });
+    }
+}
+
+/// A first operand and the first operator after it, with its right operand.
+#[cycle(vector)]
+pub struct ComputedStart {
+    pub first: Computed,
+    pub link: ComputedLink,
+}
+
+impl Drop for ComputedStart {
+    #[cycle(vector)]
+    fn drop(self) {
+        take_apart!(self: { first, link });
+    }
+}
+
+/// Of a vector, the part that a run chooses: an element by its index, or a slice by its bounds.
+#[cycle(vector)]
+pub enum Chosen {
+    Element(Computed),
+    Slice {
+        left: Computed,
+        direction: Direction,
+        right: Computed,
+    },
+}
+
+impl Drop for Chosen {
+    #[cycle(vector)]
+    fn drop(self) {
+        take_apart!(self: Element(_) | Slice { left, direction, right });
+    }
+}
+
+/// A part of an object: one that is there before the run, or one that a run chooses.
+#[derive(Drop)]
+pub enum AnyPart {
+    Static(Part),
+    Chosen(Chosen),
 }
 
 /// What is assigned, compared or selected by.
@@ -220,5 +309,66 @@ impl Vector {
     {
         let range = Box::new(alloc, range)?;
         Ok(Vector::Sized(at, range, Box::new(alloc, self)?))
+    }
+}
+
+/// A first operand with its operator, and further operators with their right operands.
+#[tactic(auto, using(crate::proofs::rows::Vectors::view_computed_chain))]
+fn computed_chain(start: Box<ComputedStart>, links: Vec<ComputedLink>) -> Computed
+    ensures { computed_view result ≡ computed_chained (computed_start_view start.value) links.items }
+{
+    Computed::Chain(start, links)
+}
+
+impl Computed {
+    /// `to_integer`, whose name starts at byte `at`, of a number. It takes the memory of a box, as
+    /// `negated` and `magnitude` do.
+    pub fn number_of(alloc: Global, at: usize, number: Vector) -> Result<Computed, AllocError>
+        ensures { IfOk result (λ x. computed_view x ≡ units.number_of at (vector_view number)) }
+    {
+        Ok(Computed::Number(at, Box::new(alloc, number)?))
+    }
+
+    /// `-operand`, whose sign starts at byte `at`.
+    pub fn negated(alloc: Global, at: usize, operand: Computed) -> Result<Computed, AllocError>
+        ensures { IfOk result (λ x. computed_view x ≡ units.Computed.negated at (computed_view operand)) }
+    {
+        Ok(Computed::Negated(at, Box::new(alloc, operand)?))
+    }
+
+    /// `abs operand`, whose `abs` starts at byte `at`.
+    pub fn magnitude(alloc: Global, at: usize, operand: Computed) -> Result<Computed, AllocError>
+        ensures { IfOk result (λ x. computed_view x ≡ units.magnitude at (computed_view operand)) }
+    {
+        Ok(Computed::Magnitude(at, Box::new(alloc, operand)?))
+    }
+
+    /// An operator, which starts at byte `at`, with its right operand after this one. A chain goes
+    /// on, so that its height doesn't grow. It takes the memory of a list.
+    pub fn binary(
+        self,
+        alloc: Global,
+        operator: Arithmetic,
+        at: usize,
+        operand: Computed,
+    ) -> Result<Computed, AllocError>
+        ensures { IfOk result (λ x. computed_view x ≡
+            units.calculated at operator (computed_view self) (computed_view operand)) }
+    {
+        let link = ComputedLink {
+            operator,
+            at,
+            operand,
+        };
+        match self {
+            Computed::Chain(start, mut links) => {
+                links.push(link)?;
+                Ok(computed_chain(start, links))
+            }
+            first => {
+                let start = Box::new(alloc, ComputedStart { first, link })?;
+                Ok(computed_chain(start, Vec::new(alloc)))
+            }
+        }
     }
 }

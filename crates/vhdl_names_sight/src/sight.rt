@@ -139,6 +139,9 @@ const OFFERED: [&[u8]; 11] = [
     b"to_unsigned",
 ];
 
+/// What the wider language has besides.
+const OFFERED_WIDE: [&[u8]; 1] = [b"to_integer"];
+
 /// What the language leaves out of package standard (16.3), std_logic_1164 (16.7) and numeric_std
 /// (16.8).
 const LEFT_OUT: [&[u8]; 60] = [
@@ -217,11 +220,15 @@ fn is_among(mut names: &[&[u8]], name: &[u8]) -> bool
     false
 }
 
-/// Whether the language has it of std_logic_1164 or numeric_std.
-fn is_offered(name: &[u8]) -> bool
-    ensures { result ≡ is_named offered name.now }
+/// Whether this language has it of std_logic_1164 or numeric_std.
+#[tactic(auto, using(crate::proofs::Missing::offered_wide))]
+fn is_offered(language: Language, name: &[u8]) -> bool
+    ensures { result ≡ is_named (offered language) name.now }
 {
-    is_among(&OFFERED, name)
+    match language {
+        Language::Profile => is_among(&OFFERED, name),
+        Language::Wide => is_among(&OFFERED, name) || is_among(&OFFERED_WIDE, name),
+    }
 }
 
 /// Whether a package declares it, and the language leaves it out.
@@ -232,10 +239,10 @@ fn is_left_out(name: &[u8]) -> bool
 }
 
 /// Why a name that no declaration in sight has means nothing.
-fn missing(name: &[u8]) -> NameProblem
-    ensures { result ≡ problem_of name.now }
+fn missing(language: Language, name: &[u8]) -> NameProblem
+    ensures { result ≡ problem_of language name.now }
 {
-    if is_offered(name) {
+    if is_offered(language, name) {
         NameProblem::NotVisible
     } else if is_left_out(name) {
         NameProblem::LeftOut
@@ -246,23 +253,23 @@ fn missing(name: &[u8]) -> NameProblem
 
 /// What a name is declared to be here. Where it means nothing, it is NotVisible if a package
 /// declares it that no use clause names, LeftOut if a package declares what the language leaves
-/// out, as `boolean`, `signed` and `to_integer`, and else Undeclared.
+/// out, as `boolean`, `signed` and `to_integer` in the narrow one, and else Undeclared.
 pub fn declaration_of<'a>(sight: &'a Sight, name: &Identifier) -> Result<&'a Entry, NameFault>
     ensures declared { Gives (λ e. entry_of name.now.text.items e.now)
         (visibility.declaration sight.now name.now.text.items) result }
-    ensures fault { IfErr result (λ f. f ≡ At (problem_of name.now.text.items) name.now.at) }
+    ensures fault { IfErr result (λ f. f ≡ At (problem_of sight.now.language name.now.text.items) name.now.at) }
     ensures told { IfErr result (Tells (broken.meaning sight.now (ident_view name.now))) }
 {
     match sight.declaration(&name.text) {
         Some(entry) => Ok(entry),
-        None => Err(missing(&name.text).at(name.at)),
+        None => Err(missing(sight.language, &name.text).at(name.at)),
     }
 }
 
 /// What a name means here, likewise.
 pub fn meaning_of<'a>(sight: &'a Sight, name: &Identifier) -> Result<&'a Meaning, NameFault>
     ensures meant { Gives (λ m. meaning_view m.now) (visibility.meaning sight.now name.now.text.items) result }
-    ensures fault { IfErr result (λ f. f ≡ At (problem_of name.now.text.items) name.now.at) }
+    ensures fault { IfErr result (λ f. f ≡ At (problem_of sight.now.language name.now.text.items) name.now.at) }
     ensures told { IfErr result (Tells (broken.meaning sight.now (ident_view name.now))) }
 {
     let entry = declaration_of(sight, name)?;

@@ -107,7 +107,7 @@ fn selected_parts(
     ensures told { IfErr result (Tells
         (problems.waveforms sight.now by (tree.selected_assignment_view assignment.now))) }
 {
-    let _ = target(sight, &assignment.target)?;
+    let _ = target(sight, false, &assignment.target)?;
     let lists = choice_lists(sight.alloc, &assignment.waveforms)?;
     let all = all_chosen(sight, by, &assignment.target, &assignment.waveforms);
     let all = covered(sight, by, assignment.at, &lists, all)?;

@@ -12,10 +12,10 @@ ghost use Rattle.vhdl_names_statements.specs.steps.Told as told;
 ghost use Rattle.vhdl_names_units.specs.views.Sequential as views;
 
 use std::alloc::{AllocError, Global};
-use vhdl_names_expressions::{condition, given, target, variable};
+use vhdl_names_expressions::{condition, given, target};
 use vhdl_names_rules::NameFault;
 use vhdl_names_sight::Sight;
-use vhdl_names_units::{Branch, Statement, part_range};
+use vhdl_names_units::{Branch, Statement};
 use vhdl_tree as syntax;
 
 /// A statement alone.
@@ -25,48 +25,6 @@ pub(crate) fn single(alloc: Global, statement: Statement) -> Result<Vec<Statemen
     let mut statements = Vec::new(alloc);
     statements.push(statement)?;
     Ok(statements)
-}
-
-/// An assignment to a signal.
-fn assigned_signal(
-    sight: &Sight,
-    name: &syntax::Name,
-    value: &syntax::Value,
-) -> Result<Statement, NameFault>
-    ensures given { Gives views.statement_view
-        (steps.assigned_signal sight.now (tree.name_view name.now) (tree.value_view value.now)) result }
-    ensures told { IfErr result (Tells
-        (broken.assigned sight.now (tree.name_view name.now) (tree.value_view value.now))) }
-{
-    let signal = target(sight, name)?;
-    let range = part_range(signal.declared, &signal.place.part);
-    let value = given(sight, signal.object_type, range, value)?;
-    Ok(Statement::Assign {
-        target: signal.place,
-        value,
-    })
-}
-
-/// An assignment to a variable.
-fn assigned_variable(
-    sight: &Sight,
-    name: &syntax::Name,
-    value: &syntax::Value,
-) -> Result<Statement, NameFault>
-    ensures given { Gives views.statement_view
-        (steps.assigned_variable sight.now (tree.name_view name.now) (tree.value_view value.now)) result }
-    ensures told { IfErr result (Tells
-        (broken.variable_assigned sight.now (tree.name_view name.now) (tree.value_view value.now))) }
-{
-    let variable = variable(sight, name)?;
-    let range = part_range(variable.declared, &variable.part);
-    let value = given(sight, variable.object_type, range, value)?;
-    Ok(Statement::Set {
-        at: variable.at,
-        variable: variable.number,
-        part: variable.part,
-        value,
-    })
 }
 
 /// An assignment to a signal or a variable.
@@ -81,11 +39,9 @@ pub(crate) fn assigned(
     ensures told { IfErr result (Tells
         (told.assigned sight.now is_variable (tree.name_view name.now) (tree.value_view value.now))) }
 {
-    if is_variable {
-        assigned_variable(sight, name, value)
-    } else {
-        assigned_signal(sight, name, value)
-    }
+    let target = target(sight, is_variable, name)?;
+    let value = given(sight, target.object_type, target.range(), value)?;
+    Ok(Statement::assigned(target, value))
 }
 
 /// An assignment alone.
@@ -169,11 +125,7 @@ fn is_target(sight: &Sight, is_variable: bool, name: &syntax::Name) -> Result<()
     ensures given { Gives (λ x. x) (steps.is_target sight.now is_variable (tree.name_view name.now)) result }
     ensures told { IfErr result (Tells (broken.target_by sight.now is_variable (tree.name_view name.now))) }
 {
-    if is_variable {
-        let _variable = variable(sight, name)?;
-    } else {
-        let _signal = target(sight, name)?;
-    }
+    let _target = target(sight, is_variable, name)?;
     Ok(())
 }
 

@@ -1,4 +1,5 @@
 pub mod Answers
+pub mod Targets
 pub mod Actuals
 pub mod Sequential
 pub mod Declarations

@@ -7,8 +7,8 @@ ghost use Rattle.vhdl_names_rules.specs.views.Vectors.{part_view};
 
 use drops::take_apart;
 use vhdl_names_rules::{
-    DeclaredRange, ObjectType, Part, SignalPart, Static, StaticRange, StaticTest, TargetRange,
-    Value, Vector, VectorElement,
+    AnyPart, DeclaredRange, ObjectType, Part, Signal, SignalPart, Static, StaticRange, StaticTest,
+    TargetRange, Value, Vector, VectorElement,
 };
 use vhdl_tree::{Direction, Mode};
 use vhdl_values::Nine;
@@ -47,15 +47,37 @@ pub struct SignalName {
     pub declared: Option<DeclaredRange>,
 }
 
-/// A variable, or part of one, with its type, the range with which it is declared, and the byte at
-/// which its name starts.
+/// A signal or port, or the variable of this number.
+#[derive(Clone, Copy)]
+pub enum Object {
+    Signal(Signal),
+    Variable(usize),
+}
+
+/// The target of an assignment: what it assigns, or part of it, with its type, the range with which
+/// it is declared, and the byte at which its name starts.
 #[derive(Drop)]
-pub struct VariableName {
+pub struct Target {
     pub at: usize,
-    pub number: usize,
-    pub part: Part,
+    pub object: Object,
+    pub part: AnyPart,
     pub object_type: ObjectType,
     pub declared: Option<DeclaredRange>,
+}
+
+impl Target {
+    ghost use Rattle.std.specs.Prelude.{◌≡◌, option_map};
+    ghost use Rattle.vhdl_names_units.specs.views.Targets.{target_view};
+
+    /// The range of its indexes, if it has one before the run.
+    pub fn range(&self) -> Option<TargetRange<'_>>
+        ensures { option_map target_range_view result ≡ (target_view self.now).range }
+    {
+        match &self.part {
+            AnyPart::Static(part) => part_range(self.declared, part),
+            AnyPart::Chosen(_) => None,
+        }
+    }
 }
 
 /// The range of a part of what is declared with a range: that one, or the slice's.

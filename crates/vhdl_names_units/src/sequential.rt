@@ -5,14 +5,15 @@ ghost use Rattle.vhdl_names_rules.specs.units.Statements as units;
 ghost use Rattle.vhdl_names_rules.specs.views.Integers.{range_view};
 ghost use Rattle.vhdl_names_rules.specs.views.Tests.{test_view};
 ghost use Rattle.vhdl_names_rules.specs.views.Vectors.{value_view};
-ghost use Rattle.vhdl_names_units.specs.views.Answers.{choices_view};
+ghost use Rattle.vhdl_names_units.specs.views.Answers.{given_view, choices_view};
+ghost use Rattle.vhdl_names_units.specs.views.Targets.{target_view};
 ghost use Rattle.vhdl_names_units.specs.declared.sequential.If.{If};
 ghost use Rattle.vhdl_names_units.specs.declared.sequential.Statement.TheVariants as statements;
 ghost use Rattle.vhdl_names_units.specs.views.Sequential as views;
 
-use crate::answers::{Choice, Given};
+use crate::answers::{Choice, Given, Object, Target};
 use drops::take_apart;
-use vhdl_names_rules::{Part, SignalPart, StaticRange, Test, Value};
+use vhdl_names_rules::{AnyPart, Chosen, Part, Signal, SignalPart, StaticRange, Test, Value};
 
 /// A sequential statement.
 #[cycle(statement)]
@@ -30,6 +31,20 @@ pub enum Statement {
         part: Part,
         value: Given,
     },
+    /// To the part that a run chooses of a signal, whose name starts at byte `at`.
+    AssignIn {
+        at: usize,
+        signal: Signal,
+        part: Chosen,
+        value: Given,
+    },
+    /// To that of a variable.
+    SetIn {
+        at: usize,
+        variable: usize,
+        part: Chosen,
+        value: Given,
+    },
     If(If),
     Case(Case),
     Loop(Loop),
@@ -39,6 +54,7 @@ impl Drop for Statement {
     #[cycle(statement)]
     fn drop(self) {
         take_apart!(self: Null | Assign { target, value } | Set { at, variable, part, value }
+            | AssignIn { at, signal, part, value } | SetIn { at, variable, part, value }
             | If(_) | Case(_) | Loop(_));
     }
 }
@@ -168,6 +184,42 @@ impl Statement {
         match self {
             Statement::If(x) => Ok(x),
             statement => Err(statement),
+        }
+    }
+
+    /// What gives a value to a target.
+    pub fn assigned(target: Target, value: Given) -> Statement
+        ensures { views.statement_view result ≡ (target_view target).assigned (given_view value) }
+    {
+        let Target {
+            at,
+            object,
+            part,
+            ..
+        } = target;
+        match (object, part) {
+            (Object::Signal(signal), AnyPart::Static(part)) => Statement::Assign {
+                target: SignalPart { at, signal, part },
+                value,
+            },
+            (Object::Signal(signal), AnyPart::Chosen(part)) => Statement::AssignIn {
+                at,
+                signal,
+                part,
+                value,
+            },
+            (Object::Variable(variable), AnyPart::Static(part)) => Statement::Set {
+                at,
+                variable,
+                part,
+                value,
+            },
+            (Object::Variable(variable), AnyPart::Chosen(part)) => Statement::SetIn {
+                at,
+                variable,
+                part,
+                value,
+            },
         }
     }
 

@@ -15,10 +15,10 @@ use Rattle.vhdl_names_rules.specs.units.Units.{Fixed}
 use Rattle.vhdl_names_rules.specs.Rules.{◌>>=◌, ◌>>◌, met, wider}
 use Rattle.vhdl_names_rules.specs.Visibility as visibility
 use Rattle.vhdl_names_rules.specs.Visibility.{Sight, Declared, declaration}
-use Rattle.vhdl_names_rules.specs.Names.{Suffix, arguments, range}
+use Rattle.vhdl_names_rules.specs.Names.{Suffix, arguments}
 use Rattle.vhdl_names_rules.specs.Operators as o
-use Rattle.vhdl_names_rules.specs.Operators.{integer, elements, enumerated, truth, interval, composite}
-use Rattle.vhdl_names_rules.specs.Expressions.{typed, typed_each, typed_suffix, as_integer, is_one_name, suffix_of, value_given}
+use Rattle.vhdl_names_rules.specs.Operators.{integer, computed, elements, enumerated, truth, interval, composite}
+use Rattle.vhdl_names_rules.specs.Expressions.{typed, typed_each, typed_suffix, sliced, is_one_name, suffix_of, value_given}
 use Rattle.vhdl_names_rules.specs.Subtypes as r
 use Rattle.vhdl_names_rules.specs.declared.typed.Typed.{Typed}
 use Rattle.vhdl_names_parts.specs.Steps.{two}
@@ -35,11 +35,13 @@ use Rattle.vhdl_names_expressions.proofs.Choosing.{no_literal, chain_is_no_chara
 
 encode_two : (xs : List o.Typed) → r.encoded_value (Elements Unsigned) (visibility.function ToUnsigned) xs ≡ encoded_fixed (two xs)
 encode_two (integer s ∷ integer t ∷ []) = refl
+encode_two (integer s ∷ computed y ∷ []) = refl
 encode_two (integer s ∷ elements k y ∷ []) = refl
 encode_two (integer s ∷ enumerated e n y ∷ []) = refl
 encode_two (integer s ∷ truth y ∷ []) = refl
 encode_two (integer s ∷ interval y ∷ []) = refl
 encode_two (integer s ∷ composite p y ∷ []) = refl
+encode_two (computed x ∷ y ∷ []) = refl
 encode_two (elements j x ∷ y ∷ []) = refl
 encode_two (enumerated d m x ∷ y ∷ []) = refl
 encode_two (truth x ∷ y ∷ []) = refl
@@ -86,27 +88,23 @@ fixed_named sight type n (t.arguments es) None = go (declaration sight n.text) (
     go (Some d) None = refl
     go (Some d) (Some (interval x ∷ [])) = unencoded type d.meaning x
     go (Some d) (Some xs) = refl
-fixed_named sight type n (t.sliced d w e) None = name_unvalued type n (t.sliced d w e) None ∙ sym (go (declaration sight n.text) (typed sight d))
+fixed_named sight type n (t.sliced d w e) None = name_unvalued type n (t.sliced d w e) None ∙ sym (go (declaration sight n.text) (typed sight d) (typed sight e))
   where
-    last : (p : Declared) (l : u.Static) (q : Option o.Typed) →
-        ((q >>= λ y. (as_integer y >>= λ r. Some (range (record { left = l; direction = w; right = r })))) >>= λ s. (met true >> suffixed_value type p.meaning s)) ≡ None
-    last p l None = refl
-    last p l (Some y) = end (as_integer y)
-      where
-        end : (q : Option u.Static) → ((q >>= λ r. Some (range (record { left = l; direction = w; right = r }))) >>= λ s. (met true >> suffixed_value type p.meaning s)) ≡ None
-        end None = refl
-        end (Some r) = refl
+    none : (m : visibility.Meaning) (x y : o.Typed) → (sliced x w y >>= λ s. (met true >> suffixed_value type m s)) ≡ None
+    none m (integer l) (integer r) = refl
+    none m (integer l) (computed r) = refl
+    none m (integer l) y = refl
+    none m (computed l) (integer r) = refl
+    none m (computed l) (computed r) = refl
+    none m (computed l) y = refl
+    none m x y = refl
 
-    next : (p : Declared) (q : Option u.Static) →
-        ((q >>= λ l. (typed sight e >>= λ y. (as_integer y >>= λ r. Some (range (record { left = l; direction = w; right = r }))))) >>= λ s. (met true >> suffixed_value type p.meaning s)) ≡ None
-    next p None = refl
-    next p (Some l) = last p l (typed sight e)
-
-    go : (p : Option Declared) (q : Option o.Typed) →
-        (p >>= λ d. ((q >>= λ x. (as_integer x >>= λ l. (typed sight e >>= λ y. (as_integer y >>= λ r. Some (range (record { left = l; direction = w; right = r })))))) >>= λ s. (met true >> suffixed_value type d.meaning s))) ≡ None
-    go None q = refl
-    go (Some p) None = refl
-    go (Some p) (Some x) = next p (as_integer x)
+    go : (p : Option Declared) (q r : Option o.Typed) →
+        (p >>= λ d. ((q >>= λ x. (r >>= λ y. sliced x w y)) >>= λ s. (met true >> suffixed_value type d.meaning s))) ≡ None
+    go None q r = refl
+    go (Some p) None r = refl
+    go (Some p) (Some x) None = refl
+    go (Some p) (Some x) (Some y) = none p.meaning x y
 fixed_named sight type n t.plain (Some a) = name_unvalued type n t.plain (Some a) ∙ sym (broken (declaration sight n.text) (typed_suffix sight t.plain) (λ d. suffixed_value type d.meaning))
 fixed_named sight type n (t.arguments es) (Some a) = name_unvalued type n (t.arguments es) (Some a) ∙ sym (broken (declaration sight n.text) (typed_suffix sight (t.arguments es)) (λ d. suffixed_value type d.meaning))
 fixed_named sight type n (t.sliced d w e) (Some a) = name_unvalued type n (t.sliced d w e) (Some a) ∙ sym (broken (declaration sight n.text) (typed_suffix sight (t.sliced d w e)) (λ d. suffixed_value type d.meaning))

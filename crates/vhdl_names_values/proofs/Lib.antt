@@ -1,5 +1,4 @@
 pub mod Fixing
-pub mod Knowing
 pub mod Marks
 pub mod BreakingChoices
 pub mod BreakingValues

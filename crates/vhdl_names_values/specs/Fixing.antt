@@ -10,7 +10,7 @@ use Rattle.vhdl_names_rules.specs.units.Expressions.{Range}
 use Rattle.vhdl_names_rules.specs.units.Statements.{Given}
 use Rattle.vhdl_names_rules.specs.units.Units as u
 use Rattle.vhdl_names_rules.specs.units.Units.{Fixed}
-use Rattle.vhdl_names_rules.specs.Names.{Suffix, plain, arguments, range}
+use Rattle.vhdl_names_rules.specs.Names.{Suffix, plain, arguments}
 use Rattle.vhdl_names_rules.specs.Operators.{Typed, integer}
 use Rattle.vhdl_names_rules.specs.declared.kind.ObjectType.TheVariants.{Elements}
 use Rattle.vhdl_names_rules.specs.Operators.{is_vector}
@@ -32,7 +32,7 @@ encoded_fixed _ = None
 abbrev pub suffixed_value : ObjectType → Meaning → Suffix → Option Fixed
 suffixed_value type m plain = named_value type m
 suffixed_value type m (arguments b xs) = encoded_value type m xs
-suffixed_value type m (range r) = None
+suffixed_value type m _ = None
 
 -- (others => c) by its character
 abbrev pub filled_with : ObjectType → Option ℕ → Option Fixed

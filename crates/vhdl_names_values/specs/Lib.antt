@@ -1,4 +1,3 @@
 pub mod Fixing
 pub mod Constraining
-pub mod Knowing
 pub mod Marking

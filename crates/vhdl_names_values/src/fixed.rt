@@ -18,15 +18,15 @@ ghost use Rattle.vhdl_names_values.specs.Fixing as steps;
 ghost use Rattle.vhdl_names_values.specs.Fixing.{encoded_fixed, filled_with, suffixed_value, known_given};
 ghost use Rattle.vhdl_names_units.specs.views.Answers.{fixed_view, given_view};
 
-use crate::known::is_known_value;
 use crate::literals::{literal_values, no_literal};
 use std::alloc::Global;
 use vhdl_lexer::Language;
 use vhdl_names_expressions::{given, given_expression, name_of, start, unattributed};
+use vhdl_names_numbers::is_known;
 use vhdl_names_parts::two_arguments;
 use vhdl_names_rules::{
     ElementKind, Function, NameFault, NameProblem, ObjectType, TargetRange, Typed, TypedSuffix,
-    nine_of, without,
+    Value, nine_of, without,
 };
 use vhdl_names_sight::{Meaning, Sight};
 use vhdl_names_units::{Fixed, Given};
@@ -141,6 +141,7 @@ fn suffixed(
         TypedSuffix::Plain => named_value(object_type, meaning, at),
         TypedSuffix::Arguments(_, arguments) => encoded_value(object_type, meaning, arguments, at),
         TypedSuffix::Range(_) => Err(NameProblem::LeftOut.at(at)),
+        TypedSuffix::ComputedRange { .. } => Err(NameProblem::LeftOut.at(at)),
     }
 }
 
@@ -217,6 +218,20 @@ fn filled(
             None => Err(NameProblem::TypeMismatch.at(element_at)),
         },
         _ => Err(NameProblem::TypeMismatch.at(at)),
+    }
+}
+
+/// Whether what is given names no signal and no variable.
+fn is_known_value(given: &Given) -> bool
+    ensures { result ≡ rules.is_known_value (given_view given.now) }
+{
+    match given {
+        Given::Single(value) => match &**value {
+            Value::Elements(vector) => is_known(vector),
+            Value::Position(_) => true,
+            Value::StateOf(_) | Value::StateOfVariable(_) => false,
+        },
+        Given::Filled(vector) => is_known(vector),
     }
 }
 

@@ -6,12 +6,10 @@
 mod alternatives;
 mod fixed;
 mod integers;
-mod known;
 mod literals;
 mod subtypes;
 
 pub use alternatives::{choice, choices};
 pub use fixed::{as_known, fixed_expression, fixed_value};
 pub use integers::{integer_subtype, integers_of, numbers_direction};
-pub use known::are_known;
 pub use subtypes::subtype;

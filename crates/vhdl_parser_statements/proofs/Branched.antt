@@ -1,15 +1,16 @@
 -- The branches of an assignment take no more turns than tokens, and what is read of them doesn't hang on the tokens behind.
-use Rattle.std.proofs.Common.{◌≡◌, ℕ, zero, suc, ◌≤◌, cond, List, [], ◌∷◌, ◌++◌, length, Ok, Option, Some, None, refl, sym, ap, ◌∙◌, arith}
+use Rattle.std.proofs.Common.{◌≡◌, ℕ, zero, suc, ◌+◌, ◌-◌, ◌<◌, ◌≤◌, true, false, cond, List, [], ◌∷◌, ◌++◌, length, Ok, Option, Some, None, refl, sym, ap, ◌∙◌, arith}
 use Rattle.vhdl_lexer.specs.declared.language.Language.{Language}
 use Rattle.vhdl_lexer.specs.declared.token.TokenKind.TheVariants as k
 use Rattle.vhdl_tree.specs.Lexeme.{Lexeme}
 use Rattle.vhdl_tree.specs.Tree.{Expr, Value, Branch}
-use Rattle.vhdl_parser_expressions.specs.reader.Input.{Outcome, Parser, expect, next_kind, is_kind}
+use Rattle.vhdl_parser_expressions.specs.reader.Input.{Outcome, Parser, and_then, expect, next_kind, is_kind, sees}
 use Rattle.vhdl_parser_expressions.proofs.Steady.{Steady, steady_pure, steady_take, steady_then, steady_test, steady_turns, Advances, advances_then, advances_token, then_alike}
+use Rattle.vhdl_parser_expressions.proofs.Turns.{this_turn, last_turn}
 use Rattle.vhdl_parser_statements.specs.reader.Waveforms.{Waveforms, part, else_part, go_on, more_branches_from, more_branches}
 
 -- the branches found, and no more
-abbrev ended : List Branch → Parser Waveforms
+abbrev pub ended : List Branch → Parser Waveforms
 ended found = λ ts. Ok (record { branches = found; otherwise = None }, ts)
 
 go_alike : (f g : List Branch → Parser Waveforms) (found : List Branch) (v : Value) (c : Option Expr) (ts : List Lexeme) → ((all : List Branch) → f all ts ≡ g all ts) → go_on f found v c ts ≡ go_on g found v c ts
@@ -19,6 +20,24 @@ go_alike f g found v (Some c) ts same = same (found ++ record { value = v; condi
 go_steady : (f : List Branch → Parser Waveforms) → ((all : List Branch) → Steady (f all)) → (found : List Branch) (v : Value) (c : Option Expr) → Steady (go_on f found v c)
 go_steady f each found v None = steady_pure
 go_steady f each found v (Some c) = each (found ++ record { value = v; condition = c } ∷ [])
+
+-- ---- a loop over branches: a turn that finds one, one that finds none, and its end
+
+module _ (language : Language) (n turns at : ℕ) (found : List Branch) (ts : List Lexeme) where
+  pub another_branch : at < turns → sees k.Else ts ≡ true
+      → more_branches_from language n (turns - at) found ts ≡ and_then (else_part language n ts) (λ p. go_on (more_branches_from language n (turns - (at + 1))) found p.value p.condition)
+  unfolding more_branches_from
+  another_branch below there = rw (this_turn turns at below) (rw there refl)
+
+  pub no_branch : at < turns → sees k.Else ts ≡ false → more_branches_from language n (turns - at) found ts ≡ ended found ts
+  unfolding more_branches_from
+  no_branch below there = rw (this_turn turns at below) (rw there refl)
+
+  pub all_branches : turns ≤ at → more_branches_from language n (turns - at) found ts ≡ ended found ts
+  unfolding more_branches_from
+  all_branches done = rw (last_turn turns at done) refl
+
+-- ---- turns and tokens
 
 no_turn : (language : Language) (n turns : ℕ) (found : List Branch) → more_branches_from language n turns found [] ≡ ended found []
 unfolding more_branches_from next_kind

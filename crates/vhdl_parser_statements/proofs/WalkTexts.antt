@@ -67,12 +67,24 @@ follow_neutral last k.Generate h = absurd (cc)
 follow_neutral last k.End h = absurd (cc)
 follow_neutral last _ h = refl
 
--- such a token goes on with a text
+-- a text behind a token, by whether that opens a level, closes one, or may follow
+abbrev text_by_tests : (d : ℕ) (kind : TokenKind) (more : Text) → (opens closes follows : Bool) → Bool
+text_by_tests d kind more opens closes follows =
+    cond opens (is_text (suc d) kind more) (cond closes (nat_lt 0 d && is_text (d - 1) kind more) (follows && is_text d kind more))
+
+first_two : (a b c : Bool) → not (a || (b || c)) ≡ true → (a ≡ false) × (b ≡ false)
+first_two true b c h = absurd (cc)
+first_two false true c h = absurd (cc)
+first_two false false c h = (refl, refl)
+
+-- a token that may follow goes on with a text
 pub follow_text : (d : ℕ) (last kind : TokenKind) (more : Text) → may_follow last kind ≡ true → is_text d last (kind ∷ more) ≡ is_text d kind more
 unfolding same_kind
-follow_text d last k.LeftParen more h = absurd (cc)
-follow_text d last k.RightParen more h = absurd (cc)
-follow_text d last kind more h = ap (λ b. b && is_text d kind more) h
+follow_text d last kind more h =
+    let no = first_two (same_kind kind k.LeftParen) (same_kind kind k.RightParen) _ (follow_neutral last kind h) in
+    ap (λ b. text_by_tests d kind more b (same_kind kind k.RightParen) (may_follow last kind)) no.0
+    ∙ ap (λ b. text_by_tests d kind more false b (may_follow last kind)) no.1
+    ∙ ap (λ b. text_by_tests d kind more false false b) h
 
 -- ---- a token takes one
 

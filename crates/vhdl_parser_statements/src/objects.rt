@@ -7,7 +7,7 @@ ghost use Rattle.vhdl_parser_statements.specs.reader.Subtypes as read;
 ghost use Rattle.vhdl_parser_statements.specs.reader.Subtypes.{objects_view};
 
 use vhdl_lexer::{Language, TokenKind};
-use vhdl_parser_expressions::{Parser, Stop, below, followed, optional, separated};
+use vhdl_parser_expressions::{Parser, Stop, below, followed, separated};
 use vhdl_tree::{Constants, Constraint, Identifier, Subtype, Value};
 
 /// One identifier or more, with commas between.
@@ -71,16 +71,8 @@ pub fn subtype(parser: &mut Parser<'_>, language: Language, levels: usize) -> Re
     Ok(Subtype { mark, constraint })
 }
 
-#[tactic(auto, unfolding(crate::specs::reader::Subtypes::default_value))]
-fn default_value(parser: &mut Parser<'_>, language: Language, levels: usize) -> Result<Value, Stop>
-    ensures { Reads value_view (read.default_value language levels parser.old) result parser.new }
-{
-    parser.expect(TokenKind::Assign)?;
-    parser.value(language, levels)
-}
-
 /// A default, if one comes next.
-#[tactic(auto, unfolding(crate::specs::reader::Subtypes::optional_default, vhdl_parser_expressions::specs::reader::Input::optional))]
+#[tactic(auto, unfolding(crate::specs::reader::Subtypes::optional_default, crate::specs::reader::Subtypes::default_value, vhdl_parser_expressions::specs::reader::Input::optional))]
 pub fn optional_default(
     parser: &mut Parser<'_>,
     language: Language,
@@ -88,11 +80,11 @@ pub fn optional_default(
 ) -> Result<Option<Value>, Stop>
     ensures { Reads option_value_view (read.optional_default language levels parser.old) result parser.new }
 {
-    optional!(
-        parser,
-        TokenKind::Assign,
-        default_value(parser, language, levels)?
-    )
+    if !parser.sees(TokenKind::Assign) {
+        return Ok(None);
+    }
+    parser.expect(TokenKind::Assign)?;
+    Ok(Some(parser.value(language, levels)?))
 }
 
 /// `word ids : subtype [ := value ] ;` by its names, its subtype and its default, in which so many

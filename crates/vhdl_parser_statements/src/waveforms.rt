@@ -3,29 +3,17 @@
 
 ghost use Rattle.std.specs.Prelude.{◌≡◌};
 ghost use Rattle.vhdl_lexer.specs.declared.token.TokenKind.TheVariants as k;
-ghost use Rattle.vhdl_tree.specs.View.{view, option_expr_view, branches_view, waveform_view, waveforms_view, selected_assignment_view};
+ghost use Rattle.vhdl_tree.specs.View.{option_expr_view, branches_view, waveform_view, waveforms_view, selected_assignment_view};
 ghost use Rattle.vhdl_parser_expressions.specs.reader.Input as input;
 ghost use Rattle.vhdl_parser_expressions.specs.reader.Input.{Reads};
 ghost use Rattle.vhdl_parser_statements.specs.reader.Waveforms as read;
 ghost use Rattle.vhdl_parser_statements.specs.reader.Waveforms.{part_view, conditional_view};
 
 use vhdl_lexer::{Language, TokenKind};
-use vhdl_parser_expressions::{Parser, Stop, followed, optional, separated};
+use vhdl_parser_expressions::{Parser, Stop, followed, separated};
 use vhdl_tree::{Branch, Expr, SelectedAssignment, Value, Waveform};
 
-#[tactic(auto, unfolding(crate::specs::reader::Waveforms::condition))]
-fn waveform_condition(
-    parser: &mut Parser<'_>,
-    language: Language,
-    levels: usize,
-) -> Result<Expr, Stop>
-    ensures { Reads view (read.condition language levels parser.old) result parser.new }
-{
-    parser.expect(TokenKind::When)?;
-    parser.expr(language, levels)
-}
-
-#[tactic(auto, unfolding(vhdl_parser_expressions::specs::reader::Input::optional))]
+#[tactic(auto, unfolding(vhdl_parser_expressions::specs::reader::Input::optional, crate::specs::reader::Waveforms::condition))]
 fn optional_condition(
     parser: &mut Parser<'_>,
     language: Language,
@@ -35,11 +23,11 @@ fn optional_condition(
         (input.optional (input.is_kind k.When) (read.condition language levels) parser.old) result
         parser.new }
 {
-    optional!(
-        parser,
-        TokenKind::When,
-        waveform_condition(parser, language, levels)?
-    )
+    if !parser.sees(TokenKind::When) {
+        return Ok(None);
+    }
+    parser.expect(TokenKind::When)?;
+    Ok(Some(parser.expr(language, levels)?))
 }
 
 /// A value and the condition behind it, if there is one.

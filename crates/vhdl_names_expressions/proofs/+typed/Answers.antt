@@ -3,7 +3,7 @@ use Rattle.std.proofs.lemmas.List.{at_drop_all}
 use Rattle.vhdl_tree.specs.Tree.{exprs_of, elements_of}
 use Rattle.vhdl_tree.specs.View.{view, ident_view, suffix_view, attribute_view, choice_view, element_view}
 use Rattle.vhdl_tree.specs.View.{range_view as tree_range_view}
-use Rattle.vhdl_names_rules.specs.Rules.{each}
+use Rattle.vhdl_names_rules.specs.Rules.{each, ◌>>=◌}
 use Rattle.vhdl_names_rules.specs.Visibility.{Sight}
 use Rattle.vhdl_names_rules.specs.Expressions.{typed, typed_each, typed_elements, typed_choice, suffix_of, is_one_name}
 use Rattle.vhdl_names_rules.specs.Operators.{composite}
@@ -14,20 +14,19 @@ use Rattle.vhdl_names_rules.specs.views.Expressions.{typed_view, typed_suffix_vi
 use Rattle.vhdl_names_rules.specs.views.Expressions.{choice_view as typed_choice_view}
 use Rattle.vhdl_names_rules.specs.problems.Places as places
 use Rattle.vhdl_names_rules.specs.problems.Expressions as broken
-use Rattle.vhdl_names_rules.proofs.Along.{gives_along}
-use Rattle.vhdl_names_rules.proofs.Passing.{told_by}
 use Rattle.vhdl_names_sight.specs.Views.{entry_of}
 use Rattle.vhdl_names_expressions.specs.Breaking.{all_break}
-use Rattle.vhdl_names_expressions.specs.Chosen.{arguments_of}
 use Rattle.vhdl_names_expressions.specs.Elements.{one_element_view}
 use Rattle.vhdl_names_expressions.specs.Steps.{all_linked}
-use Rattle.vhdl_names_expressions.proofs.Answering.{base_passed, exponent_passed, power_answers, declaration_passed, suffix_passed, named_answers, mark_passed, inside_passed, qualified_answers, static_passed, static_answers, passed, out_of_memory, along, begun_passed, begun_answers, chain_passed, chain_answers, link_passed, link_answers, links_passed, links_go, parens_passed, parens_answer, negation_passed, negation_answer, absolute_passed, absolute_answer, sign_passed, sign_answer, aggregate_passed}
+use Rattle.vhdl_names_expressions.proofs.Answering.{base_passed, exponent_passed, power_answers, declaration_passed, suffix_passed, named_answers, mark_passed, inside_passed, qualified_answers, static_passed, static_answers, out_of_memory, along, begun_passed, begun_answers, chain_passed, chain_answers, link_passed, link_answers, links_passed, links_go, parens_passed, parens_answer, negation_passed, negation_answer, absolute_passed, absolute_answer, sign_passed, sign_answer, aggregate_passed}
 use Rattle.vhdl_names_expressions.proofs.AnsweringLists.{arguments_passed, arguments_go, choices_passed, choices_go, elements_passed, elements_go, element_choices_passed, element_value_passed, element_is, index_passed, index_answers, single_passed, single_chosen, range_passed, range_chosen}
-use Rattle.vhdl_names_expressions.proofs.BreakingForms.{range_first, range_second, slice_told, arguments_on}
-use Rattle.vhdl_names_expressions.proofs.Chains.{front, none_before, each_ends as each_typed_ends, arguments_whole}
+use Rattle.vhdl_names_numbers.specs.Integers.{integer_view, integer_of}
+use Rattle.vhdl_names_expressions.proofs.AnsweringBounds.{computed_passed, no_integer, slice_left_passed, slice_right_passed, bounds_left_passed, bounds_right_passed, arguments_answer}
+use Rattle.vhdl_names_expressions.proofs.BreakingForms.{slice_as, slice_broken}
+use Rattle.vhdl_names_expressions.proofs.Chains.{both_bounds, front, none_before, each_ends as each_typed_ends}
 use Rattle.vhdl_names_expressions.proofs.Each.{behind, none_behind, each_ends}
 use Rattle.vhdl_names_expressions.proofs.Elementing.{one_viewed, choices_each, elements_viewed, behind_elements, no_elements_before, elements_end}
-use Rattle.vhdl_names_expressions.proofs.Typing.{power_as, power_broken, qualified_as, qualified_broken, aggregate_as, no_left, no_right, bounds_are}
+use Rattle.vhdl_names_expressions.proofs.Typing.{power_as, power_broken, qualified_as, qualified_broken, aggregate_as, bounds_are}
 use Rattle.vhdl_names_expressions.proofs.+typed.Goals as goal
 
 -- ---- chains
@@ -189,6 +188,19 @@ expressions::raised-returns t c =
     let r = c.args.raised.now in
     power_answers c.args.sight.now (view r.base) (view r.exponent) r.at (typed_view c.in_ok-base.base) (typed_view c.in_ok-exponent.exponent) _ c.in_ok-base.ensures.given c.in_ok-exponent.ensures.given c.power.ensures
 
+-- ---- integers, which a run may compute
+
+pub expressions::computed_integer-returns-in_err-value : goal.expressions::computed_integer-returns-in_err-value
+expressions::computed_integer-returns-in_err-value t c = computed_passed c.args.sight.now (view c.args.e.now) _ _ c.from_residual.ensures.1 c.in_err-value.ensures
+
+pub expressions::computed_integer-returns-in-Ok-clause-given : goal.expressions::computed_integer-returns-in-Ok-clause-given
+expressions::computed_integer-returns-in-Ok-clause-given t c = ap (λ o. o >>= integer_of) c.in_ok-value.ensures.given ∙ c.in-Ok.ensures.given
+
+pub expressions::computed_integer-returns-in-Err : goal.expressions::computed_integer-returns-in-Err
+expressions::computed_integer-returns-in-Err t c =
+    no_integer c.args.sight.now (view c.args.e.now) (typed_view c.in_ok-value.value) c.start.result c.without.result c.in_ok-value.ensures.given c.in-Err.ensures.none c.start.ensures
+    (c.without.ensures ∙ c.at.ensures)
+
 -- ---- names
 
 pub named::named-returns-in_err-entry : goal.named::named-returns-in_err-entry
@@ -212,17 +224,29 @@ named::named-returns t c =
 
 pub named::typed_suffix-returns-in-Arguments : goal.named::typed_suffix-returns-in-Arguments
 named::typed_suffix-returns-in-Arguments t c =
-    let s = c.args.sight.now in
-    record {
-      given = gives_along typed_suffix_view _ _ _ (arguments_whole s c.args.suffix.now c.in-Arguments.all c.in-Arguments.is ∙ ap (λ es. arguments_of s (exprs_of (map view es))) (sym c.deref.ensures.value))
-          c.arguments.ensures.given;
-      told = arguments_on s c.args.suffix.now c.in-Arguments.all _ _ c.in-Arguments.is c.deref.ensures.value c.arguments.ensures.told;
-    }
+    arguments_answer c.args.sight.now c.args.suffix.now c.in-Arguments.all c.deref.result.now _ c.in-Arguments.is c.deref.ensures.value c.arguments.ensures
 
-pub named::typed_suffix-returns-in_err-range-in-Range-clause-told : goal.named::typed_suffix-returns-in_err-range-in-Range-clause-told
-named::typed_suffix-returns-in_err-range-in-Range-clause-told t c =
-    told_by _ c.in_err-range-in-Range.field-0.0 _ c.from_residual.result c.from_residual.ensures.1 (λ e p. p)
-    (slice_told c.args.sight.now c.args.suffix.now c.in-Range.range c.deref-in-Range.result.now c.in_err-range-in-Range.field-0.0 c.in-Range.is c.deref-in-Range.ensures c.in_err-range-in-Range.ensures.told)
+pub named::typed_suffix-returns-in-Range : goal.named::typed_suffix-returns-in-Range
+named::typed_suffix-returns-in-Range t c =
+    let s = c.args.sight.now in
+    along typed_suffix_view _ _ _ _ _ (slice_as s c.args.suffix.now c.in-Range.range c.deref-in-Range.result.now c.in-Range.is c.deref-in-Range.ensures)
+    (slice_broken s c.args.suffix.now c.in-Range.range c.deref-in-Range.result.now c.in-Range.is c.deref-in-Range.ensures) c.slice_bounds.ensures
+
+pub named::slice_bounds-returns-in_err-left : goal.named::slice_bounds-returns-in_err-left
+named::slice_bounds-returns-in_err-left t c = slice_left_passed c.args.sight.now c.args.range.now _ _ c.from_residual.ensures.1 c.in_err-left.ensures
+
+pub named::slice_bounds-returns-in_err-right : goal.named::slice_bounds-returns-in_err-right
+named::slice_bounds-returns-in_err-right t c =
+    slice_right_passed c.args.sight.now c.args.range.now (integer_view c.in_ok-left.left) _ _ c.in_ok-left.ensures.given c.from_residual-in_err-right.ensures.1 c.in_err-right.ensures
+
+pub named::slice_bounds-returns-in_err-sliced : goal.named::slice_bounds-returns-in_err-sliced
+named::slice_bounds-returns-in_err-sliced t c = out_of_memory typed_suffix_view _ _ _ c.from_residual-in_err-sliced.ensures.1
+
+pub named::slice_bounds-returns-clause-given : goal.named::slice_bounds-returns-clause-given
+named::slice_bounds-returns-clause-given t c =
+    let w = c.args.range.now in
+    both_bounds c.args.sight.now (view w.left) w.direction (view w.right) (integer_view c.in_ok-left.left) (integer_view c.in_ok-right.right) c.in_ok-left.ensures.given c.in_ok-right.ensures.given
+    ∙ c.in_ok-sliced.ensures
 
 pub named::arguments-returns-clause-given : goal.named::arguments-returns-clause-given
 named::arguments-returns-clause-given t c =
@@ -255,18 +279,11 @@ named::typed_each-returns-clause-given t c =
 -- ---- bounds
 
 pub named::bounds-returns-in_err-left : goal.named::bounds-returns-in_err-left
-named::bounds-returns-in_err-left t c =
-    let w = tree_range_view c.args.range.now in
-    let f = c.in_err-left.field-0.0 in
-    passed range_view _ _ _ _ f _ (no_left c.args.sight.now w) (range_first c.args.sight.now w f) c.from_residual.ensures.1 c.in_err-left.ensures
+named::bounds-returns-in_err-left t c = bounds_left_passed c.args.sight.now (tree_range_view c.args.range.now) _ _ c.from_residual.ensures.1 c.in_err-left.ensures
 
 pub named::bounds-returns-in_err-right : goal.named::bounds-returns-in_err-right
 named::bounds-returns-in_err-right t c =
-    let w = tree_range_view c.args.range.now in
-    let l = static_view c.in_ok-left.left in
-    let f = c.in_err-right.field-0.0 in
-    passed range_view _ _ _ _ f _ (no_right c.args.sight.now w l c.in_ok-left.ensures.given) (range_second c.args.sight.now w l f c.in_ok-left.ensures.given)
-    c.from_residual-in_err-right.ensures.1 c.in_err-right.ensures
+    bounds_right_passed c.args.sight.now (tree_range_view c.args.range.now) (static_view c.in_ok-left.left) _ _ c.in_ok-left.ensures.given c.from_residual-in_err-right.ensures.1 c.in_err-right.ensures
 
 pub named::bounds-returns-clause-given : goal.named::bounds-returns-clause-given
 named::bounds-returns-clause-given t c =

@@ -6,7 +6,7 @@ use Rattle.std.proofs.lemmas.Bool.{and_from}
 use Rattle.vhdl_names_rules.specs.declared.kind.ElementKind.{ElementKind}
 use Rattle.vhdl_names_rules.specs.declared.kind.ObjectType.{ObjectType}
 use Rattle.vhdl_names_rules.specs.declared.kind.ObjectType.TheVariants.{Elements, Enumeration}
-use Rattle.vhdl_names_rules.specs.declared.fault.NameProblem.TheVariants.{WrongKind, TypeMismatch}
+use Rattle.vhdl_names_rules.specs.declared.fault.NameProblem.TheVariants.{WrongKind, TypeMismatch, LeftOut}
 use Rattle.vhdl_names_rules.specs.units.Expressions as u
 use Rattle.vhdl_names_rules.specs.units.Expressions.{Range}
 use Rattle.vhdl_names_rules.specs.units.Statements as s
@@ -159,6 +159,8 @@ composite_given (Enumeration e count) at r es h = absurd cc
 composite_given (Elements k) at r (element (types.others p ∷ []) q x no_elements) h = given TypeMismatch q (as_filled (Elements k) x) (parts _ _ h).1
 composite_given (Elements k) at r es h =
     let c = parts _ _ h in
-    let a = aggregate_given k at r es c.1 in
+    let d = parts _ _ c.1 in
+    let a = aggregate_given k at r es d.1 in
     ruled (is_vector k) _ (holds TypeMismatch at (is_vector k) c.0)
-    (bound (aggregate k at r es) (λ x. Some (s.single (u.elements x))) a.value a.is (this (s.single (u.elements a.value))))
+    (ruled (is_some r || not (is_named es)) _ (holds LeftOut at (is_some r || not (is_named es)) d.0)
+    (bound (aggregate k at r es) (λ x. Some (s.single (u.elements x))) a.value a.is (this (s.single (u.elements a.value)))))

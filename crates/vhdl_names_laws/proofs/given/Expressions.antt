@@ -3,12 +3,14 @@ use Rattle.std.proofs.Common.{◌≡◌, ℕ, Bool, true, false, cond, [], ◌�
 use Rattle.std.specs.Prelude.{◌&&◌}
 use Rattle.vhdl_lexer.specs.declared.language.Language.{Language}
 use Rattle.vhdl_lexer.specs.declared.language.Language.TheVariants.{Profile, Wide}
+use Rattle.vhdl_tree.specs.declared.operator.Direction.{Direction}
+use Rattle.vhdl_tree.specs.declared.operator.Sign.{Sign}
+use Rattle.vhdl_tree.specs.declared.operator.Sign.TheVariants.{Plus, Minus}
 use Rattle.vhdl_tree.specs.Tree as t
 use Rattle.vhdl_tree.specs.Tree.{Expr, Exprs, Ident, Attribute}
 use Rattle.vhdl_names_rules.specs.declared.kind.ObjectType.{ObjectType}
 use Rattle.vhdl_names_rules.specs.declared.kind.ObjectType.TheVariants.{Elements, Enumeration}
 use Rattle.vhdl_names_rules.specs.declared.kind.ElementKind.TheVariants.{Element, OpenVector}
-use Rattle.vhdl_names_rules.specs.declared.operator.Arithmetic.{Arithmetic}
 use Rattle.vhdl_names_rules.specs.declared.operator.Arithmetic.TheVariants.{Power}
 use Rattle.vhdl_names_rules.specs.declared.fault.NameProblem.TheVariants.{TypeMismatch, LeftOut}
 use Rattle.vhdl_names_rules.specs.units.Expressions as u
@@ -20,14 +22,14 @@ use Rattle.vhdl_names_rules.specs.Literals.{number_of, nine_of, values_of_string
 use Rattle.vhdl_names_rules.specs.Types as types
 use Rattle.vhdl_names_rules.specs.Types.{TypedElements}
 use Rattle.vhdl_names_rules.specs.Operators as o
-use Rattle.vhdl_names_rules.specs.Operators.{Typed, inverse, integral, operated}
+use Rattle.vhdl_names_rules.specs.Operators.{Typed, as_computed, inverse, raised, operated}
 use Rattle.vhdl_names_rules.specs.Aggregates.{aggregate}
 use Rattle.vhdl_names_rules.specs.Names as names
 use Rattle.vhdl_names_rules.specs.Names.{Suffix, denoted, attributed, edge_signal}
 use Rattle.vhdl_names_rules.specs.Ranges.{Ranged, ranged, declared_range, named_range, range_attribute, sized_by}
 use Rattle.vhdl_names_rules.specs.Local.{is_local}
 use Rattle.vhdl_names_rules.specs.Expressions as are
-use Rattle.vhdl_names_rules.specs.Expressions.{as_integer, signed, enclosed, in_parentheses, beside, is_one_name, suffix_of, fits, as_index, as_range, as_test, as_static_test, as_value, as_filled}
+use Rattle.vhdl_names_rules.specs.Expressions.{as_integer, enclosed, in_parentheses, beside, is_one_name, suffix_of, fits, as_index, as_range, as_test, as_static_test, as_value, as_filled}
 use Rattle.vhdl_names_rules.specs.problems.Broken.{nothing, ◌▸◌, unless, lacking, where_given, of_any}
 use Rattle.vhdl_names_rules.specs.problems.Places.{start}
 use Rattle.vhdl_names_rules.specs.problems.Missing.{problem_of}
@@ -42,7 +44,7 @@ use Rattle.vhdl_names_laws.proofs.given.Aggregates.{aggregate_given, composite_g
 -- ---- names
 
 pub meaning_given : (sight : Sight) (n : Ident) → IsKept (broken.meaning sight n) → IsGiven (visibility.meaning sight n.text)
-meaning_given sight n h = given (problem_of n.text) n.at (visibility.meaning sight n.text) h
+meaning_given sight n h = given (problem_of sight.language n.text) n.at (visibility.meaning sight n.text) h
 
 pub declaration_given : (sight : Sight) (n : Ident) → IsKept (broken.meaning sight n) → IsGiven (declaration sight n.text)
 declaration_given sight n h = unmapped (λ (d : Declared). d.meaning) (declaration sight n.text) (meaning_given sight n h)
@@ -114,10 +116,33 @@ qualified_given at p m r es h = absurd cc
 wanted_given : (at : ℕ) (q : Option Typed) (x : Typed) → q ≡ Some x → IsKept (broken.integer_wanted at q) → IsGiven (as_integer x)
 wanted_given at q x e h = given TypeMismatch at (as_integer x) (of_given (λ x. lacking TypeMismatch at (as_integer x)) q x e h)
 
-integral_given : (at : ℕ) (a : Arithmetic) (x y : Typed) → IsGiven (as_integer x) → IsGiven (as_integer y) → IsGiven (integral at a x y)
-integral_given at a (o.integer s) (o.integer r) g h = this (o.integer (u.Static.binary at a s r))
-integral_given at a (o.integer s) y g h = let none = h.is in absurd cc
-integral_given at a x y g h = let none = g.is in absurd cc
+raised_given : (at : ℕ) (x y : Typed) → IsGiven (as_integer x) → IsGiven (as_integer y) → IsGiven (raised at x y)
+raised_given at (o.integer s) (o.integer r) g h = this (o.integer (u.Static.binary at Power s r))
+raised_given at (o.integer s) y g h = let none = h.is in absurd cc
+raised_given at x y g h = let none = g.is in absurd cc
+
+-- an integer, which a run may compute
+computed_given : (at : ℕ) (q : Option Typed) (x : Typed) → q ≡ Some x → IsKept (broken.computed_wanted at q) → IsGiven (as_computed x)
+computed_given at q x e h = given TypeMismatch at (as_computed x) (of_given (λ x. lacking TypeMismatch at (as_computed x)) q x e h)
+
+absolute_given : (at : ℕ) (x : Typed) → IsGiven (as_computed x) → IsGiven (are.absolute at x)
+absolute_given at (o.integer s) g = this (o.integer (u.absolute at s))
+absolute_given at (o.computed y) g = this (o.computed (u.magnitude at y))
+absolute_given at x g = let none = g.is in absurd cc
+
+signed_given : (at : ℕ) (sign : Sign) (x : Typed) → IsGiven (as_computed x) → IsGiven (are.signed at sign x)
+signed_given at Plus (o.integer s) g = this (o.integer s)
+signed_given at Plus (o.computed y) g = this (o.computed y)
+signed_given at Minus (o.integer s) g = this (o.integer (u.Static.negated at s))
+signed_given at Minus (o.computed y) g = this (o.computed (u.Computed.negated at y))
+signed_given at Plus x g = let none = g.is in absurd cc
+signed_given at Minus x g = let none = g.is in absurd cc
+
+sliced_given : (x y : Typed) (direction : Direction) → IsGiven (as_computed x) → IsGiven (as_computed y) → IsGiven (are.sliced x direction y)
+sliced_given (o.integer l) (o.integer r) direction g h = this (names.range (record { left = l; direction = direction; right = r }))
+sliced_given x y direction g h =
+    bound (as_computed x) (λ l. as_computed y >>= λ r. Some (names.computed_range l direction r)) g.value g.is
+    (bound (as_computed y) (λ r. Some (names.computed_range g.value direction r)) h.value h.is (this (names.computed_range g.value direction h.value)))
 
 mutual
   unfolding are.typed broken.typed
@@ -147,24 +172,20 @@ mutual
   typed_given (t.absolute at e) sight h =
       let k = parts _ _ h in
       let x = typed_given e sight k.0 in
-      let s = wanted_given at (are.typed sight e) x.value x.is k.1 in
-      bound (are.typed sight e) (λ x. as_integer x >>= λ s. Some (o.integer (u.absolute at s))) x.value x.is
-      (bound (as_integer x.value) (λ s. Some (o.integer (u.absolute at s))) s.value s.is (this (o.integer (u.absolute at s.value))))
+      bound (are.typed sight e) (are.absolute at) x.value x.is (absolute_given at x.value (computed_given at (are.typed sight e) x.value x.is k.1))
   typed_given (t.power d at e) sight h =
       let k = parts _ _ h in
       let l = parts _ _ k.1 in
       let m = parts _ _ l.1 in
       let x = typed_given d sight k.0 in
       let y = typed_given e sight l.0 in
-      bound (are.typed sight d) (λ x. are.typed sight e >>= λ y. integral at Power x y) x.value x.is
-      (bound (are.typed sight e) (λ y. integral at Power x.value y) y.value y.is
-      (integral_given at Power x.value y.value (wanted_given at (are.typed sight d) x.value x.is m.0) (wanted_given at (are.typed sight e) y.value y.is m.1)))
+      bound (are.typed sight d) (λ x. are.typed sight e >>= λ y. raised at x y) x.value x.is
+      (bound (are.typed sight e) (λ y. raised at x.value y) y.value y.is
+      (raised_given at x.value y.value (wanted_given at (are.typed sight d) x.value x.is m.0) (wanted_given at (are.typed sight e) y.value y.is m.1)))
   typed_given (t.signed sign at e) sight h =
       let k = parts _ _ h in
       let x = typed_given e sight k.0 in
-      let s = wanted_given at (are.typed sight e) x.value x.is k.1 in
-      bound (are.typed sight e) (λ x. as_integer x >>= λ s. Some (o.integer (signed at sign s))) x.value x.is
-      (bound (as_integer x.value) (λ s. Some (o.integer (signed at sign s))) s.value s.is (this (o.integer (signed at sign s.value))))
+      bound (are.typed sight e) (are.signed at sign) x.value x.is (signed_given at sign x.value (computed_given at (are.typed sight e) x.value x.is k.1))
   typed_given (t.binary begins op at d e) sight h =
       let k = parts _ _ h in
       let l = parts _ _ k.1 in
@@ -197,14 +218,11 @@ mutual
       let l = parts _ _ k.0 in
       let m = parts _ _ k.1 in
       let x = typed_given d sight l.0 in
-      let left = wanted_given (start d) (are.typed sight d) x.value x.is l.1 in
+      let left = computed_given (start d) (are.typed sight d) x.value x.is l.1 in
       let y = typed_given e sight m.0 in
-      let right = wanted_given (start e) (are.typed sight e) y.value y.is m.1 in
-      bound (are.typed sight d) _ x.value x.is
-      (bound (as_integer x.value) _ left.value left.is
-      (bound (are.typed sight e) _ y.value y.is
-      (bound (as_integer y.value) (λ r. Some (names.range (record { left = left.value; direction = direction; right = r }))) right.value right.is
-      (this (names.range (record { left = left.value; direction = direction; right = right.value }))))))
+      let right = computed_given (start e) (are.typed sight e) y.value y.is m.1 in
+      bound (are.typed sight d) (λ x. are.typed sight e >>= λ y. are.sliced x direction y) x.value x.is
+      (bound (are.typed sight e) (λ y. are.sliced x.value direction y) y.value y.is (sliced_given x.value y.value direction left right))
 
   pub each_typed_given : (es : Exprs) (sight : Sight) → IsKept (broken.typed_each sight es) → IsGiven (are.typed_each sight es)
   each_typed_given t.no_exprs sight h = this []

@@ -1,5 +1,5 @@
 -- Sequential statements that break no rule are given (IEEE 1076-2008, clause 10).
-use Rattle.std.proofs.Common.{◌≡◌, Bool, true, false, not, List, [], ◌∷◌, length, Option, Some, None, refl, ap, sym, ◌∙◌, arith}
+use Rattle.std.proofs.Common.{◌≡◌, ℕ, Bool, true, false, not, List, [], ◌∷◌, length, Option, Some, None, refl, ap, sym, ◌∙◌, arith}
 use Rattle.std.specs.Prelude.{is_none}
 use Rattle.vhdl_tree.specs.Tree as t
 use Rattle.vhdl_tree.specs.Tree.{Ident, Attribute}
@@ -13,8 +13,8 @@ use Rattle.vhdl_names_rules.specs.Names.{Suffix}
 use Rattle.vhdl_names_rules.specs.Expressions.{typed, typed_suffix, static_range, condition, value_given}
 use Rattle.vhdl_names_rules.specs.Choices.{choices, covered, selector, arranged}
 use Rattle.vhdl_names_rules.specs.Statements as are
-use Rattle.vhdl_names_rules.specs.Statements.{as_signal, as_variable, is_input, Target, choice_lists}
-use Rattle.vhdl_names_rules.specs.problems.Broken.{◌▸◌, unless, lacking, where_given, any_of, of_any}
+use Rattle.vhdl_names_rules.specs.Statements.{as_signal, as_signal_target, as_variable_target, mode_of, is_input, Target, choice_lists}
+use Rattle.vhdl_names_rules.specs.problems.Broken.{◌▸◌, lacking, where_given, any_of, of_any}
 use Rattle.vhdl_names_rules.specs.problems.Expressions as expressions
 use Rattle.vhdl_names_rules.specs.problems.Expressions.{no_attribute}
 use Rattle.vhdl_names_rules.specs.problems.Statements as broken
@@ -52,25 +52,34 @@ pub signal_given : (sight : Sight) (n : t.Name) → IsKept (broken.signal sight 
 unfolding are.signal
 signal_given sight n h = object_given signal_problem (as_signal n.identifier.at) sight n h
 
-pub target_given : (sight : Sight) (n : t.Name) → IsKept (broken.target sight n) → IsGiven (are.target sight n)
-unfolding are.target
-target_given sight n h =
+-- a target that is no in port
+driven_given : (at : ℕ) (d : Declared) (s : Suffix) → IsKept (broken.target_by_declaration at d s) → IsGiven (as_signal_target at d s >>= λ x. (met (not (is_input (mode_of d.meaning))) >> Some x))
+driven_given at d s h =
     let k = parts _ _ h in
-    let x = signal_given sight n k.0 in
-    let e = holds WriteOfIn n.identifier.at (not (is_input x.value.mode)) (of_given (λ x. unless WriteOfIn n.identifier.at (not (is_input x.mode))) (are.signal sight n) x.value x.is k.1) in
-    bound (are.signal sight n) (λ x. met (not (is_input x.mode)) >> Some x) x.value x.is (ruled (not (is_input x.value.mode)) (Some x.value) e (this x.value))
-
-pub variable_given : (sight : Sight) (n : t.Name) → IsKept (broken.variable sight n) → IsGiven (are.variable sight n)
-unfolding are.variable
-variable_given sight n h = object_given variable_problem (as_variable n.identifier.at) sight n h
-
--- ---- assignments
+    let x = given (signal_problem d.meaning) at (as_signal_target at d s) k.0 in
+    bound (as_signal_target at d s) (λ x. met (not (is_input (mode_of d.meaning))) >> Some x) x.value x.is
+    (ruled (not (is_input (mode_of d.meaning))) (Some x.value) (holds WriteOfIn at (not (is_input (mode_of d.meaning))) k.1) (this x.value))
 
 pub signal_target_given : (sight : Sight) (n : t.Name) → IsKept (broken.target sight n) → IsGiven (are.signal_target sight n)
-signal_target_given sight n h = let x = target_given sight n h in bound (are.target sight n) _ x.value x.is (this _)
+unfolding are.signal_target
+signal_target_given sight n h =
+    let k = parts (broken.named sight n) (where_given (declaration sight n.identifier.text) (λ d. where_given (typed_suffix sight n.suffix) (broken.target_by_declaration n.identifier.at d))) h in
+    let l = parts _ _ k.0 in
+    let m = parts _ _ l.1 in
+    let d = declaration_given sight n.identifier l.0 in
+    let x = suffix_given n.suffix sight m.0 in
+    let y = driven_given n.identifier.at d.value x.value
+    (of_given (broken.target_by_declaration n.identifier.at d.value) (typed_suffix sight n.suffix) x.value x.is
+    (of_given (λ d. where_given (typed_suffix sight n.suffix) (broken.target_by_declaration n.identifier.at d)) (declaration sight n.identifier.text) d.value d.is k.1)) in
+    ruled (is_none n.attribute) _ (none_given n.attribute m.1)
+    (bound (typed_suffix sight n.suffix) (λ s. declaration sight n.identifier.text >>= λ d. as_signal_target n.identifier.at d s >>= λ x. (met (not (is_input (mode_of d.meaning))) >> Some x)) x.value x.is
+    (bound (declaration sight n.identifier.text) (λ d. as_signal_target n.identifier.at d x.value >>= λ x. (met (not (is_input (mode_of d.meaning))) >> Some x)) d.value d.is y))
 
 variable_target_given : (sight : Sight) (n : t.Name) → IsKept (broken.variable sight n) → IsGiven (are.variable_target sight n)
-variable_target_given sight n h = let x = variable_given sight n h in bound (are.variable sight n) _ x.value x.is (this _)
+unfolding are.variable_target
+variable_target_given sight n h = object_given variable_problem (as_variable_target n.identifier.at) sight n h
+
+-- ---- assignments
 
 target_by_given : (sight : Sight) (is_variable : Bool) (n : t.Name) → IsKept (broken.target_by sight is_variable n) → IsGiven (are.target_by sight is_variable n)
 target_by_given sight false n h = signal_target_given sight n h

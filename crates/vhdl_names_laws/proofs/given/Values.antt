@@ -12,6 +12,7 @@ use Rattle.vhdl_names_rules.specs.declared.kind.ElementKind.TheVariants.{Element
 use Rattle.vhdl_names_rules.specs.declared.kind.ObjectType.{ObjectType}
 use Rattle.vhdl_names_rules.specs.declared.kind.ObjectType.TheVariants.{Elements, Enumeration}
 use Rattle.vhdl_names_rules.specs.declared.fault.NameProblem.TheVariants.{TypeMismatch, LeftOut}
+use Rattle.vhdl_names_rules.specs.units.Expressions as forms
 use Rattle.vhdl_names_rules.specs.units.Expressions.{Range}
 use Rattle.vhdl_names_rules.specs.units.Units as u
 use Rattle.vhdl_names_rules.specs.Rules.{◌>>=◌, then_some, if_any, wider}
@@ -24,7 +25,7 @@ use Rattle.vhdl_names_rules.specs.Names as names
 use Rattle.vhdl_names_rules.specs.Names.{Suffix}
 use Rattle.vhdl_names_rules.specs.Ranges.{declared_range}
 use Rattle.vhdl_names_rules.specs.Expressions as are
-use Rattle.vhdl_names_rules.specs.Expressions.{as_integer, is_one_name, suffix_of, typed_suffix, typed_each, static_range}
+use Rattle.vhdl_names_rules.specs.Expressions.{is_one_name, suffix_of, typed_suffix, typed_each, static_range}
 use Rattle.vhdl_names_rules.specs.Subtypes as subtypes
 use Rattle.vhdl_names_rules.specs.Subtypes.{marked, one_range, index_range, is_range, value_range, integers_of, class_of, named_value, encoded_value, literal_value, literal_values, filled_value, plain_value, is_known_value, known_value}
 use Rattle.vhdl_names_rules.specs.problems.Broken.{Broken, nothing, ◌▸◌, unless, lacking, where_given, of_any}
@@ -132,16 +133,23 @@ arguments_given type d b (o.interval r ∷ []) g = let none = g.is in absurd cc
 arguments_given type d b xs g = g
 
 -- a slice is no value
+not_sliced : (type : ObjectType) (d : Meaning) (x y : Typed) (direction : Direction) (s : Suffix) → are.sliced x direction y ≡ Some s → None ≡ value_of type d s
+not_sliced type d (o.integer l) (o.integer r) direction s h =
+    ap (value_of type d) (some_is (names.range (record { left = l; direction = direction; right = r })) s h)
+not_sliced type d (o.integer l) (o.computed r) direction s h = ap (value_of type d) (some_is (names.computed_range (forms.static l) direction r) s h)
+not_sliced type d (o.integer l) y direction s h = absurd cc
+not_sliced type d (o.computed l) (o.integer r) direction s h = ap (value_of type d) (some_is (names.computed_range l direction (forms.static r)) s h)
+not_sliced type d (o.computed l) (o.computed r) direction s h = ap (value_of type d) (some_is (names.computed_range l direction r) s h)
+not_sliced type d (o.computed l) y direction s h = absurd cc
+not_sliced type d x y direction s h = absurd cc
+
 no_slice : (sight : Sight) (type : ObjectType) (d : Meaning) (l y : Expr) (direction : Direction) (s : Suffix) → typed_suffix sight (t.sliced l direction y) ≡ Some s
     → IsGiven (value_of type d s) → ⊥
 unfolding are.typed
 no_slice sight type d l y direction s h g =
     let a = comes (are.typed sight l) _ s h in
-    let b = comes (as_integer a.value) _ s a.rest in
-    let c = comes (are.typed sight y) _ s b.rest in
-    let e = comes (as_integer c.value) _ s c.rest in
-    let same : names.range (record { left = b.value; direction = direction; right = e.value }) ≡ s = some_is _ s e.rest in
-    let none : None ≡ Some g.value = ap (value_of type d) same ∙ g.is in
+    let b = comes (are.typed sight y) _ s a.rest in
+    let none : None ≡ Some g.value = not_sliced type d a.value b.value direction s b.rest ∙ g.is in
     absurd cc
 
 fixed_given : (sight : Sight) (type : ObjectType) (e : Expr) → IsKept (broken.fixed sight type e) → IsGiven (subtypes.fixed sight type e)

@@ -4,7 +4,7 @@ use Rattle.std.specs.List.{AllByRecursion}
 use Rattle.vhdl_names_rules.specs.declared.kind.ElementKind.{ElementKind}
 use Rattle.vhdl_names_rules.specs.declared.kind.ObjectType.{ObjectType}
 use Rattle.vhdl_names_rules.specs.declared.kind.ObjectType.TheVariants.{Elements, Enumeration}
-use Rattle.vhdl_names_rules.specs.declared.fault.NameProblem.TheVariants.{WrongKind, TypeMismatch}
+use Rattle.vhdl_names_rules.specs.declared.fault.NameProblem.TheVariants.{WrongKind, TypeMismatch, LeftOut}
 use Rattle.vhdl_names_rules.specs.units.Expressions as u
 use Rattle.vhdl_names_rules.specs.Types as types
 use Rattle.vhdl_names_rules.specs.Types.{Typed, TypedChoice, TypedElements}
@@ -57,4 +57,5 @@ module _ (P : ℕ → Type 0) where
   composite_told (Enumeration e count) at ranged es h g = told_refused TypeMismatch at h
   composite_told (Elements k) at ranged (types.element (types.others p ∷ []) z x types.no_elements) h g =
       told_behind (told_unless TypeMismatch at (is_vector k) h) (told_lacking TypeMismatch z (as_filled (Elements k) x) g.3)
-  composite_told (Elements k) at ranged es h g = told_behind (told_unless TypeMismatch at (is_vector k) h) (aggregate_told k ranged es g)
+  composite_told (Elements k) at ranged es h g =
+      told_behind (told_unless TypeMismatch at (is_vector k) h) (told_behind (told_unless LeftOut at (ranged || not (is_named es)) h) (aggregate_told k ranged es g))

@@ -15,7 +15,7 @@ use Rattle.vhdl_names_rules.specs.Visibility as visibility
 use Rattle.vhdl_names_rules.specs.Visibility.{Meaning, DeclaredRange, Declared, Sight, declaration}
 use Rattle.vhdl_names_rules.specs.Literals.{number_of, nine_of, values_of_string, values_of_bits}
 use Rattle.vhdl_names_rules.specs.Operators as o
-use Rattle.vhdl_names_rules.specs.Operators.{Typed, is_vector, inverse, operated}
+use Rattle.vhdl_names_rules.specs.Operators.{Typed, is_vector, as_computed, inverse, operated}
 use Rattle.vhdl_names_rules.specs.Types as types
 use Rattle.vhdl_names_rules.specs.Types.{TypedElements}
 use Rattle.vhdl_names_rules.specs.Names.{Suffix, plain, denoted, edge_signal}
@@ -37,7 +37,7 @@ use Rattle.vhdl_names_laws.proofs.standing.Expressions.{typed_holds, elements_ho
 -- ---- names
 
 pub meaning_told : (P : ℕ → Type 0) (sight : Sight) (n : Ident) → P n.at → Told P (broken.meaning sight n)
-meaning_told P sight n h = told_lacking (problem_of n.text) n.at (visibility.meaning sight n.text) h
+meaning_told P sight n h = told_lacking (problem_of sight.language n.text) n.at (visibility.meaning sight n.text) h
 
 module _ (P : ℕ → Type 0) where
   abbrev AttributeStands : Option Attribute → Type 0
@@ -102,6 +102,9 @@ module _ (P : ℕ → Type 0) where
 wanted_told : (P : ℕ → Type 0) (at : ℕ) (o : Option Typed) → P at → Told P (broken.integer_wanted at o)
 wanted_told P at o h = told_given o (λ x. lacking TypeMismatch at (as_integer x)) (λ x. told_lacking TypeMismatch at (as_integer x) h)
 
+computed_told : (P : ℕ → Type 0) (at : ℕ) (o : Option Typed) → P at → Told P (broken.computed_wanted at o)
+computed_told P at o h = told_given o (λ x. lacking TypeMismatch at (as_computed x)) (λ x. told_lacking TypeMismatch at (as_computed x) h)
+
 mutual
   unfolding broken.typed
 
@@ -120,13 +123,13 @@ mutual
       (told_given (are.typed sight e) (λ x. lacking TypeMismatch (start e) (in_parentheses x)) (λ x. told_lacking TypeMismatch (start e) (in_parentheses x) (start_stands P e g)))
   typed_told (t.negation at e) P sight h =
       told_behind (typed_told e P sight h.1) (told_given (are.typed sight e) (λ x. lacking TypeMismatch at (inverse x)) (λ x. told_lacking TypeMismatch at (inverse x) h.0))
-  typed_told (t.absolute at e) P sight h = told_behind (typed_told e P sight h.1) (wanted_told P at (are.typed sight e) h.0)
+  typed_told (t.absolute at e) P sight h = told_behind (typed_told e P sight h.1) (computed_told P at (are.typed sight e) h.0)
   typed_told (t.power d at e) P sight h =
       let g = behind P (spell d) _ h in
       told_behind (typed_told d P sight (first P (spell d) _ h))
       (told_behind (typed_told e P sight g.1.1)
       (told_behind (wanted_told P at (are.typed sight d) g.0) (wanted_told P at (are.typed sight e) g.0)))
-  typed_told (t.signed sign at e) P sight h = told_behind (typed_told e P sight h.1) (wanted_told P at (are.typed sight e) h.0)
+  typed_told (t.signed sign at e) P sight h = told_behind (typed_told e P sight h.1) (computed_told P at (are.typed sight e) h.0)
   typed_told (t.binary begins op at d e) P sight h =
       let g = behind P (spell d) _ h in
       told_behind (typed_told d P sight (first P (spell d) _ h))
@@ -152,8 +155,8 @@ mutual
       let left = first P (spell d) _ h.1 in
       let g = behind P (spell d) _ h.1 in
       let right = first P (spell e) _ g.1 in
-      told_behind (told_behind (typed_told d P sight left) (wanted_told P (start d) (are.typed sight d) (start_stands P d left)))
-      (told_behind (typed_told e P sight right) (wanted_told P (start e) (are.typed sight e) (start_stands P e right)))
+      told_behind (told_behind (typed_told d P sight left) (computed_told P (start d) (are.typed sight d) (start_stands P d left)))
+      (told_behind (typed_told e P sight right) (computed_told P (start e) (are.typed sight e) (start_stands P e right)))
 
   exprs_told : (es : Exprs) (P : ℕ → Type 0) (sight : Sight) → Stand P (spell_exprs es) → Told P (broken.typed_each sight es)
   exprs_told t.no_exprs P sight h = told_nothing

@@ -17,7 +17,7 @@ use Rattle.vhdl_names_rules.specs.Names.{Suffix}
 use Rattle.vhdl_names_rules.specs.Expressions.{typed, typed_suffix}
 use Rattle.vhdl_names_rules.specs.Choices.{selector}
 use Rattle.vhdl_names_rules.specs.Statements as are
-use Rattle.vhdl_names_rules.specs.Statements.{as_signal, as_variable, is_input, Target, choice_lists}
+use Rattle.vhdl_names_rules.specs.Statements.{as_signal, as_signal_target, as_variable_target, mode_of, is_input, Target, choice_lists}
 use Rattle.vhdl_names_rules.specs.problems.Broken.{Broken, ◌▸◌, unless, lacking, where_given}
 use Rattle.vhdl_names_rules.specs.problems.Expressions as expressions
 use Rattle.vhdl_names_rules.specs.problems.Statements as broken
@@ -47,11 +47,13 @@ signal_told P sight n h = object_told P signal_problem (as_signal n.identifier.a
 
 pub target_told : (P : ℕ → Type 0) (sight : Sight) (n : t.Name) → Stand P (spell_name n) → Told P (broken.target sight n)
 target_told P sight n h =
-    told_behind (signal_told P sight n h)
-    (told_given (are.signal sight n) (λ x. unless WriteOfIn n.identifier.at (not (is_input x.mode))) (λ x. told_unless WriteOfIn n.identifier.at (not (is_input x.mode)) h.0))
+    told_behind (named_told P sight n h)
+    (told_given (declaration sight n.identifier.text) (λ d. where_given (typed_suffix sight n.suffix) (broken.target_by_declaration n.identifier.at d))
+    (λ d. told_given (typed_suffix sight n.suffix) (broken.target_by_declaration n.identifier.at d)
+    (λ s. told_behind (told_lacking (signal_problem d.meaning) n.identifier.at (as_signal_target n.identifier.at d s) h.0) (told_unless WriteOfIn n.identifier.at (not (is_input (mode_of d.meaning))) h.0))))
 
 variable_told : (P : ℕ → Type 0) (sight : Sight) (n : t.Name) → Stand P (spell_name n) → Told P (broken.variable sight n)
-variable_told P sight n h = object_told P variable_problem (as_variable n.identifier.at) sight n h
+variable_told P sight n h = object_told P variable_problem (as_variable_target n.identifier.at) sight n h
 
 -- ---- statements
 

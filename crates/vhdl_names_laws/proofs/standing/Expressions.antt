@@ -1,7 +1,8 @@
 -- The bytes of an analysed expression are those of pieces of the expression.
-use Rattle.std.proofs.Common.{◌≡◌, ℕ, Bool, ◌&&◌, List, [], ◌∷◌, ◌++◌, Option, Some, None, subst}
-use Rattle.std.specs.Option.{option_map}
+use Rattle.std.proofs.Common.{◌≡◌, ℕ, Bool, not, ◌&&◌, ◌||◌, List, [], ◌∷◌, ◌++◌, Option, Some, None, subst}
+use Rattle.std.specs.Option.{is_some, option_map}
 use Rattle.std.specs.List.{AllByRecursion}
+use Rattle.vhdl_tree.specs.declared.operator.Direction.{Direction}
 use Rattle.vhdl_tree.specs.declared.operator.Sign.{Sign}
 use Rattle.vhdl_tree.specs.declared.operator.Sign.TheVariants.{Plus, Minus}
 use Rattle.vhdl_tree.specs.Tree as t
@@ -12,26 +13,26 @@ use Rattle.vhdl_names_rules.specs.declared.kind.ElementKind.{ElementKind}
 use Rattle.vhdl_names_rules.specs.declared.kind.ElementKind.TheVariants.{Element, OpenVector}
 use Rattle.vhdl_names_rules.specs.declared.kind.ObjectType.{ObjectType}
 use Rattle.vhdl_names_rules.specs.declared.kind.ObjectType.TheVariants.{Elements, Enumeration}
-use Rattle.vhdl_names_rules.specs.declared.operator.Arithmetic.TheVariants.{Power}
 use Rattle.vhdl_names_rules.specs.units.Expressions as e
 use Rattle.vhdl_names_rules.specs.units.Expressions.{Static, Range, Index, StaticTest, Test}
 use Rattle.vhdl_names_rules.specs.units.Statements as s
 use Rattle.vhdl_names_rules.specs.units.Statements.{Given}
-use Rattle.vhdl_names_rules.specs.units.Bytes.{if_any_bytes, static_bytes, range_bytes, index_bytes, static_test_bytes, test_bytes, given_bytes}
+use Rattle.vhdl_names_rules.specs.units.Bytes.{if_any_bytes, static_bytes, range_bytes, index_bytes, static_test_bytes, computed_bytes, test_bytes, given_bytes}
+use Rattle.vhdl_names_rules.specs.Rules.{◌>>=◌}
 use Rattle.vhdl_names_rules.specs.Visibility as visibility
 use Rattle.vhdl_names_rules.specs.Visibility.{Meaning, DeclaredRange, Sight, declaration}
 use Rattle.vhdl_names_rules.specs.Literals.{number_of, nine_of, values_of_string, values_of_bits}
 use Rattle.vhdl_names_rules.specs.Operators as o
-use Rattle.vhdl_names_rules.specs.Operators.{Typed, inverse}
+use Rattle.vhdl_names_rules.specs.Operators.{Typed, as_computed, inverse}
 use Rattle.vhdl_names_rules.specs.Names as n
 use Rattle.vhdl_names_rules.specs.Names.{Suffix}
 use Rattle.vhdl_names_rules.specs.Types as types
 use Rattle.vhdl_names_rules.specs.Types.{TypedChoice, TypedElements}
 use Rattle.vhdl_names_rules.specs.Ranges.{declared_range, sized_by}
 use Rattle.vhdl_names_rules.specs.Local.{is_local}
-use Rattle.vhdl_names_rules.specs.Aggregates.{aggregate}
+use Rattle.vhdl_names_rules.specs.Aggregates.{is_named, aggregate}
 use Rattle.vhdl_names_rules.specs.problems.Places.{start}
-use Rattle.vhdl_names_rules.specs.Expressions.{as_integer, signed, enclosed, in_parentheses, beside, is_one_name, suffix_of, fits, qualified_by, as_index, typed, typed_suffix, typed_each, typed_elements, typed_choices, typed_choice, static, as_range, static_range, as_test, condition, as_static_test, as_aggregate, as_composite, as_value, as_filled, value_given}
+use Rattle.vhdl_names_rules.specs.Expressions.{as_integer, signed, absolute, sliced, enclosed, in_parentheses, beside, is_one_name, suffix_of, fits, qualified_by, as_index, typed, typed_suffix, typed_each, typed_elements, typed_choices, typed_choice, static, as_range, static_range, as_test, condition, as_static_test, as_aggregate, as_composite, as_value, as_filled, value_given}
 use Rattle.vhdl_names_rules.proofs.laws.Rules.{comes, kept}
 use Rattle.vhdl_names_laws.proofs.Statics.{some_same}
 use Rattle.vhdl_names_laws.proofs.Shapes.{given}
@@ -40,16 +41,34 @@ use Rattle.vhdl_names_laws.proofs.placed.Told.{Stand, first, behind}
 use Rattle.vhdl_names_laws.proofs.placed.Starts.{start_stands}
 use Rattle.vhdl_names_laws.proofs.standing.Holding.{Hold, hold_both, ChoiceHolds, TypedHolds, ElementsHold, SuffixHolds}
 use Rattle.vhdl_names_laws.proofs.standing.Aggregates.{aggregate_holds}
-use Rattle.vhdl_names_laws.proofs.standing.Operators.{inverse_holds, integral_holds, operated_holds}
+use Rattle.vhdl_names_laws.proofs.standing.Operators.{inverse_holds, as_computed_holds, raised_holds, operated_holds}
 use Rattle.vhdl_names_laws.proofs.standing.Names.{sized_holds, named_holds}
 
 as_integer_holds : (P : ℕ → Type 0) (y : Typed) (s : Static) → TypedHolds P y → as_integer y ≡ Some s → Hold P (static_bytes s)
 as_integer_holds P (o.integer r) s h q = subst (λ s. Hold P (static_bytes s)) (some_same r s q) h
 as_integer_holds _ _ s h q = absurd cc
 
-signed_holds : (P : ℕ → Type 0) (at : ℕ) (sign : Sign) (s : Static) → P at → Hold P (static_bytes s) → Hold P (static_bytes (signed at sign s))
-signed_holds P at Plus s g h = h
-signed_holds P at Minus s g h = (g, h)
+signed_holds : (P : ℕ → Type 0) (at : ℕ) (sign : Sign) (x y : Typed) → P at → TypedHolds P x → signed at sign x ≡ Some y → TypedHolds P y
+signed_holds P at Plus (o.integer s) y g h q = subst (TypedHolds P) (some_same (o.integer s) y q) h
+signed_holds P at Plus (o.computed x) y g h q = subst (TypedHolds P) (some_same (o.computed x) y q) h
+signed_holds P at Minus (o.integer s) y g h q = subst (TypedHolds P) (some_same (o.integer (e.Static.negated at s)) y q) (g, h)
+signed_holds P at Minus (o.computed x) y g h q = subst (TypedHolds P) (some_same (o.computed (e.Computed.negated at x)) y q) (g, h)
+signed_holds P at Plus _ y g h q = absurd cc
+signed_holds P at Minus _ y g h q = absurd cc
+
+absolute_holds : (P : ℕ → Type 0) (at : ℕ) (x y : Typed) → P at → TypedHolds P x → absolute at x ≡ Some y → TypedHolds P y
+absolute_holds P at (o.integer s) y g h q = subst (TypedHolds P) (some_same (o.integer (e.absolute at s)) y q) (g, h)
+absolute_holds P at (o.computed x) y g h q = subst (TypedHolds P) (some_same (o.computed (e.magnitude at x)) y q) (g, h)
+absolute_holds P at _ y g h q = absurd cc
+
+sliced_holds : (P : ℕ → Type 0) (x y : Typed) (direction : Direction) (s : Suffix) → TypedHolds P x → TypedHolds P y → sliced x direction y ≡ Some s → SuffixHolds P s
+sliced_holds P (o.integer l) (o.integer r) direction s h g q =
+    subst (SuffixHolds P) (some_same (n.range (record { left = l; direction = direction; right = r })) s q) (hold_both P (static_bytes l) (static_bytes r) h g)
+sliced_holds P x y direction s h g q =
+    let l = comes (as_computed x) (λ l. as_computed y >>= λ r. Some (n.computed_range l direction r)) s q in
+    let r = comes (as_computed y) (λ r. Some (n.computed_range l.value direction r)) s l.rest in
+    subst (SuffixHolds P) (some_same (n.computed_range l.value direction r.value) s r.rest)
+    (hold_both P (computed_bytes l.value) (computed_bytes r.value) (as_computed_holds P x l.value h l.is) (as_computed_holds P y r.value g r.is))
 
 -- what stands in parentheses has the bytes that it has
 enclosed_holds : (P : ℕ → Type 0) (y : Typed) → TypedHolds P y → TypedHolds P (enclosed y)
@@ -89,6 +108,7 @@ module _ (P : ℕ → Type 0) where
       let a = given (fits k j) (sized_by at (visibility.vector_type k b) d (o.elements k y)) x g in
       subst (TypedHolds P) a.is (sized_holds P at (visibility.vector_type k b) d (o.elements k y) h f.1)
   qualified_by_holds at p (visibility.vector_type k b) d (types.element [] q (o.integer s) types.no_elements) x h r f g = absurd cc
+  qualified_by_holds at p (visibility.vector_type k b) d (types.element [] q (o.computed s) types.no_elements) x h r f g = absurd cc
   qualified_by_holds at p (visibility.vector_type k b) d (types.element [] q (o.enumerated n c y) types.no_elements) x h r f g = absurd cc
   qualified_by_holds at p (visibility.vector_type k b) d (types.element [] q (o.truth y) types.no_elements) x h r f g = absurd cc
   qualified_by_holds at p (visibility.vector_type k b) d (types.element [] q (o.interval y) types.no_elements) x h r f g = absurd cc
@@ -128,18 +148,16 @@ mutual
       let a = comes (typed sight d) inverse y q in
       inverse_holds P a.value y (typed_holds d P sight a.value h.1 a.is) a.rest
   typed_holds (t.absolute at d) P sight y h q =
-      let a = comes (typed sight d) _ y q in
-      let b = comes (as_integer a.value) _ y a.rest in
-      subst (TypedHolds P) (some_same (o.integer (e.absolute at b.value)) y b.rest) (h.0, as_integer_holds P a.value b.value (typed_holds d P sight a.value h.1 a.is) b.is)
+      let a = comes (typed sight d) (absolute at) y q in
+      absolute_holds P at a.value y h.0 (typed_holds d P sight a.value h.1 a.is) a.rest
   typed_holds (t.power d at f) P sight y h q =
       let g = behind P (spell d) _ h in
       let a = comes (typed sight d) _ y q in
       let b = comes (typed sight f) _ y a.rest in
-      integral_holds P at g.0 Power a.value b.value y (typed_holds d P sight a.value (first P (spell d) _ h) a.is) (typed_holds f P sight b.value g.1.1 b.is) b.rest
+      raised_holds P at g.0 a.value b.value y (typed_holds d P sight a.value (first P (spell d) _ h) a.is) (typed_holds f P sight b.value g.1.1 b.is) b.rest
   typed_holds (t.signed sign at d) P sight y h q =
-      let a = comes (typed sight d) _ y q in
-      let b = comes (as_integer a.value) _ y a.rest in
-      subst (TypedHolds P) (some_same _ y b.rest) (signed_holds P at sign b.value h.0 (as_integer_holds P a.value b.value (typed_holds d P sight a.value h.1 a.is) b.is))
+      let a = comes (typed sight d) (signed at sign) y q in
+      signed_holds P at sign a.value y h.0 (typed_holds d P sight a.value h.1 a.is) a.rest
   typed_holds (t.binary begins op at d f) P sight y h q =
       let g = behind P (spell d) _ h in
       let a = comes (typed sight d) _ y q in
@@ -162,13 +180,8 @@ mutual
   suffix_holds (t.sliced d direction f) P sight y h q =
       let g = behind P (spell d) _ h.1 in
       let a = comes (typed sight d) _ y q in
-      let l = comes (as_integer a.value) _ y a.rest in
-      let b = comes (typed sight f) _ y l.rest in
-      let r = comes (as_integer b.value) _ y b.rest in
-      subst (SuffixHolds P) (some_same (n.range (record { left = l.value; direction = direction; right = r.value })) y r.rest)
-      (hold_both P (static_bytes l.value) (static_bytes r.value)
-      (as_integer_holds P a.value l.value (typed_holds d P sight a.value (first P (spell d) _ h.1) a.is) l.is)
-      (as_integer_holds P b.value r.value (typed_holds f P sight b.value (first P (spell f) _ g.1) b.is) r.is))
+      let b = comes (typed sight f) _ y a.rest in
+      sliced_holds P a.value b.value direction y (typed_holds d P sight a.value (first P (spell d) _ h.1) a.is) (typed_holds f P sight b.value (first P (spell f) _ g.1) b.is) b.rest
 
   pub exprs_hold : (es : Exprs) (P : ℕ → Type 0) (sight : Sight) (ys : List Typed) → Stand P (spell_exprs es) → typed_each sight es ≡ Some ys → AllByRecursion (TypedHolds P) ys
   exprs_hold t.no_exprs P sight ys h q = subst (AllByRecursion (TypedHolds P)) (some_same [] ys q) tt
@@ -303,7 +316,8 @@ as_aggregate_holds : (P : ℕ → Type 0) (k : ElementKind) (at : ℕ) (r : Opti
     → as_aggregate k at r es ≡ Some g → Hold P (given_bytes g)
 as_aggregate_holds P k at r es g p f h q =
     let v = kept (o.is_vector k) _ g q in
-    let a = comes (aggregate k at r es) _ g v.1 in
+    let c = kept (is_some r || not (is_named es)) _ g v.1 in
+    let a = comes (aggregate k at r es) _ g c.1 in
     subst (λ g. Hold P (given_bytes g)) (some_same (s.single (e.Value.elements a.value)) g a.rest) (aggregate_holds P k at r es a.value p f h a.is)
 
 as_composite_holds : (P : ℕ → Type 0) (type : ObjectType) (at : ℕ) (r : Option Range) (es : TypedElements) (g : Given) → P at → Hold P (if_any_bytes range_bytes r) → ElementsHold P es

@@ -1,7 +1,7 @@
 -- Bytes of which something holds, and types whose bytes are such.
 use Rattle.std.proofs.Common.{ℕ, List, [], ◌∷◌, ◌++◌}
 use Rattle.std.specs.List.{AllByRecursion, flat_map}
-use Rattle.vhdl_names_rules.specs.units.Bytes.{static_bytes, range_bytes, index_bytes, vector_bytes, value_bytes, test_bytes}
+use Rattle.vhdl_names_rules.specs.units.Bytes.{static_bytes, range_bytes, index_bytes, computed_bytes, vector_bytes, value_bytes, test_bytes}
 use Rattle.vhdl_names_rules.specs.Types as types
 use Rattle.vhdl_names_rules.specs.Types.{TypedChoice, TypedElements}
 use Rattle.vhdl_names_rules.specs.Operators as o
@@ -29,6 +29,7 @@ ChoiceHolds P (types.place is_local x) = Hold P (index_bytes x)
 abbrev mutual
   pub TypedHolds : (ℕ → Type 0) → Typed → Type 0
   TypedHolds P (o.integer s) = Hold P (static_bytes s)
+  TypedHolds P (o.computed x) = Hold P (computed_bytes x)
   TypedHolds P (o.elements k x) = Hold P (vector_bytes x)
   TypedHolds P (o.enumerated e count x) = Hold P (value_bytes x)
   TypedHolds P (o.truth t) = Hold P (test_bytes t)
@@ -44,3 +45,4 @@ abbrev pub SuffixHolds : (ℕ → Type 0) → Suffix → Type 0
 SuffixHolds P n.plain = Unit {0}
 SuffixHolds P (n.arguments b xs) = AllByRecursion (TypedHolds P) xs
 SuffixHolds P (n.range r) = Hold P (range_bytes r)
+SuffixHolds P (n.computed_range l direction r) = Hold P (computed_bytes l ++ computed_bytes r)

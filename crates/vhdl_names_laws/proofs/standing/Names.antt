@@ -1,8 +1,10 @@
 -- What a name denotes has the bytes of the name and of what follows it.
-use Rattle.std.proofs.Common.{◌≡◌, ℕ, Bool, true, false, List, [], ◌∷◌, ◌++◌, Option, Some, None, refl, sym, subst, cond}
+use Rattle.std.proofs.Common.{◌≡◌, ℕ, Bool, true, false, not, List, [], ◌∷◌, ◌++◌, Option, Some, None, refl, sym, subst, cond}
 use Rattle.std.specs.Prelude.{codes, if◌then◌else◌}
 use Rattle.std.specs.Option.{option_map}
 use Rattle.std.specs.Str.{bytes_eq}
+use Rattle.vhdl_values.specs.declared.kinds.Counted.{Counted}
+use Rattle.vhdl_values.specs.declared.kinds.Counted.TheVariants.{Shift}
 use Rattle.vhdl_values.specs.declared.kinds.Edge.{Edge}
 use Rattle.vhdl_lexer.specs.declared.language.Language.{Language}
 use Rattle.vhdl_tree.specs.Tree as tree
@@ -12,27 +14,28 @@ use Rattle.vhdl_names_rules.specs.declared.kind.ElementKind.TheVariants.{Element
 use Rattle.vhdl_names_rules.specs.declared.kind.ObjectType.{ObjectType}
 use Rattle.vhdl_names_rules.specs.declared.kind.ObjectType.TheVariants.{Elements, Enumeration}
 use Rattle.vhdl_names_rules.specs.declared.kind.Function.{Function}
-use Rattle.vhdl_names_rules.specs.declared.kind.Function.TheVariants.{EdgeCall, ByCount, ToUnsigned}
+use Rattle.vhdl_names_rules.specs.declared.kind.Function.TheVariants.{EdgeCall, ByCount, ToUnsigned, ToInteger}
 use Rattle.vhdl_names_rules.specs.declared.operator.Bound.{Bound}
 use Rattle.vhdl_names_rules.specs.declared.operator.Bound.TheVariants.{Left, Right, High, Low, Length}
 use Rattle.vhdl_names_rules.specs.declared.operator.IntegerType.{IntegerType}
 use Rattle.vhdl_names_rules.specs.declared.operator.IntegerType.TheVariants.{Integer, Natural, Positive}
 use Rattle.vhdl_names_rules.specs.Rules.{◌>>=◌, wider}
 use Rattle.vhdl_names_rules.specs.units.Expressions as e
-use Rattle.vhdl_names_rules.specs.units.Expressions.{Static, Range, Part, SignalPart, Vector}
-use Rattle.vhdl_names_rules.specs.units.Bytes.{static_bytes, range_bytes, part_bytes, place_bytes, vector_bytes}
+use Rattle.vhdl_names_rules.specs.units.Expressions.{Static, Range, Signal, Part, Chosen, SignalPart, Vector}
+use Rattle.vhdl_names_rules.specs.units.Bytes.{static_bytes, range_bytes, part_bytes, place_bytes, computed_bytes, chosen_bytes, vector_bytes}
 use Rattle.vhdl_names_rules.specs.Visibility as visibility
 use Rattle.vhdl_names_rules.specs.Visibility.{Name, Meaning, DeclaredRange, Declared}
 use Rattle.vhdl_names_rules.specs.Operators as o
 use Rattle.vhdl_names_rules.specs.Operators.{Typed}
+use Rattle.vhdl_names_rules.specs.Known.{is_known}
 use Rattle.vhdl_names_rules.specs.Names as n
-use Rattle.vhdl_names_rules.specs.Names.{Suffix, part, part_of, place_of, if_plain, read_by, converted, is_static_part, edge_signal, edge_of, counted, encoding, called, denoted, attributed}
+use Rattle.vhdl_names_rules.specs.Names.{Suffix, AnyPart, part, part_of, chosen, any_part, any_part_of, if_plain, read_by, signal_part, variable_part, constant_part, converted, is_static_part, edge_signal, edge_of, counted, encoding, number_of, called, denoted, attributed}
 use Rattle.vhdl_names_rules.specs.Ranges as r
 use Rattle.vhdl_names_rules.specs.Ranges.{Ranged, whole, sliced, ranged, bound_of, least, type_bound, integers_bound, bound, bound_named, declared_range, reversed, range_of, is_reverse_range, named_range, range_attribute, sized_by}
 use Rattle.vhdl_names_rules.specs.Expressions.{named}
 use Rattle.vhdl_names_rules.proofs.laws.Rules.{comes, kept}
 use Rattle.vhdl_names_laws.proofs.Statics.{some_same}
-use Rattle.vhdl_names_laws.proofs.Shapes.{of_either, wider_is}
+use Rattle.vhdl_names_laws.proofs.Shapes.{given, of_either, wider_is}
 use Rattle.vhdl_names_rules.proofs.kept.Keeping.{mapped}
 use Rattle.vhdl_names_laws.proofs.standing.Holding.{Hold, hold_both, TypedHolds, SuffixHolds}
 
@@ -61,13 +64,56 @@ module _ (P : ℕ → Type 0) where
   part_of_holds (Enumeration d count) n.plain p t g = subst (λ (q : Part × ObjectType). Hold P (part_bytes q.0)) (some_same (e.whole, Enumeration d count) p g) tt
   part_of_holds _ _ p t g = absurd cc
 
+  -- ---- parts of which a run chooses some
+
+  abbrev pub any_part_bytes : AnyPart → List ℕ
+  any_part_bytes (n.fixed p) = part_bytes p
+  any_part_bytes (n.free c) = chosen_bytes c
+
+  chosen_holds : (k : ElementKind) (s : Suffix) (p : Chosen × ElementKind) → SuffixHolds P s → chosen k s ≡ Some p → Hold P (chosen_bytes p.0)
+  chosen_holds k (n.arguments b (o.computed x ∷ [])) p t g =
+      subst (λ (q : Chosen × ElementKind). Hold P (chosen_bytes q.0)) (given (o.is_vector k) (e.element_at x, Element) p g).is t.0
+  chosen_holds k (n.computed_range l direction r) p t g =
+      subst (λ (q : Chosen × ElementKind). Hold P (chosen_bytes q.0)) (given (o.is_vector k) (e.slice_at l direction r, k) p g).is t
+  chosen_holds k _ p t g = absurd cc
+
+  any_part_holds : (k : ElementKind) (s : Suffix) (p : AnyPart × ElementKind) → SuffixHolds P s → any_part k s ≡ Some p → Hold P (any_part_bytes p.0)
+  any_part_holds k s p t g =
+      of_either (λ (q : AnyPart × ElementKind). Hold P (any_part_bytes q.0)) (option_map (λ (q : Part × ElementKind). (n.fixed q.0, q.1)) (part k s)) (option_map (λ (q : Chosen × ElementKind). (n.free q.0, q.1)) (chosen k s)) p
+      (λ z q.
+      let m = mapped (λ (q : Part × ElementKind). (n.fixed q.0, q.1)) (part k s) z q in
+      subst (λ (q : AnyPart × ElementKind). Hold P (any_part_bytes q.0)) m.is (part_holds k s m.value t m.from))
+      (λ z q.
+      let m = mapped (λ (q : Chosen × ElementKind). (n.free q.0, q.1)) (chosen k s) z q in
+      subst (λ (q : AnyPart × ElementKind). Hold P (any_part_bytes q.0)) m.is (chosen_holds k s m.value t m.from)) g
+
+  -- likewise of any object
+  pub any_part_of_holds : (type : ObjectType) (s : Suffix) (p : AnyPart × ObjectType) → SuffixHolds P s → any_part_of type s ≡ Some p → Hold P (any_part_bytes p.0)
+  any_part_of_holds (Elements k) s p t g =
+      let a = mapped (λ (q : AnyPart × ElementKind). (q.0, Elements q.1)) (any_part k s) p g in
+      subst (λ (q : AnyPart × ObjectType). Hold P (any_part_bytes q.0)) a.is (any_part_holds k s a.value t a.from)
+  any_part_of_holds (Enumeration d count) n.plain p t g = subst (λ (q : AnyPart × ObjectType). Hold P (any_part_bytes q.0)) (some_same (n.fixed e.whole, Enumeration d count) p g) tt
+  any_part_of_holds _ _ p t g = absurd cc
+
   -- ---- objects that are read
 
-  read_holds : (at : ℕ) (object : Part → Vector) → ((p : Part) → vector_bytes (object p) ≡ at ∷ part_bytes p) → P at
+  signal_part_bytes : (at : ℕ) (x : Signal) (p : AnyPart) → vector_bytes (signal_part at x p) ≡ at ∷ any_part_bytes p
+  signal_part_bytes at x (n.fixed p) = refl
+  signal_part_bytes at x (n.free c) = refl
+
+  variable_part_bytes : (at k : ℕ) (p : AnyPart) → vector_bytes (variable_part at k p) ≡ at ∷ any_part_bytes p
+  variable_part_bytes at k (n.fixed p) = refl
+  variable_part_bytes at k (n.free c) = refl
+
+  constant_part_bytes : (at k : ℕ) (p : AnyPart) → vector_bytes (constant_part at k p) ≡ at ∷ any_part_bytes p
+  constant_part_bytes at k (n.fixed p) = refl
+  constant_part_bytes at k (n.free c) = refl
+
+  read_holds : (at : ℕ) (object : AnyPart → Vector) → ((p : AnyPart) → vector_bytes (object p) ≡ at ∷ any_part_bytes p) → P at
       → (k : ElementKind) (s : Suffix) (x : Typed) → SuffixHolds P s → read_by object k s ≡ Some x → TypedHolds P x
   read_holds at object c h k s x t g =
-      let a = mapped (λ (p : Part × ElementKind). o.elements p.1 (object p.0)) (part k s) x g in
-      subst (TypedHolds P) a.is (subst (Hold P) (sym (c a.value.0)) (h, part_holds k s a.value t a.from))
+      let a = mapped (λ (p : AnyPart × ElementKind). o.elements p.1 (object p.0)) (any_part k s) x g in
+      subst (TypedHolds P) a.is (subst (Hold P) (sym (c a.value.0)) (h, any_part_holds k s a.value t a.from))
 
   plain_holds : (s : Suffix) (x y : Typed) → TypedHolds P x → if_plain s x ≡ Some y → TypedHolds P y
   plain_holds n.plain x y h g = subst (TypedHolds P) (some_same x y g) h
@@ -81,17 +127,24 @@ module _ (P : ℕ → Type 0) where
   converted_holds k (n.arguments b (o.elements OpenVector x ∷ [])) y t g = subst (TypedHolds P) (some_same (o.elements k x) y g) t.0
   converted_holds k _ y t g = absurd cc
 
-  counted_holds : (at : ℕ) (f : Vector → Static → Vector) → ((x : Vector) (s : Static) → vector_bytes (f x s) ≡ at ∷ (vector_bytes x ++ static_bytes s)) → P at
-      → (s : Suffix) (y : Typed) → SuffixHolds P s → counted f s ≡ Some y → TypedHolds P y
-  counted_holds at f c h (n.arguments b (o.elements Unsigned x ∷ o.integer s ∷ [])) y t g =
-      subst (TypedHolds P) (some_same (o.elements Unsigned (f x s)) y g)
-      (subst (Hold P) (sym (c x s)) (h, hold_both P (vector_bytes x) (static_bytes s) t.0 t.1.0))
-  counted_holds at f c h _ y t g = absurd cc
+  counted_holds : (at : ℕ) (op : Counted) → P at → (s : Suffix) (y : Typed) → SuffixHolds P s → counted at op s ≡ Some y → TypedHolds P y
+  counted_holds at op h (n.arguments b (o.elements Unsigned x ∷ o.integer s ∷ [])) y t g =
+      subst (TypedHolds P) (some_same (o.elements Unsigned (e.counted at op x s)) y g) (h, hold_both P (vector_bytes x) (static_bytes s) t.0 t.1.0)
+  counted_holds at (Shift by) h (n.arguments b (o.elements Unsigned x ∷ o.computed s ∷ [])) y t g =
+      subst (TypedHolds P) (some_same (o.elements Unsigned (e.shifted at by x s)) y g) (h, hold_both P (vector_bytes x) (computed_bytes s) t.0 t.1.0)
+  counted_holds at op h _ y t g = absurd cc
 
   encoding_holds : (at : ℕ) → P at → (s : Suffix) (y : Typed) → SuffixHolds P s → encoding at s ≡ Some y → TypedHolds P y
   encoding_holds at h (n.arguments b (o.integer s ∷ o.integer size ∷ [])) y t g =
       subst (TypedHolds P) (some_same (o.elements Unsigned (e.Vector.encoded at s size)) y g) (h, hold_both P (static_bytes s) (static_bytes size) t.0 t.1.0)
+  encoding_holds at h (n.arguments b (o.computed x ∷ o.integer size ∷ [])) y t g =
+      subst (TypedHolds P) (some_same (o.elements Unsigned (e.computed_encoded at x size)) y g) (h, hold_both P (computed_bytes x) (static_bytes size) t.0 t.1.0)
   encoding_holds at h _ y t g = absurd cc
+
+  number_holds : (at : ℕ) → P at → (s : Suffix) (y : Typed) → SuffixHolds P s → number_of at s ≡ Some y → TypedHolds P y
+  number_holds at h (n.arguments b (o.elements Unsigned x ∷ [])) y t g =
+      subst (TypedHolds P) (given (not (is_known x)) (o.computed (e.number_of at x)) y g).is (h, t.0)
+  number_holds at h _ y t g = absurd cc
 
   edge_place : (x : Typed) (p : SignalPart) → TypedHolds P x → edge_signal x ≡ Some p → Hold P (place_bytes p)
   edge_place (o.elements Element (e.of_signal q)) p t g = by (is_static_part q.part) g
@@ -109,8 +162,9 @@ module _ (P : ℕ → Type 0) where
 
   called_holds : (at : ℕ) → P at → (f : Function) (s : Suffix) (y : Typed) → SuffixHolds P s → called at f s ≡ Some y → TypedHolds P y
   called_holds at h (EdgeCall edge) s y t g = edge_call_holds edge s y t g
-  called_holds at h (ByCount op) s y t g = counted_holds at (e.counted at op) (λ x s. refl) h s y t g
+  called_holds at h (ByCount op) s y t g = counted_holds at op h s y t g
   called_holds at h ToUnsigned s y t g = encoding_holds at h s y t g
+  called_holds at h ToInteger s y t g = number_holds at h s y t g
 
   -- ---- all names
 
@@ -122,12 +176,12 @@ module _ (P : ℕ → Type 0) where
   denoted_holds at h (visibility.boolean_generic k) s y t g = plain_holds s (n.known at (e.generic k)) y (h, tt) g
   denoted_holds at h (visibility.boolean_constant k) s y t g = plain_holds s (n.known at (e.Static.constant k)) y (h, tt) g
   denoted_holds at h (visibility.boolean_literal b) s y t g = plain_holds s (n.known at (e.number (if b then 1 else 0))) y (h, tt) g
-  denoted_holds at h (visibility.port k mode kind) s y t g = read_holds at (λ p. e.of_signal (place_of at (e.port k) p)) (λ p. refl) h kind s y t g
-  denoted_holds at h (visibility.signal k (Elements kind)) s y t g = read_holds at (λ p. e.of_signal (place_of at (e.Signal.signal k) p)) (λ p. refl) h kind s y t g
+  denoted_holds at h (visibility.port k mode kind) s y t g = read_holds at (signal_part at (e.port k)) (signal_part_bytes at (e.port k)) h kind s y t g
+  denoted_holds at h (visibility.signal k (Elements kind)) s y t g = read_holds at (signal_part at (e.Signal.signal k)) (signal_part_bytes at (e.Signal.signal k)) h kind s y t g
   denoted_holds at h (visibility.signal k (Enumeration d count)) s y t g = plain_holds s (o.enumerated d count (e.state_of (e.Signal.signal k))) y tt g
-  denoted_holds at h (visibility.variable k (Elements kind)) s y t g = read_holds at (e.of_variable at k) (λ p. refl) h kind s y t g
+  denoted_holds at h (visibility.variable k (Elements kind)) s y t g = read_holds at (variable_part at k) (variable_part_bytes at k) h kind s y t g
   denoted_holds at h (visibility.variable k (Enumeration d count)) s y t g = plain_holds s (o.enumerated d count (e.state_of_variable k)) y tt g
-  denoted_holds at h (visibility.constant k kind values) s y t g = read_holds at (e.of_constant at k) (λ p. refl) h kind s y t g
+  denoted_holds at h (visibility.constant k kind values) s y t g = read_holds at (constant_part at k) (constant_part_bytes at k) h kind s y t g
   denoted_holds at h (visibility.literal d count p) s y t g = plain_holds s (o.enumerated d count (e.Value.position p)) y tt g
   denoted_holds at h (visibility.vector_type k r) s y t g = converted_holds k s y t g
   denoted_holds at h (visibility.function f) s y t g = called_holds at h f s y t g
@@ -164,6 +218,7 @@ module _ (P : ℕ → Type 0) where
   ranged_holds d n.plain y h g = whole_holds d.meaning d.range y g
   ranged_holds d (n.range x) y h g = sliced_holds d.meaning d.range x y h g
   ranged_holds d (n.arguments b xs) y h g = absurd cc
+  ranged_holds d (n.computed_range l direction r) y h g = absurd cc
 
   same_static : (x y : Static) → Some x ≡ Some y → Hold P (static_bytes x) → Hold P (static_bytes y)
   same_static x y h f = subst (λ s. Hold P (static_bytes s)) (some_same x y h) f
@@ -231,6 +286,7 @@ module _ (P : ℕ → Type 0) where
     subtype_range_holds m d n.plain g = plain_range_holds m d g
     subtype_range_holds m d (n.range y) g = no_slice m d y g
     subtype_range_holds m d (n.arguments c xs) g = absurd cc
+    subtype_range_holds m d (n.computed_range l direction r) g = absurd cc
 
   named_range_holds : (a : Option Attribute) (d : Declared) (s : Suffix) (x : Range) → named_range a d s ≡ Some x → Hold P (range_bytes x)
   named_range_holds (Some (tree.of_range at)) d s x g = let y = comes (ranged d s) range_of x g in range_of_holds y.value x y.rest
@@ -254,6 +310,7 @@ module _ (P : ℕ → Type 0) where
   pub sized_holds : (at : ℕ) (m : Meaning) (d : Option DeclaredRange) (x : Typed) → P at → TypedHolds P x → TypedHolds P (sized_by at m d x)
   sized_holds at (visibility.vector_type k b) (Some d) (o.elements j x) h f = (h, f)
   sized_holds at (visibility.vector_type k b) (Some d) (o.integer s) h f = f
+  sized_holds at (visibility.vector_type k b) (Some d) (o.computed s) h f = f
   sized_holds at (visibility.vector_type k b) (Some d) (o.enumerated c count x) h f = f
   sized_holds at (visibility.vector_type k b) (Some d) (o.truth x) h f = f
   sized_holds at (visibility.vector_type k b) (Some d) (o.interval x) h f = f

@@ -7,21 +7,22 @@ use Rattle.vhdl_tree.specs.declared.operator.Operator.TheVariants as op
 use Rattle.vhdl_names_rules.specs.declared.kind.ElementKind.{ElementKind}
 use Rattle.vhdl_names_rules.specs.declared.kind.ElementKind.TheVariants.{Unsigned}
 use Rattle.vhdl_names_rules.specs.declared.operator.Arithmetic.{Arithmetic}
+use Rattle.vhdl_names_rules.specs.declared.operator.Arithmetic.TheVariants.{Power}
 use Rattle.vhdl_names_rules.specs.declared.operator.Numeric.{Numeric}
 use Rattle.vhdl_names_rules.specs.declared.operator.VectorOperator.TheVariants as v
 use Rattle.vhdl_names_rules.specs.units.Expressions as e
-use Rattle.vhdl_names_rules.specs.units.Expressions.{Vector, Value, Test}
-use Rattle.vhdl_names_rules.specs.units.Bytes.{static_bytes, static_test_bytes, vector_bytes, value_bytes, test_bytes}
+use Rattle.vhdl_names_rules.specs.units.Expressions.{Computed, Vector, Value, Test}
+use Rattle.vhdl_names_rules.specs.units.Bytes.{static_bytes, static_test_bytes, computed_bytes, vector_bytes, value_bytes, test_bytes}
 use Rattle.vhdl_names_rules.specs.Rules.{◌>>=◌, met, then_some}
 use Rattle.vhdl_names_rules.specs.Operators as o
-use Rattle.vhdl_names_rules.specs.Operators.{Typed, common_kind, joined_kind, is_number, are_numbers, binary, both, negated, logical, inverse, concatenated, integral, arithmetic, integers_compared, equal_by, equality, ordering, operated, beside_vector}
+use Rattle.vhdl_names_rules.specs.Operators.{Typed, common_kind, joined_kind, is_number, are_numbers, binary, both, negated, logical, inverse, concatenated, as_computed, computes, raised, integral, arithmetic, integers_compared, compares, equal_by, equality, ordering, operated, beside_vector}
 use Rattle.vhdl_names_laws.proofs.Statics.{some_same}
 use Rattle.vhdl_names_laws.proofs.Shapes.{Given, given}
 use Rattle.vhdl_names_rules.proofs.kept.Keeping.{mapped}
 use Rattle.vhdl_names_laws.proofs.standing.Holding.{Hold, hold_both, TypedHolds, ElementsHold}
 use Rattle.vhdl_names_laws.proofs.standing.Aggregates.{aggregate_holds}
 use Rattle.vhdl_names_rules.specs.Types.{TypedElements}
-use Rattle.vhdl_names_rules.proofs.laws.Rules.{kept}
+use Rattle.vhdl_names_rules.proofs.laws.Rules.{comes, kept}
 
 module _ (P : ℕ → Type 0) where
   known : (x y : Typed) → Some x ≡ Some y → TypedHolds P x → TypedHolds P y
@@ -40,6 +41,12 @@ module _ (P : ℕ → Type 0) where
   inverse_holds (o.elements k x) y h t = known (o.elements k (e.Vector.inverse x)) y t h
   inverse_holds (o.truth s) y h t = known (o.truth (negated s)) y t (negated_hold s h)
   inverse_holds _ y h t = absurd cc
+
+  -- an integer, which a run may compute
+  pub as_computed_holds : (x : Typed) (y : Computed) → TypedHolds P x → as_computed x ≡ Some y → Hold P (computed_bytes y)
+  as_computed_holds (o.integer s) y h g = subst (λ y. Hold P (computed_bytes y)) (some_same (e.static s) y g) h
+  as_computed_holds (o.computed z) y h g = subst (λ y. Hold P (computed_bytes y)) (some_same z y g) h
+  as_computed_holds _ y h g = absurd cc
 
   -- a result that is there where operators of numbers are in sight, and something holds
   ruled : (numbers b : Bool) (x y : Typed) → (met numbers >>= λ _. then_some b x) ≡ Some y → Given b x y
@@ -63,10 +70,22 @@ module _ (P : ℕ → Type 0) where
         subst (TypedHolds P) c.is (two x y h t)
     concatenated_holds _ _ z h t g = absurd cc
 
-    pub integral_holds : (op : Arithmetic) (x y z : Typed) → TypedHolds P x → TypedHolds P y → integral at op x y ≡ Some z → TypedHolds P z
+    computes_holds : (op : Arithmetic) (x y z : Typed) → TypedHolds P x → TypedHolds P y → computes at op x y ≡ Some z → TypedHolds P z
+    computes_holds op x y z h t g =
+        let a = comes (as_computed x) (λ a. as_computed y >>= λ b. Some (o.computed (e.calculated at op a b))) z g in
+        let b = comes (as_computed y) (λ b. Some (o.computed (e.calculated at op a.value b))) z a.rest in
+        known (o.computed (e.calculated at op a.value b.value)) z b.rest
+        (stands, hold_both P (computed_bytes a.value) (computed_bytes b.value) (as_computed_holds x a.value h a.is) (as_computed_holds y b.value t b.is))
+
+    pub raised_holds : (x y z : Typed) → TypedHolds P x → TypedHolds P y → raised at x y ≡ Some z → TypedHolds P z
+    raised_holds (o.integer s) (o.integer r) z h t g =
+        known (o.integer (e.Static.binary at Power s r)) z g (stands, hold_both P (static_bytes s) (static_bytes r) h t)
+    raised_holds _ _ z h t g = absurd cc
+
+    integral_holds : (op : Arithmetic) (x y z : Typed) → TypedHolds P x → TypedHolds P y → integral at op x y ≡ Some z → TypedHolds P z
     integral_holds op (o.integer s) (o.integer r) z h t g =
         known (o.integer (e.Static.binary at op s r)) z g (stands, hold_both P (static_bytes s) (static_bytes r) h t)
-    integral_holds op _ _ z h t g = absurd cc
+    integral_holds op x y z h t g = computes_holds op x y z h t g
 
     arithmetic_holds : (numbers : Bool) (op : Arithmetic) (by : Numeric) (x y z : Typed) → TypedHolds P x → TypedHolds P y → arithmetic numbers at op by x y ≡ Some z
         → TypedHolds P z
@@ -81,9 +100,22 @@ module _ (P : ℕ → Type 0) where
     arithmetic_holds numbers op by (o.integer s) (o.elements k y) z h t g =
         let c = ruled numbers (is_number k) (o.elements Unsigned (e.integer_with at by s y)) z g in
         subst (TypedHolds P) c.is (stands, hold_both P (static_bytes s) (vector_bytes y) h t)
-    arithmetic_holds numbers op by _ _ z h t g = absurd cc
+    arithmetic_holds numbers op by (o.elements j x) (o.computed s) z h t g =
+        let c = ruled numbers (is_number j) (o.elements Unsigned (e.with_computed at by x s)) z g in
+        subst (TypedHolds P) c.is (stands, hold_both P (vector_bytes x) (computed_bytes s) h t)
+    arithmetic_holds numbers op by (o.computed s) (o.elements k y) z h t g =
+        let c = ruled numbers (is_number k) (o.elements Unsigned (e.computed_with at by s y)) z g in
+        subst (TypedHolds P) c.is (stands, hold_both P (computed_bytes s) (vector_bytes y) h t)
+    arithmetic_holds numbers op by x y z h t g = integral_holds op x y z h t g
 
     -- ---- relations
+
+    compares_holds : (op : Cmp) (x y z : Typed) → TypedHolds P x → TypedHolds P y → compares at op x y ≡ Some z → TypedHolds P z
+    compares_holds op x y z h t g =
+        let a = comes (as_computed x) (λ a. as_computed y >>= λ b. Some (o.truth (e.computed_compared at op a b))) z g in
+        let b = comes (as_computed y) (λ b. Some (o.truth (e.computed_compared at op a.value b))) z a.rest in
+        known (o.truth (e.computed_compared at op a.value b.value)) z b.rest
+        (stands, hold_both P (computed_bytes a.value) (computed_bytes b.value) (as_computed_holds x a.value h a.is) (as_computed_holds y b.value t b.is))
 
     -- a test of two values, such as equality or its negation
     abbrev Compares : (Value → Value → Test) → Type 0
@@ -121,7 +153,11 @@ module _ (P : ℕ → Type 0) where
     equality_holds op same c (o.composite p es) (o.elements k y) z h t g =
         let f = mapped (λ x. equal_by at op same x y k) (beside_vector k p es) z g in
         subst (TypedHolds P) f.is (equal_holds op same c f.value y k (beside_holds k p es f.value h f.from) t)
-    equality_holds op same c _ _ z h t g = absurd cc
+    equality_holds op same c (o.elements Unsigned x) (o.computed s) z h t g =
+        known (o.truth (e.compared_to_computed at op x s)) z g (stands, hold_both P (vector_bytes x) (computed_bytes s) h t)
+    equality_holds op same c (o.computed s) (o.elements Unsigned y) z h t g =
+        known (o.truth (e.compared_with_computed at op s y)) z g (stands, hold_both P (computed_bytes s) (vector_bytes y) h t)
+    equality_holds op same c x y z h t g = compares_holds op x y z h t g
 
     ordering_holds : (numbers : Bool) (op : Cmp) (x y z : Typed) → TypedHolds P x → TypedHolds P y → ordering numbers at op x y ≡ Some z → TypedHolds P z
     ordering_holds numbers op (o.integer s) (o.integer r) z h t g =
@@ -135,7 +171,13 @@ module _ (P : ℕ → Type 0) where
     ordering_holds numbers op (o.integer s) (o.elements k y) z h t g =
         let c = ruled numbers (is_number k) (o.truth (e.compared_with at op s y)) z g in
         subst (TypedHolds P) c.is (stands, hold_both P (static_bytes s) (vector_bytes y) h t)
-    ordering_holds numbers op _ _ z h t g = absurd cc
+    ordering_holds numbers op (o.elements j x) (o.computed s) z h t g =
+        let c = ruled numbers (is_number j) (o.truth (e.compared_to_computed at op x s)) z g in
+        subst (TypedHolds P) c.is (stands, hold_both P (vector_bytes x) (computed_bytes s) h t)
+    ordering_holds numbers op (o.computed s) (o.elements k y) z h t g =
+        let c = ruled numbers (is_number k) (o.truth (e.compared_with_computed at op s y)) z g in
+        subst (TypedHolds P) c.is (stands, hold_both P (computed_bytes s) (vector_bytes y) h t)
+    ordering_holds numbers op x y z h t g = compares_holds op x y z h t g
 
     pub operated_holds : (numbers : Bool) (by : Operator) (x y z : Typed) → TypedHolds P x → TypedHolds P y → operated numbers at by x y ≡ Some z → TypedHolds P z
     operated_holds numbers op.Equal x y z h t g = equality_holds _ (e.alike at) (λ x y. refl) x y z h t g

@@ -19,18 +19,18 @@ use Rattle.vhdl_names_rules.specs.Visibility as visibility
 use Rattle.vhdl_names_rules.specs.Visibility.{Name, Meaning, DeclaredRange, Sight, label_ends}
 use Rattle.vhdl_names_rules.specs.Operators as o
 use Rattle.vhdl_names_rules.specs.Operators.{Typed}
-use Rattle.vhdl_names_rules.specs.Names.{Suffix, part_of}
+use Rattle.vhdl_names_rules.specs.Names.{Suffix, AnyPart, fixed, free, part_of, any_part_of}
 use Rattle.vhdl_names_rules.specs.Expressions.{static_range, condition, value_given}
 use Rattle.vhdl_names_rules.specs.Choices.{selector, arranged}
-use Rattle.vhdl_names_rules.specs.Statements.{part_range, SignalName, named_part, as_signal, signal, is_input, target, VariableName, variable_part, as_variable, variable, Target, target_by, assignment, alone, last_branch, branches, conditional, before, statement, statements, conditionals, otherwise, alternatives}
+use Rattle.vhdl_names_rules.specs.Statements.{part_range, SignalName, named_part, as_signal, signal, is_input, mode_of, Target, any_part_range, part_target, assigned_signal, assigned_variable, as_signal_target, as_variable_target, target_by, assignment, alone, last_branch, branches, conditional, before, statement, statements, conditionals, otherwise, alternatives}
 use Rattle.vhdl_names_rules.proofs.laws.Rules.{comes, kept}
 use Rattle.vhdl_names_rules.proofs.laws.Parts.{case_parts}
-use Rattle.vhdl_names_laws.proofs.Parts.{signal_parts, variable_parts}
+use Rattle.vhdl_names_laws.proofs.Parts.{signal_parts, signal_target_parts, variable_target_parts}
 use Rattle.vhdl_names_laws.proofs.Statics.{some_same}
 use Rattle.vhdl_names_rules.proofs.kept.Keeping.{mapped}
 use Rattle.vhdl_names_laws.proofs.placed.Told.{Stand, first, behind}
 use Rattle.vhdl_names_laws.proofs.standing.Holding.{Hold, hold_both, TypedHolds, SuffixHolds}
-use Rattle.vhdl_names_laws.proofs.standing.Names.{part_of_holds}
+use Rattle.vhdl_names_laws.proofs.standing.Names.{part_of_holds, any_part_bytes, any_part_of_holds}
 use Rattle.vhdl_names_laws.proofs.standing.Expressions.{typed_holds, suffix_holds, static_range_holds, condition_holds, value_given_holds}
 
 -- ---- names of signals and variables
@@ -64,26 +64,6 @@ signal_holds P sight n x h q =
     as_signal_holds P n.identifier.at d.name d.meaning d.range d.is_global p.suffix.value x h.0
     (suffix_holds n.suffix P sight p.suffix.value (first P (spell_suffix n.suffix) (spell_option spell_attribute n.attribute) h.1) p.suffix.is) p.is
 
-record VariableHolds (P : ℕ → Type 0) (x : VariableName) : Type 0 where
-  at : P x.at
-  part : Hold P (part_bytes x.part)
-  range : Hold P (if_any_bytes range_bytes x.range)
-
-as_variable_holds : (P : ℕ → Type 0) (at : ℕ) (name : Name) (d : Meaning) (r : Option DeclaredRange) (b : Bool) (suffix : Suffix) (x : VariableName) → P at → SuffixHolds P suffix
-    → as_variable at (record { name = name; meaning = d; range = r; is_global = b }) suffix ≡ Some x → VariableHolds P x
-as_variable_holds P at name (visibility.variable k type) r b suffix x h f q =
-    let a = mapped (variable_part at k r) (part_of type suffix) x q in
-    let p = part_of_holds P type suffix a.value f a.from in
-    subst (VariableHolds P) a.is (record { at = h; part = p; range = part_range_holds P r a.value.0 p })
-as_variable_holds _ at name _ r b suffix x h f q = absurd cc
-
-variable_holds : (P : ℕ → Type 0) (sight : Sight) (n : t.Name) (x : VariableName) → Stand P (spell_name n) → variable sight n ≡ Some x → VariableHolds P x
-variable_holds P sight n x h q =
-    let p = variable_parts sight n x q in
-    let d = p.meant.value in
-    as_variable_holds P n.identifier.at d.name d.meaning d.range d.is_global p.suffix.value x h.0
-    (suffix_holds n.suffix P sight p.suffix.value (first P (spell_suffix n.suffix) (spell_option spell_attribute n.attribute) h.1) p.suffix.is) p.is
-
 -- ---- assignments
 
 -- what is given to a target stands, and so does the assignment
@@ -92,26 +72,59 @@ pub record TargetHolds (P : ℕ → Type 0) (x : Target) : Type 0 where
   pub range : Hold P (if_any_bytes range_bytes x.range)
   pub assigned : (g : s.Given) → Hold P (given_bytes g) → Hold P (statement_bytes (x.assigned g))
 
+any_range_holds : (P : ℕ → Type 0) (r : Option DeclaredRange) (p : AnyPart) → Hold P (any_part_bytes P p) → Hold P (if_any_bytes range_bytes (any_part_range r p))
+any_range_holds P r (fixed p) h = part_range_holds P r p h
+any_range_holds P r (free c) h = tt
+
+-- to a part of an object
+target_of_holds : (P : ℕ → Type 0) (at : ℕ) (r : Option DeclaredRange) (assigned : AnyPart → s.Given → s.Statement) → P at
+    → ((p : AnyPart) (g : s.Given) → Hold P (at ∷ (any_part_bytes P p ++ given_bytes g)) → Hold P (statement_bytes (assigned p g)))
+    → (type : ObjectType) (suffix : Suffix) (x : Target) → SuffixHolds P suffix → option_map (part_target at r assigned) (any_part_of type suffix) ≡ Some x → TargetHolds P x
+target_of_holds P at r assigned h all type suffix x f q =
+    let a = mapped (part_target at r assigned) (any_part_of type suffix) x q in
+    let p = any_part_of_holds P type suffix a.value f a.from in
+    subst (TargetHolds P) a.is (record {
+      at = h;
+      range = any_range_holds P r a.value.0 p;
+      assigned = λ g k. all a.value.0 g (h, hold_both P (any_part_bytes P a.value.0) (given_bytes g) p k);
+    })
+
+signal_bytes_hold : (P : ℕ → Type 0) (at : ℕ) (x : e.Signal) (p : AnyPart) (g : s.Given) → Hold P (at ∷ (any_part_bytes P p ++ given_bytes g)) → Hold P (statement_bytes (assigned_signal at x p g))
+signal_bytes_hold P at x (fixed p) g h = h
+signal_bytes_hold P at x (free c) g h = h
+
+variable_bytes_hold : (P : ℕ → Type 0) (at k : ℕ) (p : AnyPart) (g : s.Given) → Hold P (at ∷ (any_part_bytes P p ++ given_bytes g)) → Hold P (statement_bytes (assigned_variable at k p g))
+variable_bytes_hold P at k (fixed p) g h = h
+variable_bytes_hold P at k (free c) g h = h
+
+as_signal_target_holds : (P : ℕ → Type 0) (at : ℕ) (name : Name) (d : Meaning) (r : Option DeclaredRange) (b : Bool) (suffix : Suffix) (x : Target) → P at → SuffixHolds P suffix
+    → as_signal_target at (record { name = name; meaning = d; range = r; is_global = b }) suffix ≡ Some x → TargetHolds P x
+as_signal_target_holds P at name (visibility.port k mode kind) r b suffix x h f q =
+    target_of_holds P at r (assigned_signal at (e.port k)) h (signal_bytes_hold P at (e.port k)) (Elements kind) suffix x f q
+as_signal_target_holds P at name (visibility.signal k type) r b suffix x h f q =
+    target_of_holds P at r (assigned_signal at (e.Signal.signal k)) h (signal_bytes_hold P at (e.Signal.signal k)) type suffix x f q
+as_signal_target_holds P at name _ r b suffix x h f q = absurd cc
+
+as_variable_target_holds : (P : ℕ → Type 0) (at : ℕ) (name : Name) (d : Meaning) (r : Option DeclaredRange) (b : Bool) (suffix : Suffix) (x : Target) → P at → SuffixHolds P suffix
+    → as_variable_target at (record { name = name; meaning = d; range = r; is_global = b }) suffix ≡ Some x → TargetHolds P x
+as_variable_target_holds P at name (visibility.variable k type) r b suffix x h f q =
+    target_of_holds P at r (assigned_variable at k) h (variable_bytes_hold P at k) type suffix x f q
+as_variable_target_holds P at name _ r b suffix x h f q = absurd cc
+
 pub target_holds : (P : ℕ → Type 0) (sight : Sight) (b : Bool) (n : t.Name) (x : Target) → Stand P (spell_name n) → target_by sight b n ≡ Some x → TargetHolds P x
-unfolding target
 target_holds P sight false n x h q =
-    let c = comes (target sight n) _ x q in
-    let a = comes (signal sight n) _ c.value c.is in
-    let b = kept (not (is_input a.value.mode)) _ c.value a.rest in
-    let f = subst (SignalHolds P) (some_same a.value c.value b.1) (signal_holds P sight n a.value h a.is) in
-    subst (TargetHolds P) (some_same _ x c.rest) (record {
-      at = f.place.0;
-      range = f.range;
-      assigned = λ g k. hold_both P (place_bytes c.value.place) (given_bytes g) f.place k;
-    })
+    let p = signal_target_parts sight n x q in
+    let d = p.meant.value in
+    let y = comes (as_signal_target n.identifier.at d p.suffix.value) _ x p.is in
+    let m = kept (not (is_input (mode_of d.meaning))) _ x y.rest in
+    subst (TargetHolds P) (some_same y.value x m.1)
+    (as_signal_target_holds P n.identifier.at d.name d.meaning d.range d.is_global p.suffix.value y.value h.0
+    (suffix_holds n.suffix P sight p.suffix.value (first P (spell_suffix n.suffix) (spell_option spell_attribute n.attribute) h.1) p.suffix.is) y.is)
 target_holds P sight true n x h q =
-    let c = comes (variable sight n) _ x q in
-    let f = variable_holds P sight n c.value h c.is in
-    subst (TargetHolds P) (some_same _ x c.rest) (record {
-      at = f.at;
-      range = f.range;
-      assigned = λ g k. (f.at, hold_both P (part_bytes c.value.part) (given_bytes g) f.part k);
-    })
+    let p = variable_target_parts sight n x q in
+    let d = p.meant.value in
+    as_variable_target_holds P n.identifier.at d.name d.meaning d.range d.is_global p.suffix.value x h.0
+    (suffix_holds n.suffix P sight p.suffix.value (first P (spell_suffix n.suffix) (spell_option spell_attribute n.attribute) h.1) p.suffix.is) p.is
 
 module _ (P : ℕ → Type 0) (sight : Sight) (x : Target) (f : TargetHolds P x) where
   pub assignment_holds : (v : t.Value) (y : s.Statement) → Stand P (spell_value v) → assignment sight x v ≡ Some y → Hold P (statement_bytes y)

@@ -6,7 +6,7 @@ use Rattle.vhdl_names_rules.specs.declared.kind.ElementKind.{ElementKind}
 use Rattle.vhdl_names_rules.specs.declared.kind.ElementKind.TheVariants.{Element}
 use Rattle.vhdl_names_rules.specs.declared.kind.ObjectType.{ObjectType}
 use Rattle.vhdl_names_rules.specs.declared.kind.ObjectType.TheVariants.{Elements}
-use Rattle.vhdl_names_rules.specs.declared.fault.NameProblem.TheVariants.{WrongKind, TypeMismatch}
+use Rattle.vhdl_names_rules.specs.declared.fault.NameProblem.TheVariants.{WrongKind, TypeMismatch, LeftOut}
 use Rattle.vhdl_names_rules.specs.units.Expressions as u
 use Rattle.vhdl_names_rules.specs.units.Expressions.{Range, Index, Vector}
 use Rattle.vhdl_names_rules.specs.units.Statements.{Given, single, filled}
@@ -145,5 +145,7 @@ composite_kept k at r (element (types.others p ∷ []) q x no_elements) g h =
     both_kept _ _ (unless_kept TypeMismatch at (is_vector k) (filled_vector (Elements k) x g h)) (lacking_kept TypeMismatch q (as_filled (Elements k) x) g h)
 composite_kept k at r es g h =
     let v = kept (is_vector k) _ g h in
-    let x = comes (are.aggregate k at r es) (λ x. Some (single (u.elements x))) g v.1 in
-    both_kept _ _ (unless_kept TypeMismatch at (is_vector k) v.0) (aggregate_kept k at r es x.value x.is)
+    let c = kept (is_some r || not (is_named es)) _ g v.1 in
+    let x = comes (are.aggregate k at r es) (λ x. Some (single (u.elements x))) g c.1 in
+    both_kept _ _ (unless_kept TypeMismatch at (is_vector k) v.0)
+    (both_kept _ _ (unless_kept LeftOut at (is_some r || not (is_named es)) c.0) (aggregate_kept k at r es x.value x.is))

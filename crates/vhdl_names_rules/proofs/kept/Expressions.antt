@@ -2,16 +2,17 @@
 use Rattle.std.proofs.Common.{◌≡◌, ℕ, Bool, true, false, cond, List, [], Option, Some, None, refl, ap, sym, ◌∙◌}
 use Rattle.std.specs.Prelude.{option_map}
 use Rattle.vhdl_lexer.specs.declared.language.Language.{Language}
+use Rattle.vhdl_tree.specs.declared.operator.Direction.{Direction}
+use Rattle.vhdl_tree.specs.declared.operator.Sign.{Sign}
+use Rattle.vhdl_tree.specs.declared.operator.Sign.TheVariants.{Plus, Minus}
 use Rattle.vhdl_tree.specs.Tree as t
 use Rattle.vhdl_tree.specs.Tree.{Expr, Exprs, Ident, Attribute}
 use Rattle.vhdl_names_rules.specs.declared.kind.ElementKind.TheVariants.{Element, OpenVector}
 use Rattle.vhdl_names_rules.specs.declared.kind.ObjectType.{ObjectType}
 use Rattle.vhdl_names_rules.specs.declared.kind.ObjectType.TheVariants.{Elements, Enumeration}
-use Rattle.vhdl_names_rules.specs.declared.operator.Arithmetic.{Arithmetic}
-use Rattle.vhdl_names_rules.specs.declared.operator.Arithmetic.TheVariants.{Power}
 use Rattle.vhdl_names_rules.specs.declared.fault.NameProblem.TheVariants.{TypeMismatch, LeftOut}
 use Rattle.vhdl_names_rules.specs.units.Expressions as u
-use Rattle.vhdl_names_rules.specs.units.Expressions.{Static, Test, Range}
+use Rattle.vhdl_names_rules.specs.units.Expressions.{Static, Computed, Test, Range}
 use Rattle.vhdl_names_rules.specs.units.Statements.{Given}
 use Rattle.vhdl_names_rules.specs.Rules.{◌>>=◌, wider}
 use Rattle.vhdl_names_rules.specs.Visibility as visibility
@@ -20,9 +21,9 @@ use Rattle.vhdl_names_rules.specs.Literals.{number_of, nine_of, values_of_string
 use Rattle.vhdl_names_rules.specs.Types as types
 use Rattle.vhdl_names_rules.specs.Types.{TypedElements, TypedChoice}
 use Rattle.vhdl_names_rules.specs.Operators as o
-use Rattle.vhdl_names_rules.specs.Operators.{Typed, inverse, integral, operated}
+use Rattle.vhdl_names_rules.specs.Operators.{Typed, as_computed, inverse, raised, operated}
 use Rattle.vhdl_names_rules.specs.Aggregates.{aggregate}
-use Rattle.vhdl_names_rules.specs.Names.{Suffix, denoted, attributed, edge_signal, plain}
+use Rattle.vhdl_names_rules.specs.Names.{Suffix, computed_range, denoted, attributed, edge_signal, plain}
 use Rattle.vhdl_names_rules.specs.Ranges.{Ranged, ranged, declared_range, named_range, range_attribute, sized_by}
 use Rattle.vhdl_names_rules.specs.Expressions as are
 use Rattle.vhdl_names_rules.specs.Expressions.{as_integer, in_parentheses, beside, is_one_name, suffix_of, fits, as_index, as_range, as_test, as_static_test, as_value, as_filled}
@@ -42,7 +43,7 @@ use Rattle.vhdl_names_rules.proofs.kept.Operands.{first_kept, second_kept}
 -- ---- names
 
 pub meaning_kept : (sight : Sight) (n : Ident) (d : Meaning) → visibility.meaning sight n.text ≡ Some d → IsKept (broken.meaning sight n)
-meaning_kept sight n d h = lacking_kept (problem_of n.text) n.at (visibility.meaning sight n.text) d h
+meaning_kept sight n d h = lacking_kept (problem_of sight.language n.text) n.at (visibility.meaning sight n.text) d h
 
 pub declared_kept : (sight : Sight) (n : Ident) (d : Declared) → declaration sight n.text ≡ Some d → IsKept (broken.meaning sight n)
 declared_kept sight n d h = meaning_kept sight n d.meaning (ap (option_map (λ (x : Declared). x.meaning)) h)
@@ -132,9 +133,35 @@ record Integral (x y : Typed) : Type 0 where
   left_is : as_integer x ≡ Some left
   right_is : as_integer y ≡ Some right
 
-integral_of : (at : ℕ) (a : Arithmetic) (x y z : Typed) → integral at a x y ≡ Some z → Integral x y
-integral_of at a (o.integer s) (o.integer r) z h = record { left = s; right = r; left_is = refl; right_is = refl }
-integral_of at a x y z h = absurd cc
+raised_of : (at : ℕ) (x y z : Typed) → raised at x y ≡ Some z → Integral x y
+raised_of at (o.integer s) (o.integer r) z h = record { left = s; right = r; left_is = refl; right_is = refl }
+raised_of at x y z h = absurd cc
+
+-- an operand is an integer, which a run may compute
+record Computes (x : Typed) : Type 0 where
+  value : Computed
+  is : as_computed x ≡ Some value
+
+computed_kept : (at : ℕ) (o : Option Typed) (x : Typed) → o ≡ Some x → Computes x → IsKept (broken.computed_wanted at o)
+computed_kept at o x h c = given_kept (λ x. lacking TypeMismatch at (as_computed x)) o x h (lacking_kept TypeMismatch at (as_computed x) c.value c.is)
+
+absolute_of : (at : ℕ) (x z : Typed) → are.absolute at x ≡ Some z → Computes x
+absolute_of at (o.integer s) z h = record { value = u.static s; is = refl }
+absolute_of at (o.computed y) z h = record { value = y; is = refl }
+absolute_of at x z h = absurd cc
+
+signed_of : (at : ℕ) (sign : Sign) (x z : Typed) → are.signed at sign x ≡ Some z → Computes x
+signed_of at sign (o.integer s) z h = record { value = u.static s; is = refl }
+signed_of at sign (o.computed y) z h = record { value = y; is = refl }
+signed_of at Plus x z h = absurd cc
+signed_of at Minus x z h = absurd cc
+
+sliced_of : (x y : Typed) (direction : Direction) (s : Suffix) → are.sliced x direction y ≡ Some s → Computes x × Computes y
+sliced_of (o.integer l) (o.integer r) direction s h = (record { value = u.static l; is = refl }, record { value = u.static r; is = refl })
+sliced_of x y direction s h =
+    let a = comes (as_computed x) (λ l. as_computed y >>= λ r. Some (computed_range l direction r)) s h in
+    let b = comes (as_computed y) (λ r. Some (computed_range a.value direction r)) s a.rest in
+    (record { value = a.value; is = a.is }, record { value = b.value; is = b.is })
 
 mutual
   unfolding are.typed broken.typed
@@ -167,20 +194,18 @@ mutual
       both_kept _ _ (typed_kept e sight a.value a.is)
       (given_kept (λ x. lacking TypeMismatch at (inverse x)) (are.typed sight e) a.value a.is (lacking_kept TypeMismatch at (inverse a.value) x a.rest))
   typed_kept (t.absolute at e) sight x h =
-      let a = comes (are.typed sight e) _ x h in
-      let b = comes (as_integer a.value) _ x a.rest in
-      both_kept _ _ (typed_kept e sight a.value a.is) (wanted_kept at (are.typed sight e) a.value b.value a.is b.is)
+      let a = comes (are.typed sight e) (are.absolute at) x h in
+      both_kept _ _ (typed_kept e sight a.value a.is) (computed_kept at (are.typed sight e) a.value a.is (absolute_of at a.value x a.rest))
   typed_kept (t.power d at e) sight x h =
       let a = comes (are.typed sight d) _ x h in
       let b = comes (are.typed sight e) _ x a.rest in
-      let i = integral_of at Power a.value b.value x b.rest in
+      let i = raised_of at a.value b.value x b.rest in
       both_kept _ _ (typed_kept d sight a.value a.is)
       (both_kept _ _ (typed_kept e sight b.value b.is)
       (both_kept _ _ (wanted_kept at (are.typed sight d) a.value i.left a.is i.left_is) (wanted_kept at (are.typed sight e) b.value i.right b.is i.right_is)))
   typed_kept (t.signed sign at e) sight x h =
-      let a = comes (are.typed sight e) _ x h in
-      let b = comes (as_integer a.value) _ x a.rest in
-      both_kept _ _ (typed_kept e sight a.value a.is) (wanted_kept at (are.typed sight e) a.value b.value a.is b.is)
+      let a = comes (are.typed sight e) (are.signed at sign) x h in
+      both_kept _ _ (typed_kept e sight a.value a.is) (computed_kept at (are.typed sight e) a.value a.is (signed_of at sign a.value x a.rest))
   typed_kept (t.binary begins q at d e) sight x h =
       let a = comes (are.typed sight d) _ x h in
       let b = comes (are.typed sight e) _ x a.rest in
@@ -211,11 +236,10 @@ mutual
       typed_each_kept es sight a.value a.from
   typed_suffix_kept (t.sliced d direction e) sight x h =
       let a = comes (are.typed sight d) _ x h in
-      let l = comes (as_integer a.value) _ x a.rest in
-      let b = comes (are.typed sight e) _ x l.rest in
-      let r = comes (as_integer b.value) _ x b.rest in
-      both_kept _ _ (both_kept _ _ (typed_kept d sight a.value a.is) (wanted_kept (start d) (are.typed sight d) a.value l.value a.is l.is))
-      (both_kept _ _ (typed_kept e sight b.value b.is) (wanted_kept (start e) (are.typed sight e) b.value r.value b.is r.is))
+      let b = comes (are.typed sight e) _ x a.rest in
+      let s = sliced_of a.value b.value direction x b.rest in
+      both_kept _ _ (both_kept _ _ (typed_kept d sight a.value a.is) (computed_kept (start d) (are.typed sight d) a.value a.is s.0))
+      (both_kept _ _ (typed_kept e sight b.value b.is) (computed_kept (start e) (are.typed sight e) b.value b.is s.1))
 
   pub typed_each_kept : (es : Exprs) (sight : Sight) (xs : List Typed) → are.typed_each sight es ≡ Some xs → IsKept (broken.typed_each sight es)
   typed_each_kept t.no_exprs sight xs h = nothing_kept

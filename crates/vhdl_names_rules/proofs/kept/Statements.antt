@@ -15,8 +15,8 @@ use Rattle.vhdl_names_rules.specs.Names.{Suffix}
 use Rattle.vhdl_names_rules.specs.Expressions.{typed, typed_suffix, static_range, condition, value_given}
 use Rattle.vhdl_names_rules.specs.Choices.{choices, selector}
 use Rattle.vhdl_names_rules.specs.Statements as are
-use Rattle.vhdl_names_rules.specs.Statements.{SignalName, VariableName, Target, as_signal, as_variable, is_input, signal_target, variable_target, target_by, assignment, last_branch, branches, conditional, choice_lists}
-use Rattle.vhdl_names_rules.specs.problems.Broken.{Broken, ◌▸◌, unless, lacking, where_given, any_of, of_any}
+use Rattle.vhdl_names_rules.specs.Statements.{SignalName, Target, as_signal, as_signal_target, as_variable_target, mode_of, is_input, signal_target, variable_target, target_by, assignment, last_branch, branches, conditional, choice_lists}
+use Rattle.vhdl_names_rules.specs.problems.Broken.{Broken, ◌▸◌, lacking, where_given, any_of, of_any}
 use Rattle.vhdl_names_rules.specs.problems.Expressions as expressions
 use Rattle.vhdl_names_rules.specs.problems.Expressions.{no_attribute}
 use Rattle.vhdl_names_rules.specs.problems.Statements as broken
@@ -63,18 +63,23 @@ pub signal_kept : (sight : Sight) (n : t.Name) (x : SignalName) → are.signal s
 unfolding are.signal
 signal_kept sight n x h = object_kept signal_problem (as_signal n.identifier.at) sight n x h
 
-pub target_kept : (sight : Sight) (n : t.Name) (x : SignalName) → are.target sight n ≡ Some x → IsKept (broken.target sight n)
-unfolding are.target
-target_kept sight n x h =
-    let a = comes (are.signal sight n) _ x h in
-    let b = kept (not (is_input a.value.mode)) _ x a.rest in
-    both_kept _ _ (signal_kept sight n a.value a.is)
-    (given_kept (λ x. unless WriteOfIn n.identifier.at (not (is_input x.mode))) (are.signal sight n) a.value a.is
-    (unless_kept WriteOfIn n.identifier.at (not (is_input a.value.mode)) b.0))
+pub signal_target_kept : (sight : Sight) (n : t.Name) (x : Target) → signal_target sight n ≡ Some x → IsKept (broken.target sight n)
+unfolding signal_target
+signal_target_kept sight n x h =
+    let a = kept (is_none n.attribute) _ x h in
+    let b = comes (typed_suffix sight n.suffix) _ x a.1 in
+    let d = comes (declaration sight n.identifier.text) _ x b.rest in
+    let t = comes (as_signal_target n.identifier.at d.value b.value) _ x d.rest in
+    let m = kept (not (is_input (mode_of d.value.meaning))) _ x t.rest in
+    both_kept _ _ (named_kept sight n d.value b.value d.is b.is a.0)
+    (given_kept (λ d. where_given (typed_suffix sight n.suffix) (broken.target_by_declaration n.identifier.at d)) (declaration sight n.identifier.text) d.value d.is
+    (given_kept (broken.target_by_declaration n.identifier.at d.value) (typed_suffix sight n.suffix) b.value b.is
+    (both_kept _ _ (lacking_kept (signal_problem d.value.meaning) n.identifier.at (as_signal_target n.identifier.at d.value b.value) t.value t.is)
+    (unless_kept WriteOfIn n.identifier.at (not (is_input (mode_of d.value.meaning))) m.0))))
 
-pub variable_kept : (sight : Sight) (n : t.Name) (x : VariableName) → are.variable sight n ≡ Some x → IsKept (broken.variable sight n)
-unfolding are.variable
-variable_kept sight n x h = object_kept variable_problem (as_variable n.identifier.at) sight n x h
+pub variable_target_kept : (sight : Sight) (n : t.Name) (x : Target) → variable_target sight n ≡ Some x → IsKept (broken.variable sight n)
+unfolding variable_target
+variable_target_kept sight n x h = object_kept variable_problem (as_variable_target n.identifier.at) sight n x h
 
 -- ---- assignments
 
@@ -82,12 +87,6 @@ given_to_kept : (sight : Sight) (o : Option Target) (x : Target) (v : t.Value) (
 given_to_kept sight o x v y h k =
     let g = mapped x.assigned (value_given sight x.type x.range v) y k in
     given_kept (λ x. expressions.value_given sight x.type x.range v) o x h (value_given_kept sight x.type x.range v g.value g.from)
-
-pub signal_target_kept : (sight : Sight) (n : t.Name) (x : Target) → signal_target sight n ≡ Some x → IsKept (broken.target sight n)
-signal_target_kept sight n x h = let y = comes (are.target sight n) _ x h in target_kept sight n y.value y.is
-
-variable_target_kept : (sight : Sight) (n : t.Name) (x : Target) → variable_target sight n ≡ Some x → IsKept (broken.variable sight n)
-variable_target_kept sight n x h = let y = comes (are.variable sight n) _ x h in variable_kept sight n y.value y.is
 
 pub assigned_kept : (sight : Sight) (n : t.Name) (v : t.Value) (x : Target) (y : s.Statement) → signal_target sight n ≡ Some x → assignment sight x v ≡ Some y
     → IsKept (broken.assigned sight n v)

@@ -1,26 +1,28 @@
 -- Names by their ranges: which name with its attribute is a range or a bound, and which is a value; and no value is a
 -- range.
 use Rattle.std.proofs.Common.{◌≡◌, ℕ, Bool, true, false, true≢false, List, [], ◌∷◌, Option, Some, None, refl, sym, ap, ◌∙◌}
-use Rattle.std.specs.Prelude.{◌||◌, option_map, is_some, bytes_eq, codes}
+use Rattle.std.specs.Prelude.{◌||◌, not, option_map, is_some, bytes_eq, codes}
 use Rattle.std.specs.Option.{option_or}
 use Rattle.std.proofs.lemmas.Slice.Eq.{bytes_eq-Decides}
 use Rattle.vhdl_lexer.specs.declared.language.Language.{Language}
+use Rattle.vhdl_values.specs.declared.kinds.Counted.TheVariants.{Shift}
 use Rattle.vhdl_lexer.specs.declared.language.Language.TheVariants.{Profile, Wide}
 use Rattle.vhdl_tree.specs.Tree as t
-use Rattle.vhdl_tree.specs.Tree.{Ident, Attribute}
+use Rattle.vhdl_tree.specs.Tree.{Attribute}
 use Rattle.vhdl_names_rules.specs.declared.kind.ElementKind.{ElementKind}
 use Rattle.vhdl_names_rules.specs.declared.kind.ElementKind.TheVariants.{LogicVector, Unsigned, OpenVector}
 use Rattle.vhdl_names_rules.specs.declared.kind.ObjectType.TheVariants.{Elements, Enumeration}
-use Rattle.vhdl_names_rules.specs.declared.kind.Function.TheVariants.{EdgeCall, ByCount, ToUnsigned}
+use Rattle.vhdl_names_rules.specs.declared.kind.Function.TheVariants.{EdgeCall, ByCount, ToUnsigned, ToInteger}
 use Rattle.vhdl_names_rules.specs.units.Expressions as u
-use Rattle.vhdl_names_rules.specs.units.Expressions.{Range, Part, SignalPart, Vector, Test}
-use Rattle.vhdl_names_rules.specs.Rules.{◌>>=◌, ◌>>◌, met, wider}
+use Rattle.vhdl_names_rules.specs.units.Expressions.{Range, SignalPart, Computed, Vector, Test}
+use Rattle.vhdl_names_rules.specs.Rules.{◌>>=◌, ◌>>◌, met, then_some, wider}
+use Rattle.vhdl_names_rules.specs.Known.{is_known}
 use Rattle.vhdl_names_rules.specs.Visibility as visibility
 use Rattle.vhdl_names_rules.specs.Visibility.{Meaning, Declared, DeclaredRange}
-use Rattle.vhdl_names_rules.specs.Names.{Suffix, plain, arguments, range, denoted, attributed, edge_signal, part, if_plain}
+use Rattle.vhdl_names_rules.specs.Names.{Suffix, plain, arguments, range, AnyPart, any_part, signal_part, variable_part, constant_part, denoted, attributed, edge_signal, if_plain}
 use Rattle.vhdl_names_rules.specs.declared.operator.Bound.{Bound}
 use Rattle.vhdl_names_rules.specs.Ranges.{Ranged, ranged, range_of, reversed, bound_of, bound, bound_named, named_range, range_attribute, sized_by}
-use Rattle.vhdl_names_rules.specs.Operators.{Typed, integer, elements, enumerated, truth, interval}
+use Rattle.vhdl_names_rules.specs.Operators.{Typed, integer, computed, elements, enumerated, truth, interval}
 use Rattle.vhdl_names_rules.specs.Expressions.{named, as_range, suffix_of}
 use Rattle.vhdl_names_rules.specs.problems.Expressions.{is_of_range, is_range}
 
@@ -106,7 +108,7 @@ if_plain_is : (s : Suffix) (x : Typed) → as_range x ≡ None → as_value_rang
 if_plain_is plain x h = h
 if_plain_is s x h = refl
 
-part_is : (object : Part → Vector) (o : Option (Part × ElementKind)) → as_value_range (option_map (λ p. elements p.1 (object p.0)) o) ≡ None
+part_is : (object : AnyPart → Vector) (o : Option (AnyPart × ElementKind)) → as_value_range (option_map (λ p. elements p.1 (object p.0)) o) ≡ None
 part_is object None = refl
 part_is object (Some p) = refl
 
@@ -126,6 +128,10 @@ converted_is at k b (Some r) (arguments c (elements Unsigned x ∷ [])) = refl
 converted_is at k b (Some r) (arguments c (elements OpenVector x ∷ [])) = refl
 converted_is at k b r s = refl
 
+number_is : (b : Bool) (n : Computed) → ((then_some b (computed n) >>= λ x. Some x) >>= as_range) ≡ None
+number_is true n = refl
+number_is false n = refl
+
 pub no_range : (at : ℕ) (m : Meaning) (r : Option DeclaredRange) (s : Suffix) → value_range at m r s ≡ None
 no_range at (visibility.generic k) r s = if_plain_is s (integer (u.generic k)) refl
 no_range at (visibility.integer_constant k) r s = if_plain_is s (integer (u.Static.constant k)) refl
@@ -135,20 +141,24 @@ no_range at (visibility.boolean_generic k) r s = if_plain_is s (truth (u.fixed (
 no_range at (visibility.boolean_constant k) r s = if_plain_is s (truth (u.fixed (u.known at (u.Static.constant k)))) refl
 no_range at (visibility.boolean_literal true) r s = if_plain_is s (truth (u.fixed (u.known at (u.number 1)))) refl
 no_range at (visibility.boolean_literal false) r s = if_plain_is s (truth (u.fixed (u.known at (u.number 0)))) refl
-no_range at (visibility.port k mode kind) r s = part_is (λ p. u.of_signal (record { at = at; signal = u.port k; part = p })) (part kind s)
-no_range at (visibility.signal k (Elements kind)) r s = part_is (λ p. u.of_signal (record { at = at; signal = u.Signal.signal k; part = p })) (part kind s)
+no_range at (visibility.port k mode kind) r s = part_is (signal_part at (u.port k)) (any_part kind s)
+no_range at (visibility.signal k (Elements kind)) r s = part_is (signal_part at (u.Signal.signal k)) (any_part kind s)
 no_range at (visibility.signal k (Enumeration e count)) r s = if_plain_is s (enumerated e count (u.state_of (u.Signal.signal k))) refl
-no_range at (visibility.variable k (Elements kind)) r s = part_is (u.of_variable at k) (part kind s)
+no_range at (visibility.variable k (Elements kind)) r s = part_is (variable_part at k) (any_part kind s)
 no_range at (visibility.variable k (Enumeration e count)) r s = if_plain_is s (enumerated e count (u.state_of_variable k)) refl
-no_range at (visibility.constant k kind values) r s = part_is (u.of_constant at k) (part kind s)
+no_range at (visibility.constant k kind values) r s = part_is (constant_part at k) (any_part kind s)
 no_range at (visibility.literal e count p) r s = if_plain_is s (enumerated e count (u.position p)) refl
 no_range at (visibility.vector_type k b) r s = converted_is at k b r s
 no_range at (visibility.function (EdgeCall e)) r (arguments true (x ∷ [])) = truth_is (u.edge e) (edge_signal x)
 no_range at (visibility.function (EdgeCall e)) r s = refl
 no_range at (visibility.function (ByCount op)) r (arguments b (elements Unsigned x ∷ integer n ∷ [])) = refl
+no_range at (visibility.function (ByCount (Shift by))) r (arguments b (elements Unsigned x ∷ computed n ∷ [])) = refl
 no_range at (visibility.function (ByCount op)) r s = refl
 no_range at (visibility.function ToUnsigned) r (arguments b (integer n ∷ integer size ∷ [])) = refl
+no_range at (visibility.function ToUnsigned) r (arguments b (computed n ∷ integer size ∷ [])) = refl
 no_range at (visibility.function ToUnsigned) r s = refl
+no_range at (visibility.function ToInteger) r (arguments b (elements Unsigned x ∷ [])) = number_is (not (is_known x)) (u.number_of at x)
+no_range at (visibility.function ToInteger) r s = refl
 no_range at m r s = refl
 
 -- a name that is asked for its range

@@ -11,11 +11,12 @@ use Rattle.vhdl_names_rules.specs.units.Expressions as e
 use Rattle.vhdl_names_rules.specs.units.Expressions.{Signal, Part}
 use Rattle.vhdl_names_rules.specs.Visibility as visibility
 use Rattle.vhdl_names_rules.specs.Visibility.{Name, Meaning, DeclaredRange, Sight, meaning, declaration}
-use Rattle.vhdl_names_rules.specs.Names.{Suffix, part_of}
+use Rattle.vhdl_names_rules.specs.units.Statements.{Given}
+use Rattle.vhdl_names_rules.specs.Names.{Suffix, AnyPart, fixed, free, part_of, any_part_of}
 use Rattle.vhdl_names_rules.specs.Expressions.{typed_suffix}
-use Rattle.vhdl_names_rules.specs.Statements.{SignalName, named_part, as_signal, signal, is_input, target}
+use Rattle.vhdl_names_rules.specs.Statements.{SignalName, named_part, as_signal, signal, is_input, Target, part_target, assigned_signal, as_signal_target, mode_of, signal_target}
 use Rattle.vhdl_names_rules.specs.Instances.{as_name, is_kind, may_join, port_actual}
-use Rattle.vhdl_names_rules.specs.laws.Sound.{IsDriven, TargetsAreDriven, ActualsAreDriven}
+use Rattle.vhdl_names_rules.specs.laws.Sound.{IsDriven, assigned_by, TargetsAreDriven, ActualsAreDriven}
 use Rattle.vhdl_names_rules.proofs.laws.Rules.{comes, kept, some_is, not_true}
 
 -- a signal that isn't an in port is driven
@@ -48,13 +49,38 @@ driven sight n x h i =
     let d = comes (declaration sight n.identifier.text) _ x s.rest in
     rw d.is (by_meaning n.identifier.at d.value.name d.value.meaning d.value.range d.value.is_global s.value x d.rest i)
 
+-- an assignment to a part of an object, or to what is chosen of it, is one to the object
+assigned_is : (at : ℕ) (x : Signal) (p : AnyPart) (g : Given) → assigned_by (assigned_signal at x p g) ≡ Some x
+assigned_is at x (fixed p) g = refl
+assigned_is at x (free c) g = refl
+
+assigned_if : (at : ℕ) (r : Option DeclaredRange) (x : Signal) (o : Option (AnyPart × ObjectType)) (y : Target) (g : Given)
+    → option_map (part_target at r (assigned_signal at x)) o ≡ Some y → assigned_by (y.assigned g) ≡ Some x
+assigned_if at r x None y g e = cc
+assigned_if at r x (Some p) y g e =
+    let h = some_is (part_target at r (assigned_signal at x) p) y e in
+    ap (λ (y : Target). assigned_by (y.assigned g)) (sym h) ∙ assigned_is at x p.0 g
+
+target_by : (at : ℕ) (n : Name) (d : Meaning) (r : Option DeclaredRange) (global : Bool) (suffix : Suffix) (y : Target) (g : Given)
+    → as_signal_target at (record { name = n; meaning = d; range = r; is_global = global }) suffix ≡ Some y → is_input (mode_of d) ≡ false
+    → (x : Signal) × (assigned_by (y.assigned g) ≡ Some x) × IsDriven (Some d) x
+target_by at n (visibility.port k Out kind) r global suffix y g h i =
+    (e.port k, assigned_if at r (e.port k) (any_part_of (Elements kind) suffix) y g h, inl (k, kind, refl, refl))
+target_by at n (visibility.port k In kind) r global suffix y g h i = absurd (cc)
+target_by at n (visibility.signal k type) r global suffix y g h i =
+    (e.Signal.signal k, assigned_if at r (e.Signal.signal k) (any_part_of type suffix) y g h, inr (k, type, refl, refl))
+target_by at n _ r global suffix y g h i = absurd (cc)
+
 pub targets_are_driven : TargetsAreDriven
-unfolding target
-targets_are_driven sight n x h =
-    let c = comes (signal sight n) _ x h in
-    let k = kept (not (is_input c.value.mode)) _ x c.rest in
-    let g = some_is c.value x k.1 in
-    driven sight n x (c.is ∙ ap Some g) (ap (λ (x : SignalName). is_input x.mode) (sym g) ∙ not_true (is_input c.value.mode) k.0)
+unfolding signal_target
+targets_are_driven sight n x g h =
+    let k = kept (is_none n.attribute) _ x h in
+    let s = comes (typed_suffix sight n.suffix) _ x k.1 in
+    let d = comes (declaration sight n.identifier.text) _ x s.rest in
+    let t = comes (as_signal_target n.identifier.at d.value s.value) _ x d.rest in
+    let m = kept (not (is_input (mode_of d.value.meaning))) _ x t.rest in
+    let same = some_is t.value x m.1 in
+    rw d.is (target_by n.identifier.at d.value.name d.value.meaning d.value.range d.value.is_global s.value x g (t.is ∙ ap Some same) (not_true (is_input (mode_of d.value.meaning)) m.0))
 
 pub actuals_are_driven : ActualsAreDriven
 unfolding port_actual

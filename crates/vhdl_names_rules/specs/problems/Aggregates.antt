@@ -9,7 +9,8 @@ use Rattle.vhdl_names_rules.specs.units.Expressions as u
 use Rattle.vhdl_names_rules.specs.Types as types
 use Rattle.vhdl_names_rules.specs.Types.{Typed, elements, TypedChoice, place, TypedElements, no_elements, element}
 use Rattle.vhdl_names_rules.specs.Operators.{is_vector}
-use Rattle.vhdl_names_rules.specs.Aggregates.{is_listed, is_local, listed_value, element_value}
+pub use Rattle.vhdl_names_rules.specs.Aggregates.{is_named}
+use Rattle.vhdl_names_rules.specs.Aggregates.{is_local, listed_value, element_value}
 use Rattle.vhdl_names_rules.specs.Expressions.{filling, as_filled}
 use Rattle.vhdl_names_rules.specs.problems.Broken.{Broken, nothing, refused, ◌▸◌, unless, lacking, any_of}
 
@@ -69,11 +70,7 @@ each is_ranged is_named is_only k no_elements = nothing
 each is_ranged is_named is_only k (element cs at x es) =
     choices is_ranged is_named is_only cs at es ▸ value k cs at x ▸ each is_ranged is_named is_only k es
 
--- whether the first has choices, and whether there is one element with one choice
-abbrev pub is_named : TypedElements → Bool
-is_named (element cs at x es) = not (is_listed cs)
-is_named no_elements = false
-
+-- whether there is one element with one choice
 abbrev pub is_only : TypedElements → Bool
 is_only (element (c ∷ []) at x no_elements) = true
 is_only _ = false
@@ -88,11 +85,11 @@ abbrev pub value_start : TypedElements → ℕ
 value_start no_elements = 0
 value_start (element cs at x es) = at
 
--- one that starts here: of vectors, by its elements, or by that of others alone
+-- one that starts here: of vectors, by its elements, or by that of others alone; its choices need a range
 abbrev pub composite : ObjectType → (at : ℕ) → (is_ranged : Bool) → TypedElements → Broken
 composite (Enumeration e count) at is_ranged es = refused TypeMismatch at
 composite (Elements k) at is_ranged es = unless TypeMismatch at (is_vector k) ▸ by (filling es)
   where
     by : Option Typed → Broken
     by (Some x) = lacking TypeMismatch (value_start es) (as_filled (Elements k) x)
-    by None = aggregate k is_ranged es
+    by None = unless LeftOut at (is_ranged || not (is_named es)) ▸ aggregate k is_ranged es

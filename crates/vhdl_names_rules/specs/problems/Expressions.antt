@@ -18,7 +18,7 @@ use Rattle.vhdl_names_rules.specs.units.Expressions.{Range}
 use Rattle.vhdl_names_rules.specs.Visibility as visibility
 use Rattle.vhdl_names_rules.specs.Visibility.{Meaning, DeclaredRange, Declared, Sight, declaration}
 use Rattle.vhdl_names_rules.specs.Literals.{number_of, nine_of, values_of_string, values_of_bits}
-use Rattle.vhdl_names_rules.specs.Operators.{Typed, elements, composite, is_vector, inverse, operated}
+use Rattle.vhdl_names_rules.specs.Operators.{Typed, elements, composite, is_vector, inverse, as_computed, operated}
 use Rattle.vhdl_names_rules.specs.Types as types
 use Rattle.vhdl_names_rules.specs.Types.{TypedElements}
 use Rattle.vhdl_names_rules.specs.Names.{Suffix, plain, denoted, edge_signal}
@@ -36,7 +36,7 @@ use Rattle.vhdl_names_rules.specs.problems.Operators.{string_problem, operator_p
 
 -- a name that no declaration in sight has
 abbrev pub meaning : Sight → Ident → Broken
-meaning sight n = lacking (problem_of n.text) n.at (visibility.meaning sight n.text)
+meaning sight n = lacking (problem_of sight.language n.text) n.at (visibility.meaning sight n.text)
 
 abbrev pub attribute_start : Attribute → ℕ
 attribute_start (t.called a) = a.at
@@ -177,6 +177,10 @@ qualified at p d es = qualified_by at p d.meaning d.range es
 abbrev pub integer_wanted : ℕ → Option Typed → Broken
 integer_wanted at o = where_given o (λ x. lacking TypeMismatch at (as_integer x))
 
+-- and here one that a run may compute
+abbrev pub computed_wanted : ℕ → Option Typed → Broken
+computed_wanted at o = where_given o (λ x. lacking TypeMismatch at (as_computed x))
+
 unfoldable mutual
   pub typed : Sight → Expr → Broken
   typed sight (t.integer at text) = lacking LeftOut at (number_of text)
@@ -189,10 +193,10 @@ unfoldable mutual
       typed sight e ▸ where_given (are.typed sight e) (λ x. lacking TypeMismatch (start e) (in_parentheses x))
   typed sight (t.negation at e) =
       typed sight e ▸ where_given (are.typed sight e) (λ x. lacking TypeMismatch at (inverse x))
-  typed sight (t.absolute at e) = typed sight e ▸ integer_wanted at (are.typed sight e)
+  typed sight (t.absolute at e) = typed sight e ▸ computed_wanted at (are.typed sight e)
   typed sight (t.power d at e) =
       typed sight d ▸ typed sight e ▸ integer_wanted at (are.typed sight d) ▸ integer_wanted at (are.typed sight e)
-  typed sight (t.signed sign at e) = typed sight e ▸ integer_wanted at (are.typed sight e)
+  typed sight (t.signed sign at e) = typed sight e ▸ computed_wanted at (are.typed sight e)
   typed sight (t.binary begins op at d e) =
       typed sight d ▸ typed sight e
       ▸ where_given (are.typed sight d) (λ x. where_given (are.typed sight e) (λ y.
@@ -208,8 +212,8 @@ unfoldable mutual
   typed_suffix sight t.plain = nothing
   typed_suffix sight (t.arguments es) = typed_each sight es
   typed_suffix sight (t.sliced d direction e) =
-      (typed sight d ▸ integer_wanted (start d) (are.typed sight d))
-      ▸ (typed sight e ▸ integer_wanted (start e) (are.typed sight e))
+      (typed sight d ▸ computed_wanted (start d) (are.typed sight d))
+      ▸ (typed sight e ▸ computed_wanted (start e) (are.typed sight e))
 
   pub typed_each : Sight → Exprs → Broken
   typed_each sight t.no_exprs = nothing

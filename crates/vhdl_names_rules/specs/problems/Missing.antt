@@ -1,5 +1,6 @@
 -- Why a name that no declaration in sight has means nothing.
 use Rattle.std.specs.Prelude.{Bool, false, ◌||◌, if◌then◌else◌, List, [], ◌∷◌, ◌++◌, map, bytes_eq, codes}
+use Rattle.vhdl_lexer.specs.declared.language.Language.{Language}
 use Rattle.vhdl_names_rules.specs.Visibility.{Name}
 use Rattle.vhdl_names_rules.specs.Packages.{std_logic_1164, numeric_std}
 use Rattle.vhdl_names_rules.specs.declared.fault.NameProblem.{NameProblem}
@@ -10,11 +11,11 @@ is_named [] n = false
 is_named (d ∷ ds) n = bytes_eq n d || is_named ds n
 
 -- what the language has of std_logic_1164 and numeric_std (16.7, 16.8)
-abbrev pub offered : List Name
-offered = map (λ d. d.name) (std_logic_1164 ++ numeric_std)
+abbrev pub offered : Language → List Name
+offered language = map (λ d. d.name) (std_logic_1164 ++ numeric_std language)
 
--- what it leaves out of them, and of package standard (16.3), as far as it is told as that: any other name
--- is Undeclared
+-- what it leaves out of them where it doesn't offer it, and of package standard (16.3), as far as it is told as that:
+-- any other name is Undeclared
 abbrev pub left_out : List Name
 left_out =
     codes "bit"
@@ -79,5 +80,6 @@ left_out =
     ∷ codes "unresolved_unsigned" ∷ []
 
 -- a use clause would make it visible; the language leaves it out; or nothing declares it
-abbrev pub problem_of : Name → NameProblem
-problem_of n = if is_named offered n then NotVisible else if is_named left_out n then LeftOut else Undeclared
+abbrev pub problem_of : Language → Name → NameProblem
+problem_of language n =
+    if is_named (offered language) n then NotVisible else if is_named left_out n then LeftOut else Undeclared

@@ -3,15 +3,15 @@
 use Rattle.std.specs.Prelude.{ℕ, Bool, true, false, ◌&&◌, ◌||◌, not, if◌then◌else◌, List, [], ◌∷◌}
 use Rattle.vhdl_tree.specs.declared.operator.Operator.{Operator}
 use Rattle.vhdl_tree.specs.declared.operator.Operator.TheVariants as o
-use Rattle.vhdl_names_rules.specs.declared.kind.ElementKind.TheVariants.{Element}
-use Rattle.vhdl_names_rules.specs.declared.kind.Function.TheVariants.{EdgeCall}
+use Rattle.vhdl_names_rules.specs.declared.kind.ElementKind.TheVariants.{Element, Unsigned}
+use Rattle.vhdl_names_rules.specs.declared.kind.Function.TheVariants.{EdgeCall, ToInteger}
 use Rattle.vhdl_names_rules.specs.declared.fault.NameProblem.{NameProblem}
 use Rattle.vhdl_names_rules.specs.declared.fault.NameProblem.TheVariants.{Undeclared, WrongKind, TypeMismatch, NotVisible, LeftOut}
 use Rattle.vhdl_names_rules.specs.Visibility as visibility
 use Rattle.vhdl_names_rules.specs.Visibility.{Meaning}
 use Rattle.vhdl_names_rules.specs.Literals.{quoted}
 use Rattle.vhdl_names_rules.specs.units.Expressions as u
-use Rattle.vhdl_names_rules.specs.Operators.{Typed, integer, elements, enumerated, is_number}
+use Rattle.vhdl_names_rules.specs.Operators.{Typed, integer, computed, elements, enumerated, is_number}
 use Rattle.vhdl_names_rules.specs.Names.{Suffix, arguments}
 
 -- ---- strings
@@ -29,6 +29,7 @@ string_problem text = characters_problem (quoted text)
 -- what an operator of numeric_std takes: numbers, and an integer beside one
 abbrev pub is_numeric : Typed → Bool
 is_numeric (integer s) = true
+is_numeric (computed x) = true
 is_numeric (elements k x) = is_number k
 is_numeric _ = false
 
@@ -61,8 +62,8 @@ operator_problem _ = λ x y. TypeMismatch
 
 -- ---- edges
 
--- an integer, a variable or a constant is of another kind than a signal; anything else is no signal of one element by a
--- static name
+-- a static integer, and a variable or a constant by a static name, is of another kind than a signal; anything else is
+-- no signal of one element by a static name
 abbrev pub edge_problem : Typed → NameProblem
 edge_problem (integer s) = WrongKind
 edge_problem (elements Element (u.of_variable at k p)) = WrongKind
@@ -71,8 +72,13 @@ edge_problem _ = TypeMismatch
 
 -- ---- names
 
+-- the integer of a number that names no signal and no variable is left out
+abbrev pub number_problem : List Typed → NameProblem
+number_problem (elements Unsigned x ∷ []) = LeftOut
+number_problem _ = TypeMismatch
+
 -- a name within its own declaration isn't declared yet; a type of anything but vectors, a component or a label has no
--- value; an edge call is told by what it is of; all else doesn't take what follows its name
+-- value; an edge call and to_integer are told by what they are of; all else doesn't take what follows its name
 abbrev pub name_problem : Meaning → Suffix → NameProblem
 name_problem visibility.unfinished s = Undeclared
 name_problem (visibility.integer_type w) s = WrongKind
@@ -82,4 +88,5 @@ name_problem (visibility.enumeration_type e count) s = WrongKind
 name_problem (visibility.component k) s = WrongKind
 name_problem visibility.label s = WrongKind
 name_problem (visibility.function (EdgeCall e)) (arguments true (x ∷ [])) = edge_problem x
+name_problem (visibility.function ToInteger) (arguments b xs) = number_problem xs
 name_problem _ _ = TypeMismatch

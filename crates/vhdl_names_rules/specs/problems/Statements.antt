@@ -1,16 +1,17 @@
 -- Which rules sequential statements break (IEEE 1076-2008, clause 10), with the declarations in sight.
-use Rattle.std.specs.Prelude.{Bool, true, false, not, List, Option}
+use Rattle.std.specs.Prelude.{ℕ, Bool, true, false, not, List, Option}
 use Rattle.vhdl_tree.specs.Tree as t
 use Rattle.vhdl_tree.specs.Tree.{Ident}
 use Rattle.vhdl_names_rules.specs.declared.kind.ObjectType.{ObjectType}
 use Rattle.vhdl_names_rules.specs.declared.fault.NameProblem.{NameProblem}
 use Rattle.vhdl_names_rules.specs.declared.fault.NameProblem.TheVariants.{Undeclared, WrongKind, TypeMismatch, WriteOfIn}
 use Rattle.vhdl_names_rules.specs.Visibility as visibility
-use Rattle.vhdl_names_rules.specs.Visibility.{Meaning, Sight, declaration, label_ends, within_loop}
+use Rattle.vhdl_names_rules.specs.Visibility.{Meaning, Declared, Sight, declaration, label_ends, within_loop}
+use Rattle.vhdl_names_rules.specs.Names.{Suffix}
 use Rattle.vhdl_names_rules.specs.Expressions as expressions
 use Rattle.vhdl_names_rules.specs.Choices.{selector}
 use Rattle.vhdl_names_rules.specs.Statements as are
-use Rattle.vhdl_names_rules.specs.Statements.{as_signal, as_variable, is_input, Target, signal_target, variable_target, choice_lists}
+use Rattle.vhdl_names_rules.specs.Statements.{as_signal, as_signal_target, as_variable_target, mode_of, is_input, Target, signal_target, variable_target, choice_lists}
 use Rattle.vhdl_names_rules.specs.problems.Broken.{Broken, nothing, ◌▸◌, unless, lacking, where_given, any_of, of_any}
 use Rattle.vhdl_names_rules.specs.problems.Expressions.{meaning, no_attribute, typed_suffix, static_range, condition, value_given}
 use Rattle.vhdl_names_rules.specs.problems.Choices.{choices, selected_by}
@@ -36,9 +37,17 @@ signal sight n =
     (λ d. where_given (expressions.typed_suffix sight n.suffix)
     (λ s. lacking (signal_problem d.meaning) n.identifier.at (as_signal n.identifier.at d s)))
 
+-- an in port is told behind a part that it hasn't
+abbrev pub target_by_declaration : (at : ℕ) → Declared → Suffix → Broken
+target_by_declaration at d s =
+    lacking (signal_problem d.meaning) at (as_signal_target at d s)
+    ▸ unless WriteOfIn at (not (is_input (mode_of d.meaning)))
+
 abbrev pub target : Sight → t.Name → Broken
 target sight n =
-    signal sight n ▸ where_given (are.signal sight n) (λ x. unless WriteOfIn n.identifier.at (not (is_input x.mode)))
+    named sight n
+    ▸ where_given (declaration sight n.identifier.text)
+    (λ d. where_given (expressions.typed_suffix sight n.suffix) (target_by_declaration n.identifier.at d))
 
 abbrev pub variable_problem : Meaning → NameProblem
 variable_problem (visibility.variable k type) = TypeMismatch
@@ -50,7 +59,7 @@ variable sight n =
     named sight n
     ▸ where_given (declaration sight n.identifier.text)
     (λ d. where_given (expressions.typed_suffix sight n.suffix)
-    (λ s. lacking (variable_problem d.meaning) n.identifier.at (as_variable n.identifier.at d s)))
+    (λ s. lacking (variable_problem d.meaning) n.identifier.at (as_variable_target n.identifier.at d s)))
 
 -- ---- statements
 

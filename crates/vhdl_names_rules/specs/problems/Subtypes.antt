@@ -109,12 +109,14 @@ abbrev pub suffixed_problem : ObjectType → Meaning → Suffix → NameProblem
 suffixed_problem type d names.plain = value_problem d
 suffixed_problem type d (names.arguments b xs) = call_problem type d
 suffixed_problem type d (names.range r) = LeftOut
+suffixed_problem type d (names.computed_range l direction r) = LeftOut
 
 -- what a name is, with what follows it
 abbrev pub value_of : ObjectType → Meaning → Suffix → Option Fixed
 value_of type d names.plain = named_value type d
 value_of type d (names.arguments b xs) = encoded_value type d xs
 value_of type d (names.range r) = None
+value_of type d (names.computed_range l direction r) = None
 
 abbrev pub fixed : Sight → ObjectType → Expr → Broken
 fixed sight type (t.named n suffix a) =

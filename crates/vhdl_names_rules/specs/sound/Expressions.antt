@@ -5,7 +5,7 @@ use Rattle.std.specs.List.{list_all}
 use Rattle.vhdl_names_rules.specs.declared.operator.VectorOperator.{VectorOperator}
 use Rattle.vhdl_names_rules.specs.declared.operator.VectorOperator.TheVariants as v
 use Rattle.vhdl_names_rules.specs.units.Expressions as e
-use Rattle.vhdl_names_rules.specs.units.Expressions.{Static, Range, StaticTest, Signal, Part, SignalPart, Vector, Elements, Value, Test}
+use Rattle.vhdl_names_rules.specs.units.Expressions.{Static, Range, StaticTest, Signal, Part, SignalPart, Computed, Chosen, Vector, Elements, Value, Test}
 use Rattle.vhdl_names_rules.specs.units.Units as u
 use Rattle.vhdl_names_rules.specs.units.Units.{Form, Fixed, Units}
 use Rattle.vhdl_names_rules.specs.Rules.{◌>>=◌, then_some}
@@ -107,6 +107,15 @@ with_static i x n = do
   y ← x
   then_some (is_vector y && static_fits i n) vector
 
+-- what a run chooses of a vector
+abbrev pub chosen_shape : Chosen → Shape
+chosen_shape (e.element_at x) = one
+chosen_shape (e.slice_at x direction y) = vector
+
+abbrev pub has_vector : Option Form → Bool
+has_vector None = false
+has_vector (Some f) = is_vector (shape_of f)
+
 -- a range, if there is one
 abbrev pub any_range_fits : Inside → Option Range → Bool
 any_range_fits i None = true
@@ -124,7 +133,22 @@ abbrev pub are_elements : Option Shape → Bool
 are_elements None = false
 are_elements (Some x) = is_elements x
 
+abbrev pub is_vector_shape : Option Shape → Bool
+is_vector_shape None = false
+is_vector_shape (Some x) = is_vector x
+
 abbrev mutual
+  pub computed_fits : Inside → Computed → Bool
+  computed_fits i (e.static s) = static_fits i s
+  computed_fits i (e.number_of at x) = is_vector_shape (vector_shape i x)
+  computed_fits i (e.Computed.negated at x) = computed_fits i x
+  computed_fits i (e.magnitude at x) = computed_fits i x
+  computed_fits i (e.calculated at op x y) = computed_fits i x && computed_fits i y
+
+  pub chosen_fits : Inside → Chosen → Bool
+  chosen_fits i (e.element_at x) = computed_fits i x
+  chosen_fits i (e.slice_at x direction y) = computed_fits i x && computed_fits i y
+
   pub vector_shape : Inside → Vector → Option Shape
   vector_shape i (e.of_signal p) = do
     x ← place_shape i p
@@ -137,6 +161,12 @@ abbrev mutual
     f ← slice_get i.constants k
     x ← part_shape i f p
     then_some (is_elements x) x
+  vector_shape i (e.in_signal at x c) =
+      then_some (has_vector (signal_form i x) && chosen_fits i c) (chosen_shape c)
+  vector_shape i (e.in_variable at k c) =
+      then_some (has_vector (slice_get i.variables k) && chosen_fits i c) (chosen_shape c)
+  vector_shape i (e.in_constant at k c) =
+      then_some (has_vector (slice_get i.constants k) && chosen_fits i c) (chosen_shape c)
   vector_shape i (e.character x) = Some one
   vector_shape i (e.enclosed_character x) = Some one
   vector_shape i (e.Vector.literal at xs) = Some vector
@@ -147,6 +177,13 @@ abbrev mutual
     operated_shape op a b
   vector_shape i (e.with_integer at op x n) = with_static i (vector_shape i x) n
   vector_shape i (e.integer_with at op n x) = with_static i (vector_shape i x) n
+  vector_shape i (e.with_computed at op x n) =
+      then_some (is_vector_shape (vector_shape i x) && computed_fits i n) vector
+  vector_shape i (e.computed_with at op n x) =
+      then_some (computed_fits i n && is_vector_shape (vector_shape i x)) vector
+  vector_shape i (e.computed_encoded at n size) = then_some (computed_fits i n && static_fits i size) vector
+  vector_shape i (e.shifted at by x n) =
+      then_some (is_vector_shape (vector_shape i x) && computed_fits i n) vector
   vector_shape i (e.Vector.encoded at n size) = then_some (static_fits i n && static_fits i size) vector
   vector_shape i (e.counted at op x n) = with_static i (vector_shape i x) n
   vector_shape i (e.aggregate at r es) = then_some (any_range_fits i r && elements_fit i es) vector
@@ -211,6 +248,9 @@ test_fits i (e.unlike at x y) = values_fit i x y
 test_fits i (e.Test.compared at op x y) = fits_shape vector (vector_shape i x) && fits_shape vector (vector_shape i y)
 test_fits i (e.compared_to at op x n) = fits_shape vector (vector_shape i x) && static_fits i n
 test_fits i (e.compared_with at op n x) = static_fits i n && fits_shape vector (vector_shape i x)
+test_fits i (e.compared_to_computed at op x n) = fits_shape vector (vector_shape i x) && computed_fits i n
+test_fits i (e.compared_with_computed at op n x) = computed_fits i n && fits_shape vector (vector_shape i x)
+test_fits i (e.computed_compared at op x y) = computed_fits i x && computed_fits i y
 test_fits i (e.edge kind p) = edge_fits i p
 test_fits i (e.event p) = edge_fits i p
 test_fits i (e.Test.negated t) = test_fits i t

@@ -9,7 +9,7 @@ use Rattle.vhdl_names_rules.specs.units.Statements as s
 use Rattle.vhdl_names_rules.specs.units.Units as u
 use Rattle.vhdl_names_rules.specs.units.Units.{Form, Fixed, Units}
 use Rattle.vhdl_names_rules.specs.Rules.{◌>>=◌}
-use Rattle.vhdl_names_rules.specs.sound.Expressions.{Inside, Shape, one, vector, state, range_fits, part_shape, place_shape, is_vector, vector_shape, value_shape, fits_shape, value_fits, test_fits}
+use Rattle.vhdl_names_rules.specs.sound.Expressions.{Inside, Shape, one, vector, state, range_fits, part_shape, place_shape, signal_form, is_vector, has_vector, chosen_shape, chosen_fits, vector_shape, value_shape, fits_shape, value_fits, test_fits}
 
 -- ---- sequential statements
 
@@ -54,6 +54,10 @@ unfoldable mutual
   statement_fits i s.null_of = true
   statement_fits i (s.assign p g) = is_driven i p.signal && given_fits_target i (place_shape i p) g
   statement_fits i (s.set at k p g) = given_fits_target i (slice_get i.variables k >>= λ f. part_shape i f p) g
+  statement_fits i (s.assign_in at x c g) =
+      is_driven i x && has_vector (signal_form i x) && chosen_fits i c && given_fits i (chosen_shape c) g
+  statement_fits i (s.set_in at k c g) =
+      has_vector (slice_get i.variables k) && chosen_fits i c && given_fits i (chosen_shape c) g
   statement_fits i (s.if_of at bs) = branches_fit i bs
   statement_fits i (s.case_of at x alts) = selector_fits i x && alternatives_fit i (value_shape i x) alts
   statement_fits i (s.for_of at r body) = range_fits i r && statements_fit (within_loop i) body

@@ -1,7 +1,7 @@
 -- The bytes of the text that units have: elaboration tells what is wrong at one of them, or at 0.
 use Rattle.std.specs.Prelude.{ℕ, List, [], ◌∷◌, ◌++◌, flat_map, Option, Some, None}
 use Rattle.vhdl_names_rules.specs.units.Expressions as e
-use Rattle.vhdl_names_rules.specs.units.Expressions.{Static, Range, StaticTest, Part, SignalPart, Index, Vector, Elements, Value, Test}
+use Rattle.vhdl_names_rules.specs.units.Expressions.{Static, Range, StaticTest, Part, SignalPart, Index, Computed, Chosen, Vector, Elements, Value, Test}
 use Rattle.vhdl_names_rules.specs.units.Statements as s
 use Rattle.vhdl_names_rules.specs.units.Units as u
 use Rattle.vhdl_names_rules.specs.units.Units.{Form, Fixed, Units}
@@ -42,10 +42,24 @@ index_bytes (e.index at x) = at ∷ static_bytes x
 index_bytes (e.indexes at r) = at ∷ range_bytes r
 
 abbrev mutual
+  pub computed_bytes : Computed → List ℕ
+  computed_bytes (e.static x) = static_bytes x
+  computed_bytes (e.number_of at x) = at ∷ vector_bytes x
+  computed_bytes (e.Computed.negated at x) = at ∷ computed_bytes x
+  computed_bytes (e.magnitude at x) = at ∷ computed_bytes x
+  computed_bytes (e.calculated at op x y) = at ∷ (computed_bytes x ++ computed_bytes y)
+
+  pub chosen_bytes : Chosen → List ℕ
+  chosen_bytes (e.element_at x) = computed_bytes x
+  chosen_bytes (e.slice_at x direction y) = computed_bytes x ++ computed_bytes y
+
   pub vector_bytes : Vector → List ℕ
   vector_bytes (e.of_signal p) = place_bytes p
   vector_bytes (e.of_variable at k p) = at ∷ part_bytes p
   vector_bytes (e.of_constant at k p) = at ∷ part_bytes p
+  vector_bytes (e.in_signal at x c) = at ∷ chosen_bytes c
+  vector_bytes (e.in_variable at k c) = at ∷ chosen_bytes c
+  vector_bytes (e.in_constant at k c) = at ∷ chosen_bytes c
   vector_bytes (e.character x) = []
   vector_bytes (e.enclosed_character x) = []
   vector_bytes (e.Vector.literal at xs) = at ∷ []
@@ -53,8 +67,12 @@ abbrev mutual
   vector_bytes (e.Vector.binary at op x y) = at ∷ (vector_bytes x ++ vector_bytes y)
   vector_bytes (e.with_integer at op x n) = at ∷ (vector_bytes x ++ static_bytes n)
   vector_bytes (e.integer_with at op n x) = at ∷ (static_bytes n ++ vector_bytes x)
+  vector_bytes (e.with_computed at op x n) = at ∷ (vector_bytes x ++ computed_bytes n)
+  vector_bytes (e.computed_with at op n x) = at ∷ (computed_bytes n ++ vector_bytes x)
   vector_bytes (e.Vector.encoded at n size) = at ∷ (static_bytes n ++ static_bytes size)
+  vector_bytes (e.computed_encoded at n size) = at ∷ (computed_bytes n ++ static_bytes size)
   vector_bytes (e.counted at op x n) = at ∷ (vector_bytes x ++ static_bytes n)
+  vector_bytes (e.shifted at by x n) = at ∷ (vector_bytes x ++ computed_bytes n)
   vector_bytes (e.aggregate at r es) = at ∷ (if_any_bytes range_bytes r ++ elements_bytes es)
   vector_bytes (e.sized at r x) = at ∷ (range_bytes r ++ vector_bytes x)
 
@@ -76,6 +94,9 @@ test_bytes (e.unlike at x y) = at ∷ (value_bytes x ++ value_bytes y)
 test_bytes (e.Test.compared at op x y) = at ∷ (vector_bytes x ++ vector_bytes y)
 test_bytes (e.compared_to at op x n) = at ∷ (vector_bytes x ++ static_bytes n)
 test_bytes (e.compared_with at op n x) = at ∷ (static_bytes n ++ vector_bytes x)
+test_bytes (e.compared_to_computed at op x n) = at ∷ (vector_bytes x ++ computed_bytes n)
+test_bytes (e.compared_with_computed at op n x) = at ∷ (computed_bytes n ++ vector_bytes x)
+test_bytes (e.computed_compared at op x y) = at ∷ (computed_bytes x ++ computed_bytes y)
 test_bytes (e.edge kind p) = place_bytes p
 test_bytes (e.event p) = place_bytes p
 test_bytes (e.Test.negated t) = test_bytes t
@@ -92,6 +113,8 @@ abbrev mutual
   statement_bytes s.null_of = []
   statement_bytes (s.assign p g) = place_bytes p ++ given_bytes g
   statement_bytes (s.set at k p g) = at ∷ (part_bytes p ++ given_bytes g)
+  statement_bytes (s.assign_in at x c g) = at ∷ (chosen_bytes c ++ given_bytes g)
+  statement_bytes (s.set_in at k c g) = at ∷ (chosen_bytes c ++ given_bytes g)
   statement_bytes (s.if_of at bs) = at ∷ branches_bytes bs
   statement_bytes (s.case_of at x alts) = at ∷ (value_bytes x ++ alternatives_bytes alts)
   statement_bytes (s.for_of at r body) = at ∷ (range_bytes r ++ statements_bytes body)

@@ -1,13 +1,14 @@
 -- Analysed expressions (IEEE 1076-2008, clause 9): each name is the number of its declaration, each operator its kind,
--- each literal its values. Integers, vectors and truths are three types of tree, so that no type is left to be looked
--- up. Of the text there are the bytes at which elaboration tells what is wrong: where a name, a literal, a call or an
--- operator starts.
+-- each literal its values. Static integers, integers that a run computes, vectors and truths are four types of tree, so
+-- that no type is left to be looked up. Of the text there are the bytes at which elaboration tells what is wrong: where
+-- a name, a literal, a call or an operator starts.
 use Rattle.std.specs.Prelude.{ℕ, List, Option}
 use Rattle.vhdl_values.specs.declared.scalar.Nine.{Nine}
 use Rattle.vhdl_values.specs.declared.kinds.Logic.{Logic}
 use Rattle.vhdl_values.specs.declared.kinds.Cmp.{Cmp}
 use Rattle.vhdl_values.specs.declared.kinds.Counted.{Counted}
 use Rattle.vhdl_values.specs.declared.kinds.Edge.{Edge}
+use Rattle.vhdl_values.specs.declared.kinds.Shift.{Shift}
 use Rattle.vhdl_tree.specs.declared.operator.Direction.{Direction}
 use Rattle.vhdl_names_rules.specs.declared.operator.Arithmetic.{Arithmetic}
 use Rattle.vhdl_names_rules.specs.declared.operator.Bound.{Bound}
@@ -74,10 +75,29 @@ pub data Index : Type 0 where
   indexes : (at : ℕ) → Range → Index
 
 mutual
+  -- an integer that a run computes
+  pub data Computed : Type 0 where
+    -- a static one beside such
+    static : Static → Computed
+    -- to_integer, of a number
+    number_of : (at : ℕ) → Vector → Computed
+    negated : (at : ℕ) → Computed → Computed
+    magnitude : (at : ℕ) → Computed → Computed
+    calculated : (at : ℕ) → Arithmetic → Computed → Computed → Computed
+
+  -- of a vector, the part that a run chooses: an element by its index (8.4), or a slice by its bounds (8.5)
+  pub data Chosen : Type 0 where
+    element_at : Computed → Chosen
+    slice_at : (left : Computed) → Direction → (right : Computed) → Chosen
+
   pub data Vector : Type 0 where
     of_signal : SignalPart → Vector
     of_variable : (at : ℕ) → ℕ → Part → Vector
     of_constant : (at : ℕ) → ℕ → Part → Vector
+    -- and of them what a run chooses
+    in_signal : (at : ℕ) → Signal → Chosen → Vector
+    in_variable : (at : ℕ) → ℕ → Chosen → Vector
+    in_constant : (at : ℕ) → ℕ → Chosen → Vector
     -- A character literal with no parentheses round it, nor round the operand on its left: an edge test is `event p`
     -- with `alike (elements (of_signal p)) (elements (character v))`, v being '0' or '1'.
     character : Nine → Vector
@@ -90,10 +110,16 @@ mutual
     -- of a number and a static integer, and of a static integer and a number
     with_integer : (at : ℕ) → Numeric → Vector → Static → Vector
     integer_with : (at : ℕ) → Numeric → Static → Vector → Vector
-    -- to_unsigned, of a number and a size
+    -- the same, where a run computes the integer
+    with_computed : (at : ℕ) → Numeric → Vector → Computed → Vector
+    computed_with : (at : ℕ) → Numeric → Computed → Vector → Vector
+    -- to_unsigned, of a number and a size; the number may be computed
     encoded : (at : ℕ) → Static → Static → Vector
+    computed_encoded : (at : ℕ) → Computed → Static → Vector
     -- an operator, a number and a count
     counted : (at : ℕ) → Counted → Vector → Static → Vector
+    -- a shift or rotate, a number, and how many places, which a run computes
+    shifted : (at : ℕ) → Shift → Vector → Computed → Vector
     -- an aggregate (9.3.3): where it starts, the range of its indexes where it is given to what has one, and its
     -- elements
     aggregate : (at : ℕ) → Option Range → Elements → Vector
@@ -132,6 +158,10 @@ pub data Test : Type 0 where
   compared : (at : ℕ) → Cmp → Vector → Vector → Test
   compared_to : (at : ℕ) → Cmp → Vector → Static → Test
   compared_with : (at : ℕ) → Cmp → Static → Vector → Test
+  -- the same, where a run computes the integer, and of two integers of which it computes one at least
+  compared_to_computed : (at : ℕ) → Cmp → Vector → Computed → Test
+  compared_with_computed : (at : ℕ) → Cmp → Computed → Vector → Test
+  computed_compared : (at : ℕ) → Cmp → Computed → Computed → Test
   -- rising_edge and falling_edge
   edge : Edge → SignalPart → Test
   event : SignalPart → Test

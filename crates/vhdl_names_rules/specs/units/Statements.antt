@@ -2,7 +2,7 @@
 -- starts, an if, a case and a loop with where they start themselves.
 use Rattle.std.specs.Prelude.{ℕ, List}
 use Rattle.vhdl_values.specs.declared.scalar.Nine.{Nine}
-use Rattle.vhdl_names_rules.specs.units.Expressions.{Range, Part, SignalPart, Vector, Value, Test}
+use Rattle.vhdl_names_rules.specs.units.Expressions.{Range, Signal, Part, SignalPart, Chosen, Vector, Value, Test}
 
 -- what is assigned: a value, or (others => e), one element for each of the target's
 pub data Given : Type 0 where
@@ -20,6 +20,9 @@ mutual
     -- to a signal, and to the variable of this number
     assign : SignalPart → Given → Statement
     set : (at : ℕ) → ℕ → Part → Given → Statement
+    -- to the part of one that a run chooses, whose name starts here
+    assign_in : (at : ℕ) → Signal → Chosen → Given → Statement
+    set_in : (at : ℕ) → ℕ → Chosen → Given → Statement
     if_of : (at : ℕ) → Branches → Statement
     case_of : (at : ℕ) → Value → Alternatives → Statement
     -- its parameter is the loop parameter with as many others round it as it has loops

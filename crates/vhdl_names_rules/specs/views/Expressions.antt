@@ -4,7 +4,9 @@ use Rattle.vhdl_names_rules.specs.Types as types
 use Rattle.vhdl_names_rules.specs.Operators as o
 use Rattle.vhdl_names_rules.specs.Names as n
 use Rattle.vhdl_names_rules.specs.views.Integers.{static_view, range_view, index_view}
-use Rattle.vhdl_names_rules.specs.views.Vectors.{vector_view, value_view}
+use Rattle.vhdl_names_rules.specs.views.Vectors.{part_view, computed_view, chosen_view, vector_view, value_view}
+use Rattle.vhdl_names_rules.specs.declared.vector.AnyPart.{AnyPart}
+use Rattle.vhdl_names_rules.specs.declared.vector.AnyPart.TheVariants as p
 use Rattle.vhdl_names_rules.specs.views.Tests.{test_view}
 use Rattle.vhdl_names_rules.specs.declared.typed.Typed.{Typed}
 use Rattle.vhdl_names_rules.specs.declared.typed.Typed.TheVariants as t
@@ -22,6 +24,7 @@ choice_view (c.Place is_local i) = types.place is_local (index_view i)
 abbrev mutual
   pub typed_view : Typed → o.Typed
   typed_view (t.Integer s) = o.integer (static_view s)
+  typed_view (t.Computed x) = o.computed (computed_view x)
   typed_view (t.Elements kind x) = o.elements kind (vector_view x)
   typed_view (t.Enumerated number count x) = o.enumerated number count (value_view x)
   typed_view (t.Truth x) = o.truth (test_view x)
@@ -43,7 +46,12 @@ abbrev pub typed_elements_view : List TypedElement → types.TypedElements
 typed_elements_view [] = types.no_elements
 typed_elements_view (e ∷ es) = with_element e (typed_elements_view es)
 
+abbrev pub any_part_view : AnyPart → n.AnyPart
+any_part_view (p.Static x) = n.fixed (part_view x)
+any_part_view (p.Chosen c) = n.free (chosen_view c)
+
 abbrev pub typed_suffix_view : TypedSuffix → n.Suffix
 typed_suffix_view s.Plain = n.plain
 typed_suffix_view (s.Arguments b xs) = n.arguments b (map typed_view xs.items)
 typed_suffix_view (s.Range r) = n.range (range_view r.value)
+typed_suffix_view (s.ComputedRange l direction r) = n.computed_range (computed_view l) direction (computed_view r)

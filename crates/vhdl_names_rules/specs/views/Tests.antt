@@ -12,7 +12,7 @@ use Rattle.vhdl_names_rules.specs.declared.test.StaticTestStart.{StaticTestStart
 use Rattle.vhdl_names_rules.specs.declared.test.TestStart.{TestStart}
 use Rattle.vhdl_names_rules.specs.units.Expressions as u
 use Rattle.vhdl_names_rules.specs.views.Integers.{static_view}
-use Rattle.vhdl_names_rules.specs.views.Vectors.{place_view, vector_view, value_view}
+use Rattle.vhdl_names_rules.specs.views.Vectors.{place_view, computed_view, vector_view, value_view}
 
 -- ---- over static integers
 
@@ -48,6 +48,12 @@ abbrev mutual
   test_view (t.Compared op at x y) = u.Test.compared at op (vector_view x.value) (vector_view y.value)
   test_view (t.ComparedTo op at x s) = u.compared_to at op (vector_view x.value) (static_view s)
   test_view (t.ComparedWith op at s x) = u.compared_with at op (static_view s) (vector_view x.value)
+  test_view (t.ComparedToComputed op at x y) =
+      u.compared_to_computed at op (vector_view x.value) (computed_view y.value)
+  test_view (t.ComparedWithComputed op at x y) =
+      u.compared_with_computed at op (computed_view x.value) (vector_view y.value)
+  test_view (t.ComputedCompared op at x y) =
+      u.computed_compared at op (computed_view x.value) (computed_view y.value)
   test_view (t.Edge e p) = u.edge e (place_view p)
   test_view (t.Event p) = u.event (place_view p)
   test_view (t.Not' b x) = u.Test.negated (test_view x)

@@ -6,9 +6,15 @@ use Rattle.vhdl_names_rules.specs.declared.vector.Signal.TheVariants as g
 use Rattle.vhdl_names_rules.specs.declared.vector.Part.{Part}
 use Rattle.vhdl_names_rules.specs.declared.vector.Part.TheVariants as p
 use Rattle.vhdl_names_rules.specs.declared.vector.SignalPart.{SignalPart}
+use Rattle.vhdl_names_rules.specs.declared.vector.Computed.{Computed}
+use Rattle.vhdl_names_rules.specs.declared.vector.Computed.TheVariants as m
+use Rattle.vhdl_names_rules.specs.declared.vector.ComputedLink.{ComputedLink}
+use Rattle.vhdl_names_rules.specs.declared.vector.ComputedStart.{ComputedStart}
+use Rattle.vhdl_names_rules.specs.declared.vector.Chosen.{Chosen}
+use Rattle.vhdl_names_rules.specs.declared.vector.Chosen.TheVariants as h
 use Rattle.vhdl_names_rules.specs.declared.vector.Vector.{Vector}
 use Rattle.vhdl_names_rules.specs.declared.vector.Vector.TheVariants as v
-use Rattle.vhdl_names_rules.specs.declared.vector.Vector.TheBlock.{Row_of-VectorLink, end_of-VectorLink, more_of-VectorLink, Row_of-VectorElement, end_of-VectorElement, more_of-VectorElement}
+use Rattle.vhdl_names_rules.specs.declared.vector.Chosen.TheBlock.{Row_of-ComputedLink, end_of-ComputedLink, more_of-ComputedLink, Row_of-VectorLink, end_of-VectorLink, more_of-VectorLink, Row_of-VectorElement, end_of-VectorElement, more_of-VectorElement}
 use Rattle.vhdl_names_rules.specs.declared.vector.VectorElement.{VectorElement}
 use Rattle.vhdl_names_rules.specs.declared.vector.VectorElement.TheVariants as el
 use Rattle.vhdl_names_rules.specs.declared.vector.VectorLink.{VectorLink}
@@ -32,16 +38,39 @@ abbrev pub place_view : SignalPart → u.SignalPart
 place_view x = record { at = x.at; signal = signal_view x.signal; part = part_view x.part }
 
 abbrev mutual
+  pub computed_view : Computed → u.Computed
+  computed_view (m.Static s) = u.static (static_view s)
+  computed_view (m.Number' at b x) = u.number_of at (vector_view x)
+  computed_view (m.Negated' at b x) = u.Computed.negated at (computed_view x)
+  computed_view (m.Magnitude' at b x) = u.magnitude at (computed_view x)
+  computed_view (m.Chain' b first operator at operand shape rest) =
+      computed_links_view (u.calculated at operator (computed_view first) (computed_view operand)) rest
+
+  pub computed_links_view : {m : _} → u.Computed → Row_of-ComputedLink m → u.Computed
+  computed_links_view left end_of-ComputedLink = left
+  computed_links_view left (more_of-ComputedLink operator at operand rest) =
+      computed_links_view (u.calculated at operator left (computed_view operand)) rest
+
+  pub chosen_view : Chosen → u.Chosen
+  chosen_view (h.Element x) = u.element_at (computed_view x)
+  chosen_view (h.Slice l direction r) = u.slice_at (computed_view l) direction (computed_view r)
+
   pub vector_view : Vector → u.Vector
   vector_view (v.Signal x) = u.of_signal (place_view x)
   vector_view (v.Variable at k x) = u.of_variable at k (part_view x)
   vector_view (v.Constant at k x) = u.of_constant at k (part_view x)
+  vector_view (v.InSignal' at x b c) = u.in_signal at (signal_view x) (chosen_view c)
+  vector_view (v.InVariable' at k b c) = u.in_variable at k (chosen_view c)
+  vector_view (v.InConstant' at k b c) = u.in_constant at k (chosen_view c)
   vector_view (v.Character at x) = u.Vector.character x
   vector_view (v.EnclosedCharacter at x) = u.Vector.enclosed_character x
   vector_view (v.Literal at xs) = u.Vector.literal at xs.items
   vector_view (v.Not' at b x) = u.Vector.inverse (vector_view x)
   vector_view (v.Chain' b first x shape rest) = links_view (linked (vector_view first) x) rest
   vector_view (v.IntegerWith' op at s b x) = u.integer_with at op (static_view s) (vector_view x)
+  vector_view (v.ComputedWith' op at b x c y) = u.computed_with at op (computed_view x) (vector_view y)
+  vector_view (v.ComputedEncoded' at b x s) = u.computed_encoded at (computed_view x) (static_view s)
+  vector_view (v.Shifted' at by b x c y) = u.shifted at by (vector_view x) (computed_view y)
   vector_view (v.Encoded at s t) = u.Vector.encoded at (static_view s) (static_view t)
   vector_view (v.Counted' at op b x s) = u.counted at op (vector_view x) (static_view s)
   vector_view (v.Aggregate' at r shape es) = u.aggregate at (option_range_view r) (elements_row es)
@@ -65,6 +94,16 @@ abbrev mutual
   pub linked : u.Vector → VectorLink → u.Vector
   linked left (l.Vector op at x) = u.Vector.binary at op left (vector_view x)
   linked left (l.Integer op at s) = u.with_integer at op left (static_view s)
+  linked left (l.Computed op at x) = u.with_computed at op left (computed_view x)
+
+abbrev pub computed_start_view : ComputedStart → u.Computed
+computed_start_view s =
+    u.calculated s.link.at s.link.operator (computed_view s.first) (computed_view s.link.operand)
+
+abbrev pub computed_chained : u.Computed → List ComputedLink → u.Computed
+computed_chained left [] = left
+computed_chained left (l ∷ ls) =
+    computed_chained (u.calculated l.at l.operator left (computed_view l.operand)) ls
 
 abbrev pub elements_view : List VectorElement → u.Elements
 elements_view [] = u.no_elements

@@ -27,7 +27,7 @@ use Rattle.vhdl_names_statements.proofs.steps.Conditional.{target_gives}
 
 -- ---- a value
 
-by_parts : (sight : Sight) (b : Bool) (n : t.Name) (v : t.Value) → told.assigned sight b n v ≡ (broken.target_by sight b n ▸ broken.given sight (target_by sight b n) v)
+pub by_parts : (sight : Sight) (b : Bool) (n : t.Name) (v : t.Value) → told.assigned sight b n v ≡ (broken.target_by sight b n ▸ broken.given sight (target_by sight b n) v)
 by_parts sight false n v = refl
 by_parts sight true n v = refl
 

@@ -11,7 +11,7 @@ use Rattle.vhdl_names_rules.specs.Rules.{◌>>=◌, ◌>>◌, met, each}
 use Rattle.vhdl_names_rules.specs.Visibility.{Sight}
 use Rattle.vhdl_names_rules.specs.Expressions.{typed}
 use Rattle.vhdl_names_rules.specs.Choices.{choices, covered, selector, arranged}
-use Rattle.vhdl_names_rules.specs.Statements.{SignalName, Target, target, signal_target, alone, conditional}
+use Rattle.vhdl_names_rules.specs.Statements.{Target, signal_target, alone, conditional}
 use Rattle.vhdl_names_rules.specs.Statements.{assignment as one}
 use Rattle.vhdl_names_rules.specs.Concurrent as rules
 use Rattle.vhdl_names_rules.specs.Concurrent.{assigning}
@@ -20,7 +20,7 @@ use Rattle.vhdl_names_units.specs.views.Sequential.{Chosen, chosen_by, statement
 use Rattle.vhdl_names_statements.specs.steps.Cases.{Divided, all_choices, cover, covering, but_last}
 use Rattle.vhdl_names_statements.specs.steps.Sequential as sequential
 use Rattle.vhdl_names_statements.specs.steps.Concurrent as steps
-use Rattle.vhdl_names_statements.proofs.steps.Conditional.{assigned_by, conditional_gives, by_signal}
+use Rattle.vhdl_names_statements.proofs.steps.Conditional.{assigned_by, conditional_gives}
 use Rattle.vhdl_names_statements.proofs.steps.Cases.{Pairs, all_there, one_pair, put_together, by_steps, same}
 use Rattle.vhdl_names_units.proofs.Lists.{bound, inner}
 
@@ -60,20 +60,12 @@ assignment_gives sight a =
     go None = refl
     go (Some x) = refl
 
--- a target of signals is given where the signal is
-target_given : {B : Type 0} (sight : Sight) (n : t.Name) (o : Option B) → (signal_target sight n >>= λ _. o) ≡ (target sight n >>= λ _. o)
-target_given sight n o = go (target sight n)
-  where
-    go : (p : Option SignalName) → ((p >>= λ x. Some (by_signal x)) >>= λ _. o) ≡ (p >>= λ _. o)
-    go None = refl
-    go (Some x) = refl
-
 pub selected_gives : (sight : Sight) (label : Option Ident) (a : t.SelectedAssignment) → rules.selected sight label a ≡ steps.selected sight label a
 unfolding rules.selected
 selected_gives sight label a =
     inner (typed sight a.selector) selector rest
-    ∙ bound (selected_by sight a.selector) rest steps_rest (λ by. go by (signal_target sight a.target) refl ∙ target_given sight a.target (behind_target by))
-    ∙ bound (selected_by sight a.selector) steps_rest by_parts (λ by. apart by (target sight a.target) (each (steps.chosen sight by.0 a.target) a.waveforms))
+    ∙ bound (selected_by sight a.selector) rest steps_rest (λ by. go by (signal_target sight a.target) refl)
+    ∙ bound (selected_by sight a.selector) steps_rest by_parts (λ by. apart by (signal_target sight a.target) (each (steps.chosen sight by.0 a.target) a.waveforms))
   where
     rest : ObjectType × Value → Option u.Concurrent
     rest by = signal_target sight a.target >>= λ x. covered sight by.0 (steps.choice_lists a.waveforms)
@@ -85,12 +77,12 @@ selected_gives sight label a =
         >>= λ all. cover by.0 (steps.choice_lists a.waveforms) (all_choices all) >>= λ _. but_last all >>= λ d. Some (assigning a.at label (s.case_of a.at by.1 (put_together d)))
 
     steps_rest : ObjectType × Value → Option u.Concurrent
-    steps_rest by = target sight a.target >>= λ _. behind_target by
+    steps_rest by = signal_target sight a.target >>= λ _. behind_target by
 
     by_parts : ObjectType × Value → Option u.Concurrent
     by_parts by = steps.parts sight by.0 a >>= λ d. Some (assigning a.at label (s.case_of a.at by.1 (put_together d)))
 
-    apart : (by : ObjectType × Value) (o : Option SignalName) (h : Option (List Chosen))
+    apart : (by : ObjectType × Value) (o : Option Target) (h : Option (List Chosen))
         → (o >>= λ _. h >>= λ all. cover by.0 (steps.choice_lists a.waveforms) (all_choices all) >>= λ _. but_last all >>= λ d. Some (assigning a.at label (s.case_of a.at by.1 (put_together d))))
         ≡ ((o >>= λ _. covering by.0 (steps.choice_lists a.waveforms) h >>= λ all. but_last all) >>= λ d. Some (assigning a.at label (s.case_of a.at by.1 (put_together d))))
     apart by None h = refl

@@ -2,110 +2,75 @@
 use Rattle.std.proofs.Common.{◌≡◌, ℕ, Bool, true, false, List, [], ◌∷◌, Option, Some, None, refl, ap, sym, ◌∙◌}
 use Rattle.std.specs.Prelude.{if◌then◌else◌, not, option_map, is_none}
 use Rattle.vhdl_tree.specs.Tree as t
-use Rattle.vhdl_tree.specs.declared.declaration.Mode.{Mode}
 use Rattle.vhdl_names_rules.specs.declared.kind.ObjectType.{ObjectType}
 use Rattle.vhdl_names_rules.specs.declared.kind.ObjectType.TheVariants.{Elements}
 use Rattle.vhdl_names_rules.specs.units.Expressions as e
-use Rattle.vhdl_names_rules.specs.units.Expressions.{Part, Signal, Test}
+use Rattle.vhdl_names_rules.specs.units.Expressions.{Test}
 use Rattle.vhdl_names_rules.specs.units.Statements as s
 use Rattle.vhdl_names_rules.specs.Rules.{◌>>=◌, ◌>>◌, each, if_any}
 use Rattle.vhdl_names_rules.specs.Visibility as visibility
 use Rattle.vhdl_names_rules.specs.Visibility.{Name, Meaning, DeclaredRange, Sight, declaration}
-use Rattle.vhdl_names_rules.specs.Names.{Suffix, part_of}
+use Rattle.vhdl_names_rules.specs.Names.{Suffix, AnyPart, any_part_of}
 use Rattle.vhdl_names_rules.specs.Expressions.{typed_suffix, condition, value_given}
 use Rattle.vhdl_names_rules.specs.Statements as rules
-use Rattle.vhdl_names_rules.specs.Statements.{SignalName, VariableName, Target, named_part, variable_part, as_signal, as_variable, signal, target, variable, is_input, signal_target, variable_target, target_by}
+use Rattle.vhdl_names_rules.specs.Statements.{Target, part_target, assigned_signal, assigned_variable, as_signal_target, as_variable_target, mode_of, is_input, signal_target, variable_target, target_by}
 use Rattle.vhdl_names_rules.proofs.laws.Rules.{comes, kept, some_is}
 use Rattle.vhdl_names_units.specs.views.Sequential.{Guarded, guarded_by, branches_of, last_of}
 use Rattle.vhdl_names_statements.specs.steps.Sequential as steps
 
 -- ---- where a target's name starts
 
-part_at : (at : ℕ) (r : Option DeclaredRange) (o : Option (Part × ObjectType)) (x : Signal) (mode : Option Mode) (y : SignalName) → option_map (named_part at x mode r) o ≡ Some y → y.place.at ≡ at
-part_at at r None x mode y h = absurd cc
-part_at at r (Some p) x mode y h = ap (λ (y : SignalName). y.place.at) (sym (some_is (named_part at x mode r p) y h))
+part_at : (at : ℕ) (r : Option DeclaredRange) (assigned : AnyPart → s.Given → s.Statement) (o : Option (AnyPart × ObjectType)) (y : Target)
+    → option_map (part_target at r assigned) o ≡ Some y → y.at ≡ at
+part_at at r assigned None y h = absurd cc
+part_at at r assigned (Some p) y h = ap (λ (y : Target). y.at) (sym (some_is (part_target at r assigned p) y h))
 
-signal_by : (at : ℕ) (n : Name) (m : Meaning) (r : Option DeclaredRange) (g : Bool) (suffix : Suffix) (y : SignalName)
-    → as_signal at (record { name = n; meaning = m; range = r; is_global = g }) suffix ≡ Some y → y.place.at ≡ at
-signal_by at n (visibility.port k mode kind) r g suffix y h = part_at at r (part_of (Elements kind) suffix) (e.port k) (Some mode) y h
-signal_by at n (visibility.signal k type) r g suffix y h = part_at at r (part_of type suffix) (e.Signal.signal k) None y h
+signal_by : (at : ℕ) (n : Name) (m : Meaning) (r : Option DeclaredRange) (g : Bool) (suffix : Suffix) (y : Target)
+    → as_signal_target at (record { name = n; meaning = m; range = r; is_global = g }) suffix ≡ Some y → y.at ≡ at
+signal_by at n (visibility.port k mode kind) r g suffix y h = part_at at r (assigned_signal at (e.port k)) (any_part_of (Elements kind) suffix) y h
+signal_by at n (visibility.signal k type) r g suffix y h = part_at at r (assigned_signal at (e.Signal.signal k)) (any_part_of type suffix) y h
 signal_by at n _ r g suffix y h = absurd cc
 
-signal_at : (sight : Sight) (n : t.Name) (y : SignalName) → signal sight n ≡ Some y → y.place.at ≡ n.identifier.at
-unfolding signal
+variable_by : (at : ℕ) (n : Name) (m : Meaning) (r : Option DeclaredRange) (g : Bool) (suffix : Suffix) (y : Target)
+    → as_variable_target at (record { name = n; meaning = m; range = r; is_global = g }) suffix ≡ Some y → y.at ≡ at
+variable_by at n (visibility.variable k type) r g suffix y h = part_at at r (assigned_variable at k) (any_part_of type suffix) y h
+variable_by at n _ r g suffix y h = absurd cc
+
+signal_at : (sight : Sight) (n : t.Name) (y : Target) → signal_target sight n ≡ Some y → y.at ≡ n.identifier.at
+unfolding signal_target
 signal_at sight n y h =
     let k = kept (is_none n.attribute) _ y h in
     let z = comes (typed_suffix sight n.suffix) _ y k.1 in
     let d = comes (declaration sight n.identifier.text) _ y z.rest in
-    signal_by n.identifier.at d.value.name d.value.meaning d.value.range d.value.is_global z.value y d.rest
+    let x = comes (as_signal_target n.identifier.at d.value z.value) _ y d.rest in
+    let m = kept (not (is_input (mode_of d.value.meaning))) _ y x.rest in
+    ap (λ (y : Target). y.at) (sym (some_is x.value y m.1))
+    ∙ signal_by n.identifier.at d.value.name d.value.meaning d.value.range d.value.is_global z.value x.value x.is
 
-target_at : (sight : Sight) (n : t.Name) (y : SignalName) → target sight n ≡ Some y → y.place.at ≡ n.identifier.at
-unfolding target
-target_at sight n y h =
-    let c = comes (signal sight n) _ y h in
-    let k = kept (not (is_input c.value.mode)) _ y c.rest in
-    ap (λ (y : SignalName). y.place.at) (sym (some_is c.value y k.1)) ∙ signal_at sight n c.value c.is
-
-variable_part_at : (at k : ℕ) (r : Option DeclaredRange) (o : Option (Part × ObjectType)) (y : VariableName) → option_map (variable_part at k r) o ≡ Some y → y.at ≡ at
-variable_part_at at k r None y h = absurd cc
-variable_part_at at k r (Some p) y h = ap (λ (y : VariableName). y.at) (sym (some_is (variable_part at k r p) y h))
-
-variable_by : (at : ℕ) (n : Name) (m : Meaning) (r : Option DeclaredRange) (g : Bool) (suffix : Suffix) (y : VariableName)
-    → as_variable at (record { name = n; meaning = m; range = r; is_global = g }) suffix ≡ Some y → y.at ≡ at
-variable_by at n (visibility.variable k type) r g suffix y h = variable_part_at at k r (part_of type suffix) y h
-variable_by at n _ r g suffix y h = absurd cc
-
-variable_at : (sight : Sight) (n : t.Name) (y : VariableName) → variable sight n ≡ Some y → y.at ≡ n.identifier.at
-unfolding variable
+variable_at : (sight : Sight) (n : t.Name) (y : Target) → variable_target sight n ≡ Some y → y.at ≡ n.identifier.at
+unfolding variable_target
 variable_at sight n y h =
     let k = kept (is_none n.attribute) _ y h in
     let z = comes (typed_suffix sight n.suffix) _ y k.1 in
     let d = comes (declaration sight n.identifier.text) _ y z.rest in
     variable_by n.identifier.at d.value.name d.value.meaning d.value.range d.value.is_global z.value y d.rest
 
-abbrev pub by_signal : SignalName → Target
-by_signal x = record { at = x.place.at; type = x.type; range = x.range; assigned = s.assign x.place }
-
-abbrev pub by_variable : VariableName → Target
-by_variable x = record { at = x.at; type = x.type; range = x.range; assigned = s.set x.at x.number x.part }
-
 starts_at : (sight : Sight) (b : Bool) (n : t.Name) (x : Target) → target_by sight b n ≡ Some x → x.at ≡ n.identifier.at
-starts_at sight false n x h =
-    let c = comes (target sight n) _ x h in
-    ap (λ (y : Target). y.at) (sym (some_is (by_signal c.value) x c.rest)) ∙ target_at sight n c.value c.is
-starts_at sight true n x h =
-    let c = comes (variable sight n) _ x h in
-    ap (λ (y : Target). y.at) (sym (some_is (by_variable c.value) x c.rest)) ∙ variable_at sight n c.value c.is
+starts_at sight false n x h = signal_at sight n x h
+starts_at sight true n x h = variable_at sight n x h
 
 -- ---- a value alone
 
-signal_gives : (sight : Sight) (n : t.Name) (v : t.Value) → (signal_target sight n >>= λ x. rules.assignment sight x v) ≡ steps.assigned_signal sight n v
-signal_gives sight n v = go (target sight n)
-  where
-    last : (x : SignalName) (o : Option s.Given) → option_map (s.assign x.place) o ≡ (o >>= λ g. Some (s.assign x.place g))
-    last x None = refl
-    last x (Some g) = refl
-
-    go : (o : Option SignalName)
-        → ((o >>= λ x. Some (by_signal x)) >>= λ x. rules.assignment sight x v) ≡ (o >>= λ x. value_given sight x.type x.range v >>= λ g. Some (s.assign x.place g))
-    go None = refl
-    go (Some x) = last x (value_given sight x.type x.range v)
-
-variable_gives : (sight : Sight) (n : t.Name) (v : t.Value) → (variable_target sight n >>= λ x. rules.assignment sight x v) ≡ steps.assigned_variable sight n v
-variable_gives sight n v = go (variable sight n)
-  where
-    last : (x : VariableName) (o : Option s.Given) → option_map (s.set x.at x.number x.part) o ≡ (o >>= λ g. Some (s.set x.at x.number x.part g))
-    last x None = refl
-    last x (Some g) = refl
-
-    go : (o : Option VariableName)
-        → ((o >>= λ x. Some (by_variable x)) >>= λ x. rules.assignment sight x v) ≡ (o >>= λ x. value_given sight x.type x.range v >>= λ g. Some (s.set x.at x.number x.part g))
-    go None = refl
-    go (Some x) = last x (value_given sight x.type x.range v)
-
 pub target_gives : (sight : Sight) (b : Bool) (n : t.Name) (v : t.Value) → (target_by sight b n >>= λ x. rules.assignment sight x v) ≡ steps.assigned sight b n v
-target_gives sight false n v = signal_gives sight n v
-target_gives sight true n v = variable_gives sight n v
+target_gives sight b n v = go (target_by sight b n)
+  where
+    last : (x : Target) (o : Option s.Given) → option_map x.assigned o ≡ (o >>= λ g. Some (x.assigned g))
+    last x None = refl
+    last x (Some g) = refl
+
+    go : (o : Option Target) → (o >>= λ x. rules.assignment sight x v) ≡ (o >>= λ x. value_given sight x.type x.range v >>= λ g. Some (x.assigned g))
+    go None = refl
+    go (Some x) = last x (value_given sight x.type x.range v)
 
 -- ---- values under conditions
 
@@ -176,7 +141,7 @@ conditional_gives sight b n bs o = go (target_by sight b n) refl
     go None h = no_target sight b n bs o h
     go (Some x) h = conditional_by sight b n x h bs o
 
-abbrev is_there : Option Target → Option (Unit {0})
+abbrev pub is_there : Option Target → Option (Unit {0})
 is_there p = option_map (λ x. tt) p
 
 -- a target that isn't there
@@ -194,21 +159,6 @@ target_there sight b n u h = go (target_by sight b n) h
     go : (p : Option Target) → is_there p ≡ Some u → (x : Target) × (p ≡ Some x)
     go None h = absurd cc
     go (Some x) h = (x, refl)
-
--- what is asked of a target by the kind of its name
-pub variable_there : (sight : Sight) (b : Bool) (n : t.Name) (o : Option VariableName) → b ≡ true → variable sight n ≡ o → steps.is_target sight b n ≡ option_map (λ x. tt) o
-variable_there sight b n o h e = ap (λ b. steps.is_target sight b n) h ∙ ap (λ (p : Option VariableName). is_there (p >>= λ x. Some (by_variable x))) e ∙ go o
-  where
-    go : (o : Option VariableName) → is_there (o >>= λ x. Some (by_variable x)) ≡ option_map (λ x. tt) o
-    go None = refl
-    go (Some x) = refl
-
-pub signal_there : (sight : Sight) (b : Bool) (n : t.Name) (o : Option SignalName) → b ≡ false → target sight n ≡ o → steps.is_target sight b n ≡ option_map (λ x. tt) o
-signal_there sight b n o h e = ap (λ b. steps.is_target sight b n) h ∙ ap (λ (p : Option SignalName). is_there (p >>= λ x. Some (by_signal x))) e ∙ go o
-  where
-    go : (o : Option SignalName) → is_there (o >>= λ x. Some (by_signal x)) ≡ option_map (λ x. tt) o
-    go None = refl
-    go (Some x) = refl
 
 -- ---- as statements
 

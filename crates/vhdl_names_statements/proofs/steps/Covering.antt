@@ -18,7 +18,7 @@ use Rattle.vhdl_names_rules.specs.Gives.{Gives}
 use Rattle.vhdl_names_rules.specs.Visibility.{Sight, label_ends, are_distinct}
 use Rattle.vhdl_names_rules.specs.Choices as are
 use Rattle.vhdl_names_rules.specs.Choices.{only_last_others, is_last_others, are_distinct_choices, names_all}
-use Rattle.vhdl_names_rules.specs.Statements.{SignalName, target}
+use Rattle.vhdl_names_rules.specs.Statements.{Target, signal_target}
 use Rattle.vhdl_names_rules.proofs.laws.Rules.{comes, kept, some_is}
 use Rattle.vhdl_names_rules.specs.problems.Broken.{Broken, Tells, nothing, ◌▸◌, any_of}
 use Rattle.vhdl_names_rules.specs.problems.Covered as broken
@@ -27,7 +27,7 @@ use Rattle.vhdl_names_rules.specs.problems.Statements as broken'
 use Rattle.vhdl_names_rules.specs.problems.Statements.{end_label}
 use Rattle.vhdl_names_rules.specs.problems.Concurrent as problems
 use Rattle.vhdl_names_rules.proofs.Telling.{IsKept, told_same, told_left, told_right}
-use Rattle.vhdl_names_rules.proofs.kept.Statements.{target_kept, end_label_kept}
+use Rattle.vhdl_names_rules.proofs.kept.Statements.{signal_target_kept, end_label_kept}
 use Rattle.vhdl_names_rules.proofs.kept.Covered.{covered_kept}
 use Rattle.vhdl_names_rules.proofs.Along.{gives_along}
 use Rattle.vhdl_names_units.specs.declared.sequential.Alternative.{Alternative}
@@ -40,7 +40,6 @@ use Rattle.vhdl_names_statements.specs.steps.Concurrent as steps
 use Rattle.vhdl_names_statements.specs.steps.Told as told
 use Rattle.vhdl_names_statements.proofs.steps.Cases.{Pairs, all_there, no_choices, no_bodies, flat_each}
 use Rattle.vhdl_names_statements.proofs.steps.Cases as by_cases
-use Rattle.vhdl_names_statements.proofs.steps.Conditional.{by_signal}
 use Rattle.vhdl_names_statements.proofs.steps.Concurrent as by_waveforms
 use Rattle.vhdl_names_statements.proofs.steps.Told.{alternatives_kept, on_along}
 use Rattle.vhdl_names_statements.proofs.steps.Assigning.{waveforms_kept}
@@ -225,7 +224,7 @@ module _ (sight : Sight) (type : ObjectType) (label : Option Ident) (c : Case) (
 
 -- ---- what a selected assignment does by a value
 
-module _ (sight : Sight) (type : ObjectType) (a : t.SelectedAssignment) (x : SignalName) (found : target sight a.target ≡ Some x) where
+module _ (sight : Sight) (type : ObjectType) (a : t.SelectedAssignment) (x : Target) (found : signal_target sight a.target ≡ Some x) where
   abbrev lists : List (List t.Choice)
   lists = steps.choice_lists a.waveforms
 
@@ -236,7 +235,7 @@ module _ (sight : Sight) (type : ObjectType) (a : t.SelectedAssignment) (x : Sig
   given_waveforms = each (steps.chosen sight type a.target) a.waveforms
 
   waveforms_there : (all : List Chosen) → given_waveforms ≡ Some all → each (are.choices sight type) lists ≡ Some (choices_of all)
-  waveforms_there all e = choices_there _ _ _ (by_waveforms.pairs sight a.target (by_signal x) (ap (λ (o : Option SignalName). o >>= λ x. Some (by_signal x)) found) type a.waveforms) all e
+  waveforms_there all e = choices_there _ _ _ (by_waveforms.pairs sight a.target x found type a.waveforms) all e
 
   -- the lists are those that stand there, the answer gives the waveforms, and they have these choices
   abbrev pub AreRead : List (List t.Choice) → Result (Vec Alternative Global) NameFault → Type 0
@@ -249,7 +248,7 @@ module _ (sight : Sight) (type : ObjectType) (a : t.SelectedAssignment) (x : Sig
   -- the parts, where the waveforms are covered or not
   pub selected_by : (o : Option (List Chosen)) → covering type lists given_waveforms ≡ o → steps.parts sight type a ≡ (o >>= λ all. cases.but_last all)
   selected_by o h =
-      ap (λ (t : Option SignalName). t >>= λ _. covering type lists given_waveforms >>= λ all. cases.but_last all) found
+      ap (λ (t : Option Target). t >>= λ _. covering type lists given_waveforms >>= λ all. cases.but_last all) found
       ∙ ap (λ (o : Option (List Chosen)). o >>= λ all. cases.but_last all) h
 
   any_waveform : (at : ℕ) (ws : List t.Waveform) (all : List Chosen) → each (steps.chosen sight type a.target) ws ≡ Some all → any_alternative at all ≡ any_alternative at ws
@@ -265,7 +264,7 @@ module _ (sight : Sight) (type : ObjectType) (a : t.SelectedAssignment) (x : Sig
 
     selected_behind : Tells (selected_covers ▸ any_alternative a.at a.waveforms) f → Tells (problems.waveforms sight type a) f
     selected_behind h =
-        told_right (broken'.target sight a.target) (selected_covers ▸ any_alternative a.at a.waveforms) f (target_kept sight a.target x found) h
+        told_right (broken'.target sight a.target) (selected_covers ▸ any_alternative a.at a.waveforms) f (signal_target_kept sight a.target x found) h
 
     pub selected_cover : Tells selected_covers f → Tells (problems.waveforms sight type a) f
     selected_cover h = selected_behind (told_left selected_covers (any_alternative a.at a.waveforms) f h)

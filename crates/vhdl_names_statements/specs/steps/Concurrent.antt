@@ -8,7 +8,7 @@ use Rattle.vhdl_names_rules.specs.units.Units as u
 use Rattle.vhdl_names_rules.specs.Rules.{◌>>=◌, ◌>>◌, each}
 use Rattle.vhdl_names_rules.specs.Visibility.{Sight}
 use Rattle.vhdl_names_rules.specs.Choices.{choices}
-use Rattle.vhdl_names_rules.specs.Statements.{target}
+use Rattle.vhdl_names_rules.specs.Statements.{signal_target}
 use Rattle.vhdl_names_rules.specs.Concurrent.{assigning}
 use Rattle.vhdl_names_expressions.specs.Asked.{selected_by}
 use Rattle.vhdl_names_units.specs.views.Sequential.{Chosen, chosen_by, statements_of, alternatives_of}
@@ -33,7 +33,7 @@ choice_lists = map (λ w. w.choices)
 -- what is done by a value of this type, the last alternative apart
 abbrev pub parts : Sight → ObjectType → t.SelectedAssignment → Option Divided
 parts sight type a = do
-  target sight a.target
+  signal_target sight a.target
   all ← covering type (choice_lists a.waveforms) (each (chosen sight type a.target) a.waveforms)
   but_last all
 

@@ -7,26 +7,16 @@ use Rattle.vhdl_names_rules.specs.declared.fault.NameProblem.TheVariants.{WrongK
 use Rattle.vhdl_names_rules.specs.Rules.{◌>>=◌, ◌>>◌, rule, each, if_any}
 use Rattle.vhdl_names_rules.specs.Visibility.{Sight, Declared, label_ends, within_loop}
 use Rattle.vhdl_names_rules.specs.Expressions.{static_range, condition, value_given}
-use Rattle.vhdl_names_rules.specs.Statements.{statement, target, variable, target_by}
+use Rattle.vhdl_names_rules.specs.Statements.{statement, target_by}
 use Rattle.vhdl_names_units.specs.views.Sequential.{Guarded, guarded_by, statements_of, branches_of, last_of}
 
 -- ---- assignments
 
-abbrev pub assigned_signal : Sight → t.Name → t.Value → Option s.Statement
-assigned_signal sight n v = do
-  x ← target sight n
-  g ← value_given sight x.type x.range v
-  Some (s.assign x.place g)
-
-abbrev pub assigned_variable : Sight → t.Name → t.Value → Option s.Statement
-assigned_variable sight n v = do
-  x ← variable sight n
-  g ← value_given sight x.type x.range v
-  Some (s.set x.at x.number x.part g)
-
 abbrev pub assigned : Sight → (is_variable : Bool) → t.Name → t.Value → Option s.Statement
-assigned sight false n v = assigned_signal sight n v
-assigned sight true n v = assigned_variable sight n v
+assigned sight is_variable n v = do
+  x ← target_by sight is_variable n
+  g ← value_given sight x.type x.range v
+  Some (x.assigned g)
 
 -- an assignment alone
 abbrev pub alone : Sight → (is_variable : Bool) → t.Name → t.Value → Option (List s.Statement)

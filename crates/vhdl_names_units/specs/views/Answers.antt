@@ -16,7 +16,6 @@ use Rattle.vhdl_names_units.specs.declared.answers.Given.TheVariants as g
 use Rattle.vhdl_names_units.specs.declared.answers.Choice.{Choice}
 use Rattle.vhdl_names_units.specs.declared.answers.Choice.TheVariants as c
 use Rattle.vhdl_names_units.specs.declared.answers.SignalName.{SignalName}
-use Rattle.vhdl_names_units.specs.declared.answers.VariableName.{VariableName}
 use Rattle.vhdl_names_units.specs.declared.answers.Form.{Form}
 use Rattle.vhdl_names_units.specs.declared.answers.Form.TheVariants as f
 use Rattle.vhdl_names_units.specs.declared.answers.Fixed.{Fixed}
@@ -40,15 +39,6 @@ signal_name_view x = record {
   mode = x.mode;
   type = x.object_type;
   range = q.part_range (option_map declared_range_view x.declared) (part_view x.place.part);
-}
-
-abbrev pub variable_name_view : VariableName → q.VariableName
-variable_name_view x = record {
-  at = x.at;
-  number = x.number;
-  part = part_view x.part;
-  type = x.object_type;
-  range = q.part_range (option_map declared_range_view x.declared) (part_view x.part);
 }
 
 abbrev pub form_view : Form → u.Form

@@ -4,7 +4,7 @@ use Rattle.std.specs.Global.{Global}
 use Rattle.vhdl_names_rules.specs.units.Expressions.{Test}
 use Rattle.vhdl_names_rules.specs.units.Statements as s
 use Rattle.vhdl_names_rules.specs.views.Integers.{range_view}
-use Rattle.vhdl_names_rules.specs.views.Vectors.{part_view, place_view, value_view}
+use Rattle.vhdl_names_rules.specs.views.Vectors.{signal_view, part_view, place_view, chosen_view, value_view}
 use Rattle.vhdl_names_rules.specs.views.Tests.{test_view}
 use Rattle.vhdl_names_units.specs.views.Answers.{given_view, choices_view}
 use Rattle.vhdl_names_units.specs.declared.sequential.Statement.{Statement}
@@ -20,6 +20,8 @@ abbrev mutual
   statement_view t.Null = s.null_of
   statement_view (t.Assign target value) = s.assign (place_view target) (given_view value)
   statement_view (t.Set at number part value) = s.set at number (part_view part) (given_view value)
+  statement_view (t.AssignIn at x c value) = s.assign_in at (signal_view x) (chosen_view c) (given_view value)
+  statement_view (t.SetIn at k c value) = s.set_in at k (chosen_view c) (given_view value)
   statement_view (t.If x) = if_view x
   statement_view (t.Case x) = case_view x
   statement_view (t.Loop' at range shape statements) = s.for_of at (range_view range) (statements_row statements)

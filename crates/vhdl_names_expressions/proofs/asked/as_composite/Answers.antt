@@ -1,20 +1,13 @@
-use Rattle.std.proofs.Common.{Some, option_map, refl, sym, ap, ◌∙◌}
+use Rattle.std.proofs.Common.{option_map, refl, sym, ◌∙◌}
 use Rattle.vhdl_names_rules.specs.declared.fault.NameFault.TheVariants.{At}
 use Rattle.vhdl_names_rules.specs.declared.fault.NameProblem.TheVariants.{TypeMismatch}
-use Rattle.vhdl_names_rules.specs.units.Expressions as u
-use Rattle.vhdl_names_rules.specs.units.Statements.{single}
-use Rattle.vhdl_names_rules.specs.Rules.{◌>>=◌}
-use Rattle.vhdl_names_rules.specs.views.Integers.{target_range_view, option_range_view}
-use Rattle.vhdl_names_rules.specs.views.Vectors.{value_view}
+use Rattle.vhdl_names_rules.specs.views.Integers.{target_range_view}
 use Rattle.vhdl_names_rules.specs.views.Expressions.{typed_view, typed_elements_view}
 use Rattle.vhdl_names_units.specs.views.Answers.{given_view}
 use Rattle.vhdl_names_rules.proofs.Along.{gives_along}
-use Rattle.vhdl_names_rules.proofs.Memory.{memory_gives, memory_told}
-use Rattle.vhdl_names_rules.proofs.Passing.{passed_on, told_by}
-use Rattle.vhdl_names_rules.proofs.Telling.{told_same}
 use Rattle.vhdl_names_expressions.specs.Elements.{as_filling}
 use Rattle.vhdl_names_expressions.proofs.Breaking.{told_as, told_fault, refused_told}
-use Rattle.vhdl_names_expressions.proofs.Aggregating.{no_composite, no_composite_breaks, filled_given, filled_breaks, listed_given, listed_breaks}
+use Rattle.vhdl_names_expressions.proofs.Aggregating.{no_composite, no_composite_breaks, filled_given, filled_breaks, listed_given, listed_broken}
 use Rattle.vhdl_names_expressions.proofs.asked.as_composite.Goals as goal
 
 pub returns-then-not-is_vector-clause-given : goal.returns-then-not-is_vector-clause-given
@@ -35,30 +28,12 @@ returns-in-Ok-clause-told c =
     _ c.in-Ok.place (typed_view c.in-Ok.operand) (sym c.in-Ok.ensures)))
     (refused_told given_view TypeMismatch c.in-Ok.place c.in-Ok.place (as_filling (typed_view c.in-Ok.operand)) _ refl c.as_filling.ensures.given c.as_filling.ensures.told)
 
-pub returns-in_err-range-in-Err-clause-given : goal.returns-in_err-range-in-Err-clause-given
-returns-in_err-range-in-Err-clause-given c = memory_gives _ _ _ c.from_residual.result c.from_residual.ensures.1 (λ e p. p)
+pub returns-in-Err-clause-given : goal.returns-in-Err-clause-given
+returns-in-Err-clause-given c =
+    gives_along given_view _ _ _ (listed_given c.args.kind c.args.at (typed_elements_view c.args.elements.items) (sym c.is_vector.ensures ∙ c.if-not-is_vector.false)
+    (option_map target_range_view c.args.range) (typed_elements_view c.in-Err.elements.items) (sym c.in-Err.ensures)) c.as_aggregate.ensures.given
 
-pub returns-in_err-range-in-Err-clause-told : goal.returns-in_err-range-in-Err-clause-told
-returns-in_err-range-in-Err-clause-told c = memory_told _ _ c.from_residual.result c.from_residual.ensures.1 (λ e p. p)
-
-pub returns-in_err-vector-in-Err-clause-given : goal.returns-in_err-vector-in-Err-clause-given
-returns-in_err-vector-in-Err-clause-given c =
-    let f = c.in_err-vector-in-Err.field-0.0 in
-    passed_on given_view _ f _ c.from_residual-in_err-vector-in-Err.result c.from_residual-in_err-vector-in-Err.ensures.1 (λ e p. p)
-    (λ w. listed_given c.args.kind c.args.at (typed_elements_view c.args.elements.items) (sym c.is_vector.ensures ∙ c.if-not-is_vector.false)
-    (option_map target_range_view c.args.range) (option_range_view c.in_ok-range-in-Err.range) (typed_elements_view c.in-Err.elements.items) (sym c.in-Err.ensures) c.in_ok-range-in-Err.ensures
-    ∙ ap (λ o. o >>= λ x. Some (single (u.elements x))) (c.in_err-vector-in-Err.ensures.given w))
-
-pub returns-in_err-vector-in-Err-clause-told : goal.returns-in_err-vector-in-Err-clause-told
-returns-in_err-vector-in-Err-clause-told c =
-    let f = c.in_err-vector-in-Err.field-0.0 in
-    told_by _ f _ c.from_residual-in_err-vector-in-Err.result c.from_residual-in_err-vector-in-Err.ensures.1 (λ e p. p)
-    (told_same _ _ f (sym (listed_breaks c.args.kind c.args.at (typed_elements_view c.args.elements.items) (sym c.is_vector.ensures ∙ c.if-not-is_vector.false)
-    c.args.range c.in_ok-range-in-Err.range (typed_elements_view c.in-Err.elements.items) (sym c.in-Err.ensures) c.in_ok-range-in-Err.ensures)) c.in_err-vector-in-Err.ensures.told)
-
-pub returns-in_ok-new-in-Err-clause-given : goal.returns-in_ok-new-in-Err-clause-given
-returns-in_ok-new-in-Err-clause-given c =
-    listed_given c.args.kind c.args.at (typed_elements_view c.args.elements.items) (sym c.is_vector.ensures ∙ c.if-not-is_vector.false)
-    (option_map target_range_view c.args.range) (option_range_view c.in_ok-range-in-Err.range) (typed_elements_view c.in-Err.elements.items) (sym c.in-Err.ensures) c.in_ok-range-in-Err.ensures
-    ∙ ap (λ o. o >>= λ x. Some (single (u.elements x))) c.in_ok-vector-in-Err.ensures.given
-    ∙ ap (λ v. Some (single (value_view v))) (sym c.in_ok-new-in-Err.ensures.ok)
+pub returns-in-Err-clause-told : goal.returns-in-Err-clause-told
+returns-in-Err-clause-told c =
+    told_as _ _ _ (sym (listed_broken c.args.kind c.args.at (typed_elements_view c.args.elements.items) (sym c.is_vector.ensures ∙ c.if-not-is_vector.false)
+    _ (typed_elements_view c.in-Err.elements.items) (sym c.in-Err.ensures))) c.as_aggregate.ensures.told

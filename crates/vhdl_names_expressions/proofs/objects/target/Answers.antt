@@ -1,31 +1,44 @@
-use Rattle.std.proofs.Common.{rules, arith, ◌≡◌, Some, ap}
-use Rattle.std.proofs.lemmas.Grind.{common_steps}
-use Rattle.std.specs.Prelude.{not}
+use Rattle.std.proofs.Common.{true, false, ap, sym, ◌∙◌}
 use Rattle.vhdl_tree.specs.View.{name_view}
-use Rattle.vhdl_tree.specs.declared.declaration.Mode.TheVariants.{In}
-use Rattle.vhdl_names_rules.specs.declared.fault.NameFault.TheVariants.{At}
-use Rattle.vhdl_names_rules.specs.declared.fault.NameProblem.TheVariants.{WriteOfIn}
-use Rattle.vhdl_names_rules.specs.Statements as are
-use Rattle.vhdl_names_rules.specs.Statements.{is_input}
-use Rattle.vhdl_names_units.specs.views.Answers.{signal_name_view}
-use Rattle.vhdl_names_rules.specs.problems.Broken.{unless, where_given}
+use Rattle.vhdl_names_rules.specs.Statements.{target_by, as_variable_target}
 use Rattle.vhdl_names_rules.specs.problems.Statements as broken
-use Rattle.vhdl_names_rules.proofs.Telling.{told_right, told_given}
-use Rattle.vhdl_names_rules.proofs.kept.Statements.{signal_kept}
-use Rattle.vhdl_names_expressions.proofs.Breaking.{told_fault}
-use Rattle.vhdl_names_rules.proofs.Passing.{told_first}
+use Rattle.vhdl_names_rules.specs.problems.Statements.{variable_problem, target_by_declaration}
+use Rattle.vhdl_names_rules.proofs.Along.{gives_along}
+use Rattle.vhdl_names_rules.proofs.Passing.{told_by}
+use Rattle.vhdl_names_units.specs.views.Targets.{target_view}
+use Rattle.vhdl_names_expressions.proofs.Asking.{target_found}
+use Rattle.vhdl_names_expressions.proofs.Breaking.{told_as}
+use Rattle.vhdl_names_expressions.proofs.ObjectNames.{name_told, name_refused, target_first}
 use Rattle.vhdl_names_expressions.proofs.objects.target.Goals as goal
 
-pub returns-in_err-target-clause-told : goal.returns-in_err-target-clause-told
-returns-in_err-target-clause-told c = told_first _ _ _ _ c.from_residual.result c.from_residual.ensures.1 (λ e p. p) c.in_err-target.ensures.told
+pub returns-in_err-entry-clause-told : goal.returns-in_err-entry-clause-told
+returns-in_err-entry-clause-told c =
+    told_by _ c.in_err-entry.field-0.0 _ c.from_residual.result c.from_residual.ensures.1 (λ e p. p)
+    (target_first c.args.sight.now c.args.is_variable (name_view c.args.name.now) c.in_err-entry.field-0.0 c.in_err-entry.ensures.told)
 
-pub returns-in-Some-In-clause-told : goal.returns-in-Some-In-clause-told
-returns-in-Some-In-clause-told c =
+pub returns-then-is_variable-clause-given : goal.returns-then-is_variable-clause-given
+returns-then-is_variable-clause-given c =
     let s = c.args.sight.now in
     let n = name_view c.args.name.now in
-    let is : c.in_ok-target.target.mode ≡ Some In = first_of (cc, search rules, grind (arith, common_steps)) in
-    told_right (broken.signal s n) (where_given (are.signal s n) (λ x. unless WriteOfIn n.identifier.at (not (is_input x.mode)))) c.at.result
-    (signal_kept s n (signal_name_view c.in_ok-target.target) c.in_ok-target.ensures.given)
-    (told_given (λ x. unless WriteOfIn n.identifier.at (not (is_input x.mode))) (are.signal s n) (signal_name_view c.in_ok-target.target) c.at.result c.in_ok-target.ensures.given
-    (told_fault (unless WriteOfIn n.identifier.at (not (is_input c.in_ok-target.target.mode))) (At WriteOfIn n.identifier.at) c.at.result c.at.ensures
-    (ap (λ m. unless WriteOfIn n.identifier.at (not (is_input m))) is)))
+    gives_along target_view _ _ _ (ap (λ b. target_by s b n) c.if-is_variable.true ∙ target_found s true n _ c.in_ok-entry.ensures.given) (c.variable_target.ensures.given c.args.name.now.identifier.text.items)
+
+pub returns-then-is_variable-clause-told : goal.returns-then-is_variable-clause-told
+returns-then-is_variable-clause-told c =
+    let s = c.args.sight.now in
+    let n = name_view c.args.name.now in
+    told_as _ _ _ (sym (ap (λ b. broken.target_by s b n) c.if-is_variable.true))
+    (name_refused s n target_view variable_problem (as_variable_target n.identifier.at) _ _ c.in_ok-entry.ensures.given
+    (c.variable_target.ensures.given c.args.name.now.identifier.text.items) c.variable_target.ensures.told)
+
+pub returns-else-is_variable-clause-given : goal.returns-else-is_variable-clause-given
+returns-else-is_variable-clause-given c =
+    let s = c.args.sight.now in
+    let n = name_view c.args.name.now in
+    gives_along target_view _ _ _ (ap (λ b. target_by s b n) c.if-is_variable.false ∙ target_found s false n _ c.in_ok-entry.ensures.given) (c.signal_target.ensures.given c.args.name.now.identifier.text.items)
+
+pub returns-else-is_variable-clause-told : goal.returns-else-is_variable-clause-told
+returns-else-is_variable-clause-told c =
+    let s = c.args.sight.now in
+    let n = name_view c.args.name.now in
+    told_as _ _ _ (sym (ap (λ b. broken.target_by s b n) c.if-is_variable.false))
+    (name_told s n (target_by_declaration n.identifier.at) _ _ c.in_ok-entry.ensures.given (c.signal_target.ensures.told c.args.name.now.identifier.text.items))

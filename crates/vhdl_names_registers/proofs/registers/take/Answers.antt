@@ -1,4 +1,4 @@
-use Rattle.std.proofs.Common.{true, false, List, map, sym, ap, ◌∙◌}
+use Rattle.std.proofs.Common.{List, map, sym, ap, ◌∙◌}
 use Rattle.std.proofs.lemmas.Result.{on_ok_weaker}
 use Rattle.vhdl_names_units.specs.declared.sequential.Statement.{Statement}
 use Rattle.vhdl_names_units.specs.views.Sequential.{body_view, statement_view, statements_of}

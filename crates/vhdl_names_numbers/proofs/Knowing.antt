@@ -11,14 +11,18 @@ use Rattle.vhdl_names_rules.specs.declared.vector.VectorLink.{VectorLink}
 use Rattle.vhdl_names_rules.specs.declared.vector.VectorLink.TheVariants as l
 use Rattle.vhdl_names_rules.specs.declared.vector.VectorStart.{VectorStart}
 use Rattle.vhdl_names_rules.specs.units.Expressions as u
-use Rattle.vhdl_names_rules.specs.Subtypes.{is_known, are_known}
+use Rattle.vhdl_names_rules.specs.Known.{is_known, are_known}
 use Rattle.vhdl_names_rules.specs.views.Vectors.{vector_view, start_view, linked, with_element, vector_chained, elements_view}
 use Rattle.vhdl_names_rules.proofs.rows.Vectors.{view_chain, view_aggregate}
-use Rattle.vhdl_names_values.specs.Knowing.{link_is_known, element_is_known, is_others}
+use Rattle.vhdl_names_numbers.specs.Knowing.{link_is_known, element_is_known, is_others}
 
-and_true : (b : Bool) → b ≡ b && true
+pub and_true : (b : Bool) → b ≡ b && true
 and_true true = refl
 and_true false = refl
+
+pub and_false : (b : Bool) → false ≡ b && false
+and_false true = refl
+and_false false = refl
 
 and_assoc : (b c d : Bool) → (b && c) && d ≡ b && (c && d)
 and_assoc true c d = refl
@@ -27,6 +31,7 @@ and_assoc false c d = refl
 pub linked_known : (left : u.Vector) (x : VectorLink) → is_known (linked left x) ≡ is_known left && link_is_known x
 linked_known left (l.Vector op at x) = refl
 linked_known left (l.Integer op at s) = and_true (is_known left)
+linked_known left (l.Computed op at x) = and_false (is_known left)
 
 chained_known : (left : u.Vector) (xs : List VectorLink) → is_known (vector_chained left xs) ≡ is_known left && list_all link_is_known xs
 chained_known left [] = and_true (is_known left)

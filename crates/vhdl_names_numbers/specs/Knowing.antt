@@ -1,6 +1,6 @@
 -- Which operands name no signal and no variable.
 use Rattle.std.specs.Prelude.{Bool, true, false}
-use Rattle.vhdl_names_rules.specs.Subtypes.{is_known}
+use Rattle.vhdl_names_rules.specs.Known.{is_known}
 use Rattle.vhdl_names_rules.specs.views.Vectors.{vector_view}
 use Rattle.vhdl_names_rules.specs.declared.vector.VectorLink.{VectorLink}
 use Rattle.vhdl_names_rules.specs.declared.vector.VectorLink.TheVariants as l
@@ -11,6 +11,7 @@ use Rattle.vhdl_names_rules.specs.declared.vector.VectorElement.TheVariants as e
 abbrev pub link_is_known : VectorLink → Bool
 link_is_known (l.Vector op at x) = is_known (vector_view x)
 link_is_known (l.Integer op at s) = true
+link_is_known (l.Computed op at x) = false
 
 -- the value of an element
 abbrev pub element_is_known : VectorElement → Bool

@@ -1,11 +1,11 @@
 use Rattle.std.proofs.Common.{◌≡◌, ◌+◌, ◌<◌, ◌≤◌, true, false, length, drop, ap, sym, ◌∙◌, arith}
 use Rattle.std.specs.Prelude.{◌&&◌, ◌||◌}
 use Rattle.std.specs.List.{list_all}
-use Rattle.vhdl_names_rules.specs.Subtypes.{is_known, are_known}
+use Rattle.vhdl_names_rules.specs.Known.{is_known, are_known}
 use Rattle.vhdl_names_rules.specs.views.Vectors.{vector_view, start_view, elements_view}
-use Rattle.vhdl_names_values.specs.Knowing.{link_is_known, is_others}
-use Rattle.vhdl_names_values.proofs.Knowing.{is_known_chain, is_known_aggregate, next_known, none_known}
-use Rattle.vhdl_names_values.proofs.known.+known.Goals as goal
+use Rattle.vhdl_names_numbers.specs.Knowing.{link_is_known, is_others}
+use Rattle.vhdl_names_numbers.proofs.Knowing.{is_known_chain, is_known_aggregate, next_known, none_known}
+use Rattle.vhdl_names_numbers.proofs.known.+known.Goals as goal
 
 pub is_known-returns-then-start_is_known : goal.is_known-returns-then-start_is_known
 is_known-returns-then-start_is_known t c =

@@ -2,22 +2,27 @@
 
 ghost use Rattle.std.specs.Prelude.{◌≡◌};
 ghost use Rattle.std.specs.List.{list_all};
-ghost use Rattle.vhdl_names_rules.specs.Subtypes as rules;
+ghost use Rattle.vhdl_names_rules.specs.Known as rules;
 ghost use Rattle.vhdl_names_rules.specs.views.Vectors.{vector_view, start_view, elements_view};
-ghost use Rattle.vhdl_names_units.specs.views.Answers.{given_view};
-ghost use Rattle.vhdl_names_values.specs.Knowing as steps;
+ghost use Rattle.vhdl_names_numbers.specs.Knowing as steps;
 
-use vhdl_names_rules::{Value, Vector, VectorElement, VectorLink, VectorStart};
-use vhdl_names_units::Given;
+use vhdl_names_rules::{Vector, VectorElement, VectorLink, VectorStart};
 
 /// Whether a vector names no signal and no variable.
 #[cycle(known)]
 #[tactic(auto, using(crate::proofs::Knowing::is_known_chain, crate::proofs::Knowing::is_known_aggregate))]
-fn is_known(vector: &Vector) -> bool
+pub fn is_known(vector: &Vector) -> bool
     ensures { result ≡ rules.is_known (vector_view vector.now) }
 {
     match vector {
-        Vector::Signal(_) | Vector::Variable(..) => false,
+        Vector::Signal(_)
+        | Vector::Variable(..)
+        | Vector::InSignal(..)
+        | Vector::InVariable(..)
+        | Vector::InConstant(..)
+        | Vector::ComputedWith(..)
+        | Vector::ComputedEncoded(..)
+        | Vector::Shifted(..) => false,
         Vector::Constant(..)
         | Vector::Character(..)
         | Vector::EnclosedCharacter(..)
@@ -49,6 +54,7 @@ fn link_is_known(link: &VectorLink) -> bool
     match link {
         VectorLink::Vector(_, _, operand) => is_known(operand),
         VectorLink::Integer(..) => true,
+        VectorLink::Computed(..) => false,
     }
 }
 
@@ -101,18 +107,4 @@ pub fn are_known(elements: &[VectorElement]) -> bool
         }
     }
     true
-}
-
-/// Whether what is given names no signal and no variable.
-pub(crate) fn is_known_value(given: &Given) -> bool
-    ensures { result ≡ rules.is_known_value (given_view given.now) }
-{
-    match given {
-        Given::Single(value) => match &**value {
-            Value::Elements(vector) => is_known(vector),
-            Value::Position(_) => true,
-            Value::StateOf(_) | Value::StateOfVariable(_) => false,
-        },
-        Given::Filled(vector) => is_known(vector),
-    }
 }

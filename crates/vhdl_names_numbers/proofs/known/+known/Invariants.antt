@@ -1,9 +1,9 @@
 use Rattle.std.proofs.Common.{◌≡◌, drop}
 use Rattle.std.specs.List.{list_all}
-use Rattle.vhdl_names_rules.specs.Subtypes.{are_known}
+use Rattle.vhdl_names_rules.specs.Known.{are_known}
 use Rattle.vhdl_names_rules.specs.views.Vectors.{elements_view}
-use Rattle.vhdl_names_values.specs.Knowing.{link_is_known}
-use Rattle.vhdl_names_values.proofs.known.+known.Given as goal
+use Rattle.vhdl_names_numbers.specs.Knowing.{link_is_known}
+use Rattle.vhdl_names_numbers.proofs.known.+known.Given as goal
 
 -- the operands so far name none
 abbrev pub invariant-links_are_known-loop-link : goal.invariant-links_are_known-loop-link

@@ -1,0 +1,3 @@
+pub mod Integers
+pub mod Calls
+pub mod Knowing
