@@ -17,6 +17,9 @@ module _ (nets drives : List ℕ) where
   expr-net (bodies.filled len e) = expr-net e
   expr-net (bodies.Expr.binary op d e) = both _ _ (expr_reads d) (expr_reads e) (expr-net d) (expr-net e)
   expr-net (bodies.Expr.counted op count e) = expr-net e
+  expr-net (bodies.Expr.shifted by count e) = both _ _ (expr_reads count) (expr_reads e) (expr-net count) (expr-net e)
+  expr-net (bodies.Expr.converted by e) = expr-net e
+  expr-net (bodies.Expr.chosen index spacing rows) = both _ _ (expr_reads index) (expr_reads rows) (expr-net index) (expr-net rows)
   expr-net _ = refl
 
   value-net : (v : bodies.Value) → value_reads (connected_value nets drives v) ≡ map net (value_reads v)
@@ -38,6 +41,8 @@ module _ (nets drives : List ℕ) where
     stmt-net bodies.null_of = refl
     stmt-net (bodies.assign es v) = value-net v
     stmt-net (bodies.set es v) = value-net v
+    stmt-net (bodies.assign_at index spacing es e) = both _ _ (expr_reads index) (expr_reads e) (expr-net index) (expr-net e)
+    stmt-net (bodies.set_at index spacing es e) = both _ _ (expr_reads index) (expr_reads e) (expr-net index) (expr-net e)
     stmt-net (bodies.if_of bs) = branches-net bs
     stmt-net (bodies.case_of v alts) = both _ _ (value_reads v) (alternatives_reads alts) (value-net v) (alternatives-net alts)
 

@@ -64,7 +64,7 @@ impl Connection<'_> {
     }
 
     /// The same of two expressions.
-    fn connect_exprs(&self, left: &mut Expr, right: &mut Expr) -> Result<(), AllocError>
+    pub(crate) fn connect_exprs(&self, left: &mut Expr, right: &mut Expr) -> Result<(), AllocError>
         ensures left { OnOk result (expr_view left.new ≡ expr_in self.now (expr_view left.old)) }
         ensures right { OnOk result (expr_view right.new ≡ expr_in self.now (expr_view right.old)) }
     {

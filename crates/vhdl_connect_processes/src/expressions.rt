@@ -1,11 +1,11 @@
 //! Expressions in place: nets for elements (IEEE 1076-2008, clause 9).
 
 ghost use Rattle.std.specs.Prelude.{◌≡◌, OnOk};
-ghost use Rattle.rtl_net.specs.Bodies.{expr_view, value_view};
+ghost use Rattle.rtl_net.specs.Bodies.{rows_view, expr_view, value_view};
 ghost use Rattle.vhdl_connect_processes.specs.Connected.{Became, expr_in, value_in, link_in, link_view};
 
 use crate::connection::Connection;
-use rtl_net::{Expr, Link, Value};
+use rtl_net::{Expr, Link, RowsOf, Value};
 use std::alloc::AllocError;
 
 impl Connection<'_> {
@@ -28,6 +28,30 @@ impl Connection<'_> {
                 self.connect_expr(first).and(self.connect_links(rest))
             }
             Expr::Counted { operand, .. } => self.connect_expr(operand),
+            Expr::Shifted { count, operand, .. } => {
+                self.connect_expr(count)?;
+                self.connect_expr(operand)
+            }
+            Expr::Converted { operand, .. } => self.connect_expr(operand),
+            Expr::Chosen { index, rows, .. } => {
+                self.connect_expr(index)?;
+                self.connect_rows(rows)
+            }
+        }
+    }
+
+    /// The same of what rows lie in.
+    fn connect_rows(&self, rows: &mut RowsOf) -> Result<(), AllocError>
+        ensures { OnOk result (rows_view rows.new ≡ expr_in self.now (rows_view rows.old)) }
+    {
+        match rows {
+            RowsOf::Signals(elements) => {
+                let nets = self.nets_of(elements)?;
+                *rows = RowsOf::Signals(nets);
+                Ok(())
+            }
+            RowsOf::Variables(_) => Ok(()),
+            RowsOf::Constants(_) => Ok(()),
         }
     }
 

@@ -51,6 +51,16 @@ impl Connection<'_> {
                 self.connect_value(value)
             }
             Statement::Set { value, .. } => self.connect_value(value),
+            Statement::AssignAt {
+                index,
+                places,
+                value,
+                ..
+            } => {
+                *places = self.places_of(places)?;
+                self.connect_exprs(index, value)
+            }
+            Statement::SetAt { index, value, .. } => self.connect_exprs(index, value),
             Statement::If {
                 branches,
                 otherwise,

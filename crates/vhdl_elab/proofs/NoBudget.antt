@@ -1,5 +1,5 @@
 -- What is refused of an interface is told of its own rules, and is never TooMany.
-use Rattle.std.proofs.Common.{◌≡◌, ℕ, [], All, Err}
+use Rattle.std.proofs.Common.{◌≡◌, ℕ, Err}
 use Rattle.std.specs.Prelude.{◌≢◌}
 use Rattle.vhdl_names_rules.specs.units.Units.{Entity}
 use Rattle.vhdl_names_rules.specs.units.Bytes.{entity_bytes}

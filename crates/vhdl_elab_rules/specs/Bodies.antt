@@ -1,11 +1,11 @@
 -- The body of a process in the flat netlist: where the expanded body has an element, a net stands, and where it assigns
 -- an element, the place of that element's driver (IEEE 1076-2008, 14.7.2).
 use Rattle.std.specs.Prelude.{ℕ, suc, ◌==◌, if◌then◌else◌, List, [], ◌∷◌, map, slice_index}
-use Rattle.rtl_model.specs.bodies.Body.{Expr, signal, variable, constant, inverse, filled, binary, counted}
+use Rattle.rtl_model.specs.bodies.Body.{Expr, signal, variable, constant, inverse, filled, binary, counted, shifted, converted, chosen}
 use Rattle.rtl_model.specs.bodies.Body.{Value, elements, position, position_of, position_in}
 use Rattle.rtl_model.specs.bodies.Body.{Test, condition, decided, equal, unequal, level, compared, compared_to}
 use Rattle.rtl_model.specs.bodies.Body.{rising, falling, event, negated, combined}
-use Rattle.rtl_model.specs.bodies.Body.{Stmt, null_of, assign, set, if_of, case_of, Stmts, done, step}
+use Rattle.rtl_model.specs.bodies.Body.{Stmt, null_of, assign, set, assign_at, set_at, if_of, case_of, Stmts, done, step}
 use Rattle.rtl_model.specs.bodies.Body.{Branches, no_else, otherwise, branch, Alternatives, others, alternative}
 
 -- where this element stands in a list
@@ -29,6 +29,9 @@ module _ (nets drives : List ℕ) where
   connected_expr (filled len e) = filled len (connected_expr e)
   connected_expr (binary op d e) = binary op (connected_expr d) (connected_expr e)
   connected_expr (counted op count e) = counted op count (connected_expr e)
+  connected_expr (shifted by count e) = shifted by (connected_expr count) (connected_expr e)
+  connected_expr (converted by e) = converted by (connected_expr e)
+  connected_expr (chosen index spacing rows) = chosen (connected_expr index) spacing (connected_expr rows)
 
   abbrev pub connected_value : Value → Value
   connected_value (elements e) = elements (connected_expr e)
@@ -55,6 +58,9 @@ module _ (nets drives : List ℕ) where
     connected_stmt null_of = null_of
     connected_stmt (assign es v) = assign (map (place_in drives) es) (connected_value v)
     connected_stmt (set es v) = set es (connected_value v)
+    connected_stmt (assign_at index spacing es e) =
+        assign_at (connected_expr index) spacing (map (place_in drives) es) (connected_expr e)
+    connected_stmt (set_at index spacing es e) = set_at (connected_expr index) spacing es (connected_expr e)
     connected_stmt (if_of bs) = if_of (connected_branches bs)
     connected_stmt (case_of v alts) = case_of (connected_value v) (connected_alternatives alts)
 

@@ -2,7 +2,7 @@
 -- is read, and more parts than the limits (IEEE 1076-2008, 6.4.2.3, 4.6, 6.5.6.3).
 use Rattle.std.specs.Prelude.{ℕ, ◌+◌, Bool, not, ◌&&◌, nat_le, List, length, map, sum, find, flat_map, Option, Some, None}
 use Rattle.std.specs.List.{list_any}
-use Rattle.rtl_model.specs.bodies.Body.{Stmt, null_of, assign, set, if_of, case_of, Stmts, done, step}
+use Rattle.rtl_model.specs.bodies.Body.{Stmt, null_of, assign, set, assign_at, set_at, if_of, case_of, Stmts, done, step}
 use Rattle.rtl_model.specs.bodies.Body.{Branches, no_else, otherwise, branch, Alternatives, others, alternative}
 use Rattle.rtl_model.specs.nets.FlatNetlist.{FlatNetlist, flat_sources}
 use Rattle.rtl_net.specs.Limits.{most_nets, most_processes, most_scopes}
@@ -49,6 +49,8 @@ abbrev mutual
   stmt_count null_of = 1
   stmt_count (assign places v) = 1
   stmt_count (set es v) = 1
+  stmt_count (assign_at index spacing places e) = 1
+  stmt_count (set_at index spacing es e) = 1
   stmt_count (if_of bs) = 1 + branches_count bs
   stmt_count (case_of v alts) = 1 + alternatives_count alts
 

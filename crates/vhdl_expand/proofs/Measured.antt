@@ -2,13 +2,14 @@
 use Rattle.std.proofs.Common.{◌≡◌, ℕ, ◌+◌, List, [], ◌∷◌, length, Ok, Err, refl, sym, ap, ◌∙◌, subst, arith}
 use Rattle.std.specs.Prelude.{ℤ, sum}
 use Rattle.std.proofs.lemmas.List.Sums.{sum_by-cons}
+use Rattle.vhdl_names_rules.specs.units.Expressions as expressions
 use Rattle.vhdl_names_rules.specs.units.Statements as u
 use Rattle.rtl_model.specs.bodies.Body as bodies
 use Rattle.rtl_model.specs.bodies.Fits.{value_width}
 use Rattle.vhdl_expand_rules.specs.Elab.{Elab, ◌>>=◌, each}
 use Rattle.vhdl_expand_rules.specs.Integers.{turns}
-use Rattle.vhdl_expand_rules.specs.Site.{Site, in_loop, place_elements, variable_elements}
-use Rattle.vhdl_expand_rules.specs.Expressions.{value, test}
+use Rattle.vhdl_expand_rules.specs.Site.{Site, in_loop, place_elements, signal_elements, variable_elements, signal_bounds, variable_bounds}
+use Rattle.vhdl_expand_rules.specs.Expressions.{value, test, chosen_row}
 use Rattle.vhdl_expand_rules.specs.Statements as d
 use Rattle.vhdl_expand_rules.specs.Statements.{joined_bodies, choice, one, statement, statements, branches, alternatives, statement_turns, statements_turns, branches_turns, alternatives_turns}
 use Rattle.vhdl_expand_rules.proofs.Steps.{given, ok, bound}
@@ -116,6 +117,18 @@ mutual
       let es = bound (variable_elements here at k part) _ x h in
       let v = bound (d.value_given here at (length es.x) g) _ x es.then_gave in
       recount _ _ 1 _ (ap statements_count (ok (one (bodies.set es.x v.x)) x v.then_gave)) simple
+  statement-measured here by same (u.assign_in at n c g) x h =
+      let es = bound (signal_elements here at n expressions.whole) _ x h in
+      let b = bound (signal_bounds here at n) _ x es.then_gave in
+      let r = bound (chosen_row here at b.x c) _ x b.then_gave in
+      let v = bound (d.elements_given here at r.x.spacing.len g) _ x r.then_gave in
+      recount _ _ 1 _ (ap statements_count (ok (one (bodies.assign_at r.x.index r.x.spacing es.x v.x)) x v.then_gave)) simple
+  statement-measured here by same (u.set_in at k c g) x h =
+      let es = bound (variable_elements here at k expressions.whole) _ x h in
+      let b = bound (variable_bounds here at k) _ x es.then_gave in
+      let r = bound (chosen_row here at b.x c) _ x b.then_gave in
+      let v = bound (d.elements_given here at r.x.spacing.len g) _ x r.then_gave in
+      recount _ _ 1 _ (ap statements_count (ok (one (bodies.set_at r.x.index r.x.spacing es.x v.x)) x v.then_gave)) simple
   statement-measured here by same (u.if_of at bs) x h =
       let cs = bound (branches here bs) _ x h in
       recount _ _ _ _ (ap statements_count (ok (one (bodies.if_of cs.x)) x cs.then_gave)) (inside _ _ _ (branches-measured here by same bs cs.x cs.gave))

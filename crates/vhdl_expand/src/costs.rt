@@ -81,6 +81,8 @@ fn of_statement(
         Statement::Null => budget.charge_statement(at),
         Statement::Assign { target, .. } => budget.charge_statement(target.at),
         Statement::Set { at, .. } => budget.charge_statement(*at),
+        Statement::AssignIn { at, .. } => budget.charge_statement(*at),
+        Statement::SetIn { at, .. } => budget.charge_statement(*at),
         Statement::If(conditional) => of_conditional(alloc, integers, conditional, budget),
         Statement::Case(selection) => of_selection(alloc, integers, selection, budget),
         Statement::Loop(repeated) => of_loop(alloc, integers, repeated, budget),

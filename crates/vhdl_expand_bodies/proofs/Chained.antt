@@ -7,20 +7,20 @@ use Rattle.vhdl_expand_bodies.specs.steps.Chains.{chained}
 
 module _ {D K : Type 0} (linked : D → K → Elab D) where
   -- one more
-  pub next_goes : (begun now new : D) (ks : List K) (i : ℕ) (k : K) → i < length ks → k ≡ get_or ks i k
-      → chained linked begun ks ≡ chained linked now (drop i ks) → linked now k ≡ Ok new → chained linked begun ks ≡ chained linked new (drop (i + 1) ks)
-  next_goes begun now new ks i k below is so_far h =
+  pub next_goes : (whole : Elab D) (now new : D) (ks : List K) (i : ℕ) (k : K) → i < length ks → k ≡ get_or ks i k
+      → whole ≡ chained linked now (drop i ks) → linked now k ≡ Ok new → whole ≡ chained linked new (drop (i + 1) ks)
+  next_goes whole now new ks i k below is so_far h =
       so_far ∙ ap (λ left. chained linked now left) (next_left ks i k below is) ∙ ap (λ r. r >>= λ d. chained linked d (drop (i + 1) ks)) h
 
   -- one that is refused
-  pub next_stops : {told : Told} (begun now : D) (ks : List K) (i : ℕ) (k : K) → i < length ks → k ≡ get_or ks i k
-      → chained linked begun ks ≡ chained linked now (drop i ks) → linked now k ≡ Err told → chained linked begun ks ≡ Err told
-  next_stops {told} begun now ks i k below is so_far h =
+  pub next_stops : {told : Told} (whole : Elab D) (now : D) (ks : List K) (i : ℕ) (k : K) → i < length ks → k ≡ get_or ks i k
+      → whole ≡ chained linked now (drop i ks) → linked now k ≡ Err told → whole ≡ Err told
+  next_stops {told} whole now ks i k below is so_far h =
       subst (λ (r : Elab D). r ≡ Err told) (sym (so_far ∙ ap (λ left. chained linked now left) (next_left ks i k below is))) (err_first (linked now k) _ h)
 
   -- ---- what is grouped from the left, and means this
 
-  last-ok : (r : Elab D) → r ≡ (r >>= λ d. Ok d)
+  pub last-ok : (r : Elab D) → r ≡ (r >>= λ d. Ok d)
   last-ok (Ok x) = refl
   last-ok (Err p) = refl
 

@@ -8,7 +8,7 @@ use Rattle.vhdl_names_rules.specs.views.Integers.{index_view}
 use Rattle.vhdl_names_rules.specs.views.Vectors.{vector_view, elements_view}
 use Rattle.rtl_model.specs.bodies.Body as bodies
 use Rattle.rtl_model.specs.bodies.Fits.{width}
-use Rattle.vhdl_expand_rules.specs.Elab.{Elab, ◌>>=◌, ◌>>◌, Told, same_length}
+use Rattle.vhdl_expand_rules.specs.Elab.{Elab, ◌>>=◌, Told, same_length}
 use Rattle.vhdl_expand_rules.specs.Aggregates.{Placed, next, chosen, others, chosen_indexes}
 use Rattle.vhdl_expand_rules.specs.Site.{Site}
 use Rattle.vhdl_expand_rules.specs.Expressions.{vector, elements}

@@ -1,7 +1,8 @@
 -- Statements by their parts, in the order in which the code comes to them.
 use Rattle.std.proofs.Common.{◌≡◌, ℕ, List, [], ◌∷◌, length, map, Option, Vec, Global, Result, Ok, Err, refl, sym, ap, ◌∙◌, subst}
 use Rattle.std.specs.Prelude.{ℤ}
-use Rattle.vhdl_names_rules.specs.units.Expressions.{Part, SignalPart, Range}
+use Rattle.vhdl_names_rules.specs.units.Expressions as expressions
+use Rattle.vhdl_names_rules.specs.units.Expressions.{Signal, Part, SignalPart, Range}
 use Rattle.vhdl_names_rules.specs.units.Statements as u
 use Rattle.vhdl_names_rules.specs.units.Statements.{Given}
 use Rattle.vhdl_names_rules.specs.views.Integers.{range_view}
@@ -26,15 +27,15 @@ use Rattle.vhdl_names_units.proofs.rows.Sequential as rows
 use Rattle.vhdl_expand_rules.specs.declared.fault.ElabFault.{ElabFault}
 use Rattle.vhdl_expand_rules.specs.Elab.{Elab, ◌>>=◌, each, fault_told, Told}
 use Rattle.vhdl_expand_rules.specs.Integers.{turns}
-use Rattle.vhdl_expand_rules.specs.Site.{Site, in_loop, place_elements, variable_elements}
-use Rattle.vhdl_expand_rules.specs.Expressions.{value, test}
+use Rattle.vhdl_expand_rules.specs.Site.{Site, in_loop, place_elements, signal_elements, variable_elements, signal_bounds, variable_bounds}
+use Rattle.vhdl_expand_rules.specs.Expressions.{value, test, chosen_row}
 use Rattle.vhdl_expand_rules.specs.Statements as definition
 use Rattle.vhdl_expand_rules.specs.Statements.{choice, one}
 use Rattle.vhdl_expand_rules.proofs.Steps.{given}
 use Rattle.vhdl_expand_rules.proofs.Chains.{err_first}
 use Rattle.vhdl_expand_operands.specs.Results.{Expands, Adds}
 use Rattle.vhdl_expand_bodies.specs.Statements.{branch_view, branches_view, alternative_view, alternatives_view, otherwise_view}
-use Rattle.vhdl_expand_bodies.specs.steps.Assignments.{assign, set}
+use Rattle.vhdl_expand_bodies.specs.steps.Assignments.{assign, set, assign_in, set_in}
 use Rattle.vhdl_expand_bodies.specs.steps.Statements as steps
 use Rattle.vhdl_expand_bodies.specs.steps.Statements.{after}
 use Rattle.vhdl_expand_bodies.proofs.Sequences.{statements_push}
@@ -80,6 +81,13 @@ as_one (Ok x) f g = inner (f x) (g x)
     inner (Ok y) k = refl
     inner (Err p) k = refl
 
+-- the same of one to what a run chooses
+chosen_as_one : {A B C D : Type 0} (p : Elab A) (q : Elab B) (r : B → Elab C) (f : C → Elab D) (g : A → C → D → bodies.Stmt)
+    → (p >>= λ x. q >>= λ y. r y >>= λ z. f z >>= λ w. given (one (g x z w))) ≡ ((p >>= λ x. q >>= λ y. r y >>= λ z. f z >>= λ w. given (g x z w)) >>= λ s. given (one s))
+chosen_as_one (Err t) q r f g = refl
+chosen_as_one (Ok x) (Err t) r f g = refl
+chosen_as_one (Ok x) (Ok y) r f g = as_one (r y) f (g x)
+
 module _ (here : Site) where
   -- ---- one statement each
 
@@ -94,6 +102,16 @@ module _ (here : Site) where
   pub set_by : (at k : ℕ) (part : Part) (g : Given) → definition.statement here (u.set at k part g) ≡ (set here at k part g >>= λ s. given (one s))
   unfolding definition.statement
   set_by at k part g = as_one (variable_elements here at k part) (λ es. definition.value_given here at (length es) g) bodies.set
+
+  pub assign_in_by : (at : ℕ) (x : Signal) (c : expressions.Chosen) (g : Given) → definition.statement here (u.assign_in at x c g) ≡ (assign_in here at x c g >>= λ s. given (one s))
+  unfolding definition.statement
+  assign_in_by at x c g =
+      chosen_as_one (signal_elements here at x expressions.whole) (signal_bounds here at x) (λ b. chosen_row here at b c) (λ r. definition.elements_given here at r.spacing.len g) (λ es r e. bodies.assign_at r.index r.spacing es e)
+
+  pub set_in_by : (at k : ℕ) (c : expressions.Chosen) (g : Given) → definition.statement here (u.set_in at k c g) ≡ (set_in here at k c g >>= λ s. given (one s))
+  unfolding definition.statement
+  set_in_by at k c g =
+      chosen_as_one (variable_elements here at k expressions.whole) (variable_bounds here at k) (λ b. chosen_row here at b c) (λ r. definition.elements_given here at r.spacing.len g) (λ es r e. bodies.set_at r.index r.spacing es e)
 
   -- ---- one part more before others
 

@@ -1,5 +1,5 @@
 -- The places of a part lie within what it is a part of.
-use Rattle.std.proofs.Common.{◌≡◌, ℕ, zero, suc, ◌+◌, ◌-◌, ◌^◌, ◌<◌, ◌≤◌, List, [], ◌∷◌, length, map, take, drop, drop-cons, add-one, Ok, refl, sym, ap, ◌∙◌, arith}
+use Rattle.std.proofs.Common.{◌≡◌, ℕ, zero, suc, ◌+◌, ◌^◌, ◌<◌, ◌≤◌, List, [], ◌∷◌, length, map, take, drop, drop-cons, add-one, Ok, refl, sym, ap, ◌∙◌, subst, arith}
 use Rattle.std.specs.Borrow.{Bor}
 use Rattle.std.specs.Prelude.{nat_le, slice_get, slice_index_or, Option, None, Some, option_map}
 use Rattle.std.specs.Slice.{IsItemAt}
@@ -151,6 +151,11 @@ elements-length f len ns h = ap length (sym (ok (range_with_len f len) ns h)) �
 pub seen_item : {X Y : Type 0} (v : X → Y) (xs : List X) (k : ℕ) (r : Option (Bor X)) → IsItemAt xs k r → option_map (λ (b : Bor X). v b.now) r ≡ slice_get (map v xs) k
 seen_item v xs k None h = sym (slice_get-map v xs k ∙ ap (option_map v) (slice_get_past xs k h.3))
 seen_item v xs k (Some b) h = sym (slice_get-map v xs k ∙ ap (option_map v) (there xs k b.now h.3.0 (h.3.1 b.now)))
+
+pub item_there : {X : Type 0} (xs : List X) (k : ℕ) (r : Option (Bor X)) (b : Bor X) → IsItemAt xs k r → r ≡ Some b → slice_get xs k ≡ Some b.now
+item_there {X} xs k r b h e =
+    let found = subst (λ (o : Option (Bor X)). IsItemAt xs k o) e h in
+    there xs k b.now found.3.0 (found.3.1 b.now)
 
 -- ---- one element
 

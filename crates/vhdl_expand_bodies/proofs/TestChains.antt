@@ -1,5 +1,5 @@
 -- Conditions: what a chain of operators is not, levels, and chains of logical operators.
-use Rattle.std.proofs.Common.{◌≡◌, ℕ, suc, ◌≤◌, ◌+◌, Bool, List, [], ◌∷◌, ◌++◌, replicate, Option, None, Box, Vec, Global, Ok, refl, sym, ap, ◌∙◌, arith}
+use Rattle.std.proofs.Common.{◌≡◌, ℕ, suc, ◌≤◌, Bool, List, [], ◌∷◌, ◌++◌, replicate, Option, None, Box, Vec, Global, Ok, refl, sym, ap, ◌∙◌, arith}
 use Rattle.std.specs.List.{range_with_len}
 use Rattle.vhdl_values.specs.declared.scalar.Nine.{Nine}
 use Rattle.rtl_model.specs.bodies.Body as bodies
@@ -16,7 +16,7 @@ use Rattle.vhdl_names_rules.specs.declared.test.TestLink.{TestLink}
 use Rattle.vhdl_names_rules.specs.declared.test.TestStart.{TestStart}
 use Rattle.vhdl_names_rules.specs.views.Vectors.{vector_view, linked, vector_chained}
 use Rattle.vhdl_names_rules.specs.views.Vectors as vectors
-use Rattle.vhdl_names_rules.specs.views.Tests.{test_view, start_view, test_chained}
+use Rattle.vhdl_names_rules.specs.views.Tests.{test_view, test_chained}
 use Rattle.vhdl_names_rules.specs.units.Expressions as u
 use Rattle.vhdl_names_rules.proofs.rows.Vectors as rows
 use Rattle.vhdl_names_rules.proofs.rows.Tests.{view_chain}
@@ -43,6 +43,7 @@ chain-none {A} in' one start links = ap in' (rows.view_chain start links) ∙ li
 linked-no_name : (x : u.Vector) (k : VectorLink) → name_in (linked x k) ≡ None
 linked-no_name x (l.Vector op pos y) = refl
 linked-no_name x (l.Integer op pos s) = refl
+linked-no_name x (l.Computed op pos y) = refl
 
 pub chain_is_no_name : (start : Box VectorStart Global) (links : Vec VectorLink Global) → name_in (vector_view (v.Chain start links)) ≡ None
 chain_is_no_name start links = chain-none name_in linked-no_name start links
@@ -50,6 +51,7 @@ chain_is_no_name start links = chain-none name_in linked-no_name start links
 linked-no_character : (x : u.Vector) (k : VectorLink) → character_in (linked x k) ≡ None
 linked-no_character x (l.Vector op pos y) = refl
 linked-no_character x (l.Integer op pos s) = refl
+linked-no_character x (l.Computed op pos y) = refl
 
 pub chain_is_no_character : (start : Box VectorStart Global) (links : Vec VectorLink Global) → character_in (vector_view (v.Chain start links)) ≡ None
 chain_is_no_character start links = chain-none character_in linked-no_character start links

@@ -1,13 +1,14 @@
 -- What contracts see of a site.
-use Rattle.std.specs.Prelude.{◌≡◌, ℕ, ℤ, ◌+◌, ◌^◌, ◌<◌, List, ◌++◌, map, take, slice_get, Some}
+use Rattle.std.specs.Prelude.{◌≡◌, ℕ, ℤ, ◌+◌, ◌^◌, ◌<◌, ◌≤◌, List, ◌++◌, map, take, slice_get, Some}
 use Rattle.rtl_model.specs.bodies.Fits.{IsWidth}
+use Rattle.vhdl_expand_rules.specs.declared.bounds.Bounds.{Bounds}
 use Rattle.vhdl_expand_rules.specs.declared.kind.Run.{Run}
 use Rattle.vhdl_expand_rules.specs.Kinds as kinds
-use Rattle.vhdl_expand_rules.specs.Kinds.{size}
+use Rattle.vhdl_expand_rules.specs.Kinds.{bounds_size, size}
 use Rattle.vhdl_expand_rules.specs.Site as definition
 use Rattle.vhdl_expand_rules.specs.Site.{elements_count}
 use Rattle.vhdl_expand_rules.specs.views.Integers.{integers_view}
-use Rattle.vhdl_expand_rules.specs.views.Kinds.{kind_view}
+use Rattle.vhdl_expand_rules.specs.views.Kinds.{bounds_view, kind_view}
 use Rattle.vhdl_expand_bodies.specs.declared.site.Placed.{Placed}
 use Rattle.vhdl_expand_bodies.specs.declared.constant.Constant.{Constant}
 use Rattle.vhdl_expand_bodies.specs.declared.site.Site.{Site}
@@ -47,6 +48,10 @@ pub record IsSite (s : Site) : Type 0 where
 -- a run of 1 to 64 elements, whose numbers fit a word
 abbrev pub IsShort : Run → Type 0
 IsShort r = IsWidth r.len × (r.first < 2 ^ 32)
+
+-- bounds that a vector can have
+abbrev pub HasFew : Bounds → Type 0
+HasFew b = bounds_size (bounds_view b) ≤ 64
 
 -- within loops whose parameters have these values
 abbrev pub with_loops : definition.Site → List ℤ → definition.Site

@@ -2,8 +2,8 @@
 //! statement is run or not.
 
 ghost use Rattle.std.specs.Prelude.{length};
-ghost use Rattle.rtl_net.specs.Bodies.{choice_view, statement_view};
-ghost use Rattle.vhdl_names_rules.specs.views.Vectors.{part_view, place_view};
+ghost use Rattle.rtl_net.specs.Bodies.{choice_view, expr_view, statement_view};
+ghost use Rattle.vhdl_names_rules.specs.views.Vectors.{chosen_view, part_view, place_view, signal_view};
 ghost use Rattle.vhdl_expand_rules.specs.Statements as definition;
 ghost use Rattle.vhdl_expand_operands.specs.Results.{Expands};
 ghost use Rattle.vhdl_expand_operands.specs.Selecteds.{selected_view};
@@ -14,9 +14,10 @@ ghost use Rattle.vhdl_names_units.specs.views.Answers as analysed;
 use crate::site::{Site, elements};
 use rtl_net::{Choice, Expr, Statement, Value};
 use std::alloc::Global;
-use vhdl_expand_operands::{Selected, Width};
-use vhdl_expand_rules::{ElabFault, ElabProblem};
-use vhdl_names_rules::{Part, SignalPart};
+use vhdl_expand_operands::{Selected, Width, both};
+use vhdl_expand_rules::{ElabFault, ElabProblem, byte};
+use vhdl_names_rules as names;
+use vhdl_names_rules::{Chosen, Part, Signal, SignalPart};
 use vhdl_names_units as analysed;
 use vhdl_names_units::Given;
 use vhdl_values::Vec9;
@@ -66,10 +67,9 @@ impl Site<'_> {
             }
             Given::Filled(element) => {
                 let element = self.one_element(alloc, element, at)?;
-                let len = width.len as u32;
-                let element = Box::new(alloc, element.operand.expr)?;
+                let filled = element.filled(alloc, width)?;
                 Ok(Selected {
-                    value: Value::Elements(Expr::Filled { len, element }),
+                    value: Value::Elements(filled.expr),
                     width,
                 })
             }
@@ -94,6 +94,103 @@ impl Site<'_> {
         Ok(Statement::Assign {
             places,
             value: selected.value,
+        })
+    }
+
+    /// What is given to so many elements of the nine values; a fault is StaticError, Length, Index
+    /// or TooWide.
+    #[tactic(auto, unfolding(vhdl_expand_rules::specs::Statements::elements_given))]
+    fn elements_given(
+        &self,
+        alloc: Global,
+        width: Width,
+        given: &Given,
+        at: usize,
+    ) -> Result<Expr, ElabFault>
+        requires { IsSite self.now }
+        ensures { Expands expr_view
+            (definition.elements_given (site_view self.now) at width.len (analysed.given_view given.now)) result }
+    {
+        let needed = width.len;
+        match given {
+            Given::Single(value) => match &**value {
+                names::Value::Elements(vector) => {
+                    let operand = self.expanded(alloc, vector)?;
+                    let found = operand.width.len;
+                    if found != needed {
+                        drop(operand);
+                        return Err(ElabProblem::Length { found, needed }.at(at));
+                    }
+                    Ok(operand.expr)
+                }
+                names::Value::Position(_)
+                | names::Value::StateOf(_)
+                | names::Value::StateOfVariable(_) => {
+                    Err(ElabProblem::Length { found: 1, needed }.at(at))
+                }
+            },
+            Given::Filled(element) => {
+                let element = self.one_element(alloc, element, at)?;
+                Ok(element.filled(alloc, width)?.expr)
+            }
+        }
+    }
+
+    /// An assignment to what a run chooses of a signal; a fault is StaticError, Length, Index or
+    /// TooWide.
+    pub(crate) fn assign_in(
+        &self,
+        alloc: Global,
+        signal: Signal,
+        part: &Chosen,
+        value: &Given,
+        at: usize,
+    ) -> Result<Statement, ElabFault>
+        requires { IsSite self.now }
+        ensures { Expands statement_view
+            (steps.assign_in (site_view self.now) at (signal_view signal) (chosen_view part.now)
+            (analysed.given_view value.now)) result }
+    {
+        let run = self.signal_elements(signal, &Part::Whole, at)?;
+        let bounds = self.signal_bounds(signal, at)?;
+        let row = self.row(alloc, bounds, part, at)?;
+        let (width, spacing) = (row.width, row.spacing());
+        let (row, value) = both(row, self.elements_given(alloc, width, value, at))?;
+        Ok(Statement::AssignAt {
+            at: byte(at),
+            index: row.index.expr,
+            spacing,
+            places: elements(run),
+            value,
+        })
+    }
+
+    /// An assignment to what a run chooses of a variable; a fault is StaticError, Length, Index or
+    /// TooWide.
+    pub(crate) fn set_in(
+        &self,
+        alloc: Global,
+        variable: usize,
+        part: &Chosen,
+        value: &Given,
+        at: usize,
+    ) -> Result<Statement, ElabFault>
+        requires { IsSite self.now }
+        ensures { Expands statement_view
+            (steps.set_in (site_view self.now) at variable (chosen_view part.now) (analysed.given_view value.now))
+            result }
+    {
+        let run = self.variable_elements(variable, &Part::Whole, at)?;
+        let bounds = self.variable_bounds(variable, at)?;
+        let row = self.row(alloc, bounds, part, at)?;
+        let (width, spacing) = (row.width, row.spacing());
+        let (row, value) = both(row, self.elements_given(alloc, width, value, at))?;
+        Ok(Statement::SetAt {
+            at: byte(at),
+            index: row.index.expr,
+            spacing,
+            elements: elements(run),
+            value,
         })
     }
 

@@ -1,9 +1,7 @@
 //! Conditions, expanded (IEEE 1076-2008, 9.2.2, 9.2.3, 9.2.9, 16.2.4; numeric_std).
 #![tactic(auto, unfolding(vhdl_expand_rules::specs::Expressions::test))]
 
-ghost use Rattle.std.specs.Prelude.{◌≡◌, true, option_map, IfOk};
-ghost use Rattle.vhdl_values.specs.declared.kinds.Logic.TheVariants.{And};
-ghost use Rattle.rtl_model.specs.bodies.Body as bodies;
+ghost use Rattle.std.specs.Prelude.{◌≡◌, true, option_map};
 ghost use Rattle.rtl_net.specs.Bodies.{test_view, test_links_of};
 ghost use Rattle.vhdl_names_rules.specs.views.Integers.{static_view};
 ghost use Rattle.vhdl_names_rules.specs.views.Tests as analysed;
@@ -15,14 +13,16 @@ ghost use Rattle.vhdl_expand_bodies.specs.Characters.{named_view, character_view
 ghost use Rattle.vhdl_expand_bodies.specs.steps.Chains.{chained};
 ghost use Rattle.vhdl_expand_bodies.specs.steps.Tests as steps;
 
+use crate::edges::edge_test;
 use crate::site::{Site, element, elements};
 use rtl_net::{Expr, Test, TestLink};
-use std::alloc::{AllocError, Global};
+use std::alloc::Global;
+use vhdl_expand_numbers::{compared_to, compared_with, relation};
 use vhdl_expand_operands::both;
 use vhdl_expand_rules::ElabFault;
 use vhdl_names_rules as analysed;
 use vhdl_names_rules::{SignalPart, Static, TestStart, Value, Vector};
-use vhdl_values::{Cmp, Edge, Logic, Nine, Vec9};
+use vhdl_values::{Cmp, Nine, Vec9};
 
 /// A character literal, and whether it stands with no parentheses.
 #[derive(Clone, Copy)]
@@ -47,14 +47,20 @@ fn name_in(vector: &Vector) -> Option<&SignalPart>
         Vector::Signal(place) => Some(place),
         Vector::Variable(_, _, _)
         | Vector::Constant(_, _, _)
+        | Vector::InSignal(_, _, _)
+        | Vector::InVariable(_, _, _)
+        | Vector::InConstant(_, _, _)
         | Vector::Character(_, _)
         | Vector::EnclosedCharacter(_, _)
         | Vector::Literal(_, _)
         | Vector::Not(_, _)
         | Vector::Chain(_, _)
         | Vector::IntegerWith(_, _, _, _)
+        | Vector::ComputedWith(_, _, _, _)
         | Vector::Encoded(_, _, _)
+        | Vector::ComputedEncoded(_, _, _)
         | Vector::Counted(_, _, _, _)
+        | Vector::Shifted(_, _, _, _)
         | Vector::Aggregate(_, _, _)
         | Vector::Sized(_, _, _) => None,
     }
@@ -87,12 +93,18 @@ fn character_in(vector: &Vector) -> Option<Character>
         Vector::Signal(_)
         | Vector::Variable(_, _, _)
         | Vector::Constant(_, _, _)
+        | Vector::InSignal(_, _, _)
+        | Vector::InVariable(_, _, _)
+        | Vector::InConstant(_, _, _)
         | Vector::Literal(_, _)
         | Vector::Not(_, _)
         | Vector::Chain(_, _)
         | Vector::IntegerWith(_, _, _, _)
+        | Vector::ComputedWith(_, _, _, _)
         | Vector::Encoded(_, _, _)
+        | Vector::ComputedEncoded(_, _, _)
         | Vector::Counted(_, _, _, _)
+        | Vector::Shifted(_, _, _, _)
         | Vector::Aggregate(_, _, _)
         | Vector::Sized(_, _, _) => None,
     }
@@ -119,37 +131,6 @@ fn turned(relation: Cmp) -> Cmp
         Cmp::Le => Cmp::Ge,
         Cmp::Gt => Cmp::Lt,
         Cmp::Ge => Cmp::Le,
-    }
-}
-
-/// An event of an element, which has this value.
-#[tactic(auto, using(rtl_net::proofs::Rows::view_combined))]
-fn event_to(alloc: Global, element: u32, value: Nine) -> Result<Test, AllocError>
-    ensures { IfOk result (λ t. test_view t ≡
-        bodies.combined And (bodies.event element) (bodies.level true element value)) }
-{
-    let first = Box::new(alloc, Test::Event(element))?;
-    let mut rest = Vec::new(alloc);
-    rest.push(TestLink {
-        operator: Logic::And,
-        operand: Test::Level {
-            plain: true,
-            net: element,
-            value,
-        },
-    })?;
-    Ok(Test::Combined { first, rest })
-}
-
-/// A test for an edge of an element. It takes the memory of a list and a box.
-fn edge_test(alloc: Global, edge: Edge, element: u32) -> Result<Test, AllocError>
-    ensures { IfOk result (λ t. test_view t ≡ definition.edge_test edge element) }
-{
-    match edge {
-        Edge::Rising => Ok(Test::Rising(element)),
-        Edge::Falling => Ok(Test::Falling(element)),
-        Edge::To1 => event_to(alloc, element, Nine::One),
-        Edge::To0 => event_to(alloc, element, Nine::Zero),
     }
 }
 
@@ -198,6 +179,21 @@ impl Site<'_> {
                 let number = self.integers.natural(integer, *at)?;
                 let operand = self.expanded(alloc, vector)?;
                 Ok(Test::ComparedTo(turned(*relation), operand.expr, number))
+            }
+            analysed::Test::ComparedToComputed(relation, at, vector, integer) => {
+                let operand = self.expanded(alloc, vector)?;
+                let (operand, number) = both(operand, self.computed(alloc, integer, *at))?;
+                Ok(compared_to(alloc, *relation, operand, number)?)
+            }
+            analysed::Test::ComparedWithComputed(relation, at, integer, vector) => {
+                let number = self.computed(alloc, integer, *at)?;
+                let (number, operand) = both(number, self.expanded(alloc, vector))?;
+                Ok(compared_with(alloc, *relation, number, operand)?)
+            }
+            analysed::Test::ComputedCompared(compare, at, left, right) => {
+                let left = self.computed(alloc, left, *at)?;
+                let (left, right) = both(left, self.computed(alloc, right, *at))?;
+                Ok(relation(alloc, *compare, left, right)?)
             }
             analysed::Test::Edge(edge, place) => {
                 let element = self.signal_element(place.signal, &place.part, place.at)?;

@@ -8,8 +8,10 @@
 
 mod aggregates;
 mod assignments;
+mod computed;
 mod conditions;
 mod constant;
+mod edges;
 mod layout;
 mod site;
 mod statements;

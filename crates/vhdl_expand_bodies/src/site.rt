@@ -1,19 +1,21 @@
 //! What is known where a body stands, and the elements that its names mean (IEEE 1076-2008, 8.1 to
 //! 8.5).
 
-ghost use Rattle.std.specs.Prelude.{◌≡◌, ℕ, ◌+◌, ◌^◌, ◌<◌, [], map, option_map, slice_get, IfOk, Ok};
+ghost use Rattle.std.specs.Prelude.{◌≡◌, ℕ, ◌+◌, ◌^◌, ◌<◌, [], map, option_map, slice_get, Some, IfOk, Ok};
+ghost use Rattle.rtl_model.specs.bodies.Fits.{IsWidth};
 ghost use Rattle.rtl_net.specs.Indices.{numbers};
 ghost use Rattle.vhdl_names_rules.specs.views.Vectors.{part_view, signal_view};
+ghost use Rattle.vhdl_expand_rules.specs.Kinds.{size};
 ghost use Rattle.vhdl_expand_rules.specs.Site as definition;
 ghost use Rattle.vhdl_expand_rules.specs.Site.{elements_count, the_element};
 ghost use Rattle.vhdl_expand_rules.specs.views.Integers.{integers_view};
-ghost use Rattle.vhdl_expand_rules.specs.views.Kinds.{run_view};
+ghost use Rattle.vhdl_expand_rules.specs.views.Kinds.{bounds_view, kind_view, run_view};
 ghost use Rattle.vhdl_expand_operands.specs.Results.{Expands};
-ghost use Rattle.vhdl_expand_bodies.specs.Sites.{ArePlaced, IsSite, IsShort, constant_view, placed_kind, site_view, with_loops};
+ghost use Rattle.vhdl_expand_bodies.specs.Sites.{ArePlaced, HasFew, IsSite, IsShort, constant_view, placed_kind, site_view, with_loops};
 
 use crate::constant::Constant;
 use rtl_net::Indices;
-use vhdl_expand_rules::{ElabFault, ElabProblem, Integers, ObjectKind, Run};
+use vhdl_expand_rules::{Bounds, ElabFault, ElabProblem, Integers, ObjectKind, Run};
 use vhdl_names_rules::{Part, Signal};
 use vhdl_values::Vec9;
 
@@ -56,6 +58,31 @@ pub(crate) fn element(run: Run) -> u32
     ensures { (at : ℕ) → the_element at (Ok (run_view run)) ≡ Ok result }
 {
     run.first as u32
+}
+
+/// The bounds of a vector; a fault is Index.
+fn vector_bounds(kind: ObjectKind, at: usize) -> Result<Bounds, ElabFault>
+    requires { IsWidth (size (kind_view kind)) }
+    ensures given { Expands bounds_view (definition.bounds_of at (Some (kind_view kind))) result }
+    ensures few { IfOk result HasFew }
+{
+    match kind {
+        ObjectKind::Vector(bounds) => Ok(bounds),
+        ObjectKind::One | ObjectKind::Enumeration(_) => Err(ElabProblem::Index.at(at)),
+    }
+}
+
+/// The bounds of the thing of this number, if it is a vector; a fault is Index.
+fn bounds_of(things: &[Placed], number: usize, at: usize) -> Result<Bounds, ElabFault>
+    requires { ArePlaced things.now }
+    ensures given { Expands bounds_view
+        (definition.bounds_of at (slice_get (map placed_kind things.now) number)) result }
+    ensures few { IfOk result HasFew }
+{
+    match things.get(number) {
+        Some(thing) => vector_bounds(thing.kind, at),
+        None => Err(ElabProblem::Index.at(at)),
+    }
 }
 
 impl Site<'_> {
@@ -145,6 +172,40 @@ impl Site<'_> {
         };
         let places = self.integers.places(constant.kind, part, at)?;
         Ok(constant.values.slice(places.first, places.len))
+    }
+
+    /// The bounds of a signal or port that is a vector; a fault is Index.
+    #[tactic(auto, unfolding(vhdl_expand_rules::specs::Site::signal_bounds))]
+    pub(crate) fn signal_bounds(&self, signal: Signal, at: usize) -> Result<Bounds, ElabFault>
+        requires { IsSite self.now }
+        ensures given { Expands bounds_view (definition.signal_bounds (site_view self.now) at (signal_view signal))
+            result }
+        ensures few { IfOk result HasFew }
+    {
+        match signal {
+            Signal::Port(number) => bounds_of(self.ports, number, at),
+            Signal::Signal(number) => bounds_of(self.signals, number, at),
+        }
+    }
+
+    /// The bounds of a variable that is a vector; a fault is Index.
+    pub(crate) fn variable_bounds(&self, number: usize, at: usize) -> Result<Bounds, ElabFault>
+        requires { IsSite self.now }
+        ensures given { Expands bounds_view (definition.variable_bounds (site_view self.now) at number) result }
+        ensures few { IfOk result HasFew }
+    {
+        bounds_of(self.variables, number, at)
+    }
+
+    /// The bounds of a constant that is a vector; a fault is Index.
+    pub(crate) fn constant_bounds(&self, number: usize, at: usize) -> Result<Bounds, ElabFault>
+        ensures given { Expands bounds_view (definition.constant_bounds (site_view self.now) at number) result }
+        ensures few { IfOk result HasFew }
+    {
+        match self.constant(number) {
+            Some(constant) => vector_bounds(constant.kind, at),
+            None => Err(ElabProblem::Index.at(at)),
+        }
     }
 
     /// This within loops whose parameters have these values.

@@ -107,6 +107,18 @@ impl Site<'_> {
                 part,
                 value,
             } => add(body, self.set(alloc, *variable, part, value, *at)),
+            analysed::Statement::AssignIn {
+                at,
+                signal,
+                part,
+                value,
+            } => add(body, self.assign_in(alloc, *signal, part, value, *at)),
+            analysed::Statement::SetIn {
+                at,
+                variable,
+                part,
+                value,
+            } => add(body, self.set_in(alloc, *variable, part, value, *at)),
             analysed::Statement::If(conditional) => {
                 add(body, self.conditional(alloc, conditional))
             }

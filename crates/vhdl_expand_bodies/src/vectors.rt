@@ -2,21 +2,24 @@
 
 ghost use Rattle.std.specs.Prelude.{◌≡◌, option_map};
 ghost use Rattle.vhdl_names_rules.specs.views.Integers.{option_range_view, range_view, static_view};
-ghost use Rattle.vhdl_names_rules.specs.views.Vectors.{part_view, place_view, vector_view};
+ghost use Rattle.vhdl_names_rules.specs.units.Expressions as units;
+ghost use Rattle.vhdl_names_rules.specs.views.Vectors.{part_view, signal_view, place_view, chosen_view, vector_view};
 ghost use Rattle.vhdl_expand_rules.specs.Expressions as definition;
 ghost use Rattle.vhdl_expand_operands.specs.Results.{Expands};
+ghost use Rattle.vhdl_expand_numbers.specs.Views.{number_view};
 ghost use Rattle.vhdl_expand_bodies.specs.Sites.{IsSite, site_view};
 ghost use Rattle.vhdl_expand_bodies.specs.steps.Chains.{chained};
 ghost use Rattle.vhdl_expand_bodies.specs.steps.Vectors as steps;
 ghost use Rattle.vhdl_expand_operands.specs.Operands.{operand_view, chain_view};
 
 use crate::site::{Site, elements};
-use rtl_net::Expr;
+use rtl_net::{Expr, RowsOf};
 use std::alloc::Global;
+use vhdl_expand_numbers::{Number, listed};
 use vhdl_expand_operands::{Chain, Operand, Width, both, numeric, operator};
 use vhdl_expand_rules::{ElabFault, ElabProblem};
 use vhdl_names_rules::{
-    Numeric, Part, SignalPart, Static, StaticRange, Vector, VectorLink, VectorStart,
+    Chosen, Numeric, Part, Signal, SignalPart, Static, StaticRange, Vector, VectorLink, VectorStart,
 };
 use vhdl_values::{Counted, Nine, Vec9};
 
@@ -58,6 +61,9 @@ impl Site<'_> {
                 let values = self.constant_values(*number, part, *at)?;
                 Ok(Operand::constant(values))
             }
+            Vector::InSignal(at, signal, part) => self.in_signal(alloc, *signal, part, *at),
+            Vector::InVariable(at, number, part) => self.in_variable(alloc, *number, part, *at),
+            Vector::InConstant(at, number, part) => self.in_constant(alloc, *number, part, *at),
             Vector::Character(_, value) | Vector::EnclosedCharacter(_, value) => {
                 Ok(Operand::constant(Vec9::fill(*value, 1)))
             }
@@ -74,9 +80,23 @@ impl Site<'_> {
             Vector::IntegerWith(operator, at, integer, operand) => {
                 self.integer_with(alloc, *operator, operand, integer, *at)
             }
+            Vector::ComputedWith(operator, at, integer, operand) => {
+                let number = self.computed(alloc, integer, *at)?;
+                self.computed_with(alloc, *operator, number, operand, *at)
+            }
             Vector::Encoded(at, number, size) => self.encoded(number, size, *at),
+            Vector::ComputedEncoded(at, number, size) => {
+                let number = self.computed(alloc, number, *at)?;
+                let (number, len) = both(number, self.integers.size_of(size, *at))?;
+                Ok(number.natural_digits(alloc, len as usize)?)
+            }
             Vector::Counted(at, operator, operand, count) => {
                 self.by_count(alloc, *operator, operand, count, *at)
+            }
+            Vector::Shifted(at, operator, operand, count) => {
+                let operand = self.expanded(alloc, operand)?;
+                let (operand, count) = both(operand, self.computed(alloc, count, *at))?;
+                Ok(operand.shifted(alloc, *operator, count.operand)?)
             }
             Vector::Aggregate(at, range, elements) => {
                 self.aggregate(alloc, lent_range(range), elements, *at)
@@ -111,6 +131,97 @@ impl Site<'_> {
         })
     }
 
+    /// What a run chooses of a signal or port.
+    #[cycle(vector)]
+    #[tactic(auto, unfolding(vhdl_expand_rules::specs::Expressions::vector))]
+    fn in_signal(
+        &self,
+        alloc: Global,
+        signal: Signal,
+        part: &Chosen,
+        at: usize,
+    ) -> Result<Operand, ElabFault>
+        requires { IsSite self.now }
+        ensures { Expands operand_view
+            (definition.vector (site_view self.now) (units.in_signal at (signal_view signal) (chosen_view part.now)))
+            result }
+    {
+        let run = self.signal_elements(signal, &Part::Whole, at)?;
+        let bounds = self.signal_bounds(signal, at)?;
+        let row = self.row(alloc, bounds, part, at)?;
+        Ok(
+            row.index
+                .choose(alloc, row.width, RowsOf::Signals(elements(run)))?,
+        )
+    }
+
+    /// What a run chooses of a variable.
+    #[cycle(vector)]
+    #[tactic(auto, unfolding(vhdl_expand_rules::specs::Expressions::vector))]
+    fn in_variable(
+        &self,
+        alloc: Global,
+        number: usize,
+        part: &Chosen,
+        at: usize,
+    ) -> Result<Operand, ElabFault>
+        requires { IsSite self.now }
+        ensures { Expands operand_view
+            (definition.vector (site_view self.now) (units.in_variable at number (chosen_view part.now))) result }
+    {
+        let run = self.variable_elements(number, &Part::Whole, at)?;
+        let bounds = self.variable_bounds(number, at)?;
+        let row = self.row(alloc, bounds, part, at)?;
+        Ok(
+            row.index
+                .choose(alloc, row.width, RowsOf::Variables(elements(run)))?,
+        )
+    }
+
+    /// What a run chooses of a constant. It takes the memory of the constant's values.
+    #[cycle(vector)]
+    #[tactic(auto, unfolding(vhdl_expand_rules::specs::Expressions::vector))]
+    fn in_constant(
+        &self,
+        alloc: Global,
+        number: usize,
+        part: &Chosen,
+        at: usize,
+    ) -> Result<Operand, ElabFault>
+        requires { IsSite self.now }
+        ensures { Expands operand_view
+            (definition.vector (site_view self.now) (units.in_constant at number (chosen_view part.now))) result }
+    {
+        let values = self.constant_values(number, &Part::Whole, at)?;
+        let bounds = self.constant_bounds(number, at)?;
+        let row = self.row(alloc, bounds, part, at)?;
+        let rows = RowsOf::Constants(listed(alloc, &values)?);
+        Ok(row.index.choose(alloc, row.width, rows)?)
+    }
+
+    /// A computed number, an operator and a vector: the number stands for its last digits, as many
+    /// as the vector has.
+    #[cycle(vector)]
+    fn computed_with(
+        &self,
+        alloc: Global,
+        operator: Numeric,
+        number: Number,
+        operand: &Vector,
+        at: usize,
+    ) -> Result<Operand, ElabFault>
+        requires { IsSite self.now }
+        ensures { Expands operand_view
+            (steps.computed_with (site_view self.now) at operator (number_view number) (vector_view operand.now))
+            result }
+    {
+        let (number, operand) = both(number, self.expanded(alloc, operand))?;
+        let digits = number.natural_digits(alloc, operand.width.len)?;
+        let mut chain = digits.begin(alloc)?;
+        chain.add(numeric(operator), operand, at)?;
+        Ok(chain.whole())
+    }
+
     /// `to_unsigned`.
     #[tactic(auto, using(crate::proofs::Places::size_fits))]
     fn encoded(&self, number: &Static, size: &Static, at: usize) -> Result<Operand, ElabFault>
@@ -124,7 +235,7 @@ impl Site<'_> {
 
     /// An operator with a count.
     #[cycle(vector)]
-    #[tactic(auto, using(vhdl_expand_rules::proofs::laws::Vectors::count_is_count))]
+    #[tactic(auto, using(vhdl_expand_rules::proofs::laws::Operands::count_is_count))]
     fn by_count(
         &self,
         alloc: Global,
@@ -208,6 +319,11 @@ impl Site<'_> {
             VectorLink::Integer(kind, at, integer) => {
                 let number = self.integers.natural(integer, *at)?;
                 let digits = Operand::constant(Vec9::of_nat(u64::from(number), chain.width.len));
+                chain.add(numeric(*kind), digits, *at)
+            }
+            VectorLink::Computed(kind, at, integer) => {
+                let number = self.computed(alloc, integer, *at)?;
+                let digits = number.natural_digits(alloc, chain.width.len)?;
                 chain.add(numeric(*kind), digits, *at)
             }
         }

@@ -20,7 +20,8 @@ use Rattle.vhdl_expand_declarations.specs.Regions.{entered_at, integers_of}
 use Rattle.vhdl_expand_declarations.specs.Stepwise.{stepwise}
 use Rattle.vhdl_expand_declarations.specs.declared.region.Entered.TheVariants as e
 use Rattle.vhdl_expand_declarations.proofs.Elsewhere.{integer_elsewhere, constant_elsewhere}
-use Rattle.vhdl_expand_declarations.proofs.Growing.{stays_same, stays_then, kept_same, kept_behind, More, kind_stays, integer_of_stays, decision_stays, Grown, known_grown, more_ranges, fixed_stays}
+use Rattle.vhdl_expand_declarations.proofs.Growing.{stays_same, stays_then, kept_same, kept_behind, More, kind_stays, integer_of_stays, decision_stays, Grown, fixed_stays}
+use Rattle.vhdl_expand_declarations.proofs.Grown.{known_grown, more_ranges}
 use Rattle.vhdl_expand_declarations.proofs.Walks.{first_stops}
 
 -- ---- so many alike

@@ -21,7 +21,7 @@ use Rattle.vhdl_expand_rules.specs.Site.{Site, Constant, signal_elements, variab
 use Rattle.vhdl_expand_rules.specs.Expressions as x
 use Rattle.vhdl_expand_rules.specs.Statements.{value_given}
 use Rattle.vhdl_expand_rules.specs.Declarations.{as_long_as, elements_of_value, position_of_value, fixed_values, given_starts, starts}
-use Rattle.vhdl_expand_rules.proofs.Steps.{given, bound}
+use Rattle.vhdl_expand_rules.proofs.Steps.{given}
 use Rattle.vhdl_expand_declarations.specs.Constants.{constant_of}
 use Rattle.vhdl_expand_declarations.specs.Objects.{shape_of}
 use Rattle.vhdl_expand_declarations.proofs.Growing.{Stays, stays_same, stays_then}

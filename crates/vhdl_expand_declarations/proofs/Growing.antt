@@ -1,25 +1,26 @@
 -- What is computed stays what it is when more is declared.
-use Rattle.std.proofs.Common.{◌≡◌, ℕ, ◌+◌, suc, zero, List, [], ◌∷◌, ◌++◌, map, take, Option, Some, None, Ok, Err, refl, ap, ◌∙◌}
+use Rattle.std.proofs.Common.{◌≡◌, ℕ, suc, zero, List, [], ◌∷◌, ◌++◌, Option, Some, None, Ok, Err, refl, ap, ◌∙◌}
 use Rattle.std.specs.Prelude.{ℤ, pos, slice_get}
 use Rattle.vhdl_names_rules.specs.units.Expressions as u
-use Rattle.vhdl_names_rules.specs.units.Expressions.{Static, StaticTest, Range, Part, Signal, Vector, Elements, Value}
+use Rattle.vhdl_names_rules.specs.units.Expressions.{Static, StaticTest, Range, Part, Signal, Computed, Chosen, Vector, Elements, Value}
 use Rattle.vhdl_names_rules.specs.units.Statements as s
 use Rattle.vhdl_names_rules.specs.units.Units as units
 use Rattle.vhdl_names_rules.specs.units.Units.{IntegerSubtype, Fixed, Form}
 use Rattle.vhdl_values.specs.declared.kinds.Counted.{Counted}
-use Rattle.vhdl_values.specs.declared.kinds.Counted.TheVariants.{Resize, ShiftLeft, ShiftRight}
+use Rattle.vhdl_values.specs.declared.kinds.Counted.TheVariants.{Resize, ResizeSigned, Shift}
 use Rattle.vhdl_expand_rules.specs.declared.fault.ElabProblem.{ElabProblem}
 use Rattle.vhdl_expand_rules.specs.declared.fault.ElabProblem.TheVariants as problem
 use Rattle.vhdl_expand_rules.specs.Elab.{Elab, ◌>>=◌, item_or}
-use Rattle.vhdl_expand_rules.specs.Integers.{IntegerRange, Integers, Numbers, checked_integer, known_range, integer, natural, base_numbers, numbers_within, numbers_of, integer_of, decision}
-use Rattle.vhdl_expand_rules.specs.Kinds.{ObjectKind, one, vector, enumeration, size, declared_bounds, kind_of, size_of, count_of, places}
+use Rattle.vhdl_expand_rules.specs.Integers.{Integers, Numbers, checked_integer, known_range, integer, natural, base_numbers, numbers_within, numbers_of, integer_of, decision}
+use Rattle.vhdl_expand_rules.specs.Kinds.{Bounds, ObjectKind, one, vector, enumeration, size, declared_bounds, kind_of, size_of, count_of, places}
 use Rattle.vhdl_expand_rules.specs.Aggregates.{computed_range, given_indexes, choice_indexes, chosen_indexes}
-use Rattle.vhdl_expand_rules.specs.Site.{Constant, Site, part_elements, elements_count, signal_elements, place_elements, variable_elements, constant_values, the_element}
+use Rattle.vhdl_expand_rules.specs.Site as site
+use Rattle.vhdl_expand_rules.specs.Site.{Site, part_elements, signal_elements, place_elements, variable_elements, constant_values, bounds_of, constant_bounds, the_element}
 use Rattle.vhdl_expand_rules.specs.Expressions as x
 use Rattle.vhdl_expand_rules.specs.Statements.{value_given}
 use Rattle.vhdl_expand_rules.specs.Declarations.{fixed_values, given_starts, starts}
-use Rattle.vhdl_expand_rules.proofs.Steps.{given, bound}
 use Rattle.vhdl_expand_rules.proofs.laws.Names.{was_found}
+use Rattle.vhdl_expand_rules.proofs.laws.Chosen.{bounds_found}
 
 -- what the first computes, the second computes
 abbrev pub Stays : {A : Type 0} → Elab A → Elab A → Type 0
@@ -50,8 +51,8 @@ kept_behind [] ys k z h = absurd cc
 kept_behind (y ∷ xs) ys zero z h = h
 kept_behind (y ∷ xs) ys (suc k) z h = kept_behind xs ys k z h
 
-found-stays : {A : Type 0} (problem : ElabProblem) (at k : ℕ) (xs ys : List A) → Kept xs ys → Stays (item_or problem at (slice_get xs k)) (item_or problem at (slice_get ys k))
-found-stays problem at k xs ys kept z h = ap (item_or problem at) (kept k z (was_found problem at (slice_get xs k) z h))
+pub found_stays : {A : Type 0} (problem : ElabProblem) (at k : ℕ) (xs ys : List A) → Kept xs ys → Stays (item_or problem at (slice_get xs k)) (item_or problem at (slice_get ys k))
+found_stays problem at k xs ys kept z h = ap (item_or problem at) (kept k z (was_found problem at (slice_get xs k) z h))
 
 -- ---- integers
 
@@ -66,18 +67,18 @@ module _ (here more : Integers) (m : More here more) where
   integer-stays : (at : ℕ) (t : Static) → Stays (integer here at t) (integer more at t)
   unfolding integer
   integer-stays at (u.number n) = stays_same (checked_integer at (pos n))
-  integer-stays at (u.generic k) = found-stays problem.StaticError at k here.generics more.generics m.generics
-  integer-stays at (u.Static.constant k) = found-stays problem.StaticError at k here.constants more.constants m.constants
-  integer-stays at (u.generate_parameter k) = found-stays problem.StaticError at k here.generates more.generates m.generates
-  integer-stays at (u.loop_parameter k) = found-stays problem.StaticError at k here.loops more.loops m.loops
+  integer-stays at (u.generic k) = found_stays problem.StaticError at k here.generics more.generics m.generics
+  integer-stays at (u.Static.constant k) = found_stays problem.StaticError at k here.constants more.constants m.constants
+  integer-stays at (u.generate_parameter k) = found_stays problem.StaticError at k here.generates more.generates m.generates
+  integer-stays at (u.loop_parameter k) = found_stays problem.StaticError at k here.loops more.loops m.loops
   integer-stays at (u.Static.negated sign t) = stays_before (integer here sign t) (integer more sign t) _ (integer-stays sign t)
   integer-stays at (u.absolute sign t) = stays_before (integer here sign t) (integer more sign t) _ (integer-stays sign t)
   integer-stays at (u.Static.binary sign op t r) =
       stays_then (integer here sign t) (integer more sign t) _ _ (integer-stays sign t) (λ y.
       stays_before (integer here sign r) (integer more sign r) _ (integer-stays sign r))
-  integer-stays at (u.bound b k) = stays_before (known_range at here.ranges k) (known_range at more.ranges k) _ (found-stays problem.StaticError at k here.ranges more.ranges m.ranges)
+  integer-stays at (u.bound b k) = stays_before (known_range at here.ranges k) (known_range at more.ranges k) _ (found_stays problem.StaticError at k here.ranges more.ranges m.ranges)
   integer-stays at (u.slice_bound own b k t d r) =
-      stays_then (known_range own here.ranges k) (known_range own more.ranges k) _ _ (found-stays problem.StaticError own k here.ranges more.ranges m.ranges) (λ w.
+      stays_then (known_range own here.ranges k) (known_range own more.ranges k) _ _ (found_stays problem.StaticError own k here.ranges more.ranges m.ranges) (λ w.
       stays_then (integer here own t) (integer more own t) _ _ (integer-stays own t) (λ y.
       stays_before (integer here own r) (integer more own r) _ (integer-stays own r)))
 
@@ -92,8 +93,8 @@ module _ (here more : Integers) (m : More here more) where
   count-stays : (op : Counted) (at : ℕ) (t : Static) → Stays (count_of op here at t) (count_of op more at t)
   unfolding count_of
   count-stays Resize at t = size-stays at t
-  count-stays ShiftLeft at t = natural-stays at t
-  count-stays ShiftRight at t = natural-stays at t
+  count-stays ResizeSigned at t = size-stays at t
+  count-stays (Shift by) at t = natural-stays at t
 
   bounds-stay : (at : ℕ) (r : Range) → Stays (declared_bounds here at r) (declared_bounds more at r)
   unfolding declared_bounds
@@ -107,29 +108,29 @@ module _ (here more : Integers) (m : More here more) where
   kind_stays at (units.vector r) = stays_before (declared_bounds here at r) (declared_bounds more at r) _ (bounds-stay at r)
   kind_stays at (units.enumeration count) = stays_same (Ok (enumeration count))
 
-  places-stay : (at : ℕ) (kind : ObjectKind) (part : Part) → Stays (places here at kind part) (places more at kind part)
+  pub places_stay : (at : ℕ) (kind : ObjectKind) (part : Part) → Stays (places here at kind part) (places more at kind part)
   unfolding places
-  places-stay at kind u.whole = stays_same _
-  places-stay at (vector b) (u.Part.element t) = stays_before (integer here at t) (integer more at t) _ (integer-stays at t)
-  places-stay at (vector b) (u.slice r) =
+  places_stay at kind u.whole = stays_same _
+  places_stay at (vector b) (u.Part.element t) = stays_before (integer here at t) (integer more at t) _ (integer-stays at t)
+  places_stay at (vector b) (u.slice r) =
       stays_then (integer here at r.left) (integer more at r.left) _ _ (integer-stays at r.left) (λ y.
       stays_before (integer here at r.right) (integer more at r.right) _ (integer-stays at r.right))
-  places-stay at one (u.Part.element t) = stays_same _
-  places-stay at one (u.slice r) = stays_same _
-  places-stay at (enumeration n) (u.Part.element t) = stays_same _
-  places-stay at (enumeration n) (u.slice r) = stays_same _
+  places_stay at one (u.Part.element t) = stays_same _
+  places_stay at one (u.slice r) = stays_same _
+  places_stay at (enumeration n) (u.Part.element t) = stays_same _
+  places_stay at (enumeration n) (u.slice r) = stays_same _
 
   -- of the same things
   pub part_stays : (at from : ℕ) (kinds : List ObjectKind) (k : ℕ) (part : Part) → Stays (part_elements here at from kinds k part) (part_elements more at from kinds k part)
   part_stays at from kinds k part =
       stays_then (item_or problem.Index at (slice_get kinds k)) (item_or problem.Index at (slice_get kinds k)) _ _ (stays_same (item_or problem.Index at (slice_get kinds k))) (λ kind.
-      stays_before (places here at kind part) (places more at kind part) _ (places-stay at kind part))
+      stays_before (places here at kind part) (places more at kind part) _ (places_stay at kind part))
 
   -- ---- integer subtypes and truths
 
   base-stays : (at : ℕ) (b : units.Integers) → Stays (base_numbers here at b) (base_numbers more at b)
   base-stays at (units.of_type w) = stays_same _
-  base-stays at (units.of_range k) = stays_before (known_range at here.ranges k) (known_range at more.ranges k) _ (found-stays problem.StaticError at k here.ranges more.ranges m.ranges)
+  base-stays at (units.of_range k) = stays_before (known_range at here.ranges k) (known_range at more.ranges k) _ (found_stays problem.StaticError at k here.ranges more.ranges m.ranges)
 
   within-stays : (base : Numbers) (r : Option (ℕ × Range)) → Stays (numbers_within here base r) (numbers_within more base r)
   within-stays base None = stays_same (Ok base)
@@ -187,21 +188,67 @@ pub record Grown (here more : Site) : Type 0 where
   pub constants : Kept here.constants more.constants
   pub signals : (at : ℕ) (n : Signal) (part : Part) → Stays (signal_elements here at n part) (signal_elements more at n part)
   pub variables : (at k : ℕ) (part : Part) → Stays (variable_elements here at k part) (variable_elements more at k part)
+  pub signal_bounds : (at : ℕ) (n : Signal) → Stays (site.signal_bounds here at n) (site.signal_bounds more at n)
+  pub variable_bounds : (at k : ℕ) → Stays (site.variable_bounds here at k) (site.variable_bounds more at k)
+
+-- of things that are found
+pub bounds_kept : (at : ℕ) (ks js : List ObjectKind) → Kept ks js → (k : ℕ) → Stays (bounds_of at (slice_get ks k)) (bounds_of at (slice_get js k))
+bounds_kept at ks js kept k b h = ap (bounds_of at) (kept k (vector b) (bounds_found at (slice_get ks k) b h))
 
 module _ (here more : Site) (g : Grown here more) where
+  constant-bounds : (at k : ℕ) → Stays (constant_bounds here at k) (constant_bounds more at k)
+  constant-bounds at k =
+      stays_before (item_or problem.Index at (slice_get here.constants k)) (item_or problem.Index at (slice_get more.constants k)) _ (found_stays problem.Index at k here.constants more.constants g.constants)
+
   constant-stays : (at k : ℕ) (part : Part) → Stays (constant_values here at k part) (constant_values more at k part)
   unfolding constant_values
   constant-stays at k part =
-      stays_then (item_or problem.Index at (slice_get here.constants k)) (item_or problem.Index at (slice_get more.constants k)) _ _ (found-stays problem.Index at k here.constants more.constants g.constants) (λ c.
-      stays_before (places here.integers at c.kind part) (places more.integers at c.kind part) _ (places-stay here.integers more.integers g.integers at c.kind part))
+      stays_then (item_or problem.Index at (slice_get here.constants k)) (item_or problem.Index at (slice_get more.constants k)) _ _ (found_stays problem.Index at k here.constants more.constants g.constants) (λ c.
+      stays_before (places here.integers at c.kind part) (places more.integers at c.kind part) _ (places_stay here.integers more.integers g.integers at c.kind part))
 
   mutual
     unfolding x.vector
+
+    computed-stays : (at : ℕ) (c : Computed) → Stays (x.computed here at c) (x.computed more at c)
+    computed-stays at (u.static t) = stays_before (integer here.integers at t) (integer more.integers at t) _ (integer-stays here.integers more.integers g.integers at t)
+    computed-stays at (u.number_of place v) = stays_before (x.vector here v) (x.vector more v) _ (vector-stays v)
+    computed-stays at (u.Computed.negated place c) = stays_before (x.computed here place c) (x.computed more place c) _ (computed-stays place c)
+    computed-stays at (u.magnitude place c) = stays_before (x.computed here place c) (x.computed more place c) _ (computed-stays place c)
+    computed-stays at (u.calculated place op c d) =
+        stays_then (x.computed here place c) (x.computed more place c) _ _ (computed-stays place c) (λ a.
+        stays_before (x.computed here place d) (x.computed more place d) _ (computed-stays place d))
+
+    measured-stays : (at : ℕ) (c : Computed) → Stays (x.measured here at c) (x.measured more at c)
+    measured-stays at (u.static t) = stays_before (integer here.integers at t) (integer more.integers at t) _ (integer-stays here.integers more.integers g.integers at t)
+    measured-stays at (u.number_of place v) = stays_before (x.vector here v) (x.vector more v) _ (vector-stays v)
+    measured-stays at (u.Computed.negated place c) = stays_before (x.measured here place c) (x.measured more place c) _ (measured-stays place c)
+    measured-stays at (u.magnitude place c) = stays_before (x.computed here place c) (x.computed more place c) _ (computed-stays place c)
+    measured-stays at (u.calculated place op c d) =
+        stays_then (x.measured here place c) (x.measured more place c) _ _ (measured-stays place c) (λ a.
+        stays_before (x.measured here place d) (x.measured more place d) _ (measured-stays place d))
+
+    row-stays : (at : ℕ) (b : Bounds) (c : Chosen) → Stays (x.chosen_row here at b c) (x.chosen_row more at b c)
+    row-stays at b (u.element_at c) = stays_before (x.computed here at c) (x.computed more at c) _ (computed-stays at c)
+    row-stays at b (u.slice_at c direction d) =
+        stays_then (x.measured here at c) (x.measured more at c) _ _ (measured-stays at c) (λ l.
+        stays_before (x.measured here at d) (x.measured more at d) _ (measured-stays at d))
 
     vector-stays : (v : Vector) → Stays (x.vector here v) (x.vector more v)
     vector-stays (u.of_signal p) = stays_before (place_elements here p) (place_elements more p) _ (g.signals p.at p.signal p.part)
     vector-stays (u.of_variable at k part) = stays_before (variable_elements here at k part) (variable_elements more at k part) _ (g.variables at k part)
     vector-stays (u.of_constant at k part) = stays_before (constant_values here at k part) (constant_values more at k part) _ (constant-stays at k part)
+    vector-stays (u.in_signal at n c) =
+        stays_then (signal_elements here at n u.whole) (signal_elements more at n u.whole) _ _ (g.signals at n u.whole) (λ es.
+        stays_then (site.signal_bounds here at n) (site.signal_bounds more at n) _ _ (g.signal_bounds at n) (λ b.
+        stays_before (x.chosen_row here at b c) (x.chosen_row more at b c) _ (row-stays at b c)))
+    vector-stays (u.in_variable at k c) =
+        stays_then (variable_elements here at k u.whole) (variable_elements more at k u.whole) _ _ (g.variables at k u.whole) (λ es.
+        stays_then (site.variable_bounds here at k) (site.variable_bounds more at k) _ _ (g.variable_bounds at k) (λ b.
+        stays_before (x.chosen_row here at b c) (x.chosen_row more at b c) _ (row-stays at b c)))
+    vector-stays (u.in_constant at k c) =
+        stays_then (constant_values here at k u.whole) (constant_values more at k u.whole) _ _ (constant-stays at k u.whole) (λ vs.
+        stays_then (constant_bounds here at k) (constant_bounds more at k) _ _ (constant-bounds at k) (λ b.
+        stays_before (x.chosen_row here at b c) (x.chosen_row more at b c) _ (row-stays at b c)))
     vector-stays (u.character c) = stays_same _
     vector-stays (u.enclosed_character c) = stays_same _
     vector-stays (u.Vector.literal at xs) = stays_same _
@@ -218,6 +265,18 @@ module _ (here more : Site) (g : Grown here more) where
     vector-stays (u.Vector.encoded at t r) =
         stays_then (natural here.integers at t) (natural more.integers at t) _ _ (natural-stays here.integers more.integers g.integers at t) (λ n.
         stays_before (size_of here.integers at r) (size_of more.integers at r) _ (size-stays here.integers more.integers g.integers at r))
+    vector-stays (u.with_computed at op v c) =
+        stays_then (x.vector here v) (x.vector more v) _ _ (vector-stays v) (λ e.
+        stays_before (x.computed here at c) (x.computed more at c) _ (computed-stays at c))
+    vector-stays (u.computed_with at op c v) =
+        stays_then (x.computed here at c) (x.computed more at c) _ _ (computed-stays at c) (λ n.
+        stays_before (x.vector here v) (x.vector more v) _ (vector-stays v))
+    vector-stays (u.computed_encoded at c r) =
+        stays_then (x.computed here at c) (x.computed more at c) _ _ (computed-stays at c) (λ n.
+        stays_before (size_of here.integers at r) (size_of more.integers at r) _ (size-stays here.integers more.integers g.integers at r))
+    vector-stays (u.shifted at by v c) =
+        stays_then (x.vector here v) (x.vector more v) _ _ (vector-stays v) (λ e.
+        stays_before (x.computed here at c) (x.computed more at c) _ (computed-stays at c))
     vector-stays (u.counted at op v t) =
         stays_then (x.vector here v) (x.vector more v) _ _ (vector-stays v) (λ e.
         stays_before (count_of op here.integers at t) (count_of op more.integers at t) _ (count-stays here.integers more.integers g.integers op at t))
@@ -261,7 +320,7 @@ module _ (here more : Site) (g : Grown here more) where
   pub fixed_stays : (at len : ℕ) (f : Fixed) → Stays (fixed_values here at len f) (fixed_values more at len f)
   unfolding fixed_values
   fixed_stays at len (units.Fixed.constant k) =
-      stays_before (item_or problem.Index at (slice_get here.constants k)) (item_or problem.Index at (slice_get more.constants k)) _ (found-stays problem.Index at k here.constants more.constants g.constants)
+      stays_before (item_or problem.Index at (slice_get here.constants k)) (item_or problem.Index at (slice_get more.constants k)) _ (found_stays problem.Index at k here.constants more.constants g.constants)
   fixed_stays at len (units.Fixed.encoded t r) =
       stays_then (natural here.integers at t) (natural more.integers at t) _ _ (natural-stays here.integers more.integers g.integers at t) (λ n.
       stays_before (size_of here.integers at r) (size_of more.integers at r) _ (size-stays here.integers more.integers g.integers at r))
@@ -282,91 +341,3 @@ module _ (here more : Site) (g : Grown here more) where
   unfolding starts
   starts_stay at kind None = stays_same _
   starts_stay at kind (Some f) = given-starts at kind f
-
--- ---- elements, when more things are declared behind
-
-take-behind : {A : Type 0} (xs ys : List A) (k : ℕ) (z : A) → slice_get xs k ≡ Some z → take k (xs ++ ys) ≡ take k xs
-take-behind [] ys k z h = absurd cc
-take-behind (y ∷ xs) ys zero z h = refl
-take-behind (y ∷ xs) ys (suc k) z h = ap (λ zs. y ∷ zs) (take-behind xs ys k z h)
-
-module _ (here more : Integers) (m : More here more) (at from : ℕ) where
-  behind : (kinds others : List ObjectKind) (k : ℕ) (part : Part) (kind : ObjectKind) → slice_get kinds k ≡ Some kind
-      → Stays (part_elements here at from kinds k part) (part_elements more at from (kinds ++ others) k part)
-  behind kinds others k part kind is es h =
-      ap (λ zs. item_or problem.Index at (slice_get (kinds ++ others) k) >>= λ w. places more at w part >>= λ ps. given (map (λ p. from + elements_count zs + p) ps)) (take-behind kinds others k kind is)
-      ∙ stays_then (item_or problem.Index at (slice_get kinds k)) (item_or problem.Index at (slice_get (kinds ++ others) k)) _ _
-      (found-stays problem.Index at k kinds (kinds ++ others) (kept_behind kinds others)) (λ w.
-      stays_before (places here at w part) (places more at w part) _ (places-stay here more m at w part)) es h
-
-  pub parts_stay : (kinds others : List ObjectKind) (k : ℕ) (part : Part) → Stays (part_elements here at from kinds k part) (part_elements more at from (kinds ++ others) k part)
-  parts_stay kinds others k part es h =
-      let kind = bound (item_or problem.Index at (slice_get kinds k)) _ es h in
-      behind kinds others k part kind.x (was_found problem.Index at (slice_get kinds k) kind.x kind.gave) es h
-
--- ---- what a declaration adds
-
-module _ (here : Site) (more : Integers) (m : More here.integers more) where
-  -- constants, or ranges alone
-  pub known_grown : (others : List Constant) → Grown here (record here { integers = more; constants = here.constants ++ others })
-  unfolding signal_elements variable_elements
-  known_grown others = record {
-    integers = m;
-    constants = kept_behind here.constants others;
-    signals = elements-stay;
-    variables = variables-stay;
-  }
-    where
-      elements-stay : (at : ℕ) (n : Signal) (part : Part) → Stays (signal_elements here at n part) (signal_elements (record here { integers = more; constants = here.constants ++ others }) at n part)
-      elements-stay at (u.port k) part = part_stays here.integers more m at 0 here.ports k part
-      elements-stay at (u.Signal.signal k) part = part_stays here.integers more m at (elements_count here.ports) here.signals k part
-
-      variables-stay : (at k : ℕ) (part : Part) → Stays (variable_elements here at k part) (variable_elements (record here { integers = more; constants = here.constants ++ others }) at k part)
-      variables-stay at k part = part_stays here.integers more m at 0 here.variables k part
-
-  -- ports, before any signal
-  pub ports_grown : (others : List ObjectKind) → here.signals ≡ [] → Grown here (record here { integers = more; ports = here.ports ++ others })
-  unfolding signal_elements variable_elements
-  ports_grown others none = record {
-    integers = m;
-    constants = kept_same here.constants;
-    signals = elements-stay;
-    variables = variables-stay;
-  }
-    where
-      no-signal : (ks : List ObjectKind) (at from k : ℕ) (part : Part) (q : Elab (List ℕ)) → ks ≡ [] → Stays (part_elements here.integers at from ks k part) q
-      no-signal [] at from k part q e es h = absurd cc
-      no-signal (z ∷ ks) at from k part q e es h = absurd cc
-
-      elements-stay : (at : ℕ) (n : Signal) (part : Part) → Stays (signal_elements here at n part) (signal_elements (record here { integers = more; ports = here.ports ++ others }) at n part)
-      elements-stay at (u.port k) part = parts_stay here.integers more m at 0 here.ports others k part
-      elements-stay at (u.Signal.signal k) part = no-signal here.signals at (elements_count here.ports) k part _ none
-
-      variables-stay : (at k : ℕ) (part : Part) → Stays (variable_elements here at k part) (variable_elements (record here { integers = more; ports = here.ports ++ others }) at k part)
-      variables-stay at k part = part_stays here.integers more m at 0 here.variables k part
-
-  pub signals_grown : (others : List ObjectKind) → Grown here (record here { integers = more; signals = here.signals ++ others })
-  unfolding signal_elements variable_elements
-  signals_grown others = record {
-    integers = m;
-    constants = kept_same here.constants;
-    signals = elements-stay;
-    variables = variables-stay;
-  }
-    where
-      elements-stay : (at : ℕ) (n : Signal) (part : Part) → Stays (signal_elements here at n part) (signal_elements (record here { integers = more; signals = here.signals ++ others }) at n part)
-      elements-stay at (u.port k) part = part_stays here.integers more m at 0 here.ports k part
-      elements-stay at (u.Signal.signal k) part = parts_stay here.integers more m at (elements_count here.ports) here.signals others k part
-
-      variables-stay : (at k : ℕ) (part : Part) → Stays (variable_elements here at k part) (variable_elements (record here { integers = more; signals = here.signals ++ others }) at k part)
-      variables-stay at k part = part_stays here.integers more m at 0 here.variables k part
-
--- of ranges alone
-pub more_ranges : (here : Integers) (rs : List IntegerRange) → More here (record here { ranges = here.ranges ++ rs })
-more_ranges here rs = record {
-  generics = kept_same here.generics;
-  constants = kept_same here.constants;
-  generates = kept_same here.generates;
-  loops = kept_same here.loops;
-  ranges = kept_behind here.ranges rs;
-}

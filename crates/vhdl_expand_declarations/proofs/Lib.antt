@@ -3,6 +3,7 @@ pub mod Names
 pub mod Given
 pub mod Stepping
 pub mod Growing
+pub mod Grown
 pub mod Elsewhere
 pub mod ObjectSteps
 pub mod ConstantSteps

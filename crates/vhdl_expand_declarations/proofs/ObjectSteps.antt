@@ -14,7 +14,8 @@ use Rattle.vhdl_expand_rules.proofs.Steps.{given, ok, bound}
 use Rattle.vhdl_expand_rules.proofs.Chains.{err_first}
 use Rattle.vhdl_expand_declarations.specs.Objects.{next_object, shape_of, shaped, with_object}
 use Rattle.vhdl_expand_declarations.specs.Stepwise.{stepwise}
-use Rattle.vhdl_expand_declarations.proofs.Growing.{stays_same, stays_then, More, Grown, kind_stays, starts_stay, ports_grown, signals_grown, more_ranges}
+use Rattle.vhdl_expand_declarations.proofs.Growing.{stays_same, stays_then, More, Grown, kind_stays, starts_stay}
+use Rattle.vhdl_expand_declarations.proofs.Grown.{ports_grown, signals_grown, more_ranges}
 use Rattle.vhdl_expand_declarations.proofs.Walks.{first_stops}
 use Rattle.vhdl_expand_declarations.proofs.Stepping.{goes_alike, of_both, walks_alike}
 

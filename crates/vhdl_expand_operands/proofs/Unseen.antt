@@ -1,19 +1,25 @@
 -- The values of a chain of operators where nothing is seen: the operand on the left may stand as the constant that it is.
-use Rattle.std.proofs.Common.{◌≡◌, ℕ, ◌+◌, ◌<◌, List, [], ◌∷◌, Box, Vec, Global, length, map, replicate, drop, get_or, slice_index_or, refl, sym, ap, ◌∙◌, subst, length-append}
-use Rattle.std.proofs.lemmas.List.{length-map, length-replicate}
+use Rattle.std.proofs.Common.{◌≡◌, ℕ, ◌+◌, ◌-◌, ◌<◌, List, [], ◌∷◌, Box, Vec, Global, length, map, replicate, take, drop, get_or, slice_index_or, refl, sym, ap, ◌∙◌, subst, arith, length-append}
+use Rattle.std.proofs.lemmas.List.{length-map, length-replicate, drop-replicate, take-replicate}
 use Rattle.vhdl_values.specs.declared.scalar.Nine.{Nine}
 use Rattle.vhdl_values.specs.declared.scalar.Nine.TheVariants.{U, X, Zero}
 use Rattle.vhdl_values.specs.Logic.{not_of}
 use Rattle.vhdl_values.specs.Shifts.{counted_length}
 use Rattle.vhdl_values.proofs.Lengths.{length-logic_of_all, length-sum_of, length-difference_of, length-product_of, length-counted_of, counted_within}
-use Rattle.rtl_model.specs.bodies.Body.{Operator, logical, joined, plus, minus, times, Expr, signal, variable, constant, inverse, filled, binary, counted}
-use Rattle.rtl_model.specs.bodies.Values.{element_at, operation_result, elements_of}
+use Rattle.rtl_model.specs.bodies.Body.{Operator, logical, joined, plus, minus, times, signed, Expr, signal, variable, constant, inverse, filled, binary, counted, shifted, converted, chosen}
+use Rattle.vhdl_numbers.specs.Counts.{natural_of}
+use Rattle.vhdl_numbers.proofs.Lengths.{length-converted, length-signed_of, length-shifted_by}
+use Rattle.rtl_model.specs.bodies.Rows.{Spacing, all_rows, row_at}
+use Rattle.rtl_model.proofs.bodies.Rows.{length-at, length-all_rows}
+use Rattle.rtl_model.specs.bodies.Values.{element_at, operation_result, chosen_of, elements_of}
 use Rattle.rtl_model.specs.bodies.Fits.{IsWidth, width, operated_width, FitsOperands}
 use Rattle.rtl_net.specs.declared.body.Expr as code
 use Rattle.rtl_net.specs.declared.body.Expr.TheVariants as e
 use Rattle.rtl_net.specs.declared.body.Link.{Link}
 use Rattle.rtl_net.specs.Bodies.{operator_view, expr_view, links_of}
 use Rattle.rtl_net.proofs.Rows.{view_chain}
+use Rattle.rtl_eval.specs.Rows.{BeginsAt, IsNowhere}
+use Rattle.rtl_eval.proofs.Beginnings.{begun, begun_within, nowhere}
 use Rattle.vhdl_expand_rules.specs.Declarations.{nothing_seen}
 use Rattle.vhdl_expand_rules.proofs.Items.{next_left}
 use Rattle.vhdl_expand_operands.specs.Sized.{IsSized}
@@ -28,6 +34,7 @@ operated_long joined a b h = length-append a b
 operated_long plus a b h = length-sum_of a b
 operated_long minus a b h = length-difference_of a b
 operated_long times a b h = length-product_of a b
+operated_long (signed op) a b h = length-signed_of op a b
 
 pub known_long : (x : Expr) → IsSized x → length (elements_of nothing_seen x) ≡ width x
 known_long (signal nets) h = length-map nets (element_at [])
@@ -41,6 +48,10 @@ known_long (binary op x y) h =
     operated_long op (elements_of nothing_seen x) (elements_of nothing_seen y) (rw (p, q) h.3)
     ∙ λ i. operated_width op (p i) (q i)
 known_long (counted op count x) h = length-counted_of Zero op count (elements_of nothing_seen x) ∙ ap (counted_length op count) (known_long x h.1)
+known_long (shifted by count x) h = length-shifted_by by (elements_of nothing_seen count) (elements_of nothing_seen x) ∙ known_long x h.1
+known_long (converted by x) h = length-converted by (elements_of nothing_seen x) ∙ known_long x h
+known_long (chosen index spacing rows) h =
+    length-at spacing.len (all_rows spacing (elements_of nothing_seen rows)) X (natural_of (elements_of nothing_seen index)) (length-all_rows spacing (elements_of nothing_seen rows))
 
 pub sized_width : (x : Expr) → IsSized x → IsWidth (width x)
 sized_width (signal nets) h = h
@@ -50,6 +61,9 @@ sized_width (inverse x) h = sized_width x h
 sized_width (filled len x) h = h.0
 sized_width (binary op x y) h = h.0
 sized_width (counted op count x) h = counted_within op count (width x) h.0 (sized_width x h.1)
+sized_width (shifted by count x) h = sized_width x h.1
+sized_width (converted by x) h = sized_width x h
+sized_width (chosen index spacing rows) h = h.0.0
 
 -- ---- the links of a chain
 
@@ -115,3 +129,23 @@ module _ (whole : code.Expr) (first : Box code.Expr Global) (rest : Vec Link Glo
       subst (λ (ys : List Link). IsSized (links_of (constant left) ys)) (sym there)
       (subst (λ (u : List Nine). IsSized (links_of (constant u) rest.items)) (sym (value ∙ ap (λ (y : code.Expr). elements_of nothing_seen (expr_view y)) here))
       (sized_known (expr_view first.value) rest.items sized_links))
+
+-- ---- rows of names, of which each element reads U
+
+module _ (spacing : Spacing) (places : List ℕ) (index : List Nine) where
+  all_read : map (element_at []) places ≡ replicate (length places) U
+  all_read = sym (all_unseen places)
+
+  pub row_read : (at count : ℕ) → count ≡ length places → BeginsAt spacing count index at → replicate spacing.len U ≡ chosen_of spacing.len (row_at spacing (map (element_at []) places) index)
+  row_read at count long begins =
+      let b = subst (λ (n : ℕ). BeginsAt spacing n index at) long begins in
+      let within = begun_within spacing (length places) index at b in
+      let here = subst (λ (n : ℕ). BeginsAt spacing n index at) (sym (length-map places (element_at []))) b in
+      sym (ap (chosen_of spacing.len) (begun spacing (map (element_at []) places) index at here)
+      ∙ ap (λ (vs : List Nine). take spacing.len (drop at vs)) all_read
+      ∙ ap (take spacing.len) (drop-replicate at (length places) U)
+      ∙ take-replicate spacing.len (length places - at) U (omega (arith, within)))
+
+  pub row_missing : IsNowhere spacing (length places) index → replicate spacing.len X ≡ chosen_of spacing.len (row_at spacing (map (element_at []) places) index)
+  row_missing past =
+      sym (ap (chosen_of spacing.len) (nowhere spacing (map (element_at []) places) index (subst (λ (n : ℕ). IsNowhere spacing n index) (sym (length-map places (element_at []))) past)))

@@ -2,11 +2,13 @@
 use Rattle.std.specs.Prelude.{ℕ, ⊤, List, length}
 use Rattle.std.specs.Coded.{×_prop, Unit-prop, le_prop, Coded-set, coded_ℕ}
 use Rattle.vhdl_values.specs.declared.kinds.Counted.{Counted}
-use Rattle.vhdl_values.specs.declared.kinds.Counted.TheVariants.{Resize, ShiftLeft, ShiftRight}
+use Rattle.vhdl_values.specs.declared.kinds.Counted.TheVariants.{Resize, ResizeSigned, Shift}
 use Rattle.vhdl_values.specs.Shifts.{IsCount}
-use Rattle.rtl_model.specs.bodies.Body.{Operator, logical, Expr, signal, variable, constant, inverse, filled, binary, counted}
+use Rattle.rtl_model.specs.bodies.Body.{Operator, logical, Expr, signal, variable, constant, inverse, filled, binary}
+use Rattle.rtl_model.specs.bodies.Body.{counted, shifted, converted, chosen}
+use Rattle.rtl_model.specs.bodies.Rows.{Spacing}
 use Rattle.rtl_model.specs.bodies.Body.{Value, elements}
-use Rattle.rtl_model.specs.bodies.Fits.{IsWidth, width, operated_width, FitsOperands}
+use Rattle.rtl_model.specs.bodies.Fits.{IsWidth, IsSpacing, width, operated_width, FitsOperands}
 use Rattle.rtl_net.specs.declared.body.Link.{Link}
 use Rattle.rtl_net.specs.Bodies.{links_of}
 
@@ -19,6 +21,9 @@ IsSized (filled len e) = IsWidth len × IsSized e
 IsSized (binary op d e) =
     IsWidth (operated_width op (width d) (width e)) × IsSized d × IsSized e × FitsOperands op (width d) (width e)
 IsSized (counted op count e) = IsCount op count × IsSized e
+IsSized (shifted by count e) = IsSized count × IsSized e
+IsSized (converted by e) = IsSized e
+IsSized (chosen index spacing rows) = IsSpacing spacing × IsSized index
 
 abbrev pub IsSizedValue : Value → Type 0
 IsSizedValue (elements e) = IsSized e
@@ -35,8 +40,11 @@ width_prop n = ×_prop le_prop le_prop
 
 count_prop : (op : Counted) (n : ℕ) → IsProp (IsCount op n)
 count_prop Resize n = ×_prop le_prop le_prop
-count_prop ShiftLeft n = Unit-prop
-count_prop ShiftRight n = Unit-prop
+count_prop ResizeSigned n = ×_prop le_prop le_prop
+count_prop (Shift by) n = Unit-prop
+
+spacing_prop : (spacing : Spacing) → IsProp (IsSpacing spacing)
+spacing_prop spacing = ×_prop (width_prop spacing.len) le_prop
 
 operands_prop : (op : Operator) (m n : ℕ) → IsProp (FitsOperands op m n)
 operands_prop (logical op) m n = Coded-set coded_ℕ m n
@@ -55,6 +63,9 @@ sized_prop (binary op d e) = λ x y i. (
   operands_prop op (width d) (width e) x.3 y.3 i,
 )
 sized_prop (counted op count e) = ×_prop (count_prop op count) (sized_prop e)
+sized_prop (shifted by count e) = ×_prop (sized_prop count) (sized_prop e)
+sized_prop (converted by e) = sized_prop e
+sized_prop (chosen index spacing rows) = ×_prop (spacing_prop spacing) (sized_prop index)
 
 pub sized_links : (first : Expr) (links : List Link) → IsProp (AreSized first links)
 sized_links first links = sized_prop (links_of first links)

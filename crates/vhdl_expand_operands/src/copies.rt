@@ -2,10 +2,10 @@
 
 ghost use Rattle.std.specs.Prelude.{◌≡◌, IfOk};
 ghost use Rattle.rtl_model.specs.bodies.Body as bodies;
-ghost use Rattle.rtl_net.specs.Bodies.{expr_view, links_of};
+ghost use Rattle.rtl_net.specs.Bodies.{rows_view, expr_view, links_of};
 ghost use Rattle.rtl_net.specs.Indices.{numbers};
 
-use rtl_net::{Expr, Indices, Link};
+use rtl_net::{Expr, Indices, Link, RowsOf};
 use smallvec::SmallVec;
 use std::alloc::{AllocError, Global};
 
@@ -62,6 +62,54 @@ pub(crate) fn copied(alloc: Global, expr: &Expr) -> Result<Expr, AllocError>
                 operand: Box::new(alloc, operand)?,
             })
         }
+        Expr::Shifted {
+            operator,
+            count,
+            operand,
+        } => {
+            let count = copied(alloc, count)?;
+            let count = Box::new(alloc, count)?;
+            let operand = copied(alloc, operand)?;
+            Ok(Expr::Shifted {
+                operator: *operator,
+                count,
+                operand: Box::new(alloc, operand)?,
+            })
+        }
+        Expr::Converted {
+            conversion,
+            operand,
+        } => {
+            let operand = copied(alloc, operand)?;
+            Ok(Expr::Converted {
+                conversion: *conversion,
+                operand: Box::new(alloc, operand)?,
+            })
+        }
+        Expr::Chosen {
+            index,
+            spacing,
+            rows,
+        } => {
+            let index = copied(alloc, index)?;
+            let index = Box::new(alloc, index)?;
+            Ok(Expr::Chosen {
+                index,
+                spacing: *spacing,
+                rows: rows_copied(alloc, rows)?,
+            })
+        }
+    }
+}
+
+/// What rows lie in once more. It takes the memory of a list.
+fn rows_copied(alloc: Global, rows: &RowsOf) -> Result<RowsOf, AllocError>
+    ensures { IfOk result (λ r. rows_view r ≡ rows_view rows.now) }
+{
+    match rows {
+        RowsOf::Signals(nets) => Ok(RowsOf::Signals(indices_copied(alloc, nets)?)),
+        RowsOf::Variables(elements) => Ok(RowsOf::Variables(indices_copied(alloc, elements)?)),
+        RowsOf::Constants(values) => Ok(RowsOf::Constants(Vec::from_slice(alloc, values)?)),
     }
 }
 

@@ -1,21 +1,24 @@
 //! Expanded expressions with their lengths.
 
-ghost use Rattle.std.specs.Prelude.{◌≡◌, [], ◌∷◌, IfOk};
+ghost use Rattle.std.specs.Prelude.{◌≡◌, ◌≤◌, nat_le, [], ◌∷◌, IfOk};
 ghost use Rattle.vhdl_values.specs.Numbers.{digits_of};
 ghost use Rattle.vhdl_values.specs.Shifts.{IsCount};
 ghost use Rattle.rtl_model.specs.bodies.Body as bodies;
 ghost use Rattle.rtl_model.specs.bodies.Fits as fits;
 ghost use Rattle.rtl_model.specs.bodies.Fits.{IsWidth, operated_width};
-ghost use Rattle.rtl_net.specs.Bodies.{expr_view, operator_view, links_of};
+ghost use Rattle.rtl_net.specs.Bodies.{expr_view, operator_view, rows_view, links_of};
+ghost use Rattle.vhdl_expand_rules.specs.Elab.{unless};
 ghost use Rattle.vhdl_expand_rules.specs.Expressions as definition;
+ghost use Rattle.vhdl_expand_rules.specs.declared.fault.ElabProblem.TheVariants.{TooWide};
 ghost use Rattle.vhdl_expand_operands.specs.Results.{Expands};
 ghost use Rattle.vhdl_expand_operands.specs.Sized.{IsSized, AreSized, sized_prop, sized_links};
 
-use rtl_net::{Expr, Link, Operator};
+use rtl_net::{Expr, Link, Operator, RowsOf, Spacing};
 use std::alloc::{AllocError, Global};
 use vhdl_expand_rules::{ElabFault, ElabProblem};
 use vhdl_names_rules::{Numeric, VectorOperator};
-use vhdl_values::{Counted, Vec9};
+use vhdl_numbers::Conversion;
+use vhdl_values::{Counted, Shift, Vec9};
 
 /// How many elements a vector has: 1 to 64.
 #[derive(Clone, Copy)]
@@ -83,14 +86,21 @@ fn fitted(operator: Operator, left: Width, right: Width, at: usize) -> Result<Wi
             let len = left.len.max(right.len);
             Ok(Width { len })
         }
-        Operator::Concatenate | Operator::Multiply => {
-            let len = left.len + right.len;
-            if len > 64 {
-                return Err(ElabProblem::TooWide.at(at));
-            }
-            Ok(Width { len })
-        }
+        Operator::Concatenate | Operator::Multiply => narrow(left.len + right.len, at),
+        Operator::Signed(operator) => narrow(operator.length(left.len, right.len), at),
     }
+}
+
+/// So many elements, where a vector can have them; a fault is TooWide.
+fn narrow(len: usize, at: usize) -> Result<Width, ElabFault>
+    requires { 1 ≤ len }
+    ensures given { Expands (λ _. tt) (unless TooWide at (nat_le len 64)) result }
+    ensures width { IfOk result (λ w. w.len ≡ len) }
+{
+    if len > 64 {
+        return Err(ElabProblem::TooWide.at(at));
+    }
+    Ok(Width { len })
 }
 
 impl Chain {
@@ -164,6 +174,94 @@ impl Operand {
                 operand: Box::new(alloc, self.expr)?,
             },
             width: Width { len },
+        })
+    }
+
+    /// An operator on this and an operand behind it, whose lengths serve. It takes the memory of a
+    /// box and a list.
+    #[tactic(auto, using(rtl_net::proofs::Rows::view_chain))]
+    pub fn operated(
+        self,
+        alloc: Global,
+        operator: Operator,
+        right: Operand,
+    ) -> Result<Operand, AllocError>
+        requires width { IsWidth (operated_width (operator_view operator) self.width.len right.width.len) }
+        requires operands { fits.FitsOperands (operator_view operator) self.width.len right.width.len }
+        ensures { IfOk result (λ o. expr_view o.expr ≡
+            bodies.Expr.binary (operator_view operator) (expr_view self.expr) (expr_view right.expr)) }
+    {
+        let len = match operator {
+            Operator::Logical(_) => self.width.len,
+            Operator::Add | Operator::Subtract => self.width.len.max(right.width.len),
+            Operator::Concatenate | Operator::Multiply => self.width.len + right.width.len,
+            Operator::Signed(operator) => operator.length(self.width.len, right.width.len),
+        };
+        let mut rest = Vec::with_capacity(alloc, 1)?;
+        rest.push(Link {
+            operator,
+            operand: right.expr,
+        })?;
+        let expr = Expr::Chain {
+            first: Box::new(alloc, self.expr)?,
+            rest,
+        };
+        let width = Width { len };
+        Ok(Operand { expr, width })
+    }
+
+    /// A function of it, whose result is as long. It takes the memory of a box.
+    pub fn converted(self, alloc: Global, conversion: Conversion) -> Result<Operand, AllocError>
+        ensures { IfOk result (λ o. expr_view o.expr ≡ bodies.converted conversion (expr_view self.expr)) }
+    {
+        Ok(Operand {
+            expr: Expr::Converted {
+                conversion,
+                operand: Box::new(alloc, self.expr)?,
+            },
+            width: self.width,
+        })
+    }
+
+    /// A shift of it by a count that a run computes. It takes the memory of two boxes.
+    pub fn shifted(
+        self,
+        alloc: Global,
+        operator: Shift,
+        count: Operand,
+    ) -> Result<Operand, AllocError>
+        ensures { IfOk result (λ o. expr_view o.expr ≡
+            bodies.shifted operator (expr_view count.expr) (expr_view self.expr)) }
+    {
+        let count = Box::new(alloc, count.expr)?;
+        Ok(Operand {
+            expr: Expr::Shifted {
+                operator,
+                count,
+                operand: Box::new(alloc, self.expr)?,
+            },
+            width: self.width,
+        })
+    }
+
+    /// The row that this, a number, chooses: of so many elements, each row one element further. It
+    /// takes the memory of a box.
+    pub fn choose(self, alloc: Global, len: Width, rows: RowsOf) -> Result<Operand, AllocError>
+        ensures { IfOk result (λ o. expr_view o.expr ≡ bodies.chosen (expr_view self.expr)
+            (record { len = len.len; step = 1 }) (rows_view rows)) }
+    {
+        let spacing = Spacing {
+            len: len.len as u32,
+            step: 1,
+        };
+        let index = Box::new(alloc, self.expr)?;
+        Ok(Operand {
+            expr: Expr::Chosen {
+                index,
+                spacing,
+                rows,
+            },
+            width: len,
         })
     }
 

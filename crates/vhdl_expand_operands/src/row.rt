@@ -1,6 +1,7 @@
 //! Operands side by side.
 
 ghost use Rattle.std.specs.Prelude.{◌≡◌, ◌≤◌, [], ◌∷◌, ◌++◌, map, IfOk, OnOk};
+ghost use Rattle.rtl_model.specs.bodies.Body as bodies;
 ghost use Rattle.rtl_model.specs.bodies.Fits.{IsWidth};
 ghost use Rattle.vhdl_expand_rules.specs.Aggregates as definition;
 ghost use Rattle.vhdl_expand_operands.specs.Operands.{operand_view};
@@ -29,7 +30,7 @@ pub(crate) struct Row {
 
 impl Operand {
     /// The same once more. It takes the memory of boxes and lists.
-    pub(crate) fn copied(&self, alloc: Global) -> Result<Operand, AllocError>
+    pub fn copied(&self, alloc: Global) -> Result<Operand, AllocError>
         ensures { IfOk result (λ o. operand_view o ≡ operand_view self.now) }
     {
         let expr = copied(alloc, &self.expr)?;
@@ -39,22 +40,29 @@ impl Operand {
 }
 
 impl Element {
-    /// It so many times, as one operand. It takes the memory of copies.
-    pub(crate) fn repeated(&self, alloc: Global, count: usize) -> Result<Operand, AllocError>
-        requires { IsWidth count }
-        ensures { IfOk result (λ o. operand_view o ≡ definition.repeated count (operand_view self.now.operand)) }
+    /// It so many times, as one operand. It takes the memory of a box.
+    pub fn filled(self, alloc: Global, width: Width) -> Result<Operand, AllocError>
+        ensures { IfOk result (λ o. operand_view o ≡ bodies.filled width.len (operand_view self.operand)) }
     {
-        let expr = copied(alloc, &self.operand.expr)?;
-        let width = Width { len: count };
-        if count == 1 {
-            return Ok(Operand { expr, width });
-        }
-        let element = Box::new(alloc, expr)?;
-        let len = count as u32;
+        let len = width.len as u32;
+        let element = Box::new(alloc, self.operand.expr)?;
         Ok(Operand {
             expr: Expr::Filled { len, element },
             width,
         })
+    }
+
+    /// The same of a copy, where it isn't once. It takes the memory of copies.
+    pub(crate) fn repeated(&self, alloc: Global, count: usize) -> Result<Operand, AllocError>
+        requires { IsWidth count }
+        ensures { IfOk result (λ o. operand_view o ≡ definition.repeated count (operand_view self.now.operand)) }
+    {
+        let operand = self.operand.copied(alloc)?;
+        if count == 1 {
+            return Ok(operand);
+        }
+        let element = Element { operand };
+        element.filled(alloc, Width { len: count })
     }
 }
 

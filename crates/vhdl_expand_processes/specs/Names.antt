@@ -6,7 +6,8 @@ use Rattle.vhdl_names_rules.specs.declared.vector.VectorLink.{VectorLink}
 use Rattle.vhdl_names_rules.specs.declared.vector.VectorLink.TheVariants as l
 use Rattle.vhdl_names_rules.specs.declared.test.TestLink.{TestLink}
 use Rattle.vhdl_names_rules.specs.units.Expressions as u
-use Rattle.vhdl_names_rules.specs.views.Vectors.{vector_view}
+use Rattle.vhdl_names_rules.specs.declared.vector.ComputedLink.{ComputedLink}
+use Rattle.vhdl_names_rules.specs.views.Vectors.{computed_view, vector_view}
 use Rattle.vhdl_names_rules.specs.views.Tests.{test_view}
 use Rattle.vhdl_expand_rules.specs.Prefixes as definition
 
@@ -20,6 +21,10 @@ element_names (el.Others x) = definition.vector_names (vector_view x)
 abbrev pub link_names : VectorLink → List u.SignalPart
 link_names (l.Vector op at x) = definition.vector_names (vector_view x)
 link_names (l.Integer op at s) = []
+link_names (l.Computed op at x) = definition.computed_names (computed_view x)
+
+abbrev pub computed_link_names : ComputedLink → List u.SignalPart
+computed_link_names l = definition.computed_names (computed_view l.operand)
 
 abbrev pub test_link_names : TestLink → List u.SignalPart
 test_link_names l = definition.test_names (test_view l.operand)

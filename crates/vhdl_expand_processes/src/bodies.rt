@@ -5,7 +5,7 @@ ghost use Rattle.std.specs.Prelude.{◌≡◌, ◌++◌, flat_map, map, IfOk};
 ghost use Rattle.vhdl_expand_rules.specs.Prefixes as definition;
 ghost use Rattle.vhdl_names_rules.specs.units.Statements as s;
 ghost use Rattle.vhdl_names_rules.specs.views.Tests.{test_view};
-ghost use Rattle.vhdl_names_rules.specs.views.Vectors.{place_view, value_view};
+ghost use Rattle.vhdl_names_rules.specs.views.Vectors.{chosen_view, place_view, signal_view, value_view};
 ghost use Rattle.vhdl_names_units.specs.declared.sequential.Case.{out-Case};
 ghost use Rattle.vhdl_names_units.specs.declared.sequential.If.{out-If};
 ghost use Rattle.vhdl_names_units.specs.views.Answers.{given_view};
@@ -15,10 +15,10 @@ ghost use Rattle.vhdl_expand_processes.specs.Adding.{Adds};
 ghost use Rattle.vhdl_expand_processes.specs.Bodies.{statement_names, branch_names, last_names, alternative_names};
 
 use crate::name::{Gathered, Name};
-use crate::names::{of_given, of_test, of_value};
+use crate::names::{of_chosen, of_given, of_test, of_value};
 use std::alloc::{AllocError, Global};
 use vhdl_expand_rules::Sought;
-use vhdl_names_rules::{SignalPart, Test, Value};
+use vhdl_names_rules::{Chosen, Signal, SignalPart, Test, Value};
 use vhdl_names_units::{Alternative, Branch, Case, Given, If, Statement};
 
 /// The names that statements read, before loops are unrolled. It takes the memory of the list.
@@ -74,6 +74,40 @@ fn of_set<'a>(value: &'a Given, sought: Sought, found: &mut Gathered<'a>)
     }
 }
 
+/// Puts the names in an assignment to what a run chooses of a signal behind others.
+fn of_chosen_assignment<'a>(
+    signal: Signal,
+    part: &'a Chosen,
+    value: &'a Given,
+    sought: Sought,
+    found: &mut Gathered<'a>,
+)
+    ensures { Adds found.old found.new (definition.chosen_assignment_names sought (signal_view signal)
+        (chosen_view part.now) (given_view value.now)) }
+{
+    match sought {
+        Sought::Read => {
+            of_chosen(part, found);
+            of_given(value, found);
+        }
+        Sought::Assigned => found.add_whole(signal),
+    }
+}
+
+/// Puts the names in what is given to the part that a run chooses of a variable behind others.
+fn of_chosen_set<'a>(part: &'a Chosen, value: &'a Given, sought: Sought, found: &mut Gathered<'a>)
+    ensures { Adds found.old found.new (definition.read_ones sought
+        (definition.chosen_names (chosen_view part.now) ++ definition.given_names (given_view value.now))) }
+{
+    match sought {
+        Sought::Read => {
+            of_chosen(part, found);
+            of_given(value, found);
+        }
+        Sought::Assigned => {}
+    }
+}
+
 /// Puts the names in the condition of a branch behind others.
 fn of_condition<'a>(test: &'a Test, sought: Sought, found: &mut Gathered<'a>)
     ensures { Adds found.old found.new (definition.read_ones sought (definition.test_names (test_view test.now))) }
@@ -113,6 +147,13 @@ fn of_statement<'a>(statement: &'a Statement, sought: Sought, found: &mut Gather
         Statement::Null => {}
         Statement::Assign { target, value } => of_assignment(target, value, sought, found),
         Statement::Set { value, .. } => of_set(value, sought, found),
+        Statement::AssignIn {
+            signal,
+            part,
+            value,
+            ..
+        } => of_chosen_assignment(*signal, part, value, sought, found),
+        Statement::SetIn { part, value, .. } => of_chosen_set(part, value, sought, found),
         Statement::If(conditional) => of_if(conditional, sought, found),
         Statement::Case(selection) => of_case(selection, sought, found),
         Statement::Loop(repeated) => of_statements(&repeated.statements, sought, found),

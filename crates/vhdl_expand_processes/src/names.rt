@@ -3,14 +3,15 @@
 ghost use Rattle.std.specs.Prelude.{◌++◌, flat_map};
 ghost use Rattle.vhdl_expand_rules.specs.Prefixes as definition;
 ghost use Rattle.vhdl_names_rules.specs.views.Tests.{test_view};
-ghost use Rattle.vhdl_names_rules.specs.views.Vectors.{elements_view, value_view, vector_view};
+ghost use Rattle.vhdl_names_rules.specs.views.Vectors.{chosen_view, computed_view, computed_start_view, elements_view, value_view, vector_view};
 ghost use Rattle.vhdl_names_units.specs.views.Answers.{given_view};
 ghost use Rattle.vhdl_expand_processes.specs.Adding.{Adds};
-ghost use Rattle.vhdl_expand_processes.specs.Names.{element_names, link_names, test_link_names};
+ghost use Rattle.vhdl_expand_processes.specs.Names.{computed_link_names, element_names, link_names, test_link_names};
 
 use crate::name::Gathered;
 use vhdl_names_rules::{
-    Test, TestLink, TestStart, Value, Vector, VectorElement, VectorLink, VectorStart,
+    Chosen, Computed, ComputedLink, ComputedStart, Test, TestLink, TestStart, Value, Vector,
+    VectorElement, VectorLink, VectorStart,
 };
 use vhdl_names_units::Given;
 
@@ -21,6 +22,12 @@ fn of_vector<'a>(vector: &'a Vector, found: &mut Gathered<'a>)
 {
     match vector {
         Vector::Signal(place) => found.add_place(place),
+        Vector::InSignal(_, signal, part) => {
+            found.add_whole(*signal);
+            of_chosen(part, found);
+        }
+        Vector::InVariable(_, _, part) => of_chosen(part, found),
+        Vector::InConstant(_, _, part) => of_chosen(part, found),
         Vector::Variable(_, _, _)
         | Vector::Constant(_, _, _)
         | Vector::Character(_, _)
@@ -33,9 +40,68 @@ fn of_vector<'a>(vector: &'a Vector, found: &mut Gathered<'a>)
             of_links(links, found);
         }
         Vector::IntegerWith(_, _, _, operand) => of_vector(operand, found),
+        Vector::ComputedWith(_, _, integer, operand) => {
+            of_computed(integer, found);
+            of_vector(operand, found);
+        }
+        Vector::ComputedEncoded(_, integer, _) => of_computed(integer, found),
         Vector::Counted(_, _, operand, _) => of_vector(operand, found),
+        Vector::Shifted(_, _, operand, count) => {
+            of_vector(operand, found);
+            of_computed(count, found);
+        }
         Vector::Aggregate(_, _, elements) => of_elements(elements, found),
         Vector::Sized(_, _, operand) => of_vector(operand, found),
+    }
+}
+
+/// Puts the names in an integer that a run computes behind others.
+#[cycle(vectors)]
+fn of_computed<'a>(integer: &'a Computed, found: &mut Gathered<'a>)
+    ensures { Adds found.old found.new (definition.computed_names (computed_view integer.now)) }
+{
+    match integer {
+        Computed::Static(_) => {}
+        Computed::Number(_, number) => of_vector(number, found),
+        Computed::Negated(_, operand) => of_computed(operand, found),
+        Computed::Magnitude(_, operand) => of_computed(operand, found),
+        Computed::Chain(start, links) => {
+            of_computed_start(start, found);
+            of_computed_links(links, found);
+        }
+    }
+}
+
+/// Puts the names in its first operand, and in the one after it, behind others.
+#[cycle(vectors)]
+fn of_computed_start<'a>(start: &'a ComputedStart, found: &mut Gathered<'a>)
+    ensures { Adds found.old found.new (definition.computed_names (computed_start_view start.now)) }
+{
+    of_computed(&start.first, found);
+    of_computed(&start.link.operand, found);
+}
+
+/// Puts the names in its further operands behind others.
+#[cycle(vectors)]
+fn of_computed_links<'a>(list: &'a [ComputedLink], found: &mut Gathered<'a>)
+    ensures { Adds found.old found.new (flat_map computed_link_names list.now) }
+{
+    for item in list {
+        of_computed(&item.operand, found);
+    }
+}
+
+/// Puts the names by which a run chooses a part behind others.
+#[cycle(vectors)]
+pub(crate) fn of_chosen<'a>(part: &'a Chosen, found: &mut Gathered<'a>)
+    ensures { Adds found.old found.new (definition.chosen_names (chosen_view part.now)) }
+{
+    match part {
+        Chosen::Element(index) => of_computed(index, found),
+        Chosen::Slice { left, right, .. } => {
+            of_computed(left, found);
+            of_computed(right, found);
+        }
     }
 }
 
@@ -72,6 +138,7 @@ fn of_link<'a>(link: &'a VectorLink, found: &mut Gathered<'a>)
     match link {
         VectorLink::Vector(_, _, operand) => of_vector(operand, found),
         VectorLink::Integer(_, _, _) => {}
+        VectorLink::Computed(_, _, operand) => of_computed(operand, found),
     }
 }
 
@@ -147,6 +214,18 @@ pub(crate) fn of_test<'a>(test: &'a Test, found: &mut Gathered<'a>)
         Test::Compared(_, _, left, right) => of_vectors(left, right, found),
         Test::ComparedTo(_, _, vector, _) => of_vector(vector, found),
         Test::ComparedWith(_, _, _, vector) => of_vector(vector, found),
+        Test::ComparedToComputed(_, _, vector, integer) => {
+            of_vector(vector, found);
+            of_computed(integer, found);
+        }
+        Test::ComparedWithComputed(_, _, integer, vector) => {
+            of_computed(integer, found);
+            of_vector(vector, found);
+        }
+        Test::ComputedCompared(_, _, left, right) => {
+            of_computed(left, found);
+            of_computed(right, found);
+        }
         Test::Edge(_, place) => found.add_place(place),
         Test::Event(place) => found.add_place(place),
         Test::Not(operand) => of_test(operand, found),

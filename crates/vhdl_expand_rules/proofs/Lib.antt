@@ -1,5 +1,6 @@
 pub mod Steps
 pub mod Items
+pub mod FirstPassing
 pub mod Options
 pub mod Chains
 pub mod Modulus

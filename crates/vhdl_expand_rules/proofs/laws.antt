@@ -2,6 +2,9 @@ pub mod Lengths
 pub mod Places
 pub mod Names
 pub mod Aggregates
+pub mod Computed
+pub mod Operands
+pub mod Chosen
 pub mod Vectors
 pub mod Tests
 pub mod Made

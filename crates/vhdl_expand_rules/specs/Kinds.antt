@@ -3,7 +3,7 @@
 use Rattle.std.specs.Prelude.{ℕ, Bool, not, ◌&&◌, nat_le, if◌then◌else◌, List, [], ◌∷◌, Option, Some, None, ℤ, pos, ◌-ℤ◌, int_le, nat_abs, Ok}
 use Rattle.std.specs.List.{range_with_len}
 use Rattle.vhdl_values.specs.declared.kinds.Counted.{Counted}
-use Rattle.vhdl_values.specs.declared.kinds.Counted.TheVariants.{Resize, ShiftLeft, ShiftRight}
+use Rattle.vhdl_values.specs.declared.kinds.Counted.TheVariants.{Resize, ResizeSigned, Shift}
 use Rattle.vhdl_tree.specs.declared.operator.Direction.{Direction}
 use Rattle.vhdl_tree.specs.declared.operator.Direction.TheVariants.{To, Downto}
 use Rattle.vhdl_names_rules.specs.units.Expressions as u
@@ -87,8 +87,8 @@ size_of here at s = do
 -- the count of an operator: a length, or how many places
 unfoldable pub count_of : Counted → Integers → (at : ℕ) → Static → Elab ℕ
 count_of Resize here at s = size_of here at s
-count_of ShiftLeft here at s = natural here at s
-count_of ShiftRight here at s = natural here at s
+count_of ResizeSigned here at s = size_of here at s
+count_of (Shift by) here at s = natural here at s
 
 -- ---- parts
 

@@ -4,6 +4,9 @@ pub mod Parameters
 pub mod Kinds
 pub mod Site
 pub mod Aggregates
+pub mod SameExpr
+pub mod Computed
+pub mod Linear
 pub mod Expressions
 pub mod Tree
 pub mod Bytes

@@ -4,7 +4,7 @@
 use Rattle.std.specs.Prelude.{ℕ, Bool, true, ◌&&◌, ◌==◌, if◌then◌else◌, List, [], ◌∷◌, ◌++◌, filter, Ok}
 use Rattle.std.specs.List.{list_any, range_with_len}
 use Rattle.vhdl_names_rules.specs.units.Expressions as u
-use Rattle.vhdl_names_rules.specs.units.Expressions.{Part, SignalPart, Vector, Elements, Value, Test}
+use Rattle.vhdl_names_rules.specs.units.Expressions.{Part, SignalPart, Computed, Chosen, Vector, Elements, Value, Test}
 use Rattle.vhdl_names_rules.specs.units.Statements as s
 use Rattle.vhdl_names_rules.specs.Names.{is_static}
 use Rattle.vhdl_expand_rules.specs.declared.prefix.Sought.{Sought}
@@ -25,14 +25,37 @@ prefix p = if is_static_part p.part then p else record p { part = u.whole }
 
 -- ---- the signals that a text names: those that it reads, or those that it assigns
 
+-- The whole of a signal of which a run chooses a part, or of an enumeration, whose byte the units don't have: it is
+-- there in units that names have passed, so that nothing is told at it. What it is chosen by is read.
+abbrev pub whole_of : u.Signal → SignalPart
+whole_of x = record { at = 0; signal = x; part = u.whole }
+
 abbrev mutual
+  pub computed_names : Computed → List SignalPart
+  computed_names (u.static s) = []
+  computed_names (u.number_of at x) = vector_names x
+  computed_names (u.Computed.negated at x) = computed_names x
+  computed_names (u.magnitude at x) = computed_names x
+  computed_names (u.calculated at op x y) = computed_names x ++ computed_names y
+
+  pub chosen_names : Chosen → List SignalPart
+  chosen_names (u.element_at x) = computed_names x
+  chosen_names (u.slice_at x direction y) = computed_names x ++ computed_names y
+
   pub vector_names : Vector → List SignalPart
   vector_names (u.of_signal p) = p ∷ []
+  vector_names (u.in_signal at x c) = whole_of x ∷ chosen_names c
+  vector_names (u.in_variable at k c) = chosen_names c
+  vector_names (u.in_constant at k c) = chosen_names c
   vector_names (u.Vector.inverse x) = vector_names x
   vector_names (u.Vector.binary at op x y) = vector_names x ++ vector_names y
   vector_names (u.with_integer at op x n) = vector_names x
   vector_names (u.integer_with at op n x) = vector_names x
+  vector_names (u.with_computed at op x n) = vector_names x ++ computed_names n
+  vector_names (u.computed_with at op n x) = computed_names n ++ vector_names x
+  vector_names (u.computed_encoded at n size) = computed_names n
   vector_names (u.counted at op x n) = vector_names x
+  vector_names (u.shifted at by x n) = vector_names x ++ computed_names n
   vector_names (u.aggregate at r es) = elements_names es
   vector_names (u.sized at r x) = vector_names x
   vector_names _ = []
@@ -42,11 +65,6 @@ abbrev mutual
   elements_names (u.next x es) = vector_names x ++ elements_names es
   elements_names (u.chosen cs x es) = vector_names x ++ elements_names es
   elements_names (u.Elements.others x) = vector_names x
-
--- The whole of a signal of an enumeration, whose byte the units don't have: it is there in units that names have
--- passed, so that nothing is told at it.
-abbrev pub whole_of : u.Signal → SignalPart
-whole_of x = record { at = 0; signal = x; part = u.whole }
 
 abbrev pub value_names : Value → List SignalPart
 value_names (u.Value.elements x) = vector_names x
@@ -61,6 +79,9 @@ test_names (u.unlike at x y) = value_names x ++ value_names y
 test_names (u.Test.compared at op x y) = vector_names x ++ vector_names y
 test_names (u.compared_to at op x n) = vector_names x
 test_names (u.compared_with at op n x) = vector_names x
+test_names (u.compared_to_computed at op x n) = vector_names x ++ computed_names n
+test_names (u.compared_with_computed at op n x) = computed_names n ++ vector_names x
+test_names (u.computed_compared at op x y) = computed_names x ++ computed_names y
 test_names (u.edge kind p) = p ∷ []
 test_names (u.event p) = p ∷ []
 test_names (u.Test.negated t) = test_names t
@@ -79,11 +100,18 @@ abbrev pub assignment_names : Sought → SignalPart → s.Given → List SignalP
 assignment_names Read p g = given_names g
 assignment_names Assigned p g = p ∷ []
 
+-- of a target's part that a run chooses
+abbrev pub chosen_assignment_names : Sought → u.Signal → Chosen → s.Given → List SignalPart
+chosen_assignment_names Read x c g = chosen_names c ++ given_names g
+chosen_assignment_names Assigned x c g = whole_of x ∷ []
+
 abbrev mutual
   pub statement_names : Sought → s.Statement → List SignalPart
   statement_names sought s.null_of = []
   statement_names sought (s.assign p g) = assignment_names sought p g
   statement_names sought (s.set at k part g) = read_ones sought (given_names g)
+  statement_names sought (s.assign_in at x c g) = chosen_assignment_names sought x c g
+  statement_names sought (s.set_in at k c g) = read_ones sought (chosen_names c ++ given_names g)
   statement_names sought (s.if_of at bs) = branches_names sought bs
   statement_names sought (s.case_of at v alts) = read_ones sought (value_names v) ++ alternatives_names sought alts
   statement_names sought (s.for_of at r body) = body_names sought body

@@ -1,15 +1,15 @@
 -- What is known where an expression stands, and the elements that its names mean. The elements of a unit's ports and
 -- signals are numbered from 0 in order of declaration, ports before signals, and from the left; those of a process's
 -- variables in the same way (IEEE 1076-2008, 8.1 to 8.5).
-use Rattle.std.specs.Prelude.{ℕ, ◌+◌, List, [], ◌∷◌, ◌++◌, map, take, sum, slice_get, slice_index_or, ℤ, Ok}
+use Rattle.std.specs.Prelude.{ℕ, ◌+◌, List, [], ◌∷◌, ◌++◌, map, take, sum, slice_get, slice_index_or, Option, Some, ℤ, Ok}
 use Rattle.vhdl_values.specs.declared.scalar.Nine.{Nine}
 use Rattle.vhdl_values.specs.declared.scalar.Nine.TheVariants.{X}
 use Rattle.vhdl_names_rules.specs.units.Expressions as u
 use Rattle.vhdl_names_rules.specs.units.Expressions.{Signal, Part, SignalPart}
 use Rattle.vhdl_expand_rules.specs.declared.fault.ElabProblem.TheVariants.{Index}
-use Rattle.vhdl_expand_rules.specs.Elab.{Elab, ◌>>=◌, item_or}
+use Rattle.vhdl_expand_rules.specs.Elab.{Elab, ◌>>=◌, refused, item_or}
 use Rattle.vhdl_expand_rules.specs.Integers.{IntegerRange, Integers}
-use Rattle.vhdl_expand_rules.specs.Kinds.{ObjectKind, size, places}
+use Rattle.vhdl_expand_rules.specs.Kinds.{ObjectKind, vector, Bounds, size, places}
 
 -- a constant that is no integer
 pub record Constant : Type 0 where
@@ -74,6 +74,25 @@ constant_values here at k part = do
   c ← item_or Index at (slice_get here.constants k)
   ps ← places here.integers at c.kind part
   Ok (map (λ p. slice_index_or c.values p X) ps)
+
+-- ---- the bounds of vectors, by their numbers
+
+abbrev pub bounds_of : (at : ℕ) → Option ObjectKind → Elab Bounds
+bounds_of at (Some (vector b)) = Ok b
+-- of what is no vector a run chooses no part, in units that names have passed
+bounds_of at _ = refused Index at
+
+unfoldable pub signal_bounds : Site → (at : ℕ) → Signal → Elab Bounds
+signal_bounds here at (u.port k) = bounds_of at (slice_get here.ports k)
+signal_bounds here at (u.Signal.signal k) = bounds_of at (slice_get here.signals k)
+
+abbrev pub variable_bounds : Site → (at : ℕ) → ℕ → Elab Bounds
+variable_bounds here at k = bounds_of at (slice_get here.variables k)
+
+abbrev pub constant_bounds : Site → (at : ℕ) → ℕ → Elab Bounds
+constant_bounds here at k = do
+  c ← item_or Index at (slice_get here.constants k)
+  bounds_of at (Some c.kind)
 
 -- what has one element has this
 abbrev pub the_element : (at : ℕ) → Elab (List ℕ) → Elab ℕ

@@ -2,14 +2,16 @@
 -- agree in each statement, run or not.
 use Rattle.std.specs.Prelude.{ℕ, ◌+◌, List, [], ◌∷◌, length, map, sum, Ok}
 use Rattle.vhdl_values.specs.Scalar.{code_of}
+use Rattle.vhdl_names_rules.specs.units.Expressions as expressions
 use Rattle.vhdl_names_rules.specs.units.Statements as u
 use Rattle.vhdl_names_rules.specs.units.Statements.{Given, Choice}
 use Rattle.rtl_model.specs.bodies.Body as bodies
 use Rattle.rtl_model.specs.bodies.Fits.{width, value_width}
-use Rattle.vhdl_expand_rules.specs.Elab.{Elab, ◌>>=◌, ◌>>◌, each, same_length}
+use Rattle.vhdl_expand_rules.specs.declared.fault.ElabProblem.TheVariants.{Length}
+use Rattle.vhdl_expand_rules.specs.Elab.{Elab, ◌>>=◌, ◌>>◌, refused, each, same_length}
 use Rattle.vhdl_expand_rules.specs.Integers.{turns}
-use Rattle.vhdl_expand_rules.specs.Site.{Site, in_loop, place_elements, variable_elements}
-use Rattle.vhdl_expand_rules.specs.Expressions.{vector, value, test}
+use Rattle.vhdl_expand_rules.specs.Site.{Site, in_loop, place_elements, signal_elements, variable_elements, signal_bounds, variable_bounds}
+use Rattle.vhdl_expand_rules.specs.Expressions.{vector, value, test, chosen_row}
 
 -- what is assigned to so many elements: a value with as many, or one element for each of them
 unfoldable pub value_given : Site → (at : ℕ) → (len : ℕ) → Given → Elab bodies.Value
@@ -21,6 +23,18 @@ value_given here at len (u.filled x) = do
   e ← vector here x
   same_length at (width e) 1
   Ok (bodies.elements (bodies.filled len e))
+
+-- what a run chooses is of the nine values, and so is what is given to it, in units that names have passed
+unfoldable pub elements_given : Site → (at : ℕ) → (len : ℕ) → Given → Elab bodies.Expr
+elements_given here at len (u.single (expressions.elements x)) = do
+  e ← vector here x
+  same_length at (width e) len
+  Ok e
+elements_given here at len (u.single v) = refused (Length 1 len) at
+elements_given here at len (u.filled x) = do
+  e ← vector here x
+  same_length at (width e) 1
+  Ok (bodies.filled len e)
 
 -- a choice has as many elements as what is selected by
 unfoldable pub choice : (at : ℕ) → (len : ℕ) → Choice → Elab (List ℕ)
@@ -49,6 +63,18 @@ unfoldable mutual
     es ← variable_elements here at k part
     v ← value_given here at (length es) g
     Ok (one (bodies.set es v))
+  statement here (u.assign_in at x c g) = do
+    es ← signal_elements here at x expressions.whole
+    b ← signal_bounds here at x
+    r ← chosen_row here at b c
+    e ← elements_given here at r.spacing.len g
+    Ok (one (bodies.assign_at r.index r.spacing es e))
+  statement here (u.set_in at k c g) = do
+    es ← variable_elements here at k expressions.whole
+    b ← variable_bounds here at k
+    r ← chosen_row here at b c
+    e ← elements_given here at r.spacing.len g
+    Ok (one (bodies.set_at r.index r.spacing es e))
   statement here (u.if_of at bs) = do
     cs ← branches here bs
     Ok (one (bodies.if_of cs))

@@ -134,7 +134,7 @@ fn power(base: i32, exponent: i32, at: usize) -> Result<i32, ElabFault>
 }
 
 /// An operator's result. `at` is the byte at which the operator starts.
-fn operated(operator: Arithmetic, left: i32, right: i32, at: usize) -> Result<i32, ElabFault>
+pub fn operated(operator: Arithmetic, left: i32, right: i32, at: usize) -> Result<i32, ElabFault>
     ensures { Computes (definition.integer_operation at operator left right) result }
 {
     match operator {

@@ -207,8 +207,8 @@ impl Integers<'_> {
         ensures { Computes (definition.count_of operator (integers_view self.now) at (static_view count.now)) result }
     {
         match operator {
-            Counted::Resize => self.size_of(count, at),
-            Counted::ShiftLeft | Counted::ShiftRight => self.natural(count, at),
+            Counted::Resize | Counted::ResizeSigned => self.size_of(count, at),
+            Counted::Shift(_) => self.natural(count, at),
         }
     }
 

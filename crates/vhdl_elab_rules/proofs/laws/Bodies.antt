@@ -1,5 +1,5 @@
 -- Connected bodies fit the flat netlist, by induction over bodies.
-use Rattle.std.proofs.Common.{◌≡◌, ℕ, zero, suc, ◌+◌, ◌<◌, Bool, true, false, cond, ◌==◌, List, [], ◌∷◌, length, map, Some, All, refl, sym, ap, ◌∙◌, subst, arith}
+use Rattle.std.proofs.Common.{◌≡◌, ℕ, zero, suc, ◌+◌, ◌<◌, ◌≤◌, Bool, true, false, cond, ◌==◌, List, [], ◌∷◌, length, map, Some, All, refl, sym, ap, ◌∙◌, subst, arith}
 use Rattle.std.specs.Prelude.{slice_get, slice_index, slice_index_or, Contains}
 use Rattle.std.specs.List.{range_with_len}
 use Rattle.std.proofs.lemmas.Bool.{eqb-true, eq-eqb}
@@ -11,7 +11,7 @@ use Rattle.vhdl_values.specs.Shifts.{counted_length}
 use Rattle.rtl_model.specs.bodies.Types.{ElementType, nine_valued, enumeration, HasType}
 use Rattle.rtl_model.specs.bodies.Body as bodies
 use Rattle.rtl_model.specs.bodies.Body.{Stmts}
-use Rattle.rtl_model.specs.bodies.Fits.{operated_width, width, value_width, IsWidth, FitsOperands, Scope, FitsExpr, FitsAs, FitsTest, DrivesType, FitsStmt, Fits, FitsBranches, FitsAlternatives}
+use Rattle.rtl_model.specs.bodies.Fits.{operated_width, width, value_width, IsWidth, FitsOperands, Scope, HoldsRows, FitsExpr, FitsAs, FitsTest, DrivesType, FitsStmt, Fits, FitsBranches, FitsAlternatives}
 use Rattle.vhdl_expand_rules.specs.Site.{elements_count}
 use Rattle.vhdl_expand_rules.specs.Tree.{Object, Variable}
 use Rattle.vhdl_expand_rules.specs.laws.Trees.{object_kinds, StmtAssigns, Assigns, BranchesAssign, AlternativesAssign, body_scope}
@@ -48,6 +48,8 @@ module _ (types : List ElementType) (os : List Object) (vs : List Variable) (net
   width-expr (bodies.inverse e) = width-expr e
   width-expr (bodies.binary op d e) = ap (λ n. operated_width op n (width (connected_expr nets drives e))) (width-expr d) ∙ ap (operated_width op (width d)) (width-expr e)
   width-expr (bodies.counted op count e) = ap (counted_length op count) (width-expr e)
+  width-expr (bodies.shifted by count e) = width-expr e
+  width-expr (bodies.converted by e) = width-expr e
   width-expr _ = refl
 
   nets-typed : (t : ElementType) (es : List ℕ) → All (HasType here.nets t) es → All (HasType types t) (map (net_of nets drives) es)
@@ -55,6 +57,12 @@ module _ (types : List ElementType) (os : List Object) (vs : List Variable) (net
 
   operands : (op : bodies.Operator) (m n m' n' : ℕ) → m' ≡ m → n' ≡ n → FitsOperands op m n → FitsOperands op m' n'
   operands op m n m' n' p q h = subst (λ x. FitsOperands op x n') (sym p) (subst (FitsOperands op m) (sym q) h)
+
+  rows-hold : (rows : bodies.Expr) → HoldsRows here rows → HoldsRows there (connected_expr nets drives rows)
+  rows-hold (bodies.signal es) h = nets-typed nine_valued es h
+  rows-hold (bodies.variable es) h = h
+  rows-hold (bodies.constant values) h = h
+  rows-hold _ h = elim h [ ]
 
   expr-fits : (e : bodies.Expr) → FitsExpr here e → FitsExpr there (connected_expr nets drives e)
   expr-fits (bodies.signal es) h = (subst IsWidth (sym (length-map es (net_of nets drives))) h.0, nets-typed nine_valued es h.1)
@@ -67,6 +75,9 @@ module _ (types : List ElementType) (os : List Object) (vs : List Variable) (net
     operands op (width d) (width e) (width (connected_expr nets drives d)) (width (connected_expr nets drives e)) (width-expr d) (width-expr e) h.3,
   )
   expr-fits (bodies.counted op count e) h = (h.0, expr-fits e h.1)
+  expr-fits (bodies.shifted by count e) h = (expr-fits count h.0, expr-fits e h.1)
+  expr-fits (bodies.converted by e) h = expr-fits e h
+  expr-fits (bodies.chosen index spacing rows) h = (h.0, expr-fits index h.1, rows-hold rows h.2, subst (λ n. spacing.len ≤ n) (sym (width-expr rows)) h.3)
   expr-fits _ h = h
 
   width-value : (v : bodies.Value) → value_width (connected_value nets drives v) ≡ value_width v
@@ -115,6 +126,15 @@ module _ (types : List ElementType) (os : List Object) (vs : List Variable) (net
     stmt-fits bodies.null_of h c = tt
     stmt-fits (bodies.assign es v) h c = (h.0, value-fits h.0 v h.1, length-map es (place_in drives) ∙ h.2 ∙ sym (width-value v), targets-fit h.0 es h.3 c)
     stmt-fits (bodies.set es v) h c = (h.0, value-fits h.0 v h.1, h.2 ∙ sym (width-value v), h.3)
+    stmt-fits (bodies.assign_at index spacing es e) h c = (
+      h.0,
+      expr-fits index h.1,
+      expr-fits e h.2,
+      h.3 ∙ sym (width-expr e),
+      targets-fit nine_valued es h.4 c,
+      subst (λ n. spacing.len ≤ n) (sym (length-map es (place_in drives))) h.5,
+    )
+    stmt-fits (bodies.set_at index spacing es e) h c = (h.0, expr-fits index h.1, expr-fits e h.2, h.3 ∙ sym (width-expr e), h.4, h.5)
     stmt-fits (bodies.if_of bs) h c = branches-fit bs h c
     stmt-fits (bodies.case_of v alts) h c =
         (h.0, value-fits h.0 v h.1, subst (λ n. FitsAlternatives there h.0 n (connected_alternatives nets drives alts)) (sym (width-value v)) (alternatives-fit alts h.0 (value_width v) h.2 c))

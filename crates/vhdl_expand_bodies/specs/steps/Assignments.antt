@@ -1,11 +1,12 @@
 -- Assignments, each one statement.
 use Rattle.std.specs.Prelude.{ℕ, length, Ok}
-use Rattle.vhdl_names_rules.specs.units.Expressions.{Part, SignalPart}
+use Rattle.vhdl_names_rules.specs.units.Expressions.{Signal, Part, whole, SignalPart, Chosen}
 use Rattle.vhdl_names_rules.specs.units.Statements.{Given}
 use Rattle.rtl_model.specs.bodies.Body as bodies
 use Rattle.vhdl_expand_rules.specs.Elab.{Elab, ◌>>=◌}
-use Rattle.vhdl_expand_rules.specs.Site.{Site, place_elements, variable_elements}
-use Rattle.vhdl_expand_rules.specs.Statements.{value_given}
+use Rattle.vhdl_expand_rules.specs.Expressions.{chosen_row}
+use Rattle.vhdl_expand_rules.specs.Site.{Site, place_elements, signal_elements, variable_elements, signal_bounds, variable_bounds}
+use Rattle.vhdl_expand_rules.specs.Statements.{value_given, elements_given}
 
 module _ (here : Site) where
   abbrev pub assign : SignalPart → Given → Elab bodies.Stmt
@@ -19,3 +20,20 @@ module _ (here : Site) where
     es ← variable_elements here at k part
     v ← value_given here at (length es) g
     Ok (bodies.set es v)
+
+  -- to what a run chooses
+  abbrev pub assign_in : (at : ℕ) → Signal → Chosen → Given → Elab bodies.Stmt
+  assign_in at x c g = do
+    es ← signal_elements here at x whole
+    b ← signal_bounds here at x
+    r ← chosen_row here at b c
+    e ← elements_given here at r.spacing.len g
+    Ok (bodies.assign_at r.index r.spacing es e)
+
+  abbrev pub set_in : (at : ℕ) → ℕ → Chosen → Given → Elab bodies.Stmt
+  set_in at k c g = do
+    es ← variable_elements here at k whole
+    b ← variable_bounds here at k
+    r ← chosen_row here at b c
+    e ← elements_given here at r.spacing.len g
+    Ok (bodies.set_at r.index r.spacing es e)

@@ -10,7 +10,7 @@ use Rattle.vhdl_names_rules.specs.declared.vector.VectorLink.{VectorLink}
 use Rattle.vhdl_names_rules.specs.declared.vector.VectorLink.TheVariants as l
 use Rattle.vhdl_names_rules.specs.declared.vector.VectorStart.{VectorStart}
 use Rattle.vhdl_names_rules.specs.views.Integers.{static_view, index_view}
-use Rattle.vhdl_names_rules.specs.views.Vectors.{vector_view}
+use Rattle.vhdl_names_rules.specs.views.Vectors.{computed_view, vector_view}
 use Rattle.vhdl_names_rules.specs.units.Expressions.{Static, Range, Part, SignalPart, Vector}
 use Rattle.rtl_model.specs.bodies.Body as bodies
 use Rattle.rtl_model.specs.bodies.Fits.{width}
@@ -19,7 +19,8 @@ use Rattle.vhdl_expand_rules.specs.Integers.{natural}
 use Rattle.vhdl_expand_rules.specs.Kinds.{as_size, size_of, count_of, declared_bounds, bounds_size}
 use Rattle.vhdl_expand_rules.specs.Aggregates.{Placed, next, chosen, others, chosen_indexes}
 use Rattle.vhdl_expand_rules.specs.Site.{Site, place_elements, variable_elements}
-use Rattle.vhdl_expand_rules.specs.Expressions.{operation_on, operator, numeric, vector}
+use Rattle.vhdl_expand_rules.specs.Expressions.{operation_on, operator, numeric, computed, vector}
+use Rattle.vhdl_expand_rules.specs.Computed.{Number, natural_digits}
 
 abbrev pub literal : (at : ℕ) → List Nine → Elab bodies.Expr
 literal at xs = do
@@ -54,6 +55,12 @@ module _ (here : Site) where
     n ← natural here.integers at s
     e ← vector here x
     operation_on at (numeric op) (bodies.constant (digits_of (width e) n)) e
+
+  -- of a number that is computed already
+  abbrev pub computed_with : (at : ℕ) → Numeric → Number → Vector → Elab bodies.Expr
+  computed_with at op n x = do
+    e ← vector here x
+    operation_on at (numeric op) (natural_digits (width e) n) e
 
   -- one element, of an aggregate that starts here
   abbrev pub one_element : (at : ℕ) → Vector → Elab bodies.Expr
@@ -91,6 +98,9 @@ module _ (here : Site) where
   linked d (l.Integer op at s) = do
     n ← natural here.integers at (static_view s)
     operation_on at (numeric op) d (bodies.constant (digits_of (width d) n))
+  linked d (l.Computed op at x) = do
+    n ← computed here at (computed_view x)
+    operation_on at (numeric op) d (natural_digits (width d) n)
 
   abbrev pub started : VectorStart → Elab bodies.Expr
   started s = do

@@ -12,27 +12,33 @@ use Rattle.vhdl_values.specs.Scalar.{code_of}
 use Rattle.rtl_model.specs.bodies.Types.{ElementType, nine_valued, enumeration, HasType}
 use Rattle.rtl_model.specs.bodies.Fits.{IsWidth, width, value_width, FitsAs, DrivesType, FitsChoice, FitsStmt, Fits, FitsBranches, FitsAlternatives}
 use Rattle.rtl_model.specs.bodies.Body as bodies
-use Rattle.vhdl_names_rules.specs.units.Expressions.{SignalPart, Part, Value}
+use Rattle.vhdl_names_rules.specs.units.Expressions.{Signal, SignalPart, Part, Chosen, Value}
 use Rattle.vhdl_names_rules.specs.units.Expressions as u
 use Rattle.vhdl_names_rules.specs.units.Statements as s
+use Rattle.vhdl_names_rules.specs.units.Units as units
 use Rattle.vhdl_names_rules.specs.units.Units.{Form}
-use Rattle.vhdl_names_rules.specs.sound.Expressions.{Inside, Shape, vector, state, part_shape, place_shape, vector_shape, value_shape, range_fits, test_fits}
+use Rattle.vhdl_names_rules.specs.Rules.{◌>>=◌}
+use Rattle.vhdl_names_rules.specs.sound.Expressions.{Inside, Shape, vector, state, signal_form, part_shape, place_shape, has_vector, chosen_shape, chosen_fits, vector_shape, value_shape, range_fits, test_fits}
 use Rattle.vhdl_names_rules.specs.sound.Expressions as sound
 use Rattle.vhdl_names_rules.specs.sound.Statements.{given_fits, given_fits_target, is_driven, within_loop, choice_fits, statement_fits, statements_fit, branches_fit, alternatives_fit}
 use Rattle.vhdl_expand_rules.specs.declared.fault.ElabProblem.TheVariants.{Length}
 use Rattle.vhdl_expand_rules.specs.Elab.{each, same_length}
 use Rattle.vhdl_expand_rules.specs.Integers.{turns}
-use Rattle.vhdl_expand_rules.specs.Site.{Site, in_loop, elements_count, place_elements, variable_elements}
+use Rattle.vhdl_expand_rules.specs.Kinds.{Bounds, bounds_size}
+use Rattle.vhdl_expand_rules.specs.Site.{Site, in_loop, elements_count, place_elements, signal_elements, variable_elements, signal_bounds, variable_bounds}
 use Rattle.vhdl_expand_rules.specs.Expressions as x
-use Rattle.vhdl_expand_rules.specs.Statements.{value_given, choice, joined_bodies, one, statement, statements, branches, alternatives}
+use Rattle.vhdl_expand_rules.specs.Expressions.{Row}
+use Rattle.vhdl_expand_rules.specs.Statements.{value_given, elements_given, choice, joined_bodies, one, statement, statements, branches, alternatives}
 use Rattle.vhdl_expand_rules.specs.laws.Sites.{IsSite, kinds_types, scope_at}
 use Rattle.vhdl_expand_rules.specs.laws.Expressions.{HasShape, type_of}
 use Rattle.vhdl_expand_rules.specs.laws.Statements.{EachBodyFits}
 use Rattle.vhdl_expand_rules.proofs.Steps.{ok, bound, kept, each-all}
 use Rattle.vhdl_expand_rules.proofs.Options.{step}
 use Rattle.vhdl_expand_rules.proofs.laws.Kinds.{codes_below}
-use Rattle.vhdl_expand_rules.proofs.laws.Names.{is_width, length-types, each-name-fits, variable_fits}
-use Rattle.vhdl_expand_rules.proofs.laws.Vectors.{each-vector-fits}
+use Rattle.vhdl_expand_rules.proofs.laws.Names.{is_width, length-types, name_fits, each-name-fits, variable_fits}
+use Rattle.vhdl_expand_rules.proofs.laws.Computed.{IsLong}
+use Rattle.vhdl_expand_rules.proofs.laws.Chosen.{a_vector, signal_long, variable_long}
+use Rattle.vhdl_expand_rules.proofs.laws.Vectors.{row_fits, each-vector-fits}
 use Rattle.vhdl_expand_rules.proofs.laws.Tests.{has_shape, value_of_shape, each-value-fits, each-test-fits}
 
 -- ---- what is assigned
@@ -94,6 +100,48 @@ set-fits i here at n part g z f es v h a c k m e =
     let w = given-fits i here at z (length es) g v h (is_width z (length es) q.width) k e in
     (type_of z, w.fits, w.width, q.typed)
 
+-- ---- what a run chooses of a target
+
+given-elements : (i : Inside) (here : Site) (at : ℕ) (z : Shape) (len : ℕ) (g : s.Given) (e : bodies.Expr) → IsSite i here → IsWidth len → given_fits i z g ≡ true → elements_given here at len g ≡ Ok e → IsLong here len e
+unfolding elements_given
+given-elements i here at z len (s.single (u.Value.elements y)) e h w k m =
+    let d = bound (x.vector here y) _ e m in
+    let same = bound (same_length at (width d.x) len) _ e d.then_gave in
+    let q = each-vector-fits i here y z d.x h (has_shape z (vector_shape i y) k) d.gave in
+    subst (IsLong here len) (ok d.x e same.then_gave)
+    (record { fits = q.fits; long = eqb-true (width d.x) len (kept (Length (width d.x) len) at (width d.x == len) same.x same.gave) })
+given-elements i here at z len (s.single _) e h w k m = absurd cc
+given-elements i here at vector len (s.filled y) e h w k m =
+    let d = bound (x.vector here y) _ e m in
+    let same = bound (same_length at (width d.x) 1) _ e d.then_gave in
+    let q = each-vector-fits i here y sound.one d.x h (has_shape sound.one (vector_shape i y) k) d.gave in
+    subst (IsLong here len) (ok (bodies.filled len d.x) e same.then_gave) (record { fits = (w, q.fits, q.width); long = refl })
+given-elements i here at _ len _ e h w k m = absurd cc
+
+assign-in-fits : (i : Inside) (here : Site) (at : ℕ) (y : Signal) (c : Chosen) (g : s.Given) (es : List ℕ) (b : Bounds) (r : Row) (e : bodies.Expr) → IsSite i here → has_vector (signal_form i y) ≡ true → chosen_fits i c ≡ true
+    → given_fits i (chosen_shape c) g ≡ true → signal_elements here at y u.whole ≡ Ok es → signal_bounds here at y ≡ Ok b → x.chosen_row here at b c ≡ Ok r → elements_given here at r.spacing.len g ≡ Ok e
+    → FitsStmt (scope_at here) (bodies.assign_at r.index r.spacing es e)
+assign-in-fits i here at y c g es b r e h k l m p q o n =
+    let f = a_vector (signal_form i y) k in
+    let w = name_fits i here at y u.whole vector es h (ap (λ (z : Option Form). z >>= λ a. part_shape i a u.whole) f.1) p in
+    let long = signal_long here at y es b q p in
+    let row = row_fits i here at b c r h l o (subst IsWidth long w.width) in
+    let v = given-elements i here at (chosen_shape c) r.spacing.len g e h row.spacing.0 m n in
+    let few : r.spacing.len ≤ bounds_size b = row.within in
+    (row.spacing, row.index, v.fits, sym v.long, All-weaker (HasType (scope_at here).nets nine_valued) (DrivesType (scope_at here) nine_valued) (drives here nine_valued) es w.typed, omega (arith, few, long))
+
+set-in-fits : (i : Inside) (here : Site) (at n : ℕ) (c : Chosen) (g : s.Given) (es : List ℕ) (b : Bounds) (r : Row) (e : bodies.Expr) → IsSite i here → has_vector (slice_get i.variables n) ≡ true → chosen_fits i c ≡ true
+    → given_fits i (chosen_shape c) g ≡ true → variable_elements here at n u.whole ≡ Ok es → variable_bounds here at n ≡ Ok b → x.chosen_row here at b c ≡ Ok r → elements_given here at r.spacing.len g ≡ Ok e
+    → FitsStmt (scope_at here) (bodies.set_at r.index r.spacing es e)
+set-in-fits i here at n c g es b r e h k l m p q o a =
+    let f = a_vector (slice_get i.variables n) k in
+    let w = variable_fits i here at n u.whole (units.vector f.0) vector es h f.1 refl p in
+    let long = variable_long here at n es b q p in
+    let row = row_fits i here at b c r h l o (subst IsWidth long w.width) in
+    let v = given-elements i here at (chosen_shape c) r.spacing.len g e h row.spacing.0 m a in
+    let few : r.spacing.len ≤ bounds_size b = row.within in
+    (row.spacing, row.index, v.fits, sym v.long, w.typed, omega (arith, few, long))
+
 -- ---- choices
 
 module _ (here : Site) (at : ℕ) where
@@ -144,6 +192,9 @@ module _ (here : Site) (at : ℕ) where
 -- ---- statements
 
 module _ (here : Site) where
+  single-fits : (y : bodies.Stmt) (body : bodies.Stmts) → one y ≡ body → FitsStmt (scope_at here) y → Fits (scope_at here) body
+  single-fits y body e h = subst (Fits (scope_at here)) e (h, tt)
+
   followed-fits : (a c : bodies.Stmts) → Fits (scope_at here) a → Fits (scope_at here) c → Fits (scope_at here) (bodies.followed_by a c)
   followed-fits bodies.done c h k = k
   followed-fits (bodies.step y a) c h k = (h.0, followed-fits a c h.1 k)
@@ -196,6 +247,25 @@ mutual
       let v = bound (value_given here at (length es.x) g) _ body es.then_gave in
       subst (Fits (scope_at here)) (ok (one (bodies.set es.x v.x)) body v.then_gave)
       (set-fits i here at n part g z.shape f.x es.x v.x h f.gave f.then_gave z.fits es.gave v.gave, tt)
+  statement-fits (s.assign_in at y c g) i here body h k m =
+      let both = and_parts (is_driven i y && has_vector (signal_form i y) && chosen_fits i c) (given_fits i (chosen_shape c) g) k in
+      let first = and_parts (is_driven i y && has_vector (signal_form i y)) (chosen_fits i c) both.0 in
+      let vectors = and_parts (is_driven i y) (has_vector (signal_form i y)) first.0 in
+      let es = bound (signal_elements here at y u.whole) _ body m in
+      let b = bound (signal_bounds here at y) _ body es.then_gave in
+      let r = bound (x.chosen_row here at b.x c) _ body b.then_gave in
+      let e = bound (elements_given here at r.x.spacing.len g) _ body r.then_gave in
+      single-fits here (bodies.assign_at r.x.index r.x.spacing es.x e.x) body (ok (one (bodies.assign_at r.x.index r.x.spacing es.x e.x)) body e.then_gave)
+      (assign-in-fits i here at y c g es.x b.x r.x e.x h vectors.1 first.1 both.1 es.gave b.gave r.gave e.gave)
+  statement-fits (s.set_in at n c g) i here body h k m =
+      let both = and_parts (has_vector (slice_get i.variables n) && chosen_fits i c) (given_fits i (chosen_shape c) g) k in
+      let first = and_parts (has_vector (slice_get i.variables n)) (chosen_fits i c) both.0 in
+      let es = bound (variable_elements here at n u.whole) _ body m in
+      let b = bound (variable_bounds here at n) _ body es.then_gave in
+      let r = bound (x.chosen_row here at b.x c) _ body b.then_gave in
+      let e = bound (elements_given here at r.x.spacing.len g) _ body r.then_gave in
+      single-fits here (bodies.set_at r.x.index r.x.spacing es.x e.x) body (ok (one (bodies.set_at r.x.index r.x.spacing es.x e.x)) body e.then_gave)
+      (set-in-fits i here at n c g es.x b.x r.x e.x h first.0 first.1 both.1 es.gave b.gave r.gave e.gave)
   statement-fits (s.if_of at bs) i here body h k m =
       let cs = bound (branches here bs) _ body m in
       subst (Fits (scope_at here)) (ok (one (bodies.if_of cs.x)) body cs.then_gave) (branches-fit bs i here cs.x h k cs.gave, tt)

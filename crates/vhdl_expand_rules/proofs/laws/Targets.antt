@@ -1,25 +1,27 @@
 -- What a body assigns is among the elements of the longest static prefixes of its targets.
-use Rattle.std.proofs.Common.{◌≡◌, ℕ, zero, suc, ◌+◌, ◌<◌, Bool, true, false, cond, ◌&&◌, ◌==◌, List, [], ◌∷◌, ◌++◌, length, Option, Ok, All, sym, ap, ◌∙◌, subst, arith, ◌⊎◌, inl, inr}
-use Rattle.std.specs.Prelude.{ℤ, Contains, filter, slice_index_or}
+use Rattle.std.proofs.Common.{◌≡◌, ℕ, zero, suc, ◌+◌, ◌<◌, Bool, true, false, cond, ◌&&◌, ◌==◌, List, [], ◌∷◌, ◌++◌, length, map, take, Option, Some, None, Ok, All, sym, ap, ◌∙◌, subst, arith, ◌⊎◌, inl, inr}
+use Rattle.std.specs.Prelude.{ℤ, Contains, filter, slice_get, slice_index_or}
 use Rattle.std.specs.List.{list_any, list_all, range_with_len}
 use Rattle.std.proofs.lemmas.Bool.{eqb-true, eq-eqb, or_cases, or_left, or_right, and_parts}
 use Rattle.std.proofs.lemmas.List.Elements.{All-cons, All-nil, All-head, All-tail, All-append, All-weaker, All-contains, All-contains_itself, Contains-append_left, Contains-append_right, filter_passes}
 use Rattle.std.proofs.lemmas.List.FromFn.{length-range_with_len, get_or-range_with_len}
 use Rattle.rtl_model.specs.bodies.Body as bodies
-use Rattle.vhdl_names_rules.specs.units.Expressions.{SignalPart}
+use Rattle.vhdl_names_rules.specs.units.Expressions as u
+use Rattle.vhdl_names_rules.specs.units.Expressions.{Signal, SignalPart}
 use Rattle.vhdl_names_rules.specs.units.Statements as s
-use Rattle.vhdl_names_rules.specs.sound.Expressions.{Inside, Shape, place_shape, value_shape, range_fits, test_fits}
-use Rattle.vhdl_names_rules.specs.sound.Statements.{given_fits_target, is_driven, within_loop, choice_fits, selector_fits, statement_fits, statements_fit, branches_fit, alternatives_fit}
-use Rattle.vhdl_expand_rules.specs.Elab.{Elab, each}
-use Rattle.vhdl_expand_rules.specs.Integers.{turns}
-use Rattle.vhdl_expand_rules.specs.Kinds.{ObjectKind}
-use Rattle.vhdl_expand_rules.specs.Site.{Site, in_loop, place_elements, variable_elements}
+use Rattle.vhdl_names_rules.specs.sound.Expressions.{Inside, Shape, signal_form, place_shape, has_vector, chosen_shape, chosen_fits, value_shape, range_fits, test_fits}
+use Rattle.vhdl_names_rules.specs.sound.Statements.{given_fits, given_fits_target, is_driven, within_loop, choice_fits, selector_fits, statement_fits, statements_fit, branches_fit, alternatives_fit}
+use Rattle.vhdl_expand_rules.specs.declared.fault.ElabProblem.TheVariants.{Index}
+use Rattle.vhdl_expand_rules.specs.Elab.{Elab, ◌>>=◌, item_or, each}
+use Rattle.vhdl_expand_rules.specs.Integers.{Integers, turns}
+use Rattle.vhdl_expand_rules.specs.Kinds.{ObjectKind, places}
+use Rattle.vhdl_expand_rules.specs.Site.{Site, in_loop, elements_count, part_elements, signal_elements, place_elements, variable_elements, signal_bounds, variable_bounds}
 use Rattle.vhdl_expand_rules.specs.Expressions as x
-use Rattle.vhdl_expand_rules.specs.Statements.{value_given, choice, joined_bodies, one, statement, statements, branches, alternatives}
+use Rattle.vhdl_expand_rules.specs.Statements.{value_given, elements_given, choice, joined_bodies, one, statement, statements, branches, alternatives}
 use Rattle.vhdl_expand_rules.specs.declared.prefix.Sought.TheVariants.{Assigned}
-use Rattle.vhdl_expand_rules.specs.Prefixes.{prefix, statement_names, targets, branches_names, alternatives_names, concatenation_of, is_among, in_order}
-use Rattle.vhdl_expand_rules.specs.laws.Trees.{Assigns, BranchesAssign, AlternativesAssign}
-use Rattle.vhdl_expand_rules.proofs.Steps.{ok, bound, each-all}
+use Rattle.vhdl_expand_rules.specs.Prefixes.{prefix, whole_of, statement_names, targets, branches_names, alternatives_names, concatenation_of, is_among, in_order}
+use Rattle.vhdl_expand_rules.specs.laws.Trees.{StmtAssigns, Assigns, BranchesAssign, AlternativesAssign}
+use Rattle.vhdl_expand_rules.proofs.Steps.{given, ok, bound, each-all}
 use Rattle.vhdl_expand_rules.proofs.laws.Prefixes.{within, name_in_prefix}
 use Rattle.rtl_model.specs.bodies.Fits.{value_width}
 
@@ -107,6 +109,24 @@ pub among_prefixes : (here : Site) (ps : List SignalPart) (ess : List (List ℕ)
     → All (GaveAmong (λ p. place_elements here (prefix p)) (concatenation_of ess)) ps
 among_prefixes here ps ess h = each-among (λ p. place_elements here (prefix p)) ps ess h
 
+-- the whole of a signal is the same, at whatever byte it would be refused
+part-at : (here : Integers) (at from : ℕ) (kinds : List ObjectKind) (n : ℕ) (es : List ℕ) → part_elements here at from kinds n u.whole ≡ Ok es → part_elements here 0 from kinds n u.whole ≡ Ok es
+unfolding places
+part-at here at from kinds n es h = by (slice_get kinds n) h
+  where
+    f : ℕ → ℕ
+    f p = from + elements_count (take n kinds) + p
+
+    by : (o : Option ObjectKind) → (item_or Index at o >>= λ k. places here at k u.whole >>= λ ps. given (map f ps)) ≡ Ok es
+        → (item_or Index 0 o >>= λ k. places here 0 k u.whole >>= λ ps. given (map f ps)) ≡ Ok es
+    by (Some k) g = g
+    by None g = absurd cc
+
+whole-at : (here : Site) (at : ℕ) (y : Signal) (es : List ℕ) → signal_elements here at y u.whole ≡ Ok es → place_elements here (whole_of y) ≡ Ok es
+unfolding signal_elements
+whole-at here at (u.port n) es h = part-at here.integers at 0 here.ports n es h
+whole-at here at (u.Signal.signal n) es h = part-at here.integers at (elements_count here.ports) here.signals n es h
+
 -- ---- what a body assigns
 
 module _ (here : Site) (vs : List ObjectKind) (P : ℕ → Type 0) where
@@ -116,6 +136,9 @@ module _ (here : Site) (vs : List ObjectKind) (P : ℕ → Type 0) where
 
   name-assigned : (loops : List ℤ) (p : SignalPart) (es : List ℕ) → Driven p → place_elements (within here loops vs) p ≡ Ok es → All P es
   name-assigned loops p es h g = All-weaker (Contains h.0) P (λ e c. All-contains P h.0 e h.2 c) es (name_in_prefix here loops vs p es h.0 g h.1)
+
+  single-assigns : (y : bodies.Stmt) (body : bodies.Stmts) → one y ≡ body → StmtAssigns P y → Assigns P body
+  single-assigns y body e h = subst (Assigns P) e (h, tt)
 
   followed-assigns : (a c : bodies.Stmts) → Assigns P a → Assigns P c → Assigns P (bodies.followed_by a c)
   followed-assigns bodies.done c h k = k
@@ -138,6 +161,19 @@ module _ (here : Site) (vs : List ObjectKind) (P : ℕ → Type 0) where
         let es = bound (variable_elements (within here loops vs) at n part) _ body m in
         let v = bound (value_given (within here loops vs) at (length es.x) g) _ body es.then_gave in
         subst (Assigns P) (ok (one (bodies.set es.x v.x)) body v.then_gave) (tt, tt)
+    statement-assigns (s.assign_in at y c g) loops body h m =
+        let es = bound (signal_elements (within here loops vs) at y u.whole) _ body m in
+        let b = bound (signal_bounds (within here loops vs) at y) _ body es.then_gave in
+        let r = bound (x.chosen_row (within here loops vs) at b.x c) _ body b.then_gave in
+        let v = bound (elements_given (within here loops vs) at r.x.spacing.len g) _ body r.then_gave in
+        single-assigns (bodies.assign_at r.x.index r.x.spacing es.x v.x) body (ok (one (bodies.assign_at r.x.index r.x.spacing es.x v.x)) body v.then_gave)
+        (name-assigned loops (whole_of y) es.x (All-head Driven (whole_of y) [] h) (whole-at (within here loops vs) at y es.x es.gave))
+    statement-assigns (s.set_in at n c g) loops body h m =
+        let es = bound (variable_elements (within here loops vs) at n u.whole) _ body m in
+        let b = bound (variable_bounds (within here loops vs) at n) _ body es.then_gave in
+        let r = bound (x.chosen_row (within here loops vs) at b.x c) _ body b.then_gave in
+        let v = bound (elements_given (within here loops vs) at r.x.spacing.len g) _ body r.then_gave in
+        single-assigns (bodies.set_at r.x.index r.x.spacing es.x v.x) body (ok (one (bodies.set_at r.x.index r.x.spacing es.x v.x)) body v.then_gave) tt
     statement-assigns (s.if_of at bs) loops body h m =
         let cs = bound (branches (within here loops vs) bs) _ body m in
         subst (Assigns P) (ok (one (bodies.if_of cs.x)) body cs.then_gave) (branches-assign bs loops cs.x h cs.gave, tt)
@@ -199,6 +235,10 @@ mutual
 
   statement-targets : (y : s.Statement) (i : Inside) → statement_fits i y ≡ true → All (IsDriven i) (statement_names Assigned y)
   statement-targets (s.assign p g) i k = All-cons (IsDriven i) p [] (and_parts (is_driven i p.signal) (given_fits_target i (place_shape i p) g) k).0 (All-nil (IsDriven i))
+  statement-targets (s.assign_in at y c g) i k =
+      let both = and_parts (is_driven i y && has_vector (signal_form i y) && chosen_fits i c) (given_fits i (chosen_shape c) g) k in
+      let first = and_parts (is_driven i y && has_vector (signal_form i y)) (chosen_fits i c) both.0 in
+      All-cons (IsDriven i) (whole_of y) [] (and_parts (is_driven i y) (has_vector (signal_form i y)) first.0).0 (All-nil (IsDriven i))
   statement-targets (s.if_of at bs) i k = branches-targets bs i k
   statement-targets (s.case_of at v alts) i k = alternatives-targets alts i (value_shape i v) (and_parts (selector_fits i v) (alternatives_fit i (value_shape i v) alts) k).1
   statement-targets (s.for_of at r inner) i k = statements-targets inner (within_loop i) (and_parts (range_fits i r) (statements_fit (within_loop i) inner) k).1

@@ -14,11 +14,13 @@ use Rattle.vhdl_names_rules.specs.units.Expressions as u
 use Rattle.vhdl_names_rules.specs.units.Expressions.{SignalPart, Value, Test}
 use Rattle.vhdl_names_rules.specs.units.Units.{Form}
 use Rattle.vhdl_names_rules.specs.Rules.{◌>>=◌}
-use Rattle.vhdl_names_rules.specs.sound.Expressions.{Inside, Shape, one, vector, state, shape_of, is_elements, same_shape, static_fits, part_shape, signal_form, place_shape, vector_shape}
+use Rattle.vhdl_names_rules.specs.sound.Expressions.{Inside, Shape, one, vector, state, shape_of, is_elements, same_shape, static_fits, part_shape, signal_form, place_shape, computed_fits, vector_shape}
 use Rattle.vhdl_names_rules.specs.sound.Expressions.{state_shape, value_shape, position_fits, fits_shape, value_fits, value_fits_beside, values_fit, edge_fits, test_fits}
 use Rattle.vhdl_expand_rules.specs.declared.fault.ElabProblem.TheVariants.{Index}
 use Rattle.vhdl_expand_rules.specs.Elab.{Elab}
-use Rattle.vhdl_expand_rules.specs.Integers.{natural, decision}
+use Rattle.vhdl_expand_rules.specs.Integers as integers
+use Rattle.vhdl_expand_rules.specs.Integers.{decision}
+use Rattle.vhdl_expand_rules.specs.Computed.{natural, relation}
 use Rattle.vhdl_expand_rules.specs.Site.{Site, signal_elements, place_elements, variable_elements, the_element}
 use Rattle.vhdl_expand_rules.specs.Expressions as x
 use Rattle.vhdl_expand_rules.specs.Expressions.{level_test, alike, edge_test}
@@ -27,7 +29,10 @@ use Rattle.vhdl_expand_rules.specs.laws.Expressions.{type_of, IsName, IsVector, 
 use Rattle.vhdl_expand_rules.proofs.Steps.{ok, bound}
 use Rattle.vhdl_expand_rules.proofs.Options.{step, given_some}
 use Rattle.vhdl_expand_rules.proofs.laws.Names.{is_width, was_found, name_fits, each-name-fits, variable_fits}
-use Rattle.vhdl_expand_rules.proofs.laws.Vectors.{elements_are_nine, named, one_character, each-vector-fits}
+use Rattle.vhdl_expand_rules.proofs.laws.Computed.{natural_fits, relation_fits}
+use Rattle.vhdl_expand_rules.proofs.laws.Operands.{elements_are_nine, one_character}
+use Rattle.vhdl_expand_rules.proofs.laws.Chosen.{named}
+use Rattle.vhdl_expand_rules.proofs.laws.Vectors.{computed_is_number, each-vector-fits}
 
 -- ---- shapes
 
@@ -223,13 +228,35 @@ each-test-fits i here (u.Test.compared at op v w) c h k m =
 each-test-fits i here (u.compared_to at op v n) c h k m =
     let both = and_parts (fits_shape vector (vector_shape i v)) (static_fits i n) k in
     let d = bound (x.vector here v) _ c m in
-    let j = bound (natural here.integers at n) _ c d.then_gave in
+    let j = bound (integers.natural here.integers at n) _ c d.then_gave in
     subst (FitsTest (scope_at here)) (ok (bodies.compared_to op d.x j.x) c j.then_gave) (each-vector-fits i here v vector d.x h (has_shape vector (vector_shape i v) both.0) d.gave).fits
 each-test-fits i here (u.compared_with at op n v) c h k m =
     let both = and_parts (static_fits i n) (fits_shape vector (vector_shape i v)) k in
-    let j = bound (natural here.integers at n) _ c m in
+    let j = bound (integers.natural here.integers at n) _ c m in
     let d = bound (x.vector here v) _ c j.then_gave in
     subst (FitsTest (scope_at here)) (ok (bodies.compared_to (x.converse_of op) d.x j.x) c d.then_gave) (each-vector-fits i here v vector d.x h (has_shape vector (vector_shape i v) both.1) d.gave).fits
+each-test-fits i here (u.compared_to_computed at op v n) c h k m =
+    let both = and_parts (fits_shape vector (vector_shape i v)) (computed_fits i n) k in
+    let d = bound (x.vector here v) _ c m in
+    let z = bound (x.computed here at n) _ c d.then_gave in
+    subst (FitsTest (scope_at here)) (ok (bodies.compared op d.x (natural z.x)) c z.then_gave) (
+      (each-vector-fits i here v vector d.x h (has_shape vector (vector_shape i v) both.0) d.gave).fits,
+      natural_fits here z.x (computed_is_number i here at n z.x h both.1 z.gave),
+    )
+each-test-fits i here (u.compared_with_computed at op n v) c h k m =
+    let both = and_parts (computed_fits i n) (fits_shape vector (vector_shape i v)) k in
+    let z = bound (x.computed here at n) _ c m in
+    let d = bound (x.vector here v) _ c z.then_gave in
+    subst (FitsTest (scope_at here)) (ok (bodies.compared op (natural z.x) d.x) c d.then_gave) (
+      natural_fits here z.x (computed_is_number i here at n z.x h both.0 z.gave),
+      (each-vector-fits i here v vector d.x h (has_shape vector (vector_shape i v) both.1) d.gave).fits,
+    )
+each-test-fits i here (u.computed_compared at op n m) c h k e =
+    let both = and_parts (computed_fits i n) (computed_fits i m) k in
+    let a = bound (x.computed here at n) _ c e in
+    let b = bound (x.computed here at m) _ c a.then_gave in
+    subst (FitsTest (scope_at here)) (ok (relation op a.x b.x) c b.then_gave)
+    (relation_fits here op a.x b.x (computed_is_number i here at n a.x h both.0 a.gave) (computed_is_number i here at m b.x h both.1 b.gave))
 each-test-fits i here (u.edge kind p) c h k m =
     let e = bound (the_element p.at (place_elements here p)) _ c m in
     subst (FitsTest (scope_at here)) (ok (edge_test kind e.x) c e.then_gave) (edge-fits here kind e.x (edge-element i here p e.x h k e.gave))

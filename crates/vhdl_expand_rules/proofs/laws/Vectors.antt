@@ -1,157 +1,39 @@
 -- Expanded vectors fit, by induction over expressions.
-use Rattle.std.proofs.Common.{◌≡◌, ℕ, ◌+◌, ◌≤◌, true, ◌&&◌, ◌==◌, List, [], ◌∷◌, ◌++◌, length, map, Option, Some, None, Ok, All, refl, sym, subst, arith}
-use Rattle.std.specs.Prelude.{ℤ, max, nat_le, slice_get, slice_index_or}
+use Rattle.std.proofs.Common.{◌≡◌, ℕ, ◌+◌, true, ◌&&◌, ◌==◌, List, [], ◌∷◌, ◌++◌, length, Option, Some, None, Ok, All, refl, sym, subst}
+use Rattle.std.specs.Prelude.{ℤ, slice_get}
 use Rattle.std.specs.List.{list_all}
 use Rattle.std.proofs.lemmas.Option.{same_Some}
-use Rattle.std.proofs.lemmas.Bool.{and_parts, eqb-true, leb-true}
-use Rattle.std.proofs.lemmas.List.{length-map}
+use Rattle.std.proofs.lemmas.Bool.{and_parts, eqb-true}
 use Rattle.std.proofs.lemmas.List.Elements.{All-cons, All-nil}
-use Rattle.vhdl_values.specs.declared.scalar.Nine.{Nine}
-use Rattle.vhdl_values.specs.declared.scalar.Nine.TheVariants.{X}
-use Rattle.vhdl_values.specs.declared.kinds.Counted.{Counted}
-use Rattle.vhdl_values.specs.declared.kinds.Counted.TheVariants.{Resize}
 use Rattle.vhdl_values.specs.Numbers.{digits_of}
-use Rattle.vhdl_values.specs.Shifts.{IsCount}
 use Rattle.vhdl_values.proofs.Digits.{length-digits_of}
 use Rattle.vhdl_values.proofs.Lengths.{counted_within}
-use Rattle.rtl_model.specs.bodies.Types.{ElementType, nine_valued, HasType}
+use Rattle.rtl_model.specs.bodies.Types.{ElementType, HasType}
 use Rattle.rtl_model.specs.bodies.Fits.{width, IsWidth}
 use Rattle.rtl_model.specs.bodies.Body as bodies
-use Rattle.vhdl_names_rules.specs.declared.operator.Numeric.{Numeric}
-use Rattle.vhdl_names_rules.specs.declared.operator.Numeric.TheVariants.{Add, Subtract, Multiply}
-use Rattle.vhdl_names_rules.specs.declared.operator.VectorOperator.{VectorOperator}
-use Rattle.vhdl_names_rules.specs.declared.operator.VectorOperator.TheVariants as v
 use Rattle.vhdl_names_rules.specs.units.Expressions as u
-use Rattle.vhdl_names_rules.specs.units.Expressions.{Static, Part, Vector, Elements}
-use Rattle.vhdl_names_rules.specs.units.Units.{Form}
-use Rattle.vhdl_names_rules.specs.sound.Expressions.{Inside, Shape, one, vector, state, is_elements, is_vector, same_shape, operated_shape, part_shape, place_shape, static_fits, range_fits, any_range_fits, index_fits, is_one, are_elements, with_static, vector_shape, elements_fit}
-use Rattle.vhdl_expand_rules.specs.declared.fault.ElabProblem.TheVariants.{Length, Index, TooWide}
-use Rattle.vhdl_expand_rules.specs.Elab.{unless, item_or, same_length}
-use Rattle.vhdl_expand_rules.specs.Integers.{Integers, natural}
-use Rattle.vhdl_expand_rules.specs.Kinds.{as_size, size_of, count_of, declared_bounds, bounds_size, places}
+use Rattle.vhdl_names_rules.specs.units.Expressions.{Computed, Chosen, Vector, Elements}
+use Rattle.vhdl_names_rules.specs.sound.Expressions.{Inside, Shape, one, vector, state, is_elements, is_vector, part_shape, place_shape, static_fits, range_fits, any_range_fits, index_fits, is_one, are_elements, signal_form, has_vector, chosen_shape, is_vector_shape, computed_fits, chosen_fits, vector_shape, elements_fit}
+use Rattle.vhdl_expand_rules.specs.declared.fault.ElabProblem.TheVariants.{Length}
+use Rattle.vhdl_expand_rules.specs.Elab.{same_length}
+use Rattle.vhdl_expand_rules.specs.Integers.{integer, natural}
+use Rattle.vhdl_expand_rules.specs.Kinds.{Bounds, as_size, size_of, count_of, declared_bounds, bounds_size}
 use Rattle.vhdl_expand_rules.specs.Aggregates.{Placed, next, chosen, others, given_indexes, chosen_indexes}
-use Rattle.vhdl_expand_rules.specs.Site.{Site, place_elements, variable_elements, constant_values}
+use Rattle.vhdl_expand_rules.specs.Computed as number
+use Rattle.vhdl_expand_rules.specs.Computed.{Number, known, natural_digits}
+use Rattle.vhdl_expand_rules.specs.Linear.{Measured, opposite, linear_operation, known_measured, as_term}
+use Rattle.vhdl_expand_rules.specs.Site.{Site, place_elements, signal_elements, variable_elements, constant_values, signal_bounds, variable_bounds, constant_bounds}
 use Rattle.vhdl_expand_rules.specs.Expressions as x
-use Rattle.vhdl_expand_rules.specs.Expressions.{operands_fit, operation_on, numeric, operator}
-use Rattle.vhdl_expand_rules.specs.laws.Sites.{IsConstant, IsSite, kinds_types, scope_at}
-use Rattle.vhdl_expand_rules.specs.laws.Expressions.{HasShape, type_of, IsName, IsVector, EachVectorFits}
+use Rattle.vhdl_expand_rules.specs.Expressions.{Row, row_from, slice_length}
+use Rattle.vhdl_expand_rules.specs.laws.Sites.{IsSite, kinds_types}
+use Rattle.vhdl_expand_rules.specs.laws.Expressions.{IsVector, EachVectorFits}
 use Rattle.vhdl_expand_rules.proofs.Steps.{ok, bound, kept}
 use Rattle.vhdl_expand_rules.proofs.Options.{step, given_some}
+use Rattle.vhdl_expand_rules.proofs.laws.Computed.{IsNumber, known_number, number_is_read, operation_number, negative_number, magnitude_number, natural_digits_long, slice_is_short}
 use Rattle.vhdl_expand_rules.proofs.laws.Aggregates.{given_few, One, PlacedFits, composed_whole}
-use Rattle.vhdl_expand_rules.proofs.laws.Names.{is_width, was_found, part_places, zip_at, each-name-fits, variable_fits}
-
-pub elements_are_nine : (s : Shape) → is_elements s ≡ true → type_of s ≡ nine_valued
-elements_are_nine (state count) h = absurd cc
-elements_are_nine _ h = refl
-
-pub vector_width : (here : Site) (s : Shape) (e : bodies.Expr) → IsVector here s e → IsWidth (width e)
-vector_width here s e h = is_width s (width e) h.width
-
-one-is_width : IsWidth 1
-one-is_width = (omega arith, omega arith)
-
-pub one_character : (here : Site) (x : Nine) → IsVector here one (bodies.constant (x ∷ []))
-one_character here x = record { of_elements = refl; fits = one-is_width; width = refl }
-
-constant_vector : (here : Site) (vs : List Nine) → IsWidth (length vs) → IsVector here vector (bodies.constant vs)
-constant_vector here vs h = record { of_elements = refl; fits = h; width = h }
-
--- ---- sizes
-
-asked : (at n m : ℕ) → as_size at n ≡ Ok m → IsWidth n × (n ≡ m)
-asked at n m h =
-    let low = bound (unless Index at (nat_le 1 n)) _ m h in
-    let high = bound (unless TooWide at (nat_le n 64)) _ m low.then_gave in
-    ((leb-true 1 n (kept Index at (nat_le 1 n) low.x low.gave), leb-true n 64 (kept TooWide at (nat_le n 64) high.x high.gave)), ok n m high.then_gave)
-
-pub size_is_width : (here : Integers) (at : ℕ) (s : Static) (n : ℕ) → size_of here at s ≡ Ok n → IsWidth n
-unfolding size_of
-size_is_width here at s n h =
-    let m = bound (natural here at s) _ n h in
-    let a = asked at m.x n m.then_gave in
-    subst IsWidth a.1 a.0
-
-pub count_is_count : (op : Counted) (here : Integers) (at : ℕ) (s : Static) (n : ℕ) → count_of op here at s ≡ Ok n → IsCount op n
-unfolding count_of
-count_is_count Resize here at s n h = size_is_width here at s n h
-count_is_count _ here at s n h = tt
-
--- ---- operators
-
-max-is_width : (m n : ℕ) → IsWidth m → IsWidth n → IsWidth (max m n)
-max-is_width m n h g =
-    let a : 1 ≤ m = h.0 in let b : m ≤ 64 = h.1 in let c : n ≤ 64 = g.1 in
-    (omega (arith, a), omega (arith, b, c))
-
-sum-is_width : (m n : ℕ) → IsWidth m → nat_le (m + n) 64 ≡ true → IsWidth (m + n)
-sum-is_width m n h g = let a : 1 ≤ m = h.0 in (omega (arith, a), leb-true (m + n) 64 g)
-
--- an operator but the logical ones
-arithmetic : (here : Site) (at : ℕ) (op : Numeric) (s t : Shape) (d e r : bodies.Expr) → IsVector here s d → IsVector here t e → operation_on at (numeric op) d e ≡ Ok r → IsVector here vector r
-arithmetic here at Add s t d e r h g m =
-    let w = max-is_width (width d) (width e) (vector_width here s d h) (vector_width here t e g) in
-    subst (IsVector here vector) (ok (bodies.binary bodies.plus d e) r m) (record { of_elements = refl; fits = (w, h.fits, g.fits, tt); width = w })
-arithmetic here at Subtract s t d e r h g m =
-    let w = max-is_width (width d) (width e) (vector_width here s d h) (vector_width here t e g) in
-    subst (IsVector here vector) (ok (bodies.binary bodies.minus d e) r m) (record { of_elements = refl; fits = (w, h.fits, g.fits, tt); width = w })
-arithmetic here at Multiply s t d e r h g m =
-    let fit = bound (operands_fit at bodies.times (width d) (width e)) _ r m in
-    let w = sum-is_width (width d) (width e) (vector_width here s d h) (kept TooWide at (nat_le (width d + width e) 64) fit.x fit.gave) in
-    subst (IsVector here vector) (ok (bodies.binary bodies.times d e) r fit.then_gave) (record { of_elements = refl; fits = (w, h.fits, g.fits, tt); width = w })
-
-operated-fits : (here : Site) (at : ℕ) (op : VectorOperator) (s t z : Shape) (d e r : bodies.Expr) → IsVector here s d → IsVector here t e → operated_shape op s t ≡ Some z → operation_on at (operator op) d e ≡ Ok r
-    → IsVector here z r
-operated-fits here at (v.Logical op) s t z d e r h g k m =
-    let fit = bound (operands_fit at (bodies.logical op) (width d) (width e)) _ r m in
-    let same : width d ≡ width e = eqb-true (width d) (width e) (kept (Length (width d) (width e)) at (width d == width e) fit.x fit.gave) in
-    subst (λ (y : Shape). IsVector here y r) (given_some (same_shape s t && is_elements s) s z k).1
-    (subst (IsVector here s) (ok (bodies.binary (bodies.logical op) d e) r fit.then_gave)
-    (record { of_elements = h.of_elements; fits = (vector_width here s d h, h.fits, g.fits, same); width = h.width }))
-operated-fits here at v.Concatenate s t z d e r h g k m =
-    let fit = bound (operands_fit at bodies.joined (width d) (width e)) _ r m in
-    let w = sum-is_width (width d) (width e) (vector_width here s d h) (kept TooWide at (nat_le (width d + width e) 64) fit.x fit.gave) in
-    subst (λ (y : Shape). IsVector here y r) (given_some (is_elements s && is_elements t) vector z k).1
-    (subst (IsVector here vector) (ok (bodies.binary bodies.joined d e) r fit.then_gave) (record { of_elements = refl; fits = (w, h.fits, g.fits, tt); width = w }))
-operated-fits here at (v.Arithmetic op) s t z d e r h g k m =
-    subst (λ (y : Shape). IsVector here y r) (given_some (is_vector s && is_vector t) vector z k).1 (arithmetic here at op s t d e r h g m)
-
--- a number with as many digits as what stands beside it
-beside : (here : Site) (s : Shape) (e : bodies.Expr) (n : ℕ) → IsVector here s e → IsVector here vector (bodies.constant (digits_of (width e) n))
-beside here s e n h = constant_vector here (digits_of (width e) n) (subst IsWidth (sym (length-digits_of (width e) n)) (vector_width here s e h))
-
--- with a static integer: a vector's shape, and what comes of it
-record WithStatic (i : Inside) (v : Vector) (z : Shape) : Type 0 where
-  shape : Shape
-  is : vector_shape i v ≡ Some shape
-  result : vector ≡ z
-
-static-shape : (i : Inside) (v : Vector) (s : Static) (z : Shape) → with_static i (vector_shape i v) s ≡ Some z → WithStatic i v z
-static-shape i v s z h =
-    let y = step (vector_shape i v) _ z h in
-    record { shape = y.x; is = y.gave; result = (given_some (is_vector y.x && static_fits i s) vector z y.then_gave).1 }
-
--- ---- names
-
-pub named : (here : Site) (s : Shape) (es : List ℕ) → is_elements s ≡ true → IsName here s es → IsVector here s (bodies.signal es)
-named here s es h n = record {
-  of_elements = h;
-  fits = (is_width s (length es) n.width, subst (λ (t : ElementType). Typed t) (elements_are_nine s h) n.typed);
-  width = n.width;
-}
-  where
-    Typed : ElementType → Type 0
-    Typed t = All (HasType (scope_at here).nets t) es
-
-constant-values : (i : Inside) (here : Site) (at n : ℕ) (part : Part) (f : Form) (s : Shape) (vs : List Nine) → IsSite i here → slice_get i.constants n ≡ Some f → part_shape i f part ≡ Some s
-    → constant_values here at n part ≡ Ok vs → HasShape s (length vs)
-unfolding constant_values
-constant-values i here at n part f s vs h e g m =
-    let c = bound (item_or Index at (slice_get here.constants n)) _ vs m in
-    let ps = bound (places here.integers at c.x.kind part) _ vs c.then_gave in
-    let is = zip_at IsConstant i.constants here.constants n f c.x h.constants e (was_found Index at (slice_get here.constants n) c.x c.gave) in
-    let w = part_places i here.integers at f c.x.kind part s ps.x is g ps.gave in
-    subst (λ (ws : List Nine). HasShape s (length ws)) (ok (map (λ p. slice_index_or c.x.values p X) ps.x) vs ps.then_gave)
-    (subst (HasShape s) (sym (length-map ps.x (λ p. slice_index_or c.x.values p X))) w.width)
+use Rattle.vhdl_expand_rules.proofs.laws.Names.{is_width, each-name-fits, variable_fits}
+use Rattle.vhdl_expand_rules.proofs.laws.Operands.{elements_are_nine, vector_width, one_character, constant_vector, asked, size_is_width, count_is_count, arithmetic, operated-fits, beside, computed-beside, vector-shape, static-shape}
+use Rattle.vhdl_expand_rules.proofs.laws.Chosen.{named, constant-values, RowFits, element-row, slice-row, signal-rows, variable-rows, constant-rows}
 
 -- ---- all vectors
 
@@ -175,6 +57,64 @@ one-fits here at e t w l = record { fits = w.fits; width = eqb-true (width e) 1 
 
 mutual
   unfolding x.vector
+
+  pub computed_is_number : (i : Inside) (here : Site) (at : ℕ) (c : Computed) (z : Number) → IsSite i here → computed_fits i c ≡ true → x.computed here at c ≡ Ok z → IsNumber here z
+  computed_is_number i here at (u.static s) z h k m =
+      let n = bound (integer here.integers at s) _ z m in
+      subst (IsNumber here) (ok (known n.x) z n.then_gave) (known_number here n.x)
+  computed_is_number i here at (u.number_of place v) z h k m =
+      let e = bound (x.vector here v) _ z m in
+      let w = each-vector-fits i here v vector e.x h (vector-shape (vector_shape i v) k) e.gave in
+      number_is_read here place e.x z w.fits w.width e.then_gave
+  computed_is_number i here at (u.Computed.negated place c) z h k m =
+      let a = bound (x.computed here place c) _ z m in
+      subst (IsNumber here) (ok (number.negative_of a.x) z a.then_gave) (negative_number here a.x (computed_is_number i here place c a.x h k a.gave))
+  computed_is_number i here at (u.magnitude place c) z h k m =
+      let a = bound (x.computed here place c) _ z m in
+      subst (IsNumber here) (ok (number.magnitude a.x) z a.then_gave) (magnitude_number here a.x (computed_is_number i here place c a.x h k a.gave))
+  computed_is_number i here at (u.calculated place op c d) z h k m =
+      let both = and_parts (computed_fits i c) (computed_fits i d) k in
+      let a = bound (x.computed here place c) _ z m in
+      let b = bound (x.computed here place d) _ z a.then_gave in
+      operation_number here a.x b.x (computed_is_number i here place c a.x h both.0 a.gave) (computed_is_number i here place d b.x h both.1 b.gave) place op z b.then_gave
+
+  measured-number : (i : Inside) (here : Site) (at : ℕ) (c : Computed) (z : Measured) → IsSite i here → computed_fits i c ≡ true → x.measured here at c ≡ Ok z → IsNumber here z.number
+  measured-number i here at (u.static s) z h k m =
+      let n = bound (integer here.integers at s) _ z m in
+      subst (λ (y : Measured). IsNumber here y.number) (ok (known_measured n.x) z n.then_gave) (known_number here n.x)
+  measured-number i here at (u.number_of place v) z h k m =
+      let e = bound (x.vector here v) _ z m in
+      let n = bound (number.number_read place e.x) _ z e.then_gave in
+      let w = each-vector-fits i here v vector e.x h (vector-shape (vector_shape i v) k) e.gave in
+      subst (λ (y : Measured). IsNumber here y.number) (ok (as_term n.x) z n.then_gave) (number_is_read here place e.x n.x w.fits w.width n.gave)
+  measured-number i here at (u.Computed.negated place c) z h k m =
+      let a = bound (x.measured here place c) _ z m in
+      let l = bound (opposite place a.x.linear) _ z a.then_gave in
+      subst (λ (y : Measured). IsNumber here y.number) (ok _ z l.then_gave) (negative_number here a.x.number (measured-number i here place c a.x h k a.gave))
+  measured-number i here at (u.magnitude place c) z h k m =
+      let a = bound (x.computed here place c) _ z m in
+      subst (λ (y : Measured). IsNumber here y.number) (ok (as_term (number.magnitude a.x)) z a.then_gave)
+      (magnitude_number here a.x (computed_is_number i here place c a.x h k a.gave))
+  measured-number i here at (u.calculated place op c d) z h k m =
+      let both = and_parts (computed_fits i c) (computed_fits i d) k in
+      let a = bound (x.measured here place c) _ z m in
+      let b = bound (x.measured here place d) _ z a.then_gave in
+      let n = bound (number.operation place op a.x.number b.x.number) _ z b.then_gave in
+      let l = bound (linear_operation place op a.x.linear b.x.linear n.x.digits) _ z n.then_gave in
+      subst (λ (y : Measured). IsNumber here y.number) (ok _ z l.then_gave)
+      (operation_number here a.x.number b.x.number (measured-number i here place c a.x h both.0 a.gave) (measured-number i here place d b.x h both.1 b.gave) place op n.x n.gave)
+
+  pub row_fits : (i : Inside) (here : Site) (at : ℕ) (b : Bounds) (c : Chosen) (r : Row) → IsSite i here → chosen_fits i c ≡ true → x.chosen_row here at b c ≡ Ok r → IsWidth (bounds_size b) → RowFits here b c r
+  row_fits i here at b (u.element_at c) r h k m w =
+      let z = bound (x.computed here at c) _ r m in
+      subst (RowFits here b (u.element_at c)) (ok (row_from b z.x 1) r z.then_gave) (element-row here b c z.x w (computed_is_number i here at c z.x h k z.gave))
+  row_fits i here at b (u.slice_at c d e) r h k m w =
+      let both = and_parts (computed_fits i c) (computed_fits i e) k in
+      let y = bound (x.measured here at c) _ r m in
+      let z = bound (x.measured here at e) _ r y.then_gave in
+      let len = bound (slice_length b at d y.x.linear z.x.linear) _ r z.then_gave in
+      subst (RowFits here b (u.slice_at c d e)) (ok (row_from b y.x.number len.x) r len.then_gave)
+      (slice-row here b c d e y.x.number len.x w (measured-number i here at c y.x h both.0 y.gave) (slice_is_short b at d y.x.linear z.x.linear len.x len.gave))
 
   pub each-vector-fits : EachVectorFits
   each-vector-fits i here (u.of_signal p) s e h k m =
@@ -203,6 +143,33 @@ mutual
       let q = constant-values i here at n part f.x z.x vs.x h f.gave z.gave vs.gave in
       subst (λ (y : Shape). IsVector here y e) w.1
       (subst (IsVector here z.x) (ok (bodies.constant vs.x) e vs.then_gave) (record { of_elements = w.0; fits = is_width z.x (length vs.x) q; width = q }))
+  each-vector-fits i here (u.in_signal at y c) s e h k m =
+      let w = given_some (has_vector (signal_form i y) && chosen_fits i c) (chosen_shape c) s k in
+      let both = and_parts (has_vector (signal_form i y)) (chosen_fits i c) w.0 in
+      let es = bound (signal_elements here at y u.whole) _ e m in
+      let b = bound (signal_bounds here at y) _ e es.then_gave in
+      let r = bound (x.chosen_row here at b.x c) _ e b.then_gave in
+      subst (λ (z : Shape). IsVector here z e) w.1
+      (subst (IsVector here (chosen_shape c)) (ok (bodies.chosen r.x.index r.x.spacing (bodies.signal es.x)) e r.then_gave)
+      (signal-rows i here at y c es.x b.x r.x h both.0 es.gave b.gave (row_fits i here at b.x c r.x h both.1 r.gave)))
+  each-vector-fits i here (u.in_variable at n c) s e h k m =
+      let w = given_some (has_vector (slice_get i.variables n) && chosen_fits i c) (chosen_shape c) s k in
+      let both = and_parts (has_vector (slice_get i.variables n)) (chosen_fits i c) w.0 in
+      let es = bound (variable_elements here at n u.whole) _ e m in
+      let b = bound (variable_bounds here at n) _ e es.then_gave in
+      let r = bound (x.chosen_row here at b.x c) _ e b.then_gave in
+      subst (λ (z : Shape). IsVector here z e) w.1
+      (subst (IsVector here (chosen_shape c)) (ok (bodies.chosen r.x.index r.x.spacing (bodies.variable es.x)) e r.then_gave)
+      (variable-rows i here at n c es.x b.x r.x h both.0 es.gave b.gave (row_fits i here at b.x c r.x h both.1 r.gave)))
+  each-vector-fits i here (u.in_constant at n c) s e h k m =
+      let w = given_some (has_vector (slice_get i.constants n) && chosen_fits i c) (chosen_shape c) s k in
+      let both = and_parts (has_vector (slice_get i.constants n)) (chosen_fits i c) w.0 in
+      let vs = bound (constant_values here at n u.whole) _ e m in
+      let b = bound (constant_bounds here at n) _ e vs.then_gave in
+      let r = bound (x.chosen_row here at b.x c) _ e b.then_gave in
+      subst (λ (z : Shape). IsVector here z e) w.1
+      (subst (IsVector here (chosen_shape c)) (ok (bodies.chosen r.x.index r.x.spacing (bodies.constant vs.x)) e r.then_gave)
+      (constant-rows i here at n c vs.x b.x r.x h both.0 vs.gave b.gave (row_fits i here at b.x c r.x h both.1 r.gave)))
   each-vector-fits i here (u.character x) s e h k m =
       subst (λ (y : Shape). IsVector here y e) (same_Some one s k) (subst (IsVector here one) (ok (bodies.constant (x ∷ [])) e m) (one_character here x))
   each-vector-fits i here (u.enclosed_character x) s e h k m =
@@ -235,6 +202,41 @@ mutual
       let w = each-vector-fits i here v y.shape c.x h y.is c.gave in
       subst (λ (q : Shape). IsVector here q e) y.result
       (arithmetic here at op vector y.shape (bodies.constant (digits_of (width c.x) j.x)) c.x e (beside here y.shape c.x j.x w) w c.then_gave)
+  each-vector-fits i here (u.with_computed at op v n) s e h k m =
+      let w = given_some (is_vector_shape (vector_shape i v) && computed_fits i n) vector s k in
+      let both = and_parts (is_vector_shape (vector_shape i v)) (computed_fits i n) w.0 in
+      let c = bound (x.vector here v) _ e m in
+      let z = bound (x.computed here at n) _ e c.then_gave in
+      let q = each-vector-fits i here v vector c.x h (vector-shape (vector_shape i v) both.0) c.gave in
+      let y = computed-beside here vector c.x z.x q (computed_is_number i here at n z.x h both.1 z.gave) in
+      subst (λ (a : Shape). IsVector here a e) w.1 (arithmetic here at op vector vector c.x (natural_digits (width c.x) z.x) e q y z.then_gave)
+  each-vector-fits i here (u.computed_with at op n v) s e h k m =
+      let w = given_some (computed_fits i n && is_vector_shape (vector_shape i v)) vector s k in
+      let both = and_parts (computed_fits i n) (is_vector_shape (vector_shape i v)) w.0 in
+      let z = bound (x.computed here at n) _ e m in
+      let c = bound (x.vector here v) _ e z.then_gave in
+      let q = each-vector-fits i here v vector c.x h (vector-shape (vector_shape i v) both.1) c.gave in
+      let y = computed-beside here vector c.x z.x q (computed_is_number i here at n z.x h both.0 z.gave) in
+      subst (λ (a : Shape). IsVector here a e) w.1 (arithmetic here at op vector vector (natural_digits (width c.x) z.x) c.x e y q c.then_gave)
+  each-vector-fits i here (u.computed_encoded at n t) s e h k m =
+      let w = given_some (computed_fits i n && static_fits i t) vector s k in
+      let both = and_parts (computed_fits i n) (static_fits i t) w.0 in
+      let z = bound (x.computed here at n) _ e m in
+      let len = bound (size_of here.integers at t) _ e z.then_gave in
+      let q = size_is_width here.integers at t len.x len.gave in
+      let long = natural_digits_long here len.x z.x q (computed_is_number i here at n z.x h both.0 z.gave) in
+      subst (λ (a : Shape). IsVector here a e) w.1
+      (subst (IsVector here vector) (ok (natural_digits len.x z.x) e len.then_gave)
+      (record { of_elements = refl; fits = long.fits; width = subst IsWidth (sym long.long) q }))
+  each-vector-fits i here (u.shifted at by v n) s e h k m =
+      let w = given_some (is_vector_shape (vector_shape i v) && computed_fits i n) vector s k in
+      let both = and_parts (is_vector_shape (vector_shape i v)) (computed_fits i n) w.0 in
+      let c = bound (x.vector here v) _ e m in
+      let z = bound (x.computed here at n) _ e c.then_gave in
+      let q = each-vector-fits i here v vector c.x h (vector-shape (vector_shape i v) both.0) c.gave in
+      subst (λ (a : Shape). IsVector here a e) w.1
+      (subst (IsVector here vector) (ok (bodies.shifted by z.x.digits c.x) e z.then_gave)
+      (record { of_elements = refl; fits = ((computed_is_number i here at n z.x h both.1 z.gave).fits, q.fits); width = q.width }))
   each-vector-fits i here (u.Vector.encoded at n size) s e h k m =
       let j = bound (natural here.integers at n) _ e m in
       let len = bound (size_of here.integers at size) _ e j.then_gave in

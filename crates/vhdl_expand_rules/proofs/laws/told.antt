@@ -1,5 +1,6 @@
 pub mod Static
 pub mod Aggregates
+pub mod Sums
 pub mod Expressions
 pub mod Statements
 pub mod Names

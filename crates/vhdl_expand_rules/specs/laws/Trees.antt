@@ -70,6 +70,8 @@ module _ (Is : ℕ → Type 0) where
     StmtAssigns bodies.null_of = ⊤
     StmtAssigns (bodies.assign es v) = All Is es
     StmtAssigns (bodies.set es v) = ⊤
+    StmtAssigns (bodies.assign_at index spacing es e) = All Is es
+    StmtAssigns (bodies.set_at index spacing es e) = ⊤
     StmtAssigns (bodies.if_of bs) = BranchesAssign bs
     StmtAssigns (bodies.case_of v alts) = AlternativesAssign alts
 

@@ -281,6 +281,18 @@ of_statement-returns-in-Set t c =
     charges_alike _ _ _ _ _ (alike_same (ap (λ x. paid (budget_view c.args.budget.now) (statement_costs (integers_view c.args.integers.now) (analysed.statement_view x))) c.in-Set.is))
     (charged_alone _ _ c.in-Set.at (budget_view c.args.budget.now) a_statement _ (shown c.args.at _ (statement_bytes (analysed.statement_view (variants.Set c.in-Set.at c.in-Set.variable c.in-Set.part c.in-Set.value))) (ap (λ x. statement_bytes (analysed.statement_view x)) c.in-Set.is) _ (first_among c.in-Set.at _)) c.charge_statement-in-Set.ensures.spent c.charge_statement-in-Set.ensures.fault)
 
+pub of_statement-returns-in-AssignIn : goal.of_statement-returns-in-AssignIn
+unfolding statement_costs
+of_statement-returns-in-AssignIn t c =
+    charges_alike _ _ _ _ _ (alike_same (ap (λ x. paid (budget_view c.args.budget.now) (statement_costs (integers_view c.args.integers.now) (analysed.statement_view x))) c.in-AssignIn.is))
+    (charged_alone _ _ c.in-AssignIn.at (budget_view c.args.budget.now) a_statement _ (shown c.args.at _ (statement_bytes (analysed.statement_view (variants.AssignIn c.in-AssignIn.at c.in-AssignIn.signal c.in-AssignIn.part c.in-AssignIn.value))) (ap (λ x. statement_bytes (analysed.statement_view x)) c.in-AssignIn.is) _ (first_among c.in-AssignIn.at _)) c.charge_statement-in-AssignIn.ensures.spent c.charge_statement-in-AssignIn.ensures.fault)
+
+pub of_statement-returns-in-SetIn : goal.of_statement-returns-in-SetIn
+unfolding statement_costs
+of_statement-returns-in-SetIn t c =
+    charges_alike _ _ _ _ _ (alike_same (ap (λ x. paid (budget_view c.args.budget.now) (statement_costs (integers_view c.args.integers.now) (analysed.statement_view x))) c.in-SetIn.is))
+    (charged_alone _ _ c.in-SetIn.at (budget_view c.args.budget.now) a_statement _ (shown c.args.at _ (statement_bytes (analysed.statement_view (variants.SetIn c.in-SetIn.at c.in-SetIn.variable c.in-SetIn.part c.in-SetIn.value))) (ap (λ x. statement_bytes (analysed.statement_view x)) c.in-SetIn.is) _ (first_among c.in-SetIn.at _)) c.charge_statement-in-SetIn.ensures.spent c.charge_statement-in-SetIn.ensures.fault)
+
 pub of_statements-returns : goal.of_statements-returns
 of_statements-returns t c =
     list_end (statement_costs (integers_view c.args.integers.now)) analysed.statement_view _ (budget_view c.loop-statement.budget) _ (none_left c.args.list.now c.loop-statement.statement-index (omega arith)) c.loop-statement.invariant

@@ -1,9 +1,11 @@
 use Rattle.std.proofs.Common.{◌≡◌, arith, ◌+◌, List, drop, ap, sym, ◌∙◌}
+use Rattle.vhdl_values.specs.declared.scalar.Nine.{Nine}
 use Rattle.rtl_model.specs.bodies.Body as bodies
-use Rattle.rtl_model.specs.bodies.Values.{operation_result, elements_of}
+use Rattle.rtl_model.specs.bodies.Rows.{row_at}
+use Rattle.rtl_model.specs.bodies.Values.{operation_result, chosen_of, elements_of}
 use Rattle.rtl_net.specs.declared.body.Expr.{Expr}
 use Rattle.rtl_net.specs.declared.body.Link.{Link}
-use Rattle.rtl_net.specs.Bodies.{operator_view, expr_view, links_of}
+use Rattle.rtl_net.specs.Bodies.{operator_view, spacing_view, rows_view, expr_view, links_of}
 use Rattle.rtl_net.proofs.Rows.{view_chain}
 use Rattle.rtl_eval.proofs.Chains.{same_value}
 use Rattle.rtl_eval.proofs.Weights.{weight, links_weight, operand_weight, chain_weight}
@@ -56,3 +58,11 @@ values_of-chain-requires t c =
     let w = sized_behind c.args.expr.now c.in-Chain.first c.in-Chain.rest c.deref-in-Chain.result.now c.requires c.in-Chain.is c.deref-in-Chain.ensures
     c.values_of-in-Chain.result c.deref-in-Chain-2.result.now c.values_of-in-Chain.ensures c.deref-in-Chain-2.ensures.value in
     (omega (arith, c.decreases, ap weight c.in-Chain.is, chain_weight c.in-Chain.first c.in-Chain.rest, ap links_weight c.deref-in-Chain-2.ensures.value), w)
+
+pub values_of-returns-in-Chosen : goal.values_of-returns-in-Chosen
+values_of-returns-in-Chosen t c =
+    let i = c.in-Chosen in
+    let index = c.values_of-in-Chosen.ensures ∙ ap (λ (x : Expr). elements_of nothing_seen (expr_view x)) c.deref-in-Chosen.ensures in
+    c.row_known.ensures
+    ∙ ap (λ (vs : List Nine). chosen_of i.spacing.len (row_at (spacing_view i.spacing) (elements_of nothing_seen (rows_view i.rows)) vs)) index
+    ∙ sym (ap (λ (x : Expr). elements_of nothing_seen (expr_view x)) i.is)

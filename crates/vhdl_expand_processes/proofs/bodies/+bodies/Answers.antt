@@ -18,6 +18,14 @@ pub of_statement-returns-in-Set : goal.of_statement-returns-in-Set
 of_statement-returns-in-Set t c =
     adds_along c.args.found.now c.of_set.new.found _ _ (ap (statement_names c.args.sought) c.in-Set.is) c.of_set.ensures
 
+pub of_statement-returns-in-AssignIn : goal.of_statement-returns-in-AssignIn
+of_statement-returns-in-AssignIn t c =
+    adds_along c.args.found.now c.of_chosen_assignment.new.found _ _ (ap (statement_names c.args.sought) c.in-AssignIn.is) c.of_chosen_assignment.ensures
+
+pub of_statement-returns-in-SetIn : goal.of_statement-returns-in-SetIn
+of_statement-returns-in-SetIn t c =
+    adds_along c.args.found.now c.of_chosen_set.new.found _ _ (ap (statement_names c.args.sought) c.in-SetIn.is) c.of_chosen_set.ensures
+
 pub of_statement-returns-in-If : goal.of_statement-returns-in-If
 of_statement-returns-in-If t c =
     adds_along c.args.found.now c.of_if.new.found _ _ (ap (statement_names c.args.sought) c.in-If.is ∙ if_names c.args.sought c.in-If.conditional) c.of_if.ensures

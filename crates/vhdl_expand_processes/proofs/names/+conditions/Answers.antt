@@ -45,6 +45,21 @@ pub of_test-returns-in-ComparedWith : goal.of_test-returns-in-ComparedWith
 of_test-returns-in-ComparedWith t c =
     adds_along c.args.found.now c.of_vector-in-ComparedWith.new.found _ _ (ap (λ (x : Test). test_names (test_view x)) c.in-ComparedWith.is) (rw (c.deref-in-ComparedWith.ensures) at c.of_vector-in-ComparedWith.ensures)
 
+pub of_test-returns-in-ComparedToComputed : goal.of_test-returns-in-ComparedToComputed
+of_test-returns-in-ComparedToComputed t c =
+    adds_both c.args.found.now c.of_vector-in-ComparedToComputed.new.found c.of_computed.new.found _ _ _ (ap (λ (x : Test). test_names (test_view x)) c.in-ComparedToComputed.is)
+    (rw (c.deref-in-ComparedToComputed.ensures) at c.of_vector-in-ComparedToComputed.ensures) (rw (c.deref-in-ComparedToComputed-2.ensures) at c.of_computed.ensures)
+
+pub of_test-returns-in-ComparedWithComputed : goal.of_test-returns-in-ComparedWithComputed
+of_test-returns-in-ComparedWithComputed t c =
+    adds_both c.args.found.now c.of_computed-in-ComparedWithComputed.new.found c.of_vector-in-ComparedWithComputed.new.found _ _ _ (ap (λ (x : Test). test_names (test_view x)) c.in-ComparedWithComputed.is)
+    (rw (c.deref-in-ComparedWithComputed.ensures) at c.of_computed-in-ComparedWithComputed.ensures) (rw (c.deref-in-ComparedWithComputed-2.ensures) at c.of_vector-in-ComparedWithComputed.ensures)
+
+pub of_test-returns-in-ComputedCompared : goal.of_test-returns-in-ComputedCompared
+of_test-returns-in-ComputedCompared t c =
+    adds_both c.args.found.now c.of_computed-in-ComputedCompared.new.found c.of_computed-in-ComputedCompared-2.new.found _ _ _ (ap (λ (x : Test). test_names (test_view x)) c.in-ComputedCompared.is)
+    (rw (c.deref-in-ComputedCompared.ensures) at c.of_computed-in-ComputedCompared.ensures) (rw (c.deref-in-ComputedCompared-2.ensures) at c.of_computed-in-ComputedCompared-2.ensures)
+
 pub of_test-returns-in-Not : goal.of_test-returns-in-Not
 of_test-returns-in-Not t c =
     adds_along c.args.found.now c.of_test.new.found _ _ (ap (λ (x : Test). test_names (test_view x)) c.in-Not.is) (rw (c.deref-in-Not.ensures) at c.of_test.ensures)

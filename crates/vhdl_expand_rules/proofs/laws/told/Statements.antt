@@ -1,19 +1,20 @@
 -- What is refused of a body is told at one of its bytes.
 use Rattle.std.proofs.Common.{ℕ, ◌++◌, length, All}
-use Rattle.std.proofs.lemmas.List.Elements.{All-head, All-tail}
+use Rattle.std.proofs.lemmas.List.Elements.{All-nil, All-head, All-tail}
 use Rattle.rtl_model.specs.bodies.Fits.{value_width}
+use Rattle.vhdl_names_rules.specs.units.Expressions as u
 use Rattle.vhdl_names_rules.specs.units.Statements as s
-use Rattle.vhdl_names_rules.specs.units.Bytes.{range_bytes, part_bytes, place_bytes, value_bytes, test_bytes, given_bytes, statement_bytes, statements_bytes, branches_bytes, alternatives_bytes}
+use Rattle.vhdl_names_rules.specs.units.Bytes.{range_bytes, chosen_bytes, part_bytes, place_bytes, value_bytes, test_bytes, given_bytes, statement_bytes, statements_bytes, branches_bytes, alternatives_bytes}
 use Rattle.vhdl_expand_rules.specs.declared.fault.ElabProblem.TheVariants.{TooMany}
 use Rattle.vhdl_expand_rules.specs.Elab.{Told, each, same_length}
 use Rattle.vhdl_expand_rules.specs.Integers.{turns}
-use Rattle.vhdl_expand_rules.specs.Site.{Site, in_loop, place_elements, variable_elements}
+use Rattle.vhdl_expand_rules.specs.Site.{Site, in_loop, place_elements, signal_elements, variable_elements, signal_bounds, variable_bounds}
 use Rattle.vhdl_expand_rules.specs.Expressions as x
-use Rattle.vhdl_expand_rules.specs.Statements.{value_given, choice, statement, statements, branches, alternatives, statement_turns, statements_turns, branches_turns, alternatives_turns}
+use Rattle.vhdl_expand_rules.specs.Statements.{value_given, elements_given, choice, statement, statements, branches, alternatives, statement_turns, statements_turns, branches_turns, alternatives_turns}
 use Rattle.vhdl_expand_rules.proofs.Tells.{Tells, At, tells_none, tells_then, tells_all}
 use Rattle.vhdl_expand_rules.proofs.laws.Targets.{all_left, all_right}
-use Rattle.vhdl_expand_rules.proofs.laws.told.Static.{turns_tells, place_tells, variable_tells}
-use Rattle.vhdl_expand_rules.proofs.laws.told.Expressions.{value_tells, test_tells, length_tells, given_tells}
+use Rattle.vhdl_expand_rules.proofs.laws.told.Static.{turns_tells, place_tells, signal_tells, variable_tells, signal_bounds_tell, variable_bounds_tell}
+use Rattle.vhdl_expand_rules.proofs.laws.told.Expressions.{row_tells, value_tells, test_tells, length_tells, given_tells, elements_given_tell}
 
 module _ (P : Told → Type 0) (many : (at : ℕ) → At P at → P (TooMany, at)) where
   choice-tells : (at len : ℕ) (c : s.Choice) → At P at → Tells P (choice at len c)
@@ -36,6 +37,20 @@ module _ (P : Told → Type 0) (many : (at : ℕ) → At P at → P (TooMany, at
         let rest : All (At P) (part_bytes part ++ given_bytes g) = All-tail (At P) at (part_bytes part ++ given_bytes g) k in
         tells_then P (variable_elements here at n part) _ (variable_tells P here at n part own (all_left (At P) (part_bytes part) (given_bytes g) rest)) (λ es.
         tells_then P (value_given here at (length es) g) _ (given_tells P here at (length es) g own (all_right (At P) (part_bytes part) (given_bytes g) rest)) (λ v. tells_none P _))
+    statement_tells (s.assign_in at y c g) here k =
+        let own : At P at = All-head (At P) at (chosen_bytes c ++ given_bytes g) k in
+        let rest : All (At P) (chosen_bytes c ++ given_bytes g) = All-tail (At P) at (chosen_bytes c ++ given_bytes g) k in
+        tells_then P (signal_elements here at y u.whole) _ (signal_tells P here at y u.whole own (All-nil (At P))) (λ es.
+        tells_then P (signal_bounds here at y) _ (signal_bounds_tell P here at y own) (λ b.
+        tells_then P (x.chosen_row here at b c) _ (row_tells P here at b c own (all_left (At P) (chosen_bytes c) (given_bytes g) rest)) (λ r.
+        tells_then P (elements_given here at r.spacing.len g) _ (elements_given_tell P here at r.spacing.len g own (all_right (At P) (chosen_bytes c) (given_bytes g) rest)) (λ v. tells_none P _))))
+    statement_tells (s.set_in at n c g) here k =
+        let own : At P at = All-head (At P) at (chosen_bytes c ++ given_bytes g) k in
+        let rest : All (At P) (chosen_bytes c ++ given_bytes g) = All-tail (At P) at (chosen_bytes c ++ given_bytes g) k in
+        tells_then P (variable_elements here at n u.whole) _ (variable_tells P here at n u.whole own (All-nil (At P))) (λ es.
+        tells_then P (variable_bounds here at n) _ (variable_bounds_tell P here at n own) (λ b.
+        tells_then P (x.chosen_row here at b c) _ (row_tells P here at b c own (all_left (At P) (chosen_bytes c) (given_bytes g) rest)) (λ r.
+        tells_then P (elements_given here at r.spacing.len g) _ (elements_given_tell P here at r.spacing.len g own (all_right (At P) (chosen_bytes c) (given_bytes g) rest)) (λ v. tells_none P _))))
     statement_tells (s.if_of at bs) here k = tells_then P (branches here bs) _ (branches_tells bs here (All-tail (At P) at (branches_bytes bs) k)) (λ cs. tells_none P _)
     statement_tells (s.case_of at v alts) here k =
         let own : At P at = All-head (At P) at (value_bytes v ++ alternatives_bytes alts) k in

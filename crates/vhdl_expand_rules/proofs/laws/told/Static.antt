@@ -3,7 +3,7 @@ use Rattle.std.proofs.Common.{ℕ, Bool, true, false, cond, not, ◌&&◌, ◌||
 use Rattle.std.specs.Prelude.{ℤ, pos, negsuc, nat_le, nat_abs, neg_ℤ, slice_get}
 use Rattle.std.proofs.lemmas.List.Elements.{All-head, All-tail}
 use Rattle.vhdl_values.specs.declared.kinds.Counted.{Counted}
-use Rattle.vhdl_values.specs.declared.kinds.Counted.TheVariants.{Resize}
+use Rattle.vhdl_values.specs.declared.kinds.Counted.TheVariants.{Resize, ResizeSigned, Shift}
 use Rattle.vhdl_tree.specs.declared.operator.Direction.{Direction}
 use Rattle.vhdl_lexer.specs.Literals.{greatest_integer}
 use Rattle.vhdl_names_rules.specs.declared.operator.Arithmetic.{Arithmetic}
@@ -17,7 +17,7 @@ use Rattle.vhdl_expand_rules.specs.declared.fault.ElabProblem.TheVariants.{Stati
 use Rattle.vhdl_expand_rules.specs.Elab.{Told, Elab, unless, item_or}
 use Rattle.vhdl_expand_rules.specs.Integers.{IntegerRange, Integers, Numbers, checked_integer, integer_operation, is_null, extent, bound_of, is_same_direction, is_slice, sliced_bound, known_range, integer, as_natural, natural, have, base_numbers, numbers_within, numbers_of, integer_among, integer_of, decision, most_turns, turns}
 use Rattle.vhdl_expand_rules.specs.Kinds.{Bounds, ObjectKind, one, vector, enumeration, declared_bounds, kind_of, as_size, size_of, count_of, is_within, place_of, slice_places, places}
-use Rattle.vhdl_expand_rules.specs.Site.{Site, elements_count, part_elements, signal_elements, place_elements, variable_elements, constant_values, the_element}
+use Rattle.vhdl_expand_rules.specs.Site.{Site, elements_count, part_elements, signal_elements, place_elements, variable_elements, constant_values, bounds_of, signal_bounds, variable_bounds, constant_bounds, the_element}
 use Rattle.vhdl_expand_rules.proofs.Chains.{each_operation}
 use Rattle.vhdl_expand_rules.proofs.Tells.{Tells, At, tells_none, tells_refused, tells_then, tells_unless, tells_within, tells_item}
 use Rattle.vhdl_expand_rules.proofs.laws.Targets.{all_left, all_right}
@@ -29,31 +29,31 @@ module _ (P : Told → Type 0) where
   tells_chosen true r s h k = h
   tells_chosen false r s h k = k
 
-  checked-tells : (at : ℕ) (x : ℤ) → At P at → Tells P (checked_integer at x)
-  checked-tells at x h = tells_chosen (nat_le (nat_abs x) greatest_integer) _ _ (tells_none P x) (tells_refused P StaticError tt at h)
+  pub checked_tells : (at : ℕ) (x : ℤ) → At P at → Tells P (checked_integer at x)
+  checked_tells at x h = tells_chosen (nat_le (nat_abs x) greatest_integer) _ _ (tells_none P x) (tells_refused P StaticError tt at h)
 
   operation-tells : (at : ℕ) (op : Arithmetic) (x y : ℤ) → At P at → Tells P (integer_operation at op x y)
-  operation-tells at op x y h = each_operation (λ r. Tells P r) at (λ z. checked-tells at z h) (tells_refused P StaticError tt at h) op x y
+  operation-tells at op x y h = each_operation (λ r. Tells P r) at (λ z. checked_tells at z h) (tells_refused P StaticError tt at h) op x y
 
   sliced-tells : (at : ℕ) (b : Bound) (whole slice : IntegerRange) → At P at → Tells P (sliced_bound at b whole slice)
   sliced-tells at b whole s h =
-      tells_then P (unless Index at (is_slice whole s)) _ (tells_unless P Index tt at (is_slice whole s) h) (λ kept. checked-tells at (bound_of b s) h)
+      tells_then P (unless Index at (is_slice whole s)) _ (tells_unless P Index tt at (is_slice whole s) h) (λ kept. checked_tells at (bound_of b s) h)
 
   pub integer_tells : (here : Integers) (at : ℕ) (s : Static) → At P at → All (At P) (static_bytes s) → Tells P (integer here at s)
   unfolding integer
-  integer_tells here at (u.number n) h k = checked-tells at (pos n) h
+  integer_tells here at (u.number n) h k = checked_tells at (pos n) h
   integer_tells here at (u.generic n) h k = tells_item P StaticError tt at (slice_get here.generics n) h
   integer_tells here at (u.Static.constant n) h k = tells_item P StaticError tt at (slice_get here.constants n) h
   integer_tells here at (u.generate_parameter n) h k = tells_item P StaticError tt at (slice_get here.generates n) h
   integer_tells here at (u.loop_parameter n) h k = tells_item P StaticError tt at (slice_get here.loops n) h
   integer_tells here at (u.Static.negated sign s) h k =
       let own : At P sign = All-head (At P) sign (static_bytes s) k in
-      tells_then P (integer here sign s) _ (integer_tells here sign s own (All-tail (At P) sign (static_bytes s) k)) (λ x. checked-tells sign (neg_ℤ x) own)
+      tells_then P (integer here sign s) _ (integer_tells here sign s own (All-tail (At P) sign (static_bytes s) k)) (λ x. checked_tells sign (neg_ℤ x) own)
   integer_tells here at (u.absolute sign s) h k =
       let own : At P sign = All-head (At P) sign (static_bytes s) k in
-      tells_then P (integer here sign s) _ (integer_tells here sign s own (All-tail (At P) sign (static_bytes s) k)) (λ x. checked-tells sign (pos (nat_abs x)) own)
+      tells_then P (integer here sign s) _ (integer_tells here sign s own (All-tail (At P) sign (static_bytes s) k)) (λ x. checked_tells sign (pos (nat_abs x)) own)
   integer_tells here at (u.bound b n) h k =
-      tells_then P (known_range at here.ranges n) _ (tells_item P StaticError tt at (slice_get here.ranges n) h) (λ r. checked-tells at (bound_of b r) h)
+      tells_then P (known_range at here.ranges n) _ (tells_item P StaticError tt at (slice_get here.ranges n) h) (λ r. checked_tells at (bound_of b r) h)
   integer_tells here at (u.slice_bound place b n s direction t) h k =
       let own : At P place = All-head (At P) place (static_bytes s ++ static_bytes t) k in
       let rest : All (At P) (static_bytes s ++ static_bytes t) = All-tail (At P) place (static_bytes s ++ static_bytes t) k in
@@ -162,7 +162,8 @@ module _ (P : Told → Type 0) where
   pub count_tells : (op : Counted) (here : Integers) (at : ℕ) (s : Static) → At P at → All (At P) (static_bytes s) → Tells P (count_of op here at s)
   unfolding count_of
   count_tells Resize here at s h k = size_of_tells here at s h k
-  count_tells _ here at s h k = natural_tells here at s h k
+  count_tells ResizeSigned here at s h k = size_of_tells here at s h k
+  count_tells (Shift by) here at s h k = natural_tells here at s h k
 
   -- ---- parts
 
@@ -210,6 +211,22 @@ module _ (P : Told → Type 0) where
   constant_tells here at n part h k =
       tells_then P (item_or Index at (slice_get here.constants n)) _ (tells_item P Index tt at (slice_get here.constants n) h) (λ c.
       tells_then P (places here.integers at c.kind part) _ (places-tells here.integers at c.kind part h k) (λ ps. tells_none P _))
+
+  bounds-of-tell : (at : ℕ) (o : Option ObjectKind) → At P at → Tells P (bounds_of at o)
+  bounds-of-tell at (Some (vector b)) h = tells_none P b
+  bounds-of-tell at _ h = tells_refused P Index tt at h
+
+  pub signal_bounds_tell : (here : Site) (at : ℕ) (x : Signal) → At P at → Tells P (signal_bounds here at x)
+  unfolding signal_bounds
+  signal_bounds_tell here at (u.port n) h = bounds-of-tell at (slice_get here.ports n) h
+  signal_bounds_tell here at (u.Signal.signal n) h = bounds-of-tell at (slice_get here.signals n) h
+
+  pub variable_bounds_tell : (here : Site) (at n : ℕ) → At P at → Tells P (variable_bounds here at n)
+  variable_bounds_tell here at n h = bounds-of-tell at (slice_get here.variables n) h
+
+  pub constant_bounds_tell : (here : Site) (at n : ℕ) → At P at → Tells P (constant_bounds here at n)
+  constant_bounds_tell here at n h =
+      tells_then P (item_or Index at (slice_get here.constants n)) _ (tells_item P Index tt at (slice_get here.constants n) h) (λ c. bounds-of-tell at (Some c.kind) h)
 
   pub element_tells : (at : ℕ) (r : Elab (List ℕ)) → At P at → Tells P r → Tells P (the_element at r)
   element_tells at r h k = tells_then P r _ k (λ es. tells_item P Index tt at (slice_get es 0) h)

@@ -30,6 +30,11 @@ connect_statement-places_of-requires-clause-driven t c =
     subst (λ (places : Indices). All (Contains c.args.self.now.drives.now) (numbers places)) (sym c.in-Assign.places-is)
     (subst (λ (x : Statement). StmtAssigns (Contains c.args.self.now.drives.now) (statement_view x)) c.in-Assign.is c.requires.driven)
 
+pub connect_statement-places_of-requires-in-AssignAt-clause-driven : goal.connect_statement-places_of-requires-in-AssignAt-clause-driven
+connect_statement-places_of-requires-in-AssignAt-clause-driven t c =
+    subst (λ (places : Indices). All (Contains c.args.self.now.drives.now) (numbers places)) (sym c.in-AssignAt.places-is)
+    (subst (λ (x : Statement). StmtAssigns (Contains c.args.self.now.drives.now) (statement_view x)) c.in-AssignAt.is c.requires.driven)
+
 pub connect_statement-connect_branches-requires : goal.connect_statement-connect_branches-requires
 connect_statement-connect_branches-requires t c =
     let driven = if_assigns (Contains c.args.self.now.drives.now) c.args.statement.now c.in-If.at c.in-If.branches c.in-If.otherwise c.in-If.is c.requires.driven in

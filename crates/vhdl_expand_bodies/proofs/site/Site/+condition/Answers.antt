@@ -6,7 +6,6 @@ use Rattle.vhdl_names_rules.specs.units.Expressions as u
 use Rattle.vhdl_names_rules.specs.units.Expressions.{SignalPart, Vector, Value}
 use Rattle.vhdl_names_rules.specs.views.Tests.{test_view}
 use Rattle.vhdl_names_rules.specs.views.Vectors.{vector_view, value_view}
-use Rattle.vhdl_expand_bodies.specs.Characters.{chain_view}
 use Rattle.vhdl_expand_rules.specs.Site.{Site}
 use Rattle.vhdl_expand_rules.specs.Expressions as definition
 use Rattle.vhdl_expand_rules.proofs.Steps.{given}
@@ -36,12 +35,12 @@ expanded_test-returns-in_ok-add_tests-in-Chain t c =
 
 pub add_tests-loop-link-preserved : goal.add_tests-loop-link-preserved
 add_tests-loop-link-preserved t c =
-    next_goes (steps.linked (site_view c.args.self.now)) (chain_view c.args.chain.now) _ _ c.args.links.now c.loop-link.link-index c.link-item.result (omega arith) c.link-item.is c.loop-link.invariant c.in_ok-add_test.ensures
+    next_goes (steps.linked (site_view c.args.self.now)) _ _ _ c.args.links.now c.loop-link.link-index c.link-item.result (omega arith) c.link-item.is c.loop-link.invariant c.in_ok-add_test.ensures
 
 pub add_tests-returns-in_err-add_test : goal.add_tests-returns-in_err-add_test
 add_tests-returns-in_err-add_test t c =
     passed_on _ _ c.in_err-add_test.field-0.0 _ c.from_residual.result c.from_residual.ensures.1 (λ e p. p)
-    (λ n. next_stops (steps.linked (site_view c.args.self.now)) (chain_view c.args.chain.now) _ c.args.links.now c.loop-link.link-index c.link-item.result (omega arith) c.link-item.is c.loop-link.invariant (c.in_err-add_test.ensures n))
+    (λ n. next_stops (steps.linked (site_view c.args.self.now)) _ _ c.args.links.now c.loop-link.link-index c.link-item.result (omega arith) c.link-item.is c.loop-link.invariant (c.in_err-add_test.ensures n))
 
 pub add_test-returns : goal.add_test-returns
 add_test-returns t c =

@@ -23,7 +23,7 @@ use Rattle.vhdl_expand_bodies.specs.Statements.{branch_view, branches_view, alte
 use Rattle.vhdl_expand_bodies.specs.steps.Statements as steps
 use Rattle.vhdl_expand_bodies.specs.steps.Statements.{after}
 use Rattle.vhdl_expand_operands.proofs.Passing.{expands_along, passed_on, none_behind, made_by, refused_by, on}
-use Rattle.vhdl_expand_bodies.proofs.Parts.{branch_of, alternative_of, added_gives, null_one, assign_by, set_by, if_made, if_by, case_made, case_by, loop_is, same_turn, turned_goes}
+use Rattle.vhdl_expand_bodies.proofs.Parts.{branch_of, alternative_of, added_gives, null_one, assign_by, set_by, assign_in_by, set_in_by, if_made, if_by, case_made, case_by, loop_is, same_turn, turned_goes}
 use Rattle.vhdl_expand_bodies.proofs.Sequences.{list_goes, list_stops, list_ends, turns_go, turns_stop, turns_end}
 use Rattle.vhdl_expand_operands.proofs.Several.{each_adds, each_refuses, each_ends}
 use Rattle.vhdl_expand_rules.specs.Elab.{Elab, ◌>>=◌, each, fault_told}
@@ -46,6 +46,18 @@ add_statement-returns-in-Set t c =
     let here = site_view c.args.self.now in
     let h = ap (λ x. definition.statement here (analysed.statement_view x)) c.in-Set.is ∙ set_by here _ _ _ _ in
     added_gives c.args.body.now.items c.add-in-Set.new.list.items _ _ c.set.result c.add-in-Set.result h c.set.ensures c.add-in-Set.ensures
+
+pub add_statement-returns-in-AssignIn : goal.add_statement-returns-in-AssignIn
+add_statement-returns-in-AssignIn t c =
+    let here = site_view c.args.self.now in
+    let h = ap (λ x. definition.statement here (analysed.statement_view x)) c.in-AssignIn.is ∙ assign_in_by here _ _ _ _ in
+    added_gives c.args.body.now.items c.add-in-AssignIn.new.list.items _ _ c.assign_in.result c.add-in-AssignIn.result h c.assign_in.ensures c.add-in-AssignIn.ensures
+
+pub add_statement-returns-in-SetIn : goal.add_statement-returns-in-SetIn
+add_statement-returns-in-SetIn t c =
+    let here = site_view c.args.self.now in
+    let h = ap (λ x. definition.statement here (analysed.statement_view x)) c.in-SetIn.is ∙ set_in_by here _ _ _ _ in
+    added_gives c.args.body.now.items c.add-in-SetIn.new.list.items _ _ c.set_in.result c.add-in-SetIn.result h c.set_in.ensures c.add-in-SetIn.ensures
 
 pub add_statement-returns-in-If : goal.add_statement-returns-in-If
 add_statement-returns-in-If t c =

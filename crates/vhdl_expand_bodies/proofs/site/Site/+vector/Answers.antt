@@ -1,21 +1,31 @@
-use Rattle.std.proofs.Common.{◌≡◌, true, false, [], ◌∷◌, ◌+◌, map, drop, refl, sym, ap, ◌∙◌, arith, rules}
+use Rattle.std.proofs.Common.{◌≡◌, ℕ, true, false, [], ◌∷◌, ◌+◌, map, drop, Result, Ok, refl, sym, ap, ◌∙◌, subst, arith, rules}
 use Rattle.std.specs.Prelude.{option_map}
 use Rattle.std.proofs.lemmas.Grind.{common_steps}
 use Rattle.std.proofs.lemmas.List.{map-append}
 use Rattle.rtl_model.specs.bodies.Body as bodies
+use Rattle.rtl_model.specs.bodies.Fits.{IsWidth}
+use Rattle.vhdl_names_rules.specs.units.Expressions.{Static}
+use Rattle.vhdl_names_rules.specs.views.Integers.{static_view}
 use Rattle.vhdl_names_rules.specs.views.Vectors.{vector_view, elements_view}
+use Rattle.vhdl_expand_rules.specs.declared.fault.ElabFault.{ElabFault}
 use Rattle.vhdl_expand_rules.specs.Elab.{◌>>=◌}
+use Rattle.vhdl_expand_rules.specs.Integers.{Integers}
+use Rattle.vhdl_expand_rules.specs.Kinds.{size_of}
+use Rattle.vhdl_expand_rules.specs.views.Integers.{integers_view, Computes}
 use Rattle.vhdl_expand_rules.specs.Aggregates.{composed}
 use Rattle.vhdl_expand_operands.specs.Placings.{indexes_view, placed_view}
 use Rattle.vhdl_expand_bodies.proofs.Elements.{is_last, elements_go, elements_last, elements_stop, elements_end}
 use Rattle.vhdl_expand_operands.proofs.Several.{behind}
-use Rattle.vhdl_expand_operands.specs.Operands.{operand_view, chain_view}
+use Rattle.vhdl_expand_operands.specs.Operands.{operand_view}
+use Rattle.vhdl_expand_numbers.specs.Views.{number_view}
 use Rattle.vhdl_expand_rules.specs.Expressions as definition
 use Rattle.vhdl_expand_rules.proofs.Steps.{given}
 use Rattle.vhdl_expand_bodies.specs.Sites.{site_view}
+use Rattle.vhdl_expand_bodies.specs.steps.Computed as numbers
 use Rattle.vhdl_expand_bodies.specs.steps.Vectors as steps
 use Rattle.vhdl_expand_operands.proofs.Passing.{expands_along, passed_on, on}
-use Rattle.vhdl_expand_bodies.proofs.Links.{chain_is, aggregate_is}
+use Rattle.vhdl_expand_bodies.proofs.Links.{chain_is, aggregate_is, computed_is, measured_is}
+use Rattle.vhdl_expand_bodies.proofs.Places.{size_fits}
 use Rattle.vhdl_expand_bodies.proofs.Chained.{chain_goes, chain_stops, more_stops, next_goes, next_stops}
 use Rattle.vhdl_expand_bodies.proofs.site.Site.+vector.Goals as goal
 
@@ -37,12 +47,12 @@ expanded-returns-in_ok-add_links-in-Chain t c =
 
 pub add_links-loop-link-preserved : goal.add_links-loop-link-preserved
 add_links-loop-link-preserved t c =
-    next_goes (steps.linked (site_view c.args.self.now)) (chain_view c.args.chain.now) _ _ c.args.links.now c.loop-link.link-index c.link-item.result (omega arith) c.link-item.is c.loop-link.invariant c.in_ok-add_link.ensures
+    next_goes (steps.linked (site_view c.args.self.now)) _ _ _ c.args.links.now c.loop-link.link-index c.link-item.result (omega arith) c.link-item.is c.loop-link.invariant c.in_ok-add_link.ensures
 
 pub add_links-returns-in_err-add_link : goal.add_links-returns-in_err-add_link
 add_links-returns-in_err-add_link t c =
     passed_on _ _ c.in_err-add_link.field-0.0 _ c.from_residual.result c.from_residual.ensures.1 (λ e p. p)
-    (λ n. next_stops (steps.linked (site_view c.args.self.now)) (chain_view c.args.chain.now) _ c.args.links.now c.loop-link.link-index c.link-item.result (omega arith) c.link-item.is c.loop-link.invariant (c.in_err-add_link.ensures n))
+    (λ n. next_stops (steps.linked (site_view c.args.self.now)) _ _ c.args.links.now c.loop-link.link-index c.link-item.result (omega arith) c.link-item.is c.loop-link.invariant (c.in_err-add_link.ensures n))
 
 -- ---- the forms of a vector but chains
 
@@ -56,10 +66,43 @@ unfolding definition.vector
 expanded-returns-in-Variable t c =
     expands_along operand_view _ _ _ (ap (λ x. definition.vector (site_view c.args.self.now) (vector_view x)) c.in-Variable.is) c.variable.ensures
 
+pub expanded-returns-in-InSignal : goal.expanded-returns-in-InSignal
+expanded-returns-in-InSignal t c =
+    expands_along operand_view _ _ _ (ap (λ x. definition.vector (site_view c.args.self.now) (vector_view x)) c.in-InSignal.is) (rw c.deref.ensures at c.in_signal.ensures)
+
+pub expanded-returns-in-InVariable : goal.expanded-returns-in-InVariable
+expanded-returns-in-InVariable t c =
+    expands_along operand_view _ _ _ (ap (λ x. definition.vector (site_view c.args.self.now) (vector_view x)) c.in-InVariable.is) (rw c.deref-in-InVariable.ensures at c.in_variable.ensures)
+
+pub expanded-returns-in-InConstant : goal.expanded-returns-in-InConstant
+expanded-returns-in-InConstant t c =
+    expands_along operand_view _ _ _ (ap (λ x. definition.vector (site_view c.args.self.now) (vector_view x)) c.in-InConstant.is) (rw c.deref-in-InConstant.ensures at c.in_constant.ensures)
+
+pub expanded-returns-in_ok-number-in-ComputedWith : goal.expanded-returns-in_ok-number-in-ComputedWith
+unfolding definition.vector
+expanded-returns-in_ok-number-in-ComputedWith t c =
+    let here = site_view c.args.self.now in
+    expands_along operand_view _ _ _
+    (ap (λ x. definition.vector here (vector_view x)) c.in-ComputedWith.is
+    ∙ on (λ n. steps.computed_with here c.in-ComputedWith.at c.in-ComputedWith.operator n (vector_view c.in-ComputedWith.operand.value)) _ _ (rw (c.deref-in-ComputedWith.ensures) at c.in_ok-number-in-ComputedWith.ensures))
+    (rw (c.deref-in-ComputedWith-2.ensures) at c.computed_with.ensures)
+
+-- the size that is asked for
+asked : (here : Integers) (at : ℕ) (s : Static) (n : ℕ) (r : Result ℕ ElabFault) → r ≡ Ok n → Computes (size_of here at s) r → IsWidth n
+asked here at s n r e h = size_fits here at s n (subst (λ (q : Result ℕ ElabFault). Computes (size_of here at s) q) e h)
+
+pub expanded-natural_digits-requires-clause-some : goal.expanded-natural_digits-requires-clause-some
+expanded-natural_digits-requires-clause-some t c =
+    (asked (integers_view c.args.self.now.integers) c.in-ComputedEncoded.at (static_view c.in-ComputedEncoded.size) c.in_ok-number-in-ComputedEncoded-2.len c.size_of.result c.in_ok-number-in-ComputedEncoded-2.ensures.both.0 c.size_of.ensures).0
+
+pub expanded-natural_digits-requires-clause-few : goal.expanded-natural_digits-requires-clause-few
+expanded-natural_digits-requires-clause-few t c =
+    (asked (integers_view c.args.self.now.integers) c.in-ComputedEncoded.at (static_view c.in-ComputedEncoded.size) c.in_ok-number-in-ComputedEncoded-2.len c.size_of.result c.in_ok-number-in-ComputedEncoded-2.ensures.both.0 c.size_of.ensures).1
+
 pub expanded-returns-in-Literal : goal.expanded-returns-in-Literal
 unfolding definition.vector
 expanded-returns-in-Literal t c =
-    expands_along operand_view _ _ _ (ap (λ x. definition.vector (site_view c.args.self.now) (vector_view x)) c.in-Literal.is) (rw c.deref.ensures.value at c.literal.ensures)
+    expands_along operand_view _ _ _ (ap (λ x. definition.vector (site_view c.args.self.now) (vector_view x)) c.in-Literal.is) (rw c.deref-in-Literal.ensures.value at c.literal.ensures)
 
 pub expanded-returns-in-IntegerWith : goal.expanded-returns-in-IntegerWith
 unfolding definition.vector
@@ -162,3 +205,51 @@ expanded-returns-in-Aggregate t c =
     expands_along operand_view _ _ _
     (aggregate_is (site_view c.args.self.now) c.args.vector.now c.in-Aggregate.at c.in-Aggregate.range c.in-Aggregate.elements _ _ c.in-Aggregate.is (sym c.lent_range.ensures) c.deref-in-Aggregate.ensures.value)
     c.aggregate.ensures
+
+-- ---- integers that a run computes
+
+pub computed-returns-in_err-first-in-Chain : goal.computed-returns-in_err-first-in-Chain
+computed-returns-in_err-first-in-Chain t c =
+    let here = site_view c.args.self.now in
+    passed_on _ _ c.in_err-first-in-Chain.field-0.0 _ c.from_residual-in_err-first-in-Chain.result c.from_residual-in_err-first-in-Chain.ensures.1 (λ e p. p)
+    (λ n. chain_stops (numbers.linked here) _ _ c.in-Chain.links.items (computed_is here c.args.at c.args.integer.now c.in-Chain.start c.in-Chain.links _ _ c.in-Chain.is refl refl)
+    (on (λ d. numbers.linked here d c.in-Chain.start.value.link) _ _ (rw (c.deref-in-Chain.ensures, c.deref-in-Chain-2.ensures) at (c.in_err-first-in-Chain.ensures n))))
+
+pub computed-returns-in_err-begun-in-Chain : goal.computed-returns-in_err-begun-in-Chain
+computed-returns-in_err-begun-in-Chain t c =
+    let here = site_view c.args.self.now in
+    passed_on _ _ c.in_err-begun-in-Chain.field-0.0 _ c.from_residual-in_err-begun-in-Chain.result c.from_residual-in_err-begun-in-Chain.ensures.1 (λ e p. p)
+    (λ n. chain_stops (numbers.linked here) _ _ c.in-Chain.links.items (computed_is here c.args.at c.args.integer.now c.in-Chain.start c.in-Chain.links _ _ c.in-Chain.is refl refl)
+    (on (λ d. numbers.linked here d c.in-Chain.start.value.link) _ _ (rw (c.deref-in-Chain.ensures, c.deref-in-Chain-2.ensures) at c.in_ok-first-in-Chain.ensures)
+    ∙ (rw (c.deref-in-Chain-3.ensures) at (c.in_err-begun-in-Chain.ensures n))))
+
+pub computed-returns-in_ok-begun-in-Chain : goal.computed-returns-in_ok-begun-in-Chain
+computed-returns-in_ok-begun-in-Chain t c =
+    let here = site_view c.args.self.now in
+    expands_along number_view _ _ _
+    (chain_goes (numbers.linked here) _ _ c.deref-in-Chain-4.result.now _ (computed_is here c.args.at c.args.integer.now c.in-Chain.start c.in-Chain.links _ _ c.in-Chain.is refl c.deref-in-Chain-4.ensures.value)
+    (on (λ d. numbers.linked here d c.in-Chain.start.value.link) _ _ (rw (c.deref-in-Chain.ensures, c.deref-in-Chain-2.ensures) at c.in_ok-first-in-Chain.ensures)
+    ∙ (rw (c.deref-in-Chain-3.ensures) at c.in_ok-begun-in-Chain.ensures)))
+    c.all_linked.ensures
+
+pub measured-returns-in_err-first-in-Chain : goal.measured-returns-in_err-first-in-Chain
+measured-returns-in_err-first-in-Chain t c =
+    let here = site_view c.args.self.now in
+    passed_on _ _ c.in_err-first-in-Chain.field-0.0 _ c.from_residual-in_err-first-in-Chain.result c.from_residual-in_err-first-in-Chain.ensures.1 (λ e p. p)
+    (λ n. chain_stops (numbers.measured_linked here) _ _ c.in-Chain.links.items (measured_is here c.args.at c.args.integer.now c.in-Chain.start c.in-Chain.links _ _ c.in-Chain.is refl refl)
+    (on (λ d. numbers.measured_linked here d c.in-Chain.start.value.link) _ _ (rw (c.deref-in-Chain.ensures, c.deref-in-Chain-2.ensures) at (c.in_err-first-in-Chain.ensures n))))
+
+pub measured-returns-in_err-done-in-Chain : goal.measured-returns-in_err-done-in-Chain
+measured-returns-in_err-done-in-Chain t c =
+    let here = site_view c.args.self.now in
+    passed_on _ _ c.in_err-done-in-Chain.field-0.0 _ c.from_residual-in_err-done-in-Chain.result c.from_residual-in_err-done-in-Chain.ensures.1 (λ e p. p)
+    (λ n. chain_stops (numbers.measured_linked here) _ _ c.in-Chain.links.items (measured_is here c.args.at c.args.integer.now c.in-Chain.start c.in-Chain.links _ _ c.in-Chain.is refl refl)
+    (on (λ d. numbers.measured_linked here d c.in-Chain.start.value.link) _ _ (rw (c.deref-in-Chain.ensures, c.deref-in-Chain-2.ensures) at c.in_ok-first-in-Chain.ensures)
+    ∙ (rw (c.deref-in-Chain-3.ensures) at (c.in_err-done-in-Chain.ensures n))))
+
+pub measured-loop-link-init : goal.measured-loop-link-init
+measured-loop-link-init t c =
+    let here = site_view c.args.self.now in
+    chain_goes (numbers.measured_linked here) _ _ c.deref-link-items.result.now _ (measured_is here c.args.at c.args.integer.now c.in-Chain.start c.in-Chain.links _ _ c.in-Chain.is refl c.deref-link-items.ensures.value)
+    (on (λ d. numbers.measured_linked here d c.in-Chain.start.value.link) _ _ (rw (c.deref-in-Chain.ensures, c.deref-in-Chain-2.ensures) at c.in_ok-first-in-Chain.ensures)
+    ∙ (rw (c.deref-in-Chain-3.ensures) at c.in_ok-done-in-Chain.ensures))

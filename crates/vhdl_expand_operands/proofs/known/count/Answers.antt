@@ -1,8 +1,0 @@
-use Rattle.std.proofs.Common.{length, sym, ap, ◌∙◌}
-use Rattle.std.proofs.lemmas.List.FromFn.{length-range_with_len}
-use Rattle.rtl_net.specs.declared.indices.Indices.{Indices}
-use Rattle.rtl_net.specs.Indices.{numbers}
-use Rattle.vhdl_expand_operands.proofs.known.count.Goals as goal
-
-pub returns-in-Run : goal.returns-in-Run
-returns-in-Run c = sym (ap (λ (p : Indices). length (numbers p)) c.in-Run.is ∙ length-range_with_len c.in-Run.first c.in-Run.len)
