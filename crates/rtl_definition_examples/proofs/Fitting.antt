@@ -4,18 +4,19 @@ use Rattle.std.proofs.Common.{length, slice_get, Option, Some, None, refl, ap, a
 use Rattle.std.specs.List.{list_any}
 use Rattle.std.proofs.lemmas.Bool.{and_parts, eqb-true, ltb-true, leb-true}
 use Rattle.vhdl_values.specs.declared.kinds.Counted.{Counted}
-use Rattle.vhdl_values.specs.declared.kinds.Counted.TheVariants.{Resize, ShiftLeft, ShiftRight}
+use Rattle.vhdl_values.specs.declared.kinds.Counted.TheVariants.{Resize, ResizeSigned, Shift}
 use Rattle.vhdl_values.specs.Shifts.{IsCount}
-use Rattle.rtl_model.specs.bodies.Body.{logical, joined, plus, minus, times, Expr, signal, variable, constant}
-use Rattle.rtl_model.specs.bodies.Body.{inverse, filled, binary, counted}
+use Rattle.rtl_model.specs.bodies.Rows.{Spacing}
+use Rattle.rtl_model.specs.bodies.Body.{logical, joined, plus, minus, times, signed, Expr, signal, variable, constant}
+use Rattle.rtl_model.specs.bodies.Body.{inverse, filled, binary, counted, shifted, converted, chosen}
 use Rattle.rtl_model.specs.bodies.Body.{Value, elements, position, position_of, position_in}
 use Rattle.rtl_model.specs.bodies.Body.{Test, condition, decided, equal, unequal, level, compared, compared_to}
 use Rattle.rtl_model.specs.bodies.Body.{rising, falling, event, negated, combined}
-use Rattle.rtl_model.specs.bodies.Body.{Stmt, null_of, assign, set, if_of, case_of, Stmts, done, step}
+use Rattle.rtl_model.specs.bodies.Body.{Stmt, null_of, assign, set, assign_at, set_at, if_of, case_of, Stmts, done, step}
 use Rattle.rtl_model.specs.bodies.Body.{Branches, no_else, otherwise, branch, Alternatives, others, alternative}
 use Rattle.rtl_model.specs.bodies.Types.{ElementType, nine_valued, enumeration, limit_of, HasType}
-use Rattle.rtl_model.specs.bodies.Fits.{operated_width, width, value_width, IsWidth, Scope, FitsExpr, FitsAs, FitBoth, FitsTest}
-use Rattle.rtl_model.specs.bodies.Fits.{DrivesType, FitsTarget, FitsChoice, FitsStmt, Fits, FitsBranches, FitsAlternatives}
+use Rattle.rtl_model.specs.bodies.Fits.{operated_width, width, value_width, IsWidth, IsSpacing, Scope, HoldsRows, FitsExpr, FitsAs, FitBoth, FitsTest}
+use Rattle.rtl_model.specs.bodies.Fits.{DrivesType, FitsTarget, FitsTargetAt, FitsChoice, FitsStmt, Fits, FitsBranches, FitsAlternatives}
 use Rattle.rtl_model.proofs.basics.Lists.{any_at}
 use Rattle.rtl_definition_examples.proofs.Deciding.{all_in}
 
@@ -61,17 +62,29 @@ is_width n e = let (a, b) = and_parts (nat_le 1 n) (nat_le n 64) e in (leb-true 
 
 abbrev is_count : Counted → ℕ → Bool
 is_count Resize n = is_wide n
-is_count ShiftLeft n = true
-is_count ShiftRight n = true
+is_count ResizeSigned n = is_wide n
+is_count (Shift by) n = true
 
 counts : (op : Counted) (n : ℕ) → is_count op n ≡ true → IsCount op n
 counts Resize n h = is_width n h
-counts ShiftLeft n h = tt
-counts ShiftRight n h = tt
+counts ResizeSigned n h = is_width n h
+counts (Shift by) n h = tt
+
+abbrev is_spacing : Spacing → Bool
+is_spacing s = is_wide s.len && nat_le 1 s.step
+
+spaced : (s : Spacing) → is_spacing s ≡ true → IsSpacing s
+spaced s h = let (a, b) = and_parts (is_wide s.len) (nat_le 1 s.step) h in (is_width s.len a, leb-true 1 s.step b)
 
 -- ---- bodies
 
 module _ (scope : Scope) where
+  abbrev holds_rows : Expr → Bool
+  holds_rows (signal nets) = all_in (has_type scope.nets nine_valued) nets
+  holds_rows (variable es) = all_in (has_type scope.variables nine_valued) es
+  holds_rows (constant values) = true
+  holds_rows _ = false
+
   abbrev expr_fits : Expr → Bool
   expr_fits (signal nets) = is_wide (length nets) && all_in (has_type scope.nets nine_valued) nets
   expr_fits (variable es) = is_wide (length es) && all_in (has_type scope.variables nine_valued) es
@@ -81,6 +94,15 @@ module _ (scope : Scope) where
   expr_fits (binary (logical op) d e) = is_wide (width d) && (expr_fits d && (expr_fits e && (width d == width e)))
   expr_fits (binary op d e) = is_wide (operated_width op (width d) (width e)) && (expr_fits d && expr_fits e)
   expr_fits (counted op count e) = is_count op count && expr_fits e
+  expr_fits (shifted by count e) = expr_fits count && expr_fits e
+  expr_fits (converted by e) = expr_fits e
+  expr_fits (chosen index spacing rows) = is_spacing spacing && (expr_fits index && (holds_rows rows && nat_le spacing.len (width rows)))
+
+  of_rows : (e : Expr) → holds_rows e ≡ true → HoldsRows scope e
+  of_rows (signal nets) h = all_of (HasType scope.nets nine_valued) (has_type scope.nets nine_valued) (is_of_type scope.nets nine_valued) nets h
+  of_rows (variable es) h = all_of (HasType scope.variables nine_valued) (has_type scope.variables nine_valued) (is_of_type scope.variables nine_valued) es h
+  of_rows (constant values) h = tt
+  of_rows _ h = absurd cc
 
   of_expr : (e : Expr) → expr_fits e ≡ true → FitsExpr scope e
   of_expr (signal nets) h = let (a, b) = and_parts (is_wide (length nets)) _ h in (is_width _ a, all_of (HasType scope.nets nine_valued) (has_type scope.nets nine_valued) (is_of_type scope.nets nine_valued) nets b)
@@ -100,7 +122,15 @@ module _ (scope : Scope) where
   of_expr (binary plus d e) h = let (a, b) = and_parts (is_wide (operated_width plus (width d) (width e))) _ h in let (p, q) = and_parts (expr_fits d) (expr_fits e) b in (is_width _ a, of_expr d p, of_expr e q, tt)
   of_expr (binary minus d e) h = let (a, b) = and_parts (is_wide (operated_width minus (width d) (width e))) _ h in let (p, q) = and_parts (expr_fits d) (expr_fits e) b in (is_width _ a, of_expr d p, of_expr e q, tt)
   of_expr (binary times d e) h = let (a, b) = and_parts (is_wide (width d + width e)) _ h in let (p, q) = and_parts (expr_fits d) (expr_fits e) b in (is_width _ a, of_expr d p, of_expr e q, tt)
+  of_expr (binary (signed op) d e) h = let (a, b) = and_parts (is_wide (operated_width (signed op) (width d) (width e))) _ h in let (p, q) = and_parts (expr_fits d) (expr_fits e) b in (is_width _ a, of_expr d p, of_expr e q, tt)
   of_expr (counted op count e) h = let (a, b) = and_parts (is_count op count) (expr_fits e) h in (counts op count a, of_expr e b)
+  of_expr (shifted by count e) h = let (a, b) = and_parts (expr_fits count) (expr_fits e) h in (of_expr count a, of_expr e b)
+  of_expr (converted by e) h = of_expr e h
+  of_expr (chosen index spacing rows) h =
+      let (a, b) = and_parts (is_spacing spacing) _ h in
+      let (p, q) = and_parts (expr_fits index) _ b in
+      let (r, s) = and_parts (holds_rows rows) (nat_le spacing.len (width rows)) q in
+      (spaced spacing a, of_expr index p, of_rows rows r, leb-true spacing.len (width rows) s)
 
   abbrev fits_as : ElementType → Value → Bool
   fits_as nine_valued (elements e) = expr_fits e
@@ -179,6 +209,20 @@ module _ (scope : Scope) where
       let (p, q) = and_parts (fits_as t v) (all_in (of_type t) target) e in
       (t, of_value t v p, eqb-true (length target) (value_width v) a, all_of (OfType t) (of_type t) (is t) target q)
 
+  abbrev target_fits_at : (ElementType → ℕ → Bool) → Expr → Spacing → (target : List ℕ) → Expr → Bool
+  target_fits_at of_type index spacing target e =
+      is_spacing spacing && (expr_fits index && (expr_fits e && ((spacing.len == width e) && (all_in (of_type nine_valued) target && nat_le spacing.len (length target)))))
+
+  is_target_at : (OfType : ElementType → ℕ → Type 0) (of_type : ElementType → ℕ → Bool) → ((t : ElementType) (k : ℕ) → of_type t k ≡ true → OfType t k)
+      → (index : Expr) (spacing : Spacing) (target : List ℕ) (e : Expr) → target_fits_at of_type index spacing target e ≡ true → FitsTargetAt scope OfType index spacing target e
+  is_target_at OfType of_type is index spacing target e h =
+      let (a, b) = and_parts (is_spacing spacing) _ h in
+      let (p, q) = and_parts (expr_fits index) _ b in
+      let (r, s) = and_parts (expr_fits e) _ q in
+      let (u, v) = and_parts (spacing.len == width e) _ s in
+      let (w, x) = and_parts (all_in (of_type nine_valued) target) (nat_le spacing.len (length target)) v in
+      (spaced spacing a, of_expr index p, of_expr e r, eqb-true spacing.len (width e) u, all_of (OfType nine_valued) (of_type nine_valued) (is nine_valued) target w, leb-true spacing.len (length target) x)
+
   abbrev choice_fits : ElementType → ℕ → List ℕ → Bool
   choice_fits t len choice = (length choice == len) && all_in (λ n. nat_lt n (limit_of t)) choice
 
@@ -192,6 +236,8 @@ module _ (scope : Scope) where
     stmt_fits null_of = true
     stmt_fits (assign places v) = target_fits drives_type places v
     stmt_fits (set es v) = target_fits (has_type scope.variables) es v
+    stmt_fits (assign_at index spacing places e) = target_fits_at drives_type index spacing places e
+    stmt_fits (set_at index spacing es e) = target_fits_at (has_type scope.variables) index spacing es e
     stmt_fits (if_of bs) = branches_fit bs
     stmt_fits (case_of v alts) = some_type (λ t. fits_as t v && alternatives_fit t (value_width v) alts)
 
@@ -213,6 +259,8 @@ module _ (scope : Scope) where
     of_stmt null_of h = tt
     of_stmt (assign places v) h = is_target (DrivesType scope) drives_type is_driven places v h
     of_stmt (set es v) h = is_target (HasType scope.variables) (has_type scope.variables) (is_of_type scope.variables) es v h
+    of_stmt (assign_at index spacing places e) h = is_target_at (DrivesType scope) drives_type is_driven index spacing places e h
+    of_stmt (set_at index spacing es e) h = is_target_at (HasType scope.variables) (has_type scope.variables) (is_of_type scope.variables) index spacing es e h
     of_stmt (if_of bs) h = of_branches bs h
     of_stmt (case_of v alts) h =
         let (t, k, e) = any_at (λ t. fits_as t v && alternatives_fit t (value_width v) alts) (nine_valued ∷ scope.nets ++ scope.variables) h in

@@ -24,7 +24,18 @@ looks_of_bodies = record {
   variable_under_if = refl;
   never_run = refl;
   edge = refl;
+  second_of_row = refl;
+  behind_index = refl;
+  first_of_moved = refl;
+  last_of_number = refl;
 }
 
 pub looks_at_no_less : LooksAtNoLess
-looks_at_no_less = record { condition = λ h. absurd cc; default = λ h. absurd cc; right_operand = λ h. absurd cc }
+looks_at_no_less = record {
+  condition = λ h. absurd cc;
+  default = λ h. absurd cc;
+  right_operand = λ h. absurd cc;
+  index = λ h. absurd cc;
+  other_row = λ h. absurd cc;
+  before_index = λ h. absurd cc;
+}

@@ -4,7 +4,8 @@ use Rattle.std.specs.Prelude.{◌≡◌, ℕ, Bool, true, false, List, [], ◌�
 use Rattle.vhdl_values.specs.declared.scalar.Nine.{Nine}
 use Rattle.vhdl_values.specs.declared.scalar.Nine.TheVariants.{X, Zero, One}
 use Rattle.vhdl_values.specs.declared.kinds.Cmp.TheVariants.{Eq, Ne, Lt}
-use Rattle.vhdl_values.specs.declared.kinds.Counted.TheVariants.{Resize, ShiftLeft, ShiftRight}
+use Rattle.vhdl_values.specs.declared.kinds.Counted.TheVariants.{Resize, Shift}
+use Rattle.vhdl_values.specs.declared.kinds.Shift.TheVariants.{Left, Right}
 use Rattle.vhdl_values.specs.declared.kinds.Logic.TheVariants.{And, Or, Nand, Nor, Xor, Xnor}
 use Rattle.vhdl_values.specs.declared.kinds.Logic.{Logic}
 use Rattle.vhdl_values.specs.declared.kinds.Edge.TheVariants as v
@@ -205,9 +206,9 @@ pub record RunsOfBodies : Type 0 where
   -- "1X01" resized to 2 is "01", to 6 "001X01"; shifted by 1 to the left it is "X010", by 4 to the right "0000"
   pub shrinks : value (counted Resize 2 (text (One ∷ X ∷ Zero ∷ One ∷ []))) ≡ Zero ∷ One ∷ []
   pub grows : value (counted Resize 6 (text (One ∷ X ∷ Zero ∷ One ∷ []))) ≡ Zero ∷ Zero ∷ One ∷ X ∷ Zero ∷ One ∷ []
-  pub to_left : value (counted ShiftLeft 1 (text (One ∷ X ∷ Zero ∷ One ∷ []))) ≡ X ∷ Zero ∷ One ∷ Zero ∷ []
-  pub to_right : value (counted ShiftRight 4 (text (One ∷ X ∷ Zero ∷ One ∷ []))) ≡ Zero ∷ Zero ∷ Zero ∷ Zero ∷ []
-  pub to_right_by_one : value (counted ShiftRight 1 (text (One ∷ X ∷ Zero ∷ One ∷ []))) ≡ Zero ∷ One ∷ X ∷ Zero ∷ []
+  pub to_left : value (counted (Shift Left) 1 (text (One ∷ X ∷ Zero ∷ One ∷ []))) ≡ X ∷ Zero ∷ One ∷ Zero ∷ []
+  pub to_right : value (counted (Shift Right) 4 (text (One ∷ X ∷ Zero ∷ One ∷ []))) ≡ Zero ∷ Zero ∷ Zero ∷ Zero ∷ []
+  pub to_right_by_one : value (counted (Shift Right) 1 (text (One ∷ X ∷ Zero ∷ One ∷ []))) ≡ Zero ∷ One ∷ X ∷ Zero ∷ []
   -- `(others => s)` and `(others => '1')`
   pub fills : value (filled 3 (one_signal 1)) ≡ X ∷ X ∷ X ∷ []
   pub fills_ones : value (filled 2 (text (One ∷ []))) ≡ One ∷ One ∷ []
@@ -363,8 +364,8 @@ of_each_form =
     branch
     (combined Or (equal (elements (one_signal 3)) (position_of 4)) (unequal (position 0) (elements (one_signal 5))))
     (assigned (counted Resize 3 (one_signal 6))) (
-    branch (combined And (event 7) (level true 8 One)) (assigned (counted ShiftLeft 1 (one_signal 9))) (
-    branch (compared Lt (one_signal 10) (one_signal 11)) (assigned (counted ShiftRight 1 (one_signal 12))) (
+    branch (combined And (event 7) (level true 8 One)) (assigned (counted (Shift Left) 1 (one_signal 9))) (
+    branch (compared Lt (one_signal 10) (one_signal 11)) (assigned (counted (Shift Right) 1 (one_signal 12))) (
     branch (negated (compared_to Eq (one_signal 13) 7)) (step (set_one 0 (one_signal 14)) done) (
     otherwise (step null_of done)))))))) (
     step (case_of (position_of 15) (alternative ((1 ∷ []) ∷ []) (on (rising 16)) (others (on (falling 17))))) (

@@ -1,10 +1,14 @@
 -- What drivers look at in small bodies, and that they look at no less.
 use Rattle.std.specs.Prelude.{◌≡◌, ℕ, false, List, [], ◌∷◌}
 use Rattle.vhdl_values.specs.declared.scalar.Nine.TheVariants.{Zero, One}
-use Rattle.vhdl_values.specs.declared.kinds.Counted.TheVariants.{ShiftRight}
+use Rattle.vhdl_values.specs.declared.kinds.Counted.TheVariants.{Shift}
+use Rattle.vhdl_values.specs.declared.kinds.Shift.TheVariants.{Right}
 use Rattle.vhdl_values.specs.declared.kinds.Logic.TheVariants.{And, Xor}
-use Rattle.rtl_model.specs.bodies.Body.{logical, joined, plus, signal, filled, binary, counted, elements, decided, rising}
-use Rattle.rtl_model.specs.bodies.Body.{assign, if_of, case_of, Stmts, done, step, no_else, otherwise, branch}
+use Rattle.vhdl_numbers.specs.declared.kinds.Conversion.TheVariants.{Cleaned}
+use Rattle.rtl_model.specs.bodies.Rows.{Spacing}
+use Rattle.rtl_model.specs.bodies.Body.{logical, joined, plus, Expr, signal, filled, binary, counted, shifted, converted}
+use Rattle.rtl_model.specs.bodies.Body.{chosen, elements, decided, rising}
+use Rattle.rtl_model.specs.bodies.Body.{assign, assign_at, if_of, case_of, Stmts, done, step, no_else, otherwise, branch}
 use Rattle.rtl_model.specs.bodies.Body.{others, alternative}
 use Rattle.rtl_model.specs.bodies.Values.{Seen}
 use Rattle.rtl_model.specs.bodies.Effect.{effect}
@@ -71,7 +75,7 @@ abbrev pub from_gray_shifted : Stmts
 from_gray_shifted =
     step (assign (0 ∷ 1 ∷ 2 ∷ 3 ∷ [])
     (elements (binary (logical Xor) (signal (0 ∷ 1 ∷ 2 ∷ 3 ∷ []))
-    (counted ShiftRight 1 (signal (4 ∷ 5 ∷ 6 ∷ 7 ∷ [])))))) done
+    (counted (Shift Right) 1 (signal (4 ∷ 5 ∷ 6 ∷ 7 ∷ [])))))) done
 
 -- `v := a; if s = '1' then v := b; end if; x <= v;`
 abbrev pub set_under_if : Stmts
@@ -82,6 +86,34 @@ set_under_if =
 -- `if 0 = 1 then x <= a; else x <= b; end if;`
 abbrev pub static_test : Stmts
 static_test = step (if_of (branch (decided false) (assigned (one_signal 0)) (otherwise (assigned (one_signal 1))))) done
+
+-- the number that net 0 is, which has no sign, as an index
+abbrev pub by_first : Expr
+by_first = binary joined (text (Zero ∷ [])) (one_signal 0)
+
+-- single elements side by side, and rows of two
+abbrev pub elements_alone : Spacing
+elements_alone = record { len = 1; step = 1 }
+
+abbrev pub pairs : Spacing
+pairs = record { len = 2; step = 2 }
+
+-- `y <= m(i);`, where m has two rows: the nets 1 and 2, and 3 and 4
+abbrev pub row_of_two : Stmts
+row_of_two = step (assign (0 ∷ 1 ∷ []) (elements (chosen by_first pairs (signal (1 ∷ 2 ∷ 3 ∷ 4 ∷ []))))) done
+
+-- `x <= a; x(i) <= b;`, where a is the nets 1 and 2, and b 3
+abbrev pub given_at_index : Stmts
+given_at_index =
+    step (assign (0 ∷ 1 ∷ []) (elements (signal (1 ∷ 2 ∷ []))))
+    (step (assign_at by_first elements_alone (0 ∷ 1 ∷ []) (one_signal 3)) done)
+
+-- `y <= shift_right(a, i);` and the value of `to_integer(a)`, where a is the nets 1 and 2
+abbrev pub shifted_by_first : Stmts
+shifted_by_first = step (assign (0 ∷ 1 ∷ []) (elements (shifted Right by_first (signal (1 ∷ 2 ∷ []))))) done
+
+abbrev pub as_number : Stmts
+as_number = step (assign (0 ∷ 1 ∷ []) (elements (converted Cleaned (signal (1 ∷ 2 ∷ []))))) done
 
 pub record LooksOfBodies : Type 0 where
   pub first_use : looks_of used_twice 0 ≡ net_now 0 ∷ []
@@ -113,15 +145,30 @@ pub record LooksOfBodies : Type 0 where
   -- `if rising_edge(clk) then q <= d; end if;`, where clk and d are the nets 0 and 1
   pub edge : looks_of (if_only (rising 0) (assigned (one_signal 1))) 0
       ≡ net_before 0 ∷ net_now 0 ∷ net_now 1 ∷ []
+  -- an element of the row that an index chooses: at its place in every row, and at the index
+  pub second_of_row : looks_of row_of_two 1 ≡ net_now 2 ∷ net_now 4 ∷ net_now 0 ∷ []
+  -- behind an assignment at an index: at what was before, at the index, where all are X, at what the row was given, and
+  -- where another row was given it again at what was before
+  pub behind_index : looks_of given_at_index 0 ≡ net_now 1 ∷ net_now 0 ∷ net_now 0 ∷ net_now 3 ∷ net_now 1 ∷ []
+  -- by a count that a run computes each element moves anywhere, and a vector's number hangs on all of it
+  pub first_of_moved : looks_of shifted_by_first 0 ≡ net_now 0 ∷ net_now 1 ∷ net_now 2 ∷ []
+  pub last_of_number : looks_of as_number 1 ≡ net_now 1 ∷ net_now 2 ∷ []
 
 -- a run without variables that sees these values now
 abbrev pub sees_now : (now : List ℕ) → Seen
 sees_now now = record { before = now; now = now; variables = [] }
 
--- A driver that didn't look at the condition round an assignment, at what it had before an if without else, or at the
--- right operand of `&` would have another entry where only that differs.
+-- A driver that didn't look at the condition round an assignment, at what it had before an if without else, at the
+-- right operand of `&`, at the index or another row of what an index chooses, or at what it had before an assignment at
+-- an index, would have another entry where only that differs.
 pub record LooksAtNoLess : Type 0 where
   pub condition : effect (sees_now (3 ∷ 2 ∷ 3 ∷ [])) either 0 ≡ effect (sees_now (3 ∷ 2 ∷ 2 ∷ [])) either 0 → ⊥
   pub default : effect (sees_now (3 ∷ 2 ∷ 2 ∷ [])) with_default 0
       ≡ effect (sees_now (2 ∷ 2 ∷ 2 ∷ [])) with_default 0 → ⊥
   pub right_operand : effect (sees_now (3 ∷ 2 ∷ [])) joined_pair 1 ≡ effect (sees_now (3 ∷ 3 ∷ [])) joined_pair 1 → ⊥
+  pub index : effect (sees_now (2 ∷ 2 ∷ 3 ∷ 2 ∷ 2 ∷ [])) row_of_two 1
+      ≡ effect (sees_now (3 ∷ 2 ∷ 3 ∷ 2 ∷ 2 ∷ [])) row_of_two 1 → ⊥
+  pub other_row : effect (sees_now (3 ∷ 2 ∷ 3 ∷ 2 ∷ 2 ∷ [])) row_of_two 1
+      ≡ effect (sees_now (3 ∷ 2 ∷ 3 ∷ 2 ∷ 3 ∷ [])) row_of_two 1 → ⊥
+  pub before_index : effect (sees_now (3 ∷ 2 ∷ 2 ∷ 2 ∷ [])) given_at_index 0
+      ≡ effect (sees_now (3 ∷ 3 ∷ 2 ∷ 2 ∷ [])) given_at_index 0 → ⊥

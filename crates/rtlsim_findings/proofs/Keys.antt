@@ -5,7 +5,7 @@ use Rattle.std.specs.Option.{option_eq}
 use Rattle.std.specs.Prelude.{if◌then◌else◌, cond}
 use Rattle.std.proofs.lemmas.List.Recursion.{is_position_or_len}
 use Rattle.rtl_latches.specs.declared.omission.Omission.{Omission}
-use Rattle.rtl_latches.specs.declared.omission.Omission.TheVariants.{NoElse, Branch, Alternative}
+use Rattle.rtl_latches.specs.declared.omission.Omission.TheVariants.{NoElse, Branch, Alternative, Row}
 use Rattle.rtl_latches.specs.contracts.omission.OmissionPartialEq.TheImpl as omission
 use Rattle.rtlsim_findings.specs.Causes.{is_same, is_same_number, is_same_obstacle}
 use Rattle.rtlsim_findings.specs.Omitted as omitted
@@ -24,6 +24,7 @@ omissions : (a b : Omission) → omission.ghosts.eq a b ≡ omitted.is_same a b
 omissions (NoElse at) (NoElse by) = refl
 omissions (Branch at n) (Branch by m) = refl
 omissions (Alternative at n) (Alternative by m) = refl
+omissions (Row at) (Row by) = refl
 omissions _ _ = refl
 
 some-omissions : (a b : Option Omission) → option_eq omission.ghosts.eq a b ≡ omitted.are_same a b

@@ -99,6 +99,10 @@ pub(crate) fn said(alloc: Global, omission: Omission) -> Result<Vec<u8>, NoMemor
             number,
             b" of this case doesn't assign it",
         ),
+        Omission::Row { .. } => Ok(Vec::from_slice(
+            alloc,
+            b"where its index names another element, this assignment doesn't assign it",
+        )?),
     }
 }
 

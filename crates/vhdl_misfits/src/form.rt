@@ -19,8 +19,15 @@ pub const JOINED_NUMBER: Said = (
 
 pub const SHIFTED: Said = (
     "takes unsigned and a whole number, and gives unsigned",
-    "write unsigned(v) for a vector v, and std_logic_vector(..) round it where a vector stands; a length or count is \
-     known before the run: for a count n write in a loop: if n = i then u <= shift_left(a, i); end if;",
+    "write unsigned(v) for a vector v, and std_logic_vector(..) round it where a vector stands; a length is known \
+     before the run; for a count n write shift_left(a, to_integer(n)) with --wide, and else in a loop: if n = i then u \
+     <= shift_left(a, i); end if;",
+);
+
+pub const WHOLE_NUMBER: Said = (
+    "takes unsigned, and gives a whole number that only a run knows",
+    "write to_integer(unsigned(v)) for a vector v; ranges, lengths and choices are known before the run; write case a is, \
+     with choices as \"011\", for case to_integer(a) is",
 );
 
 pub const EXCHANGED: Said = (
@@ -37,6 +44,11 @@ pub const CONVERTED: Said = (
 pub const LACKING: Said = (
     "lacks its second argument, a length or a count",
     "write resize(a, 9), to_unsigned(5, 8), shift_left(a, 1) or shift_right(a, 1)",
+);
+
+pub const POWER: Said = (
+    "begins a power, and that is of whole numbers that are known before the run",
+    "write shift_left(to_unsigned(1, 8), to_integer(n)) for 2 ** to_integer(n)",
 );
 
 pub const FOREIGN_CALL: Said = (
@@ -58,8 +70,8 @@ pub const EDGE: Said = (
 
 pub const BOUND: Said = (
     "is no whole number that is known before the run, and one stands here",
-    "take a number, a generic, a constant of type integer, or the index of a loop; for a part that moves compare \
-     in a loop: if p = i then",
+    "take a number, a generic, a constant of type integer, or the index of a loop; for a part that moves write \
+     v(to_integer(p) + 1 downto to_integer(p)) with --wide, and else compare in a loop: if p = i then",
 );
 
 pub const NAMED: Said = (

@@ -5,7 +5,7 @@ ghost use Rattle.vhdl_misfits.specs.Misfits as spec;
 
 use crate::form::{
     BEGINS, BOUND, CONVERTED, EDGE, EXCHANGED, FOREIGN_CALL, JOINED, JOINED_NUMBER, LACKING, NAMED,
-    REDUCTION, SHIFTED, TURN,
+    POWER, REDUCTION, SHIFTED, TURN, WHOLE_NUMBER,
 };
 use crate::row::{Provided, Row, row};
 use crate::sort::Sort;
@@ -47,9 +47,10 @@ pub static CONDITIONS: [Row; 10] = [
 /// Of what is assigned to, or assigned.
 pub static ASSIGNED: [Row; 9] = [
     row!(b"" [Any Statement] [Is(Identifier) Is(LeftParen)] Target (
-        "can't be assigned to so: it has no elements, or its parentheses have no static index or slice",
-        "leave out the index of one element, and write (3 downto 0) for (3, 0); for v(p) compare in a loop: for i in 0 \
-         to 3 loop if p = i then v(i) <= d; end if; end loop;",
+        "can't be assigned to so: it has no elements, or no such index or slice",
+        "leave out the index of one element, and write (3 downto 0) for (3, 0); for v(p) write \
+         v(to_integer(unsigned(p))) with --wide, and else compare in a loop: for i in 0 to 3 loop if p = i then v(i) \
+         <= d; end if; end loop;",
     )),
     row!(b"" [Is(Others) Is(Arrow)] [] Test (
         "begins a test, and others fills a vector with a single element",
@@ -98,7 +99,7 @@ pub static NAMES: [Row; 4] = [
 ];
 
 /// Of a call.
-pub static CALLS: [Row; 10] = [
+pub static CALLS: [Row; 11] = [
     row!(b"resize" [] [Any Is(LeftParen)] OneArgument LACKING),
     row!(b"shift_left" [] [Any Is(LeftParen)] OneArgument LACKING),
     row!(b"shift_right" [] [Any Is(LeftParen)] OneArgument LACKING),
@@ -109,6 +110,7 @@ pub static CALLS: [Row; 10] = [
     row!(b"resize" [] [Any Is(LeftParen)] Always SHIFTED),
     row!(b"shift_left" [] [Any Is(LeftParen)] Always SHIFTED),
     row!(b"shift_right" [] [Any Is(LeftParen)] Always SHIFTED),
+    row!(b"to_integer" [] [Any Is(LeftParen)] Always WHOLE_NUMBER),
 ];
 
 /// Of a conversion, and of a name and its parentheses.
@@ -126,8 +128,8 @@ pub static CONVERSIONS: [Row; 12] = [
     row!(b"" [Any Given] [Is(Identifier) Is(LeftParen)] Joined (
         "has no such index, or begins what & joins to a vector, and is assigned to another type",
         "write unsigned(v(0) & w) where unsigned is assigned to, std_logic_vector(n(0) & '1') where a vector is, and one \
-         element without &; an index is static here: for v(p) compare in a loop: for i in 0 to 3 loop if p = i then y \
-         <= v(i); end if; end loop;",
+         element without &; for v(p) write v(to_integer(unsigned(p))) with --wide, and else compare in a loop: for i in \
+         0 to 3 loop if p = i then y <= v(i); end if; end loop;",
     )),
     row!(b"" [Is(Identifier) Is(Arrow)] [Is(Identifier) Is(LeftParen)] Slice (
         "has no such slice, or is of another type than its formal",
@@ -142,13 +144,13 @@ pub static CONVERSIONS: [Row; 12] = [
     row!(b"" [Is(Identifier) Assignment] [Is(Identifier) Is(LeftParen)] Value (
         "has no such index, or begins a value of another type than the whole target",
         "give the target its element or slice too, as hit(i) <= req(i) and en; v(3) is one element, v(3 downto 0) a \
-         vector, and an index is static here: for v(p) compare in a loop: for i in 0 to 3 loop if p = i then y <= \
-         v(i); end if; end loop;",
+         vector; for v(p) write v(to_integer(unsigned(p))) with --wide, and else compare in a loop: for i in 0 to 3 \
+         loop if p = i then y <= v(i); end if; end loop;",
     )),
     row!(b"" [] [Is(Identifier) Is(LeftParen)] Alone (
         "has no such index, or gives an element or slice of another type",
-        "v(3) is one element, v(3 downto 0) a vector, and an index is static here: for v(p) compare in a loop: for i \
-         in 0 to 3 loop if p = i then y <= v(i); end if; end loop;",
+        "v(3) is one element, v(3 downto 0) a vector; for v(p) write v(to_integer(unsigned(p))) with --wide, and else \
+         compare in a loop: for i in 0 to 3 loop if p = i then y <= v(i); end if; end loop;",
     )),
 ];
 
@@ -224,11 +226,12 @@ pub static OPERATORS: [Row; 8] = [
 ];
 
 /// Of one that makes vectors or numbers.
-pub static COMPUTING: [Row; 7] = [
+pub static COMPUTING: [Row; 8] = [
     row!(b"" [] [Is(Ampersand) Is(Integer)] Always JOINED_NUMBER),
     row!(b"" [Arithmetic Is(Integer)] [Is(Ampersand)] Always JOINED),
     row!(b"" [Any Is(Integer)] [Is(Ampersand)] Always JOINED_NUMBER),
     row!(b"" [] [Is(Ampersand)] Always JOINED),
+    row!(b"" [] [Is(Star) Is(Star)] Always POWER),
     row!(b"" [] [Sum] Always (
         "computes with unsigned and whole numbers alone here, and unsigned has no sign",
         "write n + 1 for n + '1', n + ('0' & en) for one element en, 0 - n for -n of unsigned, and unsigned(v) + 1 \

@@ -258,8 +258,9 @@ pub static ENDED: [FormWord; 5] = [
     (b"loop", Behind::Anything, OTHER_LOOP),
 ];
 
-/// What is left out: values, actuals and attributes.
-pub static VALUES: [FormWord; 9] = [
+/// What is left out: values, numbers, actuals and attributes.
+pub static VALUES: [FormWord; 10] = [
+    (b"to_integer", Behind::Anything, DYNAMIC_INDEX),
     (b"true", Behind::Anything, TRUTH),
     (b"false", Behind::Anything, TRUTH),
     (b"", Behind::Kind(TokenKind::Arrow), ACTUAL),
@@ -272,7 +273,8 @@ pub static VALUES: [FormWord; 9] = [
 ];
 
 /// The same with `--wide`.
-pub static WIDE_VALUES: [FormWord; 3] = [
+pub static WIDE_VALUES: [FormWord; 4] = [
+    (b"to_integer", Behind::Anything, wide::STATIC_NUMBER),
     (b"", Behind::Kind(TokenKind::Tick), wide::ATTRIBUTE),
     (b"", Behind::Kind(TokenKind::Arrow), wide::ACTUAL),
     (b"", Behind::Opener(TokenKind::Map), wide::ACTUAL),
@@ -319,8 +321,7 @@ pub static RELATIONS: [FormWord; 4] = [
 ];
 
 /// Functions of packages.
-pub static FUNCTIONS: [FormWord; 6] = [
-    (b"to_integer", Behind::Anything, DYNAMIC_INDEX),
+pub static FUNCTIONS: [FormWord; 5] = [
     (b"rotate_left", Behind::Anything, FUNCTION),
     (b"rotate_right", Behind::Anything, FUNCTION),
     (b"minimum", Behind::Anything, FUNCTION),

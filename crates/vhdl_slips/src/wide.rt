@@ -101,6 +101,12 @@ pub const DEFAULT: Said = (
     "name no signal, port or variable in it, and no edge; assign what is computed to a signal",
 );
 
+/// The number of what the run doesn't change.
+pub const STATIC_NUMBER: Said = (
+    "is served of what names a signal, a port or a variable",
+    "declare what is known before the run as an integer: constant n : integer := 5;",
+);
+
 /// A type that a declaration or a loop names.
 pub const MARK: Said = (
     "can't stand here so: a vector takes one range, a whole number range 0 to 9, one element and an enumeration none, \
