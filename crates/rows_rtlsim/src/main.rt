@@ -37,7 +37,7 @@ use std::io;
 use tries::Tries;
 
 /// The tables of calls, in the folder in which the program runs.
-const TABLES: [&str; 31] = [
+const TABLES: [&str; 32] = [
     "values.txt",
     "refused.txt",
     "inputs.txt",
@@ -50,6 +50,7 @@ const TABLES: [&str; 31] = [
     "inner_resets.txt",
     "kept_variables.txt",
     "static_names.txt",
+    "computed_integers.txt",
     "explain.txt",
     "remarks.txt",
     "net.txt",
