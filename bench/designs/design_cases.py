@@ -12,6 +12,8 @@
     design_cases.py make_kept N SEED FILE     as make_wide, with variables that clocked processes keep; a trace shows them as GHDL's signals
                                               beside them, but those of a process without a label
     design_cases.py make_static N SEED FILE   as make_wide, with subtypes, attributes, aggregates, powers, constants of any type and so on
+    design_cases.py make_numbers N SEED FILE  as make_wide, with integers that a run computes, and elements and slices at such places; where one
+                                              leaves its range, GHDL's text has a condition that gives X
     design_cases.py make_plain N SEED FILE    as make, with no weak letter in stimuli and literals, so that a 0 or 1 of GHDL's trace is one
     design_cases.py expect FILE PROGRAM       PROGRAM run --expect (also --levels, --event) of such designs with GHDL's values in a file: all
                                               hold; and with one letter turned over, that line is told
@@ -31,6 +33,7 @@ import tempfile
 from pathlib import Path
 
 import designs
+from computed import ComputedDesign, ours, theirs
 from designs import HEAD, Design, Signal, beside
 from static import StaticDesign
 
@@ -181,7 +184,7 @@ def twins(r, text):
 
 
 def is_wide():
-    return designs.WIDE or designs.NETS or designs.RESETS or designs.KEPT or FORM is StaticDesign
+    return designs.WIDE or designs.NETS or designs.RESETS or designs.KEPT or FORM is not Design
 
 
 def make(n, seed, path):
@@ -195,7 +198,7 @@ def make(n, seed, path):
                 unit = d.make(wild=not is_wide() and r.random() < 0.33)
                 lines, changes, toggles, stop = stimulus(r, d)
                 units = d.units + [unit]
-                text, full = "".join(t for t, _ in units), "".join(beside(u) for u in units) + testbench(d, changes, toggles)
+                text, full = ours("".join(t for t, _ in units)), theirs("".join(beside(u) for u in units)) + testbench(d, changes, toggles)
                 told = accepted(full)
                 if told:
                     refused[re.sub(r"^[^ ]* ", "", told.split("\n")[0])[:60]] += 1
@@ -341,6 +344,8 @@ if __name__ == "__main__":
     if sys.argv[1] == "make_static":
         # GHDL 2.0 ends on one of a dozen
         FORM, BATCH = StaticDesign, 10
+    if sys.argv[1] == "make_numbers":
+        FORM = ComputedDesign
     words = ("make_wide", "make_nets", "make_resets", "make_kept")
     designs.WIDE, designs.NETS, designs.RESETS, designs.KEPT = (sys.argv[1] == word for word in words)
     if sys.argv[1].startswith("make"):

@@ -120,7 +120,7 @@ class Design:
         if self.of_kind(other, width):
             return "{}({})".format("unsigned" if kind == "u" else "std_logic_vector", self.part(other, width))
         if kind == "u":
-            return f"to_unsigned({r.randrange(1 << width)}, {width})"
+            return f"to_unsigned({r.randrange(1 << min(width, 20))}, {width})"
         return f'"{"".join(r.choice("01") for _ in range(width))}"'
 
     def vector(self, kind, width, deep):
@@ -591,7 +591,7 @@ class Design:
         r, turns = self.r, ""
         if len(mine) == 1 and mine[0].kind in "uv" and self.chance(0.3):
             turns = f"{self.fresh('g')}: for m in 0 to {mine[0].width - 1} generate "
-            mine = [Signal(f"{mine[0].name}(m)", "s", 1)]
+            mine = [Signal(mine[0].at("m"), "s", 1)]
         edge = [f"{'rising' if rising else 'falling'}_edge({clock})"] if self.chance(0.5) else [f"{clock}'event", f"{clock} = '{rising:d}'"]
         form = r.choice(["if", "reset", "reset", "behind", "behind", "several", "wait"])
         decls, vs = self.kept()

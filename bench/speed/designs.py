@@ -219,6 +219,57 @@ def priority(number=32, width=64):
     return whole("priority", "port (clk : in std_logic; y : out unsigned(5 downto 0))", declarations, statements)
 
 
+def noisy():
+    """An address, and what is written: declarations and statements."""
+    declarations, statements = requests()
+    declarations.append("  signal address : unsigned(5 downto 0) := \"000000\";")
+    statements.append("  process (clk) begin if rising_edge(clk) then address <= address + 5; end if; end process;")
+    return declarations, statements
+
+
+def cases(of, choices):
+    """A case on a part of the address, with a statement for each of its values."""
+    width = len(choices).bit_length() - 1
+    arms = "".join(f"when \"{k:0{width}b}\" => {text} " for k, text in enumerate(choices))
+    return f"case {of} is {arms}when others => null; end case;"
+
+
+def places(by_case=False, width=32):
+    """A multiplexer of 64 words: element by element of a word one of 64 in a vector, at a computed place or by a case."""
+    declarations, statements = noisy()
+    declarations.append(f"  signal z : {vector(width)};")
+    for k in range(width):
+        declarations.append(f"  signal x{k} : {vector(64)} := (others => '0');")
+        shifted = f"x{k} <= x{k}(62 downto 0) & (noise({k}) xor x{k}(63));"
+        statements.append(f"  process (clk) begin if rising_edge(clk) then {shifted} end if; end process;")
+    if by_case:
+        for k in range(width):
+            chosen = cases("address", [f"z({k}) <= x{k}({place});" for place in range(64)])
+            statements.append(f"  process (all) begin z({k}) <= 'X'; {chosen} end process;")
+    else:
+        statements += [f"  z({k}) <= x{k}(to_integer(address));" for k in range(width)]
+    top = "places_by_case" if by_case else "places"
+    return whole(top, f"port (clk : in std_logic; y : out {vector(width)})", declarations, [*statements, "  y <= z;"])
+
+
+def files(by_case=False, number=32):
+    """Register files of eight words of eight elements, written and read at computed places or by cases."""
+    declarations, statements = noisy()
+    for k in range(number):
+        low, to = k % 25, f"address({k % 4 + 2} downto {k % 4})"
+        declarations.append(f"  signal m{k} : {vector(64)} := (others => '0'); signal z{k} : {vector(8)};")
+        value, word = f"noise({low + 7} downto {low})", lambda i: f"({8 * i + 7} downto {8 * i})"
+        place = lambda of: f"m{k}(8 * to_integer({of}) + 7 downto 8 * to_integer({of}))"
+        written, read = f"{place(to)} <= {value};", f"z{k} <= {place(f'not {to}')};"
+        if by_case:
+            written = cases(to, [f"m{k}{word(i)} <= {value};" for i in range(8)])
+            read = f"process (all) begin z{k} <= (others => 'X'); {cases(to, [f'z{k} <= m{k}{word(7 - i)};' for i in range(8)])} end process;"
+        statements += [f"  process (clk) begin if rising_edge(clk) then {written} end if; end process;", f"  {read}"]
+    top = "files_by_case" if by_case else "files"
+    statements.append("  y <= " + " xor ".join(f"z{k}" for k in range(number)) + ";")
+    return whole(top, f"port (clk : in std_logic; y : out {vector(8)})", declarations, statements)
+
+
 def quiet(vectors=16383):
     """A million nets that nothing changes, beside one that toggles."""
     declarations = [f"  signal n{k} : {vector(64)} := (others => '0');" for k in range(vectors)]
@@ -234,4 +285,11 @@ DESIGNS = {
     "registers": (registers, 5000, None),
     "hierarchy": (hierarchy, 2000, None),
     "priority": (priority, 2000, None),
+    "places": (places, 2000, None),
+    "places_by_case": (lambda: places(True), 2000, None),
+    "files": (files, 2000, None),
+    "files_by_case": (lambda: files(True), 2000, None),
 }
+
+# Those that `--wide` alone reads.
+WIDE = {"places", "files"}
