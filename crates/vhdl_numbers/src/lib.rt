@@ -14,3 +14,4 @@ pub use conversions::converted;
 pub use counts::{natural, shifted_by};
 pub use kinds::{Conversion, SignedOperator};
 pub use operations::signed;
+pub use wholes::{digits_of, signed_number};

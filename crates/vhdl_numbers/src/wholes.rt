@@ -10,6 +10,25 @@ ghost use Rattle.vhdl_numbers.specs.Sizes.{integer_of};
 
 use vhdl_values::Vec9;
 
+/// The last 1 to 64 digits of a whole number.
+pub fn digits_of(number: i32, len: usize) -> Vec9
+    requires some { 1 ≤ len }
+    requires room { len ≤ 64 }
+    ensures list { result ≡ signed_digits_of len number }
+    ensures len { length result ≡ len }
+{
+    Whole::from_i32(number).digits(len)
+}
+
+/// The number of a vector, if each value stands for a digit.
+pub fn signed_number(vector: &Vec9) -> Option<i128>
+    ensures { result ≡ (if all_good vector.now then Some (signed_number_of vector.now) else None) }
+{
+    let whole = Whole::of(vector)?;
+    let size = i128::from(whole.size);
+    Some(if whole.negative { -size } else { size })
+}
+
 /// A whole number. Zero may have either sign.
 #[derive(Clone, Copy)]
 pub(crate) struct Whole {

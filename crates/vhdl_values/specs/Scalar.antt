@@ -50,6 +50,11 @@ x01_of One = One
 x01_of H = One
 x01_of _ = X
 
+-- the value that stands for a truth
+abbrev pub value_of_truth : Bool → Nine
+value_of_truth true = One
+value_of_truth false = Zero
+
 -- whether a condition of this value holds: 1 and H alone do (9.2.9, and the package's function "??")
 abbrev pub is_true : Nine → Bool
 is_true One = true

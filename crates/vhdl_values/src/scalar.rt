@@ -1,7 +1,7 @@
 //! One value of std_logic.
 
 ghost use Rattle.std.specs.Prelude.{◌≡◌, ◌<◌, None, Some, if◌then◌else◌, slice_get};
-ghost use Rattle.vhdl_values.specs.Scalar.{nines, code_of, letter_of, value_of_letter, x01_of, is_true};
+ghost use Rattle.vhdl_values.specs.Scalar.{nines, code_of, letter_of, value_of_letter, x01_of, is_true, value_of_truth};
 ghost use Rattle.vhdl_values.specs.Logic.{and_of, or_of, xor_of, not_of};
 
 /// One of the nine values of a `std_ulogic`, in the order of package std_logic_1164.
@@ -99,6 +99,13 @@ impl Nine {
             Nine::One | Nine::H => Nine::One,
             _ => Nine::X,
         }
+    }
+
+    /// The value that stands for a truth: 1 or 0.
+    pub fn of_truth(truth: bool) -> Nine
+        ensures { result ≡ value_of_truth truth }
+    {
+        if truth { Nine::One } else { Nine::Zero }
     }
 
     /// Whether a condition of this value holds (std_logic_1164, `??`): 1 and H alone do.
