@@ -4,3 +4,5 @@ mod Seeing
 mod Parts
 mod Wanting
 mod Said
+mod Wholes
+mod Coded

@@ -1,15 +1,20 @@
 -- What a text wants of nets.
 use Rattle.std.proofs.Common.{◌≡◌, ℕ, zero, suc, ◌+◌, ◌-◌, ◌<◌, ◌≤◌, Bool, true, false, nat_lt, List, [], ◌∷◌, ◌++◌, length, take, drop, get_or, Option, Some, None, refl, sym, ap, ◌∙◌, arith}
-use Rattle.std.specs.Prelude.{◌==◌, nat_le, if◌then◌else◌, option_and_then, slice_index}
+use Rattle.std.specs.Prelude.{◌==◌, nat_le, if◌then◌else◌, option_and_then, option_map, slice_index, bytes_eq, codes, ℤ}
 use Rattle.std.specs.List.{list_all}
 use Rattle.std.proofs.lemmas.Bool.Decides.{nat_tests}
+use Rattle.std.proofs.lemmas.List.{length-map}
+use Rattle.vhdl_values.specs.declared.scalar.Nine.{Nine}
+use Rattle.vhdl_values.specs.Scalar.{value_of_truth}
+use Rattle.vhdl_numbers.specs.TwosComplement.{signed_digits_of}
 use Rattle.rtl_net.specs.declared.signal.SignalKind.{SignalKind}
-use Rattle.rtl_net.specs.declared.signal.SignalKind.TheVariants.{One, Vector, Enumeration}
+use Rattle.rtl_net.specs.declared.signal.SignalKind.TheVariants.{One, Vector, Enumeration, Integer, Boolean}
 use Rattle.rtl_net.specs.Nets.{SignalView}
 use Rattle.rtl_stim_lines.specs.Forms.{number_of}
+use Rattle.rtl_stim_lines.specs.Inputs.{small, integer_for, truth_for}
 use Rattle.rtl_expect.specs.declared.expected.Wanted.{Wanted}
 use Rattle.rtl_stim_lines.specs.Lines.{Word}
-use Rattle.rtl_expect.specs.Expected.{Positions, wants, code_wanted_of, before_wanted, letters_wanted, letters_of_digits, cut_letters, quoted_digits, string_wanted, number_wanted, is_any, position_of, kind_wanted, value_wanted}
+use Rattle.rtl_expect.specs.Expected.{Positions, wants, code_wanted_of, before_wanted, letters_wanted, letters_of_digits, cut_letters, quoted_digits, string_wanted, number_wanted, is_any, position_of, any_wanted, no_number_wanted, values_wanted, digits_wanted, kind_wanted, value_wanted}
 
 -- these before those
 abbrev pub behind_all : List Wanted → Option (List Wanted) → Option (List Wanted)
@@ -74,9 +79,53 @@ string_long nets text (Some digits) ws is = by (cut_letters (length nets) (lette
     by None is = cc
     by (Some letters) is = letters_long nets letters ws is
 
+-- ---- integers and booleans
+
+-- a number, where the text is neither any nor none
+pub number_said : (any none : Bool) (number : Option ℤ) (n : ℤ) (nets : List ℕ) (ws : List Wanted) → any ≡ false → none ≡ false → number ≡ Some n
+    → ws ≡ values_wanted nets (signed_digits_of (length nets) n)
+    → Some ws ≡ (if any then Some (any_wanted nets) else if none then Some (no_number_wanted nets) else digits_wanted nets number)
+number_said any none number n nets ws a b c is = rw (a, b, c) (ap (λ (ws : List Wanted). Some ws) is)
+
+any_long : (nets : List ℕ) → length (any_wanted nets) ≡ length nets
+any_long nets = length-map nets (λ net. wants net None)
+
+no_number_long : (nets : List ℕ) → length (no_number_wanted nets) ≤ length nets
+no_number_long [] = omega arith
+no_number_long (net ∷ []) = omega arith
+no_number_long (net ∷ next ∷ nets) = omega (arith, no_number_long (next ∷ nets))
+
+values_long : (nets : List ℕ) (values : List Nine) → length (values_wanted nets values) ≤ length nets
+values_long [] values = omega arith
+values_long (net ∷ nets) [] = omega arith
+values_long (net ∷ nets) (value ∷ values) = omega (arith, values_long nets values)
+
+as_long : (nets : List ℕ) (found ws : List Wanted) → length found ≤ length nets → Some found ≡ Some ws → length ws ≤ length nets
+as_long nets found ws few is = let same : found ≡ ws = cc in omega (arith, few, ap length same)
+
+integer_long : (any none : Bool) (number : Option ℤ) (nets : List ℕ) (ws : List Wanted)
+    → (if any then Some (any_wanted nets) else if none then Some (no_number_wanted nets) else digits_wanted nets number) ≡ Some ws
+    → length ws ≤ length nets
+integer_long true none number nets ws is = as_long nets (any_wanted nets) ws (omega (arith, any_long nets)) is
+integer_long false true number nets ws is = as_long nets (no_number_wanted nets) ws (no_number_long nets) is
+integer_long false false None nets ws is = absurd cc
+integer_long false false (Some n) nets ws is =
+    let digits = signed_digits_of (length nets) n in as_long nets (values_wanted nets digits) ws (values_long nets digits) is
+
+truth_long : (any : Bool) (truth : Option Bool) (nets : List ℕ) (ws : List Wanted)
+    → (if any then Some (any_wanted nets) else option_map (λ b. values_wanted nets (value_of_truth b ∷ [])) truth) ≡ Some ws
+    → length ws ≤ length nets
+truth_long true truth nets ws is = as_long nets (any_wanted nets) ws (omega (arith, any_long nets)) is
+truth_long false None nets ws is = absurd cc
+truth_long false (Some b) nets ws is =
+    as_long nets (values_wanted nets (value_of_truth b ∷ [])) ws (values_long nets (value_of_truth b ∷ [])) is
+
 few_of_kind : (kind : SignalKind) (nets text : List ℕ) (literal : Option ℕ) (ws : List Wanted) → length nets ≤ 64 → kind_wanted kind nets literal text ≡ Some ws → length ws ≤ 64
 few_of_kind One nets text literal ws few is = let long = letters_long nets text ws is in omega (arith, long, few)
 few_of_kind (Vector left right) nets text literal ws few is = let long = string_long nets text (quoted_digits text) ws is in omega (arith, long, few)
+few_of_kind (Integer least greatest) nets text literal ws few is =
+    let long = integer_long (is_any text) (bytes_eq (small text) (codes "x")) (integer_for least greatest text) nets ws is in omega (arith, long, few)
+few_of_kind Boolean nets text literal ws few is = let long = truth_long (is_any text) (truth_for text) nets ws is in omega (arith, long, few)
 few_of_kind (Enumeration count) nets text literal ws few is =
     let long = position_long (slice_index nets 0) count ws (is_any text) (position_of (number_of text) literal) is in omega (arith, long)
 

@@ -1,16 +1,19 @@
 -- What is expected: of a signal, at a time, the value of each element. A scalar's or a vector's is told by one letter
 -- of the nine values for each element from the left, a vector's also by the digits of x"1F"; an enumeration's by the
--- position of its literal, from 0, or by its name. `-` and `?` stand for any value.
-use Rattle.std.specs.Prelude.{ℕ, ◌+◌, ◌-◌, ◌/◌, ◌%◌, ◌^◌, ◌==◌, ◌&&◌, ◌||◌, nat_le, nat_lt, Bool, List, [], ◌∷◌, ◌++◌, length, map, flat_map, take, drop, Option, Some, None, option_map, option_and_then, bytes_eq, codes, slice_index, slice_index_or, if◌then◌else◌}
+-- position of its literal, from 0, or by its name; an integer's in base 10, or by `x` where it is none; a boolean's by
+-- `true` or `false`. `-` and `?` stand for any value.
+use Rattle.std.specs.Prelude.{ℕ, ◌+◌, ◌-◌, ◌/◌, ◌%◌, ◌^◌, ◌==◌, ◌&&◌, ◌||◌, nat_le, nat_lt, Bool, List, [], ◌∷◌, ◌++◌, length, map, flat_map, take, drop, Option, Some, None, option_map, option_and_then, bytes_eq, codes, slice_index, slice_index_or, if◌then◌else◌, ℤ}
 use Rattle.std.specs.List.{list_all}
 use Rattle.vhdl_values.specs.declared.scalar.Nine.{Nine}
-use Rattle.vhdl_values.specs.declared.scalar.Nine.TheVariants.{Dash}
-use Rattle.vhdl_values.specs.Scalar.{code_of, value_of_letter}
+use Rattle.vhdl_values.specs.declared.scalar.Nine.TheVariants.{X, Dash}
+use Rattle.vhdl_values.specs.Scalar.{code_of, value_of_letter, value_of_truth}
 use Rattle.rtl_net.specs.declared.signal.SignalKind.{SignalKind}
-use Rattle.rtl_net.specs.declared.signal.SignalKind.TheVariants.{One, Vector, Enumeration}
+use Rattle.rtl_net.specs.declared.signal.SignalKind.TheVariants.{One, Vector, Enumeration, Integer, Boolean}
 use Rattle.rtl_net.specs.Nets.{SignalView}
 use Rattle.rtl_stim_lines.specs.Lines.{Word}
 use Rattle.rtl_stim_lines.specs.Forms.{number_of}
+use Rattle.rtl_stim_lines.specs.Inputs.{small, integer_for, truth_for}
+use Rattle.vhdl_numbers.specs.TwosComplement.{signed_digits_of}
 use Rattle.rtl_expect.specs.declared.expected.Wanted.{Wanted}
 
 -- an expectation: the line that says it, the time, the signal's number, and what is wanted of each of its nets
@@ -117,11 +120,44 @@ abbrev pub position_wanted : (net count : ℕ) → (literal : Option ℕ) → (t
 position_wanted net count literal text =
     if is_any text then Some (wants net None ∷ []) else number_wanted net count (position_of (number_of text) literal)
 
+-- ---- integers and booleans
+
+abbrev pub any_wanted : (nets : List ℕ) → List Wanted
+any_wanted nets = map (λ net. wants net None) nets
+
+-- the last digit of what is no number is X, whatever stands before it
+abbrev pub no_number_wanted : (nets : List ℕ) → List Wanted
+no_number_wanted [] = []
+no_number_wanted (net ∷ []) = wants net (Some (code_of X)) ∷ []
+no_number_wanted (net ∷ next ∷ nets) = wants net None ∷ no_number_wanted (next ∷ nets)
+
+-- each net has the value at its place
+abbrev pub values_wanted : (nets : List ℕ) → List Nine → List Wanted
+values_wanted [] values = []
+values_wanted (net ∷ nets) [] = []
+values_wanted (net ∷ nets) (value ∷ values) = wants net (Some (code_of value)) ∷ values_wanted nets values
+
+abbrev pub digits_wanted : (nets : List ℕ) → Option ℤ → Option (List Wanted)
+digits_wanted nets number = option_map (λ n. values_wanted nets (signed_digits_of (length nets) n)) number
+
+abbrev pub integer_wanted : (least greatest : ℤ) → (nets : List ℕ) → (text : Word) → Option (List Wanted)
+integer_wanted least greatest nets text =
+    if is_any text then Some (any_wanted nets)
+    else if bytes_eq (small text) (codes "x") then Some (no_number_wanted nets)
+    else digits_wanted nets (integer_for least greatest text)
+
+abbrev pub truth_wanted : (nets : List ℕ) → (text : Word) → Option (List Wanted)
+truth_wanted nets text =
+    if is_any text then Some (any_wanted nets)
+    else option_map (λ b. values_wanted nets (value_of_truth b ∷ [])) (truth_for text)
+
 -- ---- signals
 
 abbrev pub kind_wanted : SignalKind → (nets : List ℕ) → (literal : Option ℕ) → (text : Word) → Option (List Wanted)
 kind_wanted One nets literal text = letters_wanted nets text
 kind_wanted (Vector left right) nets literal text = elements_wanted nets text
+kind_wanted (Integer least greatest) nets literal text = integer_wanted least greatest nets text
+kind_wanted Boolean nets literal text = truth_wanted nets text
 kind_wanted (Enumeration count) nets literal text = position_wanted (slice_index nets 0) count literal text
 
 unfoldable pub value_wanted : Positions → SignalView → (text : Word) → Option (List Wanted)

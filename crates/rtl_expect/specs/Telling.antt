@@ -1,23 +1,19 @@
 -- The line that tells the first expectation that doesn't hold, and the lines of all of them.
-use Rattle.std.specs.Prelude.{ℕ, zero, suc, ◌-◌, List, [], ◌∷◌, ◌++◌, map, flat_map, Option, Some, None, codes, decimal, slice_get, slice_index, slice_index_or}
+use Rattle.std.specs.Prelude.{ℕ, zero, suc, ◌-◌, nat_lt, if◌then◌else◌, List, [], ◌∷◌, ◌++◌, length, map, flat_map, Option, Some, None, option_map, codes, decimal, slice_get, slice_index, slice_index_or}
 use Rattle.vhdl_values.specs.declared.scalar.Nine.TheVariants.{Dash}
 use Rattle.vhdl_values.specs.Scalar.{letter_of, value_of_code}
 use Rattle.rtl_net.specs.declared.signal.SignalKind.{SignalKind}
-use Rattle.rtl_net.specs.declared.signal.SignalKind.TheVariants.{One, Vector, Enumeration}
+use Rattle.rtl_net.specs.declared.signal.SignalKind.TheVariants.{One, Vector, Enumeration, Integer, Boolean}
 use Rattle.rtl_net.specs.Nets.{NetlistView, ScopeView, SignalView}
+use Rattle.rtl_net.specs.Values.{value_text}
 use Rattle.rtl_signal_names.specs.Names.{full_name}
 use Rattle.rtl_stim_lines.specs.Lines.{Word, lines_of, words_of}
 use Rattle.rtl_expect.specs.Differences.{Difference}
 
--- the letters of values, by their codes
-abbrev pub letters_of : (found : List ℕ) → List ℕ
-letters_of found = map (λ code. letter_of (value_of_code code)) found
-
--- what was found, as an expectation would say it: letters from the left, or an enumeration's position
+-- what was found, as an expectation would say it: an enumeration's position, or its value in words
 abbrev pub found_text : SignalKind → (found : List ℕ) → List ℕ
-found_text One found = letters_of found
-found_text (Vector left right) found = letters_of found
 found_text (Enumeration count) found = decimal (slice_index found 0)
+found_text kind found = value_text kind found
 
 -- `TIME NAME is VALUE`
 abbrev pub found_at_time : NetlistView → (time : ℕ) → SignalView → (found : List ℕ) → List ℕ
@@ -60,9 +56,8 @@ literal_said names s position = or_decimal position (names s position)
 
 -- what was found, with literals by name
 abbrev pub found_said : LiteralNames → SignalView → (kind : SignalKind) → (found : List ℕ) → List ℕ
-found_said names s One found = letters_of found
-found_said names s (Vector left right) found = letters_of found
 found_said names s (Enumeration count) found = literal_said names s (slice_index found 0)
+found_said names s kind found = value_text kind found
 
 -- any value is a `-`
 abbrev pub wanted_letter : (code : Option ℕ) → ℕ
@@ -73,11 +68,29 @@ abbrev pub wanted_literal : LiteralNames → SignalView → (position : Option �
 wanted_literal names s None = codes "-"
 wanted_literal names s (Some position) = literal_said names s position
 
+-- all values, where each is wanted
+abbrev pub all_wanted : (wanted : List (Option ℕ)) → Option (List ℕ)
+all_wanted [] = Some []
+all_wanted (None ∷ rest) = None
+all_wanted (Some code ∷ rest) = option_map (λ more. code ∷ more) (all_wanted rest)
+
+-- a code as a byte that is the same value's, or no value's
+abbrev pub byte_of : (code : ℕ) → ℕ
+byte_of code = if nat_lt code 256 then code else 255
+
+-- of an integer or boolean: any, where even its last element may be any; no number; or this one
+abbrev pub wanted_number : SignalKind → (all : Option (List ℕ)) → (last : Option ℕ) → List ℕ
+wanted_number kind None None = codes "-"
+wanted_number kind None (Some code) = codes "x"
+wanted_number kind (Some values) last = value_text kind values
+
 -- what was expected, in the same form
 abbrev pub wanted_said : LiteralNames → SignalView → (kind : SignalKind) → (wanted : List (Option ℕ)) → List ℕ
 wanted_said names s One wanted = map wanted_letter wanted
 wanted_said names s (Vector left right) wanted = map wanted_letter wanted
 wanted_said names s (Enumeration count) wanted = wanted_literal names s (slice_index_or wanted 0 None)
+wanted_said names s kind wanted =
+    wanted_number kind (all_wanted wanted) (slice_index_or wanted (length wanted - 1) None)
 
 -- `NAME is VALUE, not VALUE`, or behind the stop `the run has stopped; VALUE was expected of NAME`
 abbrev pub signal_said : LiteralNames → List ScopeView → SignalView

@@ -11,6 +11,7 @@ mod expectation;
 mod expected;
 mod faults;
 mod literals;
+mod numbers;
 mod reading;
 mod saying;
 mod telling;

@@ -11,9 +11,9 @@ ghost use Rattle.rtl_expect.specs.Watching.{difference_view, told_view};
 use crate::difference::{Codes, Difference, FirstDifferences, WantedCodes};
 use crate::literals::Literals;
 use crate::reading::{line_at, parts_of};
-use crate::telling::{letter, letters, position};
+use crate::telling::{letter, position};
 use byte_streams::{Sink, push_number, push_text};
-use rtl_net::{Net, Scope, Signal, SignalKind};
+use rtl_net::{Net, Scope, Signal, SignalKind, value_text};
 use rtl_signal_names::push_name;
 use rtl_stim_lines::words_of;
 use std::alloc::{AllocError, Global};
@@ -125,7 +125,7 @@ fn push_found<L: Literals, S: Sink>(literals: &L, signal: &Signal, found: &Codes
 {
     match signal.kind {
         SignalKind::Enumeration { .. } => push_literal(literals, signal, position(found), sink),
-        _ => push_text(sink, &letters(found)),
+        kind => push_text(sink, &value_text(kind, found)),
     }
 }
 
@@ -144,8 +144,58 @@ fn push_wanted<L: Literals, S: Sink>(
             Some(position) => push_literal(literals, signal, position, sink),
             None => push_text(sink, b"-"),
         },
-        _ => push_text(sink, &wanted_letters(wanted)),
+        SignalKind::Integer { .. } | SignalKind::Boolean => push_number_wanted(
+            signal.kind,
+            wanted,
+            sink,
+        ),
+        SignalKind::One | SignalKind::Vector { .. } => push_text(sink, &wanted_letters(wanted)),
     }
+}
+
+/// Writes what was expected of an integer, or of a boolean: its value, where all elements are; else
+/// `x` where the last one is; else `-`.
+fn push_number_wanted<S: Sink>(kind: SignalKind, wanted: &WantedCodes, sink: &mut S)
+    ensures { Goes (S.state sink.old) (S.state sink.new)
+        (spec.wanted_number kind (spec.all_wanted wanted.now.items)
+        (slice_index_or wanted.now.items (length wanted.now.items - 1) None)) }
+{
+    match all_wanted(wanted) {
+        Some(values) => push_text(sink, &value_text(kind, &values)),
+        None => match last_wanted(wanted) {
+            Some(_) => push_text(sink, b"x"),
+            None => push_text(sink, b"-"),
+        },
+    }
+}
+
+/// The codes that are wanted, where each is, as bytes.
+fn all_wanted(wanted: &[Option<u64>]) -> Option<Codes>
+    requires few { length wanted.now ≤ 64 }
+    ensures { option_map (λ codes. codes.items) result ≡ option_map (map spec.byte_of) (spec.all_wanted wanted.now) }
+{
+    let mut codes = Codes::new();
+    for code in wanted {
+        codes.push(byte_of((*code)?));
+    }
+    Some(codes)
+}
+
+/// The code as a byte. A wider one is no value's, and neither is the last byte.
+fn byte_of(code: u64) -> u8
+    ensures { result ≡ spec.byte_of code }
+{
+    if code < 256 { code as u8 } else { u8::MAX }
+}
+
+/// What is wanted of the last element.
+fn last_wanted(wanted: &[Option<u64>]) -> Option<u64>
+    ensures { result ≡ slice_index_or wanted.now (length wanted.now - 1) None }
+{
+    if wanted.is_empty() {
+        return None;
+    }
+    wanted[wanted.len() - 1]
 }
 
 /// What is wanted of the first element.

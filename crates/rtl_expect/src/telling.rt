@@ -8,7 +8,7 @@ ghost use Rattle.rtl_expect.specs.Watching.{difference_view, told_view};
 
 use crate::difference::{Codes, Difference, FirstDifferences};
 use byte_streams::{Sink, push_number, push_text};
-use rtl_net::{Net, SignalKind};
+use rtl_net::{Net, SignalKind, value_text};
 use rtl_signal_names::push_name;
 use vhdl_values::Nine;
 
@@ -72,7 +72,7 @@ fn push_value<S: Sink>(kind: SignalKind, found: &Codes, sink: &mut S)
 {
     match kind {
         SignalKind::Enumeration { .. } => push_number(sink, position(found)),
-        _ => push_text(sink, &letters(found)),
+        _ => push_text(sink, &value_text(kind, found)),
     }
 }
 
@@ -81,18 +81,6 @@ pub(crate) fn position(found: &[u8]) -> u64
     ensures { result ≡ slice_index found.now 0 }
 {
     u64::from(found.first().copied().unwrap_or(0))
-}
-
-/// The letters of the values with these codes.
-pub(crate) fn letters(found: &[u8]) -> Codes
-    requires few { length found.now ≤ 64 }
-    ensures { result.items ≡ spec.letters_of found.now }
-{
-    let mut letters = Codes::new();
-    for code in found {
-        letters.push(letter(*code));
-    }
-    letters
 }
 
 /// The letter of the value with this code.

@@ -7,13 +7,14 @@ ghost use Rattle.rtl_expect.specs.Expected as spec;
 
 use crate::expected::Wanted;
 use crate::literals::Literals;
+use crate::numbers::{integer_wanted, truth_wanted};
 use rtl_net::{Signal, SignalKind};
 use rtl_stim_lines::{Time, time_of};
 use std::alloc::{AllocError, Global};
 use vhdl_values::Nine;
 
 /// What a text wants of a signal's elements, if it is one of their values.
-type Found = Result<Option<Vec<Wanted>>, AllocError>;
+pub(crate) type Found = Result<Option<Vec<Wanted>>, AllocError>;
 
 /// What a text wants of a signal's elements.
 #[tactic(auto, unfolding(crate::specs::Expected::value_wanted))]
@@ -24,12 +25,17 @@ pub(crate) fn value_wanted<L: Literals>(
     text: &[u8],
 ) -> Found
     requires some { 1 ≤ length signal.now.nets.items }
+    requires few { length signal.now.nets.items ≤ 64 }
     ensures { IfOk result (λ found. option_map (λ v. v.items) found
         ≡ spec.value_wanted (L.positions literals.now) (signal_view signal.now) text.now) }
 {
     match signal.kind {
         SignalKind::One => letters_wanted(alloc, &signal.nets, text),
         SignalKind::Vector { .. } => elements_wanted(alloc, &signal.nets, text),
+        SignalKind::Integer { least, greatest } => {
+            integer_wanted(alloc, least, greatest, &signal.nets, text)
+        }
+        SignalKind::Boolean => truth_wanted(alloc, &signal.nets, text),
         SignalKind::Enumeration { count } => {
             position_wanted(alloc, literals, signal, count, text)
         }
@@ -198,7 +204,7 @@ fn position_wanted<L: Literals>(
 }
 
 /// Whether a text stands for any value.
-fn is_any(text: &[u8]) -> bool
+pub(crate) fn is_any(text: &[u8]) -> bool
     ensures { result ≡ spec.is_any text.now }
 {
     text == b"-".as_slice() || text == b"?".as_slice()

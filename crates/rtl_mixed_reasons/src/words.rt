@@ -79,7 +79,7 @@ pub const RESET_READS: Note<&str> = Note {
 
 /// A reset's branch with more than assignments to signals.
 pub const RESET_COMPUTES: Note<&str> = Note {
-    opening: "the reset's branch has an if, a case or a variable; a reset assigns constants",
+    opening: "the reset's branch has an if, a case, a variable, or a test that a boolean takes; a reset assigns constants",
     middle: "",
     closing: "",
 };

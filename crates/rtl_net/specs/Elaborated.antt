@@ -13,14 +13,18 @@ use Rattle.rtl_net.specs.declared.process.Process.{Process}
 use Rattle.rtl_net.specs.declared.signal.SignalKind.{SignalKind}
 use Rattle.rtl_net.specs.declared.signal.SignalKind.TheVariants as g
 use Rattle.rtl_net.specs.Nets.{ScopeView, SignalView, NetlistView, flat, body_of, element_type, parent_of}
+use Rattle.rtl_net.specs.Digits.{digits_between}
 use Rattle.rtl_net.specs.Limits.{most_nets, most_processes, most_scopes}
 use Rattle.rtl_net.specs.Names.{Element, element_of}
 
--- how many elements a signal or variable has: a vector those from one bound to the other (IEEE 1076-2008, 5.3.2.2)
+-- how many elements a signal or variable has: a vector those from one bound to the other (IEEE 1076-2008, 5.3.2.2), an
+-- integer so many digits as its bounds need, and a boolean the one that is '1' where it is true
 abbrev pub width_of : SignalKind → ℕ
 width_of g.One = 1
 width_of (g.Vector left right) = suc (max left right - min left right)
 width_of (g.Enumeration count) = 1
+width_of (g.Integer least greatest) = digits_between least greatest
+width_of g.Boolean = 1
 
 -- ---- processes
 

@@ -3,7 +3,9 @@ pub mod Bodies
 pub mod Visits
 pub mod Nets
 pub mod Core
+pub mod Digits
 pub mod Names
+pub mod Values
 pub mod Limits
 pub mod Elaborated
 pub mod Showing

@@ -3,6 +3,7 @@ use Rattle.std.specs.Prelude.{ℕ, zero, suc, ◌+◌, ◌-◌, nat_le, ◌==◌
 use Rattle.rtl_net.specs.declared.process.Process.{Process}
 use Rattle.rtl_net.specs.declared.signal.SignalKind.{SignalKind}
 use Rattle.rtl_net.specs.declared.signal.SignalKind.TheVariants as g
+use Rattle.rtl_net.specs.Digits.{digits_between}
 use Rattle.rtl_net.specs.Nets.{NetlistView, ScopeView, SignalView, label_at, parent_of}
 
 -- ---- the declaration that a net comes from
@@ -52,11 +53,14 @@ path scopes k = path_within k scopes k
 abbrev pub index_at : (left right place : ℕ) → ℕ
 index_at left right place = if nat_le left right then left + place else left - place
 
--- `(i)` behind the name of a vector
+-- `(i)` behind the name of a vector, `[k]` behind that of an integer: its digit for 2^k
 abbrev pub index_suffix : SignalKind → (place : ℕ) → List ℕ
 index_suffix g.One place = []
 index_suffix (g.Vector left right) place = codes "(" ++ decimal (index_at left right place) ++ codes ")"
 index_suffix (g.Enumeration count) place = []
+index_suffix g.Boolean place = []
+index_suffix (g.Integer least greatest) place =
+    codes "[" ++ decimal (digits_between least greatest - 1 - place) ++ codes "]"
 
 abbrev pub name_of_element : List ScopeView → SignalView → (place : ℕ) → List ℕ
 name_of_element scopes s place = path scopes s.scope ++ codes "." ++ s.name ++ index_suffix s.kind place
@@ -69,7 +73,7 @@ abbrev pub element_name : NetlistView → Option Element → List ℕ
 element_name net None = []
 element_name net (Some e) = signal_name net.scopes e.place (slice_get net.signals e.signal)
 
--- `path.name`, or `path.name(i)`
+-- `path.name`, `path.name(i)`, or `path.name[k]`
 abbrev pub net_name : NetlistView → (n : ℕ) → List ℕ
 net_name net n = element_name net (element_of net n)
 

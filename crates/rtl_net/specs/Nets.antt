@@ -63,6 +63,8 @@ abbrev pub element_type : SignalKind → ElementType
 element_type g.One = nine_valued
 element_type (g.Vector left right) = nine_valued
 element_type (g.Enumeration count) = enumeration count
+element_type (g.Integer least greatest) = nine_valued
+element_type g.Boolean = nine_valued
 
 abbrev pub driver_view : Driver → m.FlatDriver
 driver_view d = record { net = d.net; start = d.start }

@@ -15,6 +15,7 @@ mod net;
 mod process;
 mod shown;
 mod signal;
+mod values;
 mod walk;
 
 pub use body::{
@@ -28,4 +29,5 @@ pub use net::{Net, NetKind, NoMemory, Source};
 pub use process::{Driver, Process, Variable};
 pub use shown::Shown;
 pub use signal::{Scope, Signal, SignalKind};
+pub use values::{ValueText, value_text};
 pub use walk::{Leaf, Visit, walk_body, walk_expr, walk_test, walk_value};

@@ -11,8 +11,9 @@ use crate::signal::{Scope, SignalKind};
 use itoa::Buffer;
 
 impl Net {
-    /// The name of a net, by the signal that it was declared as: `path.name`, or `path.name(i)`
-    /// where that is a vector. It takes the memory of the name.
+    /// The name of a net, by the signal that it was declared as: `path.name`, `path.name(i)` where
+    /// that is a vector, and `path.name[k]` where it is an integer. It takes the memory of the
+    /// name.
     pub fn net_name(&self, net: usize) -> Result<Vec<u8>, NoMemory>
         requires there { net < length self.now.types }
         ensures { IfOk result (λ name. name.items ≡ spec.net_name self.now net) }
@@ -21,20 +22,22 @@ impl Net {
         self.element_name(owner.signal, owner.place)
     }
 
-    /// The name of a signal's element, by its place from the left: `path.name`, or `path.name(i)`
-    /// where the signal is a vector. It takes the memory of the name.
+    /// The name of a signal's element, by its place from the left: `path.name`, `path.name(i)`
+    /// where the signal is a vector, and `path.name[k]` where it is an integer. It takes the memory
+    /// of the name.
     pub fn element_name(&self, signal: usize, place: usize) -> Result<Vec<u8>, NoMemory>
         requires there { signal < length self.now.signals }
         requires within { IfSome (slice_get self.now.signals signal) (λ s. place < width_of s.kind) }
         ensures { IfOk result (λ name. name.items ≡
             spec.signal_name self.now.scopes place (slice_get self.now.signals signal)) }
     {
+        self.is_elaborated();
         let signal = &self.signals[signal];
         let mut name = Vec::new(*self.owners.allocator());
         push_path(&self.scopes, signal.scope, &mut name)?;
         name.push(b'.')?;
         name.extend_from_slice(&signal.name)?;
-        signal.kind.push_index(place, &mut name)?;
+        signal.kind.push_index(place, signal.nets.len(), &mut name)?;
         Ok(name)
     }
 
@@ -85,16 +88,30 @@ fn push_path(scopes: &[Scope], scope: usize, name: &mut Vec<u8>) -> Result<(), N
 }
 
 impl SignalKind {
-    /// Appends `(i)` behind the name of a vector, where i is the index of the element at this
-    /// place.
-    pub fn push_index(self, place: usize, name: &mut Vec<u8>) -> Result<(), NoMemory>
-        requires { place < width_of self }
+    /// Appends what stands behind the name of what has so many elements, for the one at this place:
+    /// `(i)` of a vector, where i is its index, and `[k]` of an integer, where it stands for 2^k.
+    pub fn push_index(
+        self,
+        place: usize,
+        elements: usize,
+        name: &mut Vec<u8>,
+    ) -> Result<(), NoMemory>
+        requires declared { elements ≡ width_of self }
+        requires within { place < elements }
         ensures { OnOk result (name.new.items ≡ name.old.items ++ spec.index_suffix self place) }
     {
-        if let SignalKind::Vector { left, right } = self {
-            name.push(b'(')?;
-            push_number(index_at(left, right, place), name)?;
-            name.push(b')')?;
+        match self {
+            SignalKind::One | SignalKind::Enumeration { .. } | SignalKind::Boolean => {}
+            SignalKind::Vector { left, right } => {
+                name.push(b'(')?;
+                push_number(index_at(left, right, place), name)?;
+                name.push(b')')?;
+            }
+            SignalKind::Integer { .. } => {
+                name.push(b'[')?;
+                push_number(elements - 1 - place, name)?;
+                name.push(b']')?;
+            }
         }
         Ok(())
     }

@@ -30,6 +30,11 @@ pub enum SignalKind {
     Vector { left: u32, right: u32 },
     /// One value of an enumeration with so many literals.
     Enumeration { count: u32 },
+    /// A whole number within these bounds, in as few digits as hold them all, the highest first:
+    /// without a sign where none is below 0, else in two's complement.
+    Integer { least: i32, greatest: i32 },
+    /// `true` or `false`, in one element: 1 where it is true.
+    Boolean,
 }
 
 /// A signal, or a port as its scope names it.

@@ -1,8 +1,8 @@
 -- What `eval` prints: for each out port of the top in order of declaration a line NAME=VALUE, with its value in the
 -- first valuation of the synchronous machine under the stimulus that the words say.
 use Rattle.std.specs.Prelude.{◌≡◌, ℕ, ◌==◌, ◌&&◌, ◌⊎◌, Bool, not, if◌then◌else◌, List, [], ◌++◌, map, flat_map, slice_index, codes, Result, Ok, Err}
-use Rattle.vhdl_values.specs.Scalar.{letter_of, value_of_code}
 use Rattle.rtl_net.specs.Nets.{NetlistView, SignalView}
+use Rattle.rtl_net.specs.Values.{value_text}
 use Rattle.byte_streams.specs.Written.{SinkState, IsIntact, HasFailed, TakesAll, TakesBeginning}
 use Rattle.rtl_stim.specs.Ports.{is_input}
 use Rattle.rtl_stim.specs.Stimuli.{StimulusView, inputs_at}
@@ -17,12 +17,9 @@ use Rattle.rtl_run.specs.Words.{words_text}
 abbrev pub is_out_port : NetlistView → SignalView → Bool
 is_out_port net s = s.scope == 0 && (s.port && not (is_input net (slice_index s.nets 0)))
 
--- the characters of the elements, from the left
-abbrev pub letters : (valuation : List ℕ) → (nets : List ℕ) → List ℕ
-letters valuation nets = map (λ n. letter_of (value_of_code (slice_index valuation n))) nets
-
 abbrev pub port_line : SignalView → (valuation : List ℕ) → List ℕ
-port_line s valuation = s.name ++ codes "=" ++ letters valuation s.nets ++ codes "\n"
+port_line s valuation =
+    s.name ++ codes "=" ++ value_text s.kind (map (slice_index valuation) s.nets) ++ codes "\n"
 
 -- a signal's line if it is an out port
 abbrev pub port_text : NetlistView → (valuation : List ℕ) → SignalView → List ℕ

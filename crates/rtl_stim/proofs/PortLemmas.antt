@@ -37,6 +37,9 @@ module _ (net : NetlistView) (elaborated : IsNet net) (signals : List Signal) (v
   pub has_nets : 1 ≤ length s.nets.items
   has_nets = in_range.width.0
 
+  pub few_nets : length s.nets.items ≤ 64
+  few_nets = in_range.width.1
+
   pub nets_there : All (λ n. n < length net.types) s.nets.items
   nets_there =
       All-weaker (HasType net.types (element_type s.kind)) (λ n. n < length net.types) (λ n has. slice_get_within net.types n (element_type s.kind) has) s.nets.items in_range.nets

@@ -30,7 +30,7 @@ module _ (P : Option ℕ → Type 0) where
 
   pub set_keeps : (inputs : List Input) (said : Said) (found : Option ℕ) (time : ℕ) (text : Word) → Holds said → IfOk (set_input inputs said found time text) Holds
   set_keeps inputs said None time text h = tt
-  set_keeps inputs said (Some input) time text h = values said input time (values_for (input_at inputs input).elements text) h
+  set_keeps inputs said (Some input) time text h = values said input time (values_for (input_at inputs input) text) h
 
   pub number_keeps : (number : ℕ) (r : Result Said StimRule) → IfOk r Holds → IfOk (in_line number r) Holds
   number_keeps number (Ok said) h = h

@@ -9,7 +9,7 @@ ghost use Rattle.rtl_stim.specs.Ports.{HasOwnPorts, element_on, input_of};
 
 use indexmap::IndexMap;
 use rtl_net::{Net, Signal, SignalKind};
-use rtl_stim_lines::{Element, Input, InputTable, add_input};
+use rtl_stim_lines::{Element, Input, InputTable, ValueType, add_input};
 use std::alloc::{AllocError, Global};
 use vhdl_values::Nine;
 
@@ -57,8 +57,22 @@ fn input_of(alloc: Global, net: &Net, port: &Signal) -> Result<Input, AllocError
 {
     Ok(Input {
         is_scalar: matches!(port.kind, SignalKind::One),
+        values: value_type(port.kind),
         elements: elements_of(alloc, net, &port.nets)?,
     })
+}
+
+/// What the values of a port of this kind are.
+fn value_type(kind: SignalKind) -> ValueType
+    ensures { kept.value_type_view result ≡ ports.value_type kind }
+{
+    match kind {
+        SignalKind::Integer { least, greatest } => ValueType::Integers { least, greatest },
+        SignalKind::Boolean => ValueType::Truths,
+        SignalKind::One | SignalKind::Vector { .. } | SignalKind::Enumeration { .. } => {
+            ValueType::Nines
+        }
+    }
 }
 
 /// The elements with these nets.

@@ -46,7 +46,7 @@ module _ (inputs : List Input) (s : Said) (found : Option ℕ) (place : ℕ) whe
   clock_leads first half line left r here scalar h = subst (λ found. Leads (in_line line (set_clock inputs s found first half)) left r) here (rw scalar h)
 
   pub set_leads : (time line : ℕ) (text : Word) (values : List Nine) (left : Said) (r : Result (Unit {0}) StimFault) → Some place ≡ found
-      → Some values ≡ values_for (input_at inputs place).elements text → Leads (in_line line (with_course s place (after_set time values (course_at s place)))) left r
+      → Some values ≡ values_for (input_at inputs place) text → Leads (in_line line (with_course s place (after_set time values (course_at s place)))) left r
       → Leads (in_line line (set_input inputs s found time text)) left r
   set_leads time line text values left r here are h =
       subst (λ found. Leads (in_line line (set_input inputs s found time text)) left r) here (subst (λ given. Leads (in_line line (set_values s place time given)) left r) are h)

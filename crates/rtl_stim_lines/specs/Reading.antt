@@ -56,11 +56,11 @@ set_values said input time (Some values) = with_course said input (after_set tim
 abbrev pub set_input : List Input → Said → Option ℕ → (time : ℕ) → (text : Word) → Result Said StimRule
 set_input inputs said None time text = Err NotAnInput
 set_input inputs said (Some input) time text =
-    set_values said input time (values_for (input_at inputs input).elements text)
+    set_values said input time (values_for (input_at inputs input) text)
 
 -- ---- `clock`
 
--- a clock is a scalar
+-- a clock is a scalar of the nine values
 abbrev pub set_clock : List Input → Said → Option ℕ → (first half : ℕ) → Result Said StimRule
 set_clock inputs said None first half = Err NotAnInput
 set_clock inputs said (Some input) first half =

@@ -4,23 +4,35 @@ use Rattle.std.specs.Global.{Global}
 use Rattle.indexmap.specs.IndexMap.{IndexMap}
 use Rattle.rtl_stim_lines.specs.declared.inputs.Input.{Input as KeptInput}
 use Rattle.rtl_stim_lines.specs.declared.inputs.Element.{Element as KeptElement}
+use Rattle.rtl_stim_lines.specs.declared.inputs.ValueType.{ValueType as KeptValueType}
+use Rattle.rtl_stim_lines.specs.declared.inputs.ValueType.TheVariants as v
 use Rattle.rtl_stim_lines.specs.declared.courses.Course.{Course as KeptCourse}
 use Rattle.rtl_stim_lines.specs.declared.courses.Course.TheVariants as kept
 use Rattle.rtl_stim_lines.specs.declared.faults.StimFault.{StimFault}
 use Rattle.rtl_stim_lines.specs.declared.faults.StimFault.TheVariants.{NoMemory}
 use Rattle.vhdl_values.specs.declared.scalar.Nine.{Nine}
-use Rattle.rtl_stim_lines.specs.Inputs.{Input, Element}
+use Rattle.rtl_stim_lines.specs.Inputs.{ValueType, nines, integers, truths, Input, Element}
 use Rattle.rtl_stim_lines.specs.Courses.{Course, Sets, Ticks}
 use Rattle.rtl_stim_lines.specs.Reading.{Said, Schedule}
 use Rattle.rtl_stim_lines.specs.declared.reading.Said.{Said as KeptSaid}
 use Rattle.rtl_stim_lines.specs.declared.schedule.Schedule.{Schedule as KeptSchedule}
+
+abbrev pub value_type_view : KeptValueType → ValueType
+value_type_view v.Nines = nines
+value_type_view (v.Integers least greatest) = integers least greatest
+value_type_view v.Truths = truths
 
 abbrev pub element_view : KeptElement → Element
 element_view e = record { net = e.net; start = e.start }
 
 abbrev pub named_input : (name : List ℕ) → KeptInput → Input
 named_input name input =
-    record { name = name; is_scalar = input.is_scalar; elements = map element_view input.elements.items }
+    record {
+      name = name;
+      is_scalar = input.is_scalar;
+      values = value_type_view input.values;
+      elements = map element_view input.elements.items;
+    }
 
 abbrev pub input_view : Vec ℕ Global × KeptInput → Input
 input_view e = named_input e.0.items e.1
@@ -50,7 +62,9 @@ Leads expected left (Err fault) = fault ≢ NoMemory → expected ≡ Err fault
 
 -- the input that was found is the one that stands at the place
 abbrev pub IsElementsOf : KeptInput → Input → Type 0
-IsElementsOf found input = (input.is_scalar ≡ found.is_scalar) × (input.elements ≡ elements_view found)
+IsElementsOf found input =
+    (input.is_scalar ≡ found.is_scalar) × (input.values ≡ value_type_view found.values)
+    × (input.elements ≡ elements_view found)
 
 abbrev pub courses_view : Vec KeptCourse Global → List Course
 courses_view courses = map course_view courses.items

@@ -16,10 +16,23 @@ pub struct Element {
     pub start: Nine,
 }
 
-/// An in port: whether it is a scalar, and its elements from the left.
+/// What the values of an in port are.
+#[derive(Clone, Copy)]
+pub enum ValueType {
+    /// Of the nine, one for each element.
+    Nines,
+    /// Whole numbers within these bounds, in two's complement.
+    Integers { least: i32, greatest: i32 },
+    /// `true` and `false`, in one element.
+    Truths,
+}
+
+/// An in port: whether it is a scalar of the nine values, what its values are, and its elements
+/// from the left.
 #[derive(Drop)]
 pub struct Input {
     pub is_scalar: bool,
+    pub values: ValueType,
     pub elements: Vec<Element>,
 }
 

@@ -4,7 +4,8 @@ use Rattle.std.specs.Prelude.{reverse}
 use Rattle.std.specs.Int.Digits.{digits_of}
 use Rattle.std.proofs.lemmas.Int.Digits.{digits_of_step, length-digits_of_step, length-digits_of-le}
 use Rattle.std.proofs.lemmas.List.{reverse-append, length-reverse, length-map}
-use Rattle.rtl_vcd.specs.Values.{code, binary_digits}
+use Rattle.rtl_net.specs.Digits.{binary_digits}
+use Rattle.rtl_vcd.specs.Values.{code}
 
 -- the characters that are left to print, the least digit first
 abbrev pub characters : ℕ → List ℕ

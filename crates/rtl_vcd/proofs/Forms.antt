@@ -1,17 +1,18 @@
 -- What names print by their forms.
 use Rattle.std.proofs.Common.{◌≡◌, ℕ, ◌+◌, ◌-◌, ◌<◌, ◌≤◌, Bool, not, List, [], ◌∷◌, ◌++◌, length, map, take, drop, get_or, slice_index, refl, sym, ap, ap₂, subst, ◌∙◌, arith, drop-cons}
-use Rattle.std.specs.Prelude.{codes}
+use Rattle.std.specs.Prelude.{codes, Option, Some, None}
 use Rattle.std.specs.Str.{bytes_eq}
 use Rattle.std.specs.List.{range_with_len}
 use Rattle.std.proofs.lemmas.List.{length-map, length-take, get_or-take, get_or-drop}
 use Rattle.std.proofs.lemmas.Simd.{pick_l-range_with_len}
 use Rattle.rtl_net.specs.declared.signal.SignalKind.{SignalKind}
-use Rattle.rtl_net.specs.declared.signal.SignalKind.TheVariants.{One, Vector, Enumeration}
+use Rattle.rtl_net.specs.declared.signal.SignalKind.TheVariants.{One, Vector, Enumeration, Integer, Boolean}
 use Rattle.rtl_net.specs.Nets.{SignalView}
 use Rattle.rtl_vcd.specs.declared.ready.Form.{Form}
 use Rattle.rtl_vcd.specs.declared.ready.Form.TheVariants.{Single, Several, Position}
 use Rattle.rtl_vcd.specs.declared.ready.Run.{Run}
-use Rattle.rtl_vcd.specs.Values.{code, character, binary, binary_digits, value_change}
+use Rattle.rtl_net.specs.Digits.{binary_digits}
+use Rattle.rtl_vcd.specs.Values.{code, character, binary, value_change}
 use Rattle.rtl_vcd.specs.Trace.{printed}
 use Rattle.rtl_vcd.specs.Ready.{form_of, beginning, behind, elements_as, elements, line}
 use Rattle.rtl_vcd.proofs.Runs.{behind_page}
@@ -33,27 +34,40 @@ first_taken first count values some =
     get_or-take count (drop first values) 0 0 some ∙ get_or-drop first values 0 0 ∙ ap (λ n. get_or values n 0) e
 
 -- a line by its form
-line_as : (kind : SignalKind) (c : List ℕ) (first count : ℕ) (values : List ℕ) → 0 < count → (kind ≡ One → count ≡ 1) → first + count ≤ length values
-    → value_change kind c (take count (drop first values))
-    ≡ beginning (form_of kind) ++ elements_as (form_of kind) first count values ++ (behind (form_of kind) ++ c ++ codes "\n")
-line_as One c first count values some one there =
-    ap (λ n. map character (take n (drop first values)) ++ c ++ codes "\n") (one refl)
+single_line : (c : List ℕ) (first count : ℕ) (values : List ℕ) → 0 < count → count ≡ 1 → first + count ≤ length values
+    → map character (take count (drop first values)) ++ c ++ codes "\n" ≡ (character (slice_index values first) ∷ []) ++ (c ++ codes "\n")
+single_line c first count values some one there =
+    ap (λ n. map character (take n (drop first values)) ++ c ++ codes "\n") one
     ∙ ap (λ vs. map character vs ++ c ++ codes "\n") (one_taken first values (omega (arith, there, some)))
-line_as (Vector left right) c first count values some one there =
+
+position_line : (c : List ℕ) (digits first count : ℕ) (values : List ℕ) → 0 < count
+    → codes "b" ++ binary digits (slice_index (take count (drop first values)) 0) ++ codes " " ++ c ++ codes "\n"
+    ≡ codes "b" ++ binary digits (slice_index values first) ++ (codes " " ++ c ++ codes "\n")
+position_line c digits first count values some =
+    ap (λ v. codes "b" ++ binary digits v ++ codes " " ++ c ++ codes "\n") (first_taken first count values some)
+    ∙ behind_page (codes "b" ++ binary digits (slice_index values first)) (codes " ") c (codes "\n")
+
+line_as : (kind : SignalKind) (form : Form) (c : List ℕ) (first count : ℕ) (values : List ℕ) → form_of kind ≡ Some form → 0 < count
+    → (form ≡ Single → count ≡ 1) → first + count ≤ length values
+    → value_change kind c (take count (drop first values)) ≡ beginning form ++ elements_as form first count values ++ (behind form ++ c ++ codes "\n")
+line_as One Single c first count values is some one there = single_line c first count values some (one refl) there
+line_as Boolean Single c first count values is some one there = single_line c first count values some (one refl) there
+line_as (Vector left right) Several c first count values is some one there =
     behind_page (codes "b" ++ map character (take count (drop first values))) (codes " ") c (codes "\n")
-line_as (Enumeration literals) c first count values some one there =
-    ap (λ v. codes "b" ++ binary (binary_digits (literals - 1)) v ++ codes " " ++ c ++ codes "\n") (first_taken first count values some)
-    ∙ behind_page (codes "b" ++ binary (binary_digits (literals - 1)) (slice_index values first)) (codes " ") c (codes "\n")
+line_as (Enumeration literals) (Position digits) c first count values is some one there =
+    let fewest : binary_digits (literals - 1) ≡ digits = cc in
+    ap (λ n. codes "b" ++ binary n (slice_index (take count (drop first values)) 0) ++ codes " " ++ c ++ codes "\n") fewest
+    ∙ position_line c digits first count values some
+line_as kind form c first count values is some one there = absurd cc
 
 -- the line of a name whose nets stand one behind the other
-pub run_line : (k : ℕ) (s : SignalView) (r : Run) → 0 < r.count → s.nets ≡ range_with_len r.first r.count → r.form ≡ form_of s.kind → (s.kind ≡ One → r.count ≡ 1)
-    → take r.end.len r.end.bytes ≡ behind r.form ++ code k ++ codes "\n"
+pub run_line : (k : ℕ) (s : SignalView) (r : Run) → 0 < r.count → s.nets ≡ range_with_len r.first r.count → form_of s.kind ≡ Some r.form
+    → (r.form ≡ Single → r.count ≡ 1) → take r.end.len r.end.bytes ≡ behind r.form ++ code k ++ codes "\n"
     → (values : List ℕ) → r.first + r.count ≤ length values → printed k s values ≡ beginning r.form ++ elements r values ++ take r.end.len r.end.bytes
 run_line k s r some nets form one end values there =
     let taken = ap (map (slice_index values)) nets ∙ pick_l-range_with_len 0 values r.first r.count there in
     ap (value_change s.kind (code k)) taken
-    ∙ line_as s.kind (code k) r.first r.count values some one there
-    ∙ ap (λ f. beginning f ++ elements_as f r.first r.count values ++ (behind f ++ code k ++ codes "\n")) (sym form)
+    ∙ line_as s.kind r.form (code k) r.first r.count values form some one there
     ∙ ap (λ t. beginning r.form ++ elements r values ++ t) (sym end)
 
 -- what is printed of nets that keep their values

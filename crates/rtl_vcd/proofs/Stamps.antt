@@ -2,7 +2,7 @@
 use Rattle.std.proofs.Common.{◌≡◌, ℕ, ◌+◌, Bool, true, false, not, ◌||◌, List, [], ◌∷◌, ◌++◌, map, refl, sym, ap, ◌∙◌, append_assoc, append-nil, slice_index, ◌≤◌, length, take, drop, arith}
 use Rattle.std.specs.Prelude.{if◌then◌else◌, codes}
 use Rattle.std.specs.Str.{bytes_eq}
-use Rattle.rtl_net.specs.declared.signal.SignalKind.TheVariants.{One, Vector, Enumeration}
+use Rattle.rtl_net.specs.declared.signal.SignalKind.TheVariants.{One, Vector, Enumeration, Integer, Boolean}
 use Rattle.rtl_net.specs.declared.signal.SignalKind.{SignalKind}
 use Rattle.rtl_net.specs.Nets.{SignalView}
 use Rattle.rtl_vcd.specs.Values.{character, code, value_change}
@@ -16,8 +16,10 @@ are_some_behind (x ∷ xs) ys e = refl
 
 change_is_some : (kind : SignalKind) (k : ℕ) (values : List ℕ) → are_some (value_change kind (code k) values) ≡ true
 change_is_some One k values = are_some_behind (map character values ++ code k) (codes "\n") refl
+change_is_some Boolean k values = are_some_behind (map character values ++ code k) (codes "\n") refl
 change_is_some (Vector left right) k values = refl
 change_is_some (Enumeration count) k values = refl
+change_is_some (Integer least greatest) k values = refl
 
 -- every name prints something
 pub printed_is_some : (k : ℕ) (s : SignalView) (valuation : List ℕ) → are_some (printed k s valuation) ≡ true

@@ -4,7 +4,7 @@ use Rattle.std.specs.Prelude.{ℕ, zero, suc, ◌-◌, ◌==◌, if◌then◌els
 use Rattle.rtl_net.specs.declared.signal.SignalKind.{SignalKind}
 use Rattle.rtl_net.specs.declared.signal.SignalKind.TheVariants.{Vector}
 use Rattle.rtl_net.specs.Nets.{ScopeView, SignalView, parent_of, label_at}
-use Rattle.rtl_vcd.specs.Values.{code, digits, numbered}
+use Rattle.rtl_vcd.specs.Values.{code, variable_type, digits, numbered}
 
 -- ---- names
 
@@ -16,7 +16,7 @@ bounds _ = []
 -- the declaration of the name number k (18.2.3.7)
 abbrev pub variable_line : (k : ℕ) → SignalView → List ℕ
 variable_line k s =
-    codes "$var wire " ++ decimal (digits s.kind (length s.nets)) ++ codes " "
+    codes "$var " ++ variable_type s.kind ++ codes " " ++ decimal (digits s.kind (length s.nets)) ++ codes " "
     ++ code k ++ codes " " ++ s.name ++ bounds s.kind ++ codes " $end\n"
 
 -- the same, if the name stands in this scope

@@ -1,20 +1,23 @@
 -- Names that are ready to print.
-use Rattle.std.specs.Prelude.{◌≡◌, ℕ, ◌+◌, ◌-◌, ◌<◌, ◌≤◌, List, [], ◌∷◌, ◌++◌, length, map, codes, slice_index, slice_index_or, take, drop}
+use Rattle.std.specs.Prelude.{◌≡◌, ℕ, ◌+◌, ◌-◌, ◌<◌, ◌≤◌, List, [], ◌∷◌, ◌++◌, length, map, Option, Some, None, codes, slice_index, slice_index_or, take, drop}
 use Rattle.std.specs.List.{range_with_len}
 use Rattle.rtl_net.specs.declared.signal.SignalKind.{SignalKind}
-use Rattle.rtl_net.specs.declared.signal.SignalKind.TheVariants.{One, Vector, Enumeration}
+use Rattle.rtl_net.specs.declared.signal.SignalKind.TheVariants.{One, Vector, Enumeration, Integer, Boolean}
 use Rattle.rtl_net.specs.Nets.{SignalView}
 use Rattle.rtl_vcd.specs.declared.ready.Form.{Form}
 use Rattle.rtl_vcd.specs.declared.ready.Form.TheVariants.{Single, Several, Position}
 use Rattle.rtl_vcd.specs.declared.ready.Run.{Run}
-use Rattle.rtl_vcd.specs.Values.{character, binary, binary_digits}
+use Rattle.rtl_net.specs.Digits.{binary_digits}
+use Rattle.rtl_vcd.specs.Values.{character, binary}
 use Rattle.rtl_vcd.specs.Trace.{printed}
 
--- how a name of this kind prints its elements
-abbrev pub form_of : SignalKind → Form
-form_of One = Single
-form_of (Vector left right) = Several
-form_of (Enumeration count) = Position (binary_digits (count - 1))
+-- how a name of this kind prints its elements; an integer prints them in no such form
+abbrev pub form_of : SignalKind → Option Form
+form_of One = Some Single
+form_of Boolean = Some Single
+form_of (Vector left right) = Some Several
+form_of (Enumeration count) = Some (Position (binary_digits (count - 1)))
+form_of (Integer least greatest) = None
 
 -- what a line of this form begins with, and what stands behind the characters of its elements
 abbrev pub beginning : Form → List ℕ

@@ -7,7 +7,7 @@ ghost use Rattle.rtl_net.specs.Showing.{IsShown};
 ghost use Rattle.rtl_vcd.specs.Trace.{printed};
 ghost use Rattle.rtl_vcd.specs.Values.{character};
 
-use crate::line::{self, Line, binary_digits, push_binary, push_code, push_elements};
+use crate::line::{self, Line, binary_digits, push_binary, push_code, push_elements, push_integer};
 use rtl_net::{Signal, SignalKind};
 
 /// The line that the name with this number prints where the nets have these values.
@@ -17,7 +17,7 @@ pub fn change_line(number: usize, signal: &Signal, values: &[u8]) -> Line
 {
     let mut line = Line::new();
     match signal.kind {
-        SignalKind::One => push_elements(&mut line, &signal.nets, values),
+        SignalKind::One | SignalKind::Boolean => push_elements(&mut line, &signal.nets, values),
         SignalKind::Vector { .. } => {
             line.push(b'b');
             push_elements(&mut line, &signal.nets, values);
@@ -31,6 +31,11 @@ pub fn change_line(number: usize, signal: &Signal, values: &[u8]) -> Line
                 binary_digits(count.saturating_sub(1)),
                 position as u32,
             );
+            line.push(b' ');
+        }
+        SignalKind::Integer { least, .. } => {
+            line.push(b'b');
+            push_integer(&mut line, least, &signal.nets, values);
             line.push(b' ');
         }
     }
@@ -48,7 +53,7 @@ pub fn prints_otherwise(number: usize, signal: &Signal, old: &[u8], new: &[u8]) 
         (printed number (signal_view signal.now) new.now)) }
 {
     match signal.kind {
-        SignalKind::Enumeration { .. } => {
+        SignalKind::Enumeration { .. } | SignalKind::Integer { .. } => {
             change_line(number, signal, old).as_slice()
                 != change_line(number, signal, new).as_slice()
         }

@@ -9,7 +9,7 @@ ghost use Rattle.rtl_vcd.specs.Header as spec;
 ghost use Rattle.rtl_vcd.specs.Shown.{StandInOrder, StartsScope};
 
 use crate::fault::VcdFault;
-use crate::line::{Line, binary_digits, push_code};
+use crate::line::{INTEGER, Line, binary_digits, push_code};
 use crate::trace::written;
 use byte_streams::{Sink, push_number, push_text};
 use rtl_net::{Scope, Shown, Signal, SignalKind};
@@ -84,7 +84,9 @@ fn push_variables<W: Sink>(signals: &[Signal], scope: usize, start: usize, out: 
 fn push_variable<W: Sink>(number: usize, signal: &Signal, out: &mut W)
     ensures { Goes (W.state out.old) (W.state out.new) (spec.variable_line number (signal_view signal.now)) }
 {
-    push_text(out, b"$var wire ");
+    push_text(out, b"$var ");
+    push_text(out, variable_type(signal.kind));
+    push_text(out, b" ");
     push_number(out, digits(signal.kind, signal.nets.len()) as u64);
     push_text(out, b" ");
     let mut code = Line::new();
@@ -96,14 +98,25 @@ fn push_variable<W: Sink>(number: usize, signal: &Signal, out: &mut W)
     push_text(out, b" $end\n");
 }
 
+/// The type of variable that a name of this kind is declared as.
+fn variable_type(kind: SignalKind) -> &'static [u8]
+    ensures { result.now ≡ values.variable_type kind }
+{
+    match kind {
+        SignalKind::Integer { .. } => b"integer",
+        _ => b"wire",
+    }
+}
+
 /// How many digits a name of this kind prints.
 fn digits(kind: SignalKind, elements: usize) -> usize
     ensures { result ≡ values.digits kind elements }
 {
     match kind {
-        SignalKind::One => 1,
+        SignalKind::One | SignalKind::Boolean => 1,
         SignalKind::Vector { .. } => elements,
         SignalKind::Enumeration { count } => binary_digits(count.saturating_sub(1)) as usize,
+        SignalKind::Integer { .. } => INTEGER,
     }
 }
 

@@ -1,11 +1,10 @@
 //! Names that are ready to print: those whose nets stand one behind the other, with the end of
 //! their lines.
 
-ghost use Rattle.std.specs.Prelude.{◌≡◌, ℕ, ◌+◌, ◌<◌, ◌≤◌, ◌++◌, [], not, if◌then◌else◌, length, map, take, codes, true, slice_index, IfOk};
+ghost use Rattle.std.specs.Prelude.{◌≡◌, ℕ, ◌+◌, ◌<◌, ◌≤◌, ◌++◌, [], not, if◌then◌else◌, length, map, take, codes, true, slice_index, IfOk, IfSome, Some};
 ghost use Rattle.std.specs.Str.{bytes_eq};
 ghost use Rattle.std.specs.List.{range_with_len};
 ghost use Rattle.rtl_net.specs.Nets.{SignalView, signal_view};
-ghost use Rattle.rtl_net.specs.declared.signal.SignalKind.TheVariants as k;
 ghost use Rattle.arrayvec.specs.ArrayVec.{array_vec_len};
 ghost use Rattle.rtl_vcd.specs.Values.{code};
 ghost use Rattle.rtl_vcd.specs.declared.ready.Form.TheVariants as f;
@@ -174,11 +173,10 @@ fn run_of(number: usize, signal: &Signal) -> Run
     requires most { length signal.now.nets.items ≤ 64 }
     ensures { IsReady number (signal_view signal.now) result }
 {
-    if is_short(number, &signal.nets)
-        && are_neighbours(&signal.nets)
-        && is_as_wide(signal.kind, signal.nets.len())
-    {
-        return Run::of(number, &signal.nets, form_of(signal.kind));
+    if is_short(number, &signal.nets) && are_neighbours(&signal.nets) {
+        if let Some(form) = form_of(signal.kind, signal.nets.len()) {
+            return Run::of(number, &signal.nets, form);
+        }
     }
     Run {
         first: 0,
@@ -188,27 +186,20 @@ fn run_of(number: usize, signal: &Signal) -> Run
     }
 }
 
-/// How a name of this kind prints its elements.
-fn form_of(kind: SignalKind) -> Form
-    ensures form { result ≡ spec.form_of kind }
-    ensures few { (digits : ℕ) → result ≡ f.Position digits → digits ≤ 64 }
+/// How a name of this kind that has so many nets prints its elements; an integer prints them in no
+/// such form.
+fn form_of(kind: SignalKind, nets: usize) -> Option<Form>
+    ensures form { IfSome result (λ form. spec.form_of kind ≡ Some form) }
+    ensures one { IfSome result (λ form. form ≡ f.Single → nets ≡ 1) }
+    ensures few { IfSome result (λ form. (digits : ℕ) → form ≡ f.Position digits → digits ≤ 64) }
 {
     match kind {
-        SignalKind::One => Form::Single,
-        SignalKind::Vector { .. } => Form::Several,
-        SignalKind::Enumeration { count } => Form::Position {
+        SignalKind::One | SignalKind::Boolean if nets == 1 => Some(Form::Single),
+        SignalKind::One | SignalKind::Boolean | SignalKind::Integer { .. } => None,
+        SignalKind::Vector { .. } => Some(Form::Several),
+        SignalKind::Enumeration { count } => Some(Form::Position {
             digits: binary_digits(count.saturating_sub(1)) as u8,
-        },
-    }
-}
-
-/// Whether a name of this kind may have so many nets: a single element has one.
-fn is_as_wide(kind: SignalKind, nets: usize) -> bool
-    ensures { result ≡ true → kind ≡ k.One → nets ≡ 1 }
-{
-    match kind {
-        SignalKind::One => nets == 1,
-        _ => true,
+        }),
     }
 }
 

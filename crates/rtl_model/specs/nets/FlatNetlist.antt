@@ -115,7 +115,7 @@ pub record IsInRange (net : FlatNetlist) : Type 0 where
   -- an idle port holds a value of its net's type
   pub idle : (n : ℕ) (t : ElementType) → HasType net.types t n
       → All (λ v. v < limit_of t) (slice_index_or net.idle n [])
-  -- in order, each once; ports are no enumerations
+  -- in order, each once; ports are no enumerations, and integers and booleans are of the nine values
   pub inputs_rise : IsStrictlyIncreasing net.inputs
   pub inputs : All (HasType net.types nine_valued) net.inputs
   pub processes : All (ProcessInRange net.types) net.processes

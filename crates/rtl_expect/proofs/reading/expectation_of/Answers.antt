@@ -11,7 +11,9 @@ use Rattle.rtl_expect.proofs.Wanting.{few_wanted}
 use Rattle.rtl_expect.proofs.reading.expectation_of.Goals as goal
 
 pub value_wanted-requires : goal.value_wanted-requires
-value_wanted-requires g c = record { some = (rw c.in-Some.is at c.in_ok-number.ensures.width).0 }
+value_wanted-requires g c =
+    let width = rw c.in-Some.is at c.in_ok-number.ensures.width in
+    record { some = width.0; few = width.1 }
 
 pub invariant_of-result : goal.invariant_of-result
 invariant_of-result g c = record {

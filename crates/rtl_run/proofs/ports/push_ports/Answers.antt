@@ -2,13 +2,15 @@ use Rattle.std.proofs.Common.{[], sym, subst}
 use Rattle.rtl_net.specs.Nets.{SignalView, signal_view}
 use Rattle.byte_streams.specs.Written.{Goes}
 use Rattle.byte_streams.proofs.Writing.{Goes-next}
-use Rattle.rtl_stim.proofs.PortLemmas.{has_nets, view_there, place_there}
+use Rattle.rtl_stim.proofs.PortLemmas.{has_nets, few_nets, view_there, place_there}
 use Rattle.rtl_run.specs.Evaluated.{port_text}
 use Rattle.rtl_run.proofs.ports.push_ports.Goals as goal
 
 pub push_port-requires : goal.push_port-requires
 push_port-requires g c = record {
   some = has_nets c.args.net.now c.is_elaborated.ensures c.signals-signal-items.result.now c.signals-signal-items.ensures c.loop-signal.signal-index
+      c.signal-item.result c.loop-signal-test.true c.signal-item.is;
+  few = few_nets c.args.net.now c.is_elaborated.ensures c.signals-signal-items.result.now c.signals-signal-items.ensures c.loop-signal.signal-index
       c.signal-item.result c.loop-signal-test.true c.signal-item.is;
 }
 

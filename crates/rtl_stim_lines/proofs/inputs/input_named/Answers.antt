@@ -23,4 +23,4 @@ returns-clause-within c = found_within c.args.inputs.now.entries c.in-Some.place
 pub returns-clause-input : goal.returns-clause-input
 returns-clause-input c =
     let e = found_input c.args.inputs.now.entries c.in-Some.place _ c.in-Some.ensures.entry in
-    (ap (λ input. input.is_scalar) e, ap (λ input. input.elements) e)
+    (ap (λ input. input.is_scalar) e, ap (λ input. input.values) e, ap (λ input. input.elements) e)

@@ -17,4 +17,8 @@ returns c = record {
   scalar = refl;
   short_vector = refl;
   literal = refl;
+  integer = refl;
+  below_0 = refl;
+  no_integer = refl;
+  boolean = refl;
 }

@@ -1,6 +1,6 @@
-use Rattle.std.proofs.Common.{refl, ap, sym, ◌∙◌, arith}
+use Rattle.std.proofs.Common.{◌≡◌, Some, refl, arith}
 use Rattle.rtl_stim_lines.specs.Reading.{after_set}
-use Rattle.rtl_stim_lines.specs.Inputs.{input_named, values_for}
+use Rattle.rtl_stim_lines.specs.Inputs.{input_at, input_named, values_for}
 use Rattle.rtl_stim_lines.specs.View.{inputs_view, said_view}
 use Rattle.rtl_stim_lines.proofs.Saying.{set_leads, course_leads}
 use Rattle.rtl_stim_lines.proofs.reading.Said.read_set.Goals as goal
@@ -12,7 +12,7 @@ returns-clause-said c =
     let text = c.args.text.now in
     let values = c.in-Some-values_for.values in
     let input_is = rw c.in-Some.is at c.in_ok-place.ensures.input in
-    let are = (rw c.in-Some-values_for.is at c.values_for.ensures) ∙ ap (λ es. values_for es text) (sym input_is.1) in
+    let are : Some values ≡ values_for (input_at inputs c.in-Some.place) text = rw (input_is.1, input_is.2) (rw c.in-Some-values_for.is at c.values_for.ensures) in
     let within = rw c.in-Some.is at c.in_ok-place.ensures.within in
     set_leads inputs s (input_named inputs c.args.name.now) c.in-Some.place c.args.time c.args.line text values _ c.set.result (rw c.in-Some.is at c.in_ok-place.ensures.place) are
     (course_leads s c.args.self.now.courses.items c.in-Some.place c.args.line (after_set c.args.time values) c.index_mut.result.now c.set.new.self c.set.result refl
