@@ -49,7 +49,7 @@ either d = by d.name d.meaning d.range d.is_global
     by n (visibility.boolean_generic k) r g = inl (record { formal = record { name = n; kind = rules.boolean }; is = refl; own = refl; turns = λ f. refl; no_port = refl })
     by n (visibility.constant k kind values) r g =
         inl (record { formal = record { name = n; kind = rules.GenericKind.elements kind }; is = refl; own = refl; turns = λ f. refl; no_port = refl })
-    by n (visibility.port k mode kind) r g = inr (inl (record { formal = record { name = n; mode = mode; kind = kind }; is = refl; own = refl; turns = λ f. refl; no_generic = refl }))
+    by n (visibility.port k mode type) r g = inr (inl (record { formal = record { name = n; mode = mode; type = type }; is = refl; own = refl; turns = λ f. refl; no_generic = refl }))
     by n m r g = inr (inr (record { turns = λ f. refl; no_generic = refl; no_port = refl }))
 
 -- ---- a part of distinct names is distinct

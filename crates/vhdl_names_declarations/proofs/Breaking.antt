@@ -13,14 +13,14 @@ use Rattle.vhdl_names_rules.specs.Rules.{◌>>=◌, met}
 use Rattle.vhdl_names_rules.specs.Visibility.{Name, Declared, Sight, Declares, names_of, is_among, are_distinct, all_declared, unfinished}
 use Rattle.vhdl_names_rules.specs.Interfaces.{declared_names}
 use Rattle.vhdl_names_rules.proofs.laws.Rules.{comes, kept}
-use Rattle.vhdl_names_rules.specs.Subtypes.{Subtype, subtype}
-use Rattle.vhdl_names_rules.specs.problems.Broken.{Broken, Tells, refused, where_given, ◌▸◌}
+use Rattle.vhdl_names_rules.specs.Subtypes.{Subtype, subtype, object_subtype}
+use Rattle.vhdl_names_rules.specs.problems.Broken.{Broken, Tells, nothing, refused, where_given, ◌▸◌}
 use Rattle.vhdl_names_rules.specs.problems.Subtypes as subtypes_broken
-use Rattle.vhdl_names_rules.proofs.kept.Values.{subtype_kept}
+use Rattle.vhdl_names_rules.proofs.kept.Values.{subtype_kept, object_subtype_kept}
 use Rattle.vhdl_names_rules.proofs.Passing.{told_first, told_second}
 use Rattle.vhdl_names_rules.specs.problems.Twice.{twice}
 use Rattle.vhdl_names_rules.specs.problems.Declarations.{in_order, standing_twice}
-use Rattle.vhdl_names_rules.proofs.Telling.{IsKept, told_same, told_left, told_right, told_given, at_is_told}
+use Rattle.vhdl_names_rules.proofs.Telling.{IsKept, told_same, told_left, told_right, told_given, told_on, at_is_told}
 use Rattle.vhdl_names_rules.proofs.kept.Twice.{apart, twice_kept}
 use Rattle.vhdl_names_declarations.specs.Entered.{more}
 use Rattle.vhdl_names_declarations.proofs.Regions.{names-append, names-all}
@@ -137,6 +137,12 @@ module _ {X : Type 0} (sight : Sight) (i : t.Subtype) (by : Subtype → Broken) 
       told_second (subtypes_broken.subtype sight i) (where_given (subtype sight i) by) fault P r h same (subtype_kept sight i x given)
       (told_given by (subtype sight i) x fault given told)
 
+  pub behind_object : IsErrAnd r P → ((e : NameFault) → P e → e ≡ fault) → object_subtype sight i ≡ Some x → Tells (by x) fault →
+      IfErr r (Tells (subtypes_broken.object_subtype sight i ▸ where_given (object_subtype sight i) by))
+  behind_object h same given told =
+      told_second (subtypes_broken.object_subtype sight i) (where_given (object_subtype sight i) by) fault P r h same (object_subtype_kept sight i x given)
+      (told_given by (object_subtype sight i) x fault given told)
+
 -- ---- names of one declaration, which the code lends
 
 module _ {X : Type 0} (ds : List Declared) (xs ys : List Identifier) (fault : NameFault) (P : NameFault → Type 0) (r : Result X NameFault) where
@@ -155,3 +161,11 @@ module _ {X : Type 0} (ds : List Declared) (xs ys : List Identifier) (fault : Na
       let hides = hidden ds xs ys lent hid given in
       told_second (standing_twice ds is) (b (ds ++ es)) fault P r h same (standing_once ds es is (names-all unfinished (names_of is)) hid hides)
       (subst (λ r. Tells (b r) fault) (more_is ds es hid hides) told)
+
+-- a fault for want of memory alone
+pub memory_only : {X : Type 0} (b : Broken) (r : Result X NameFault) → IfErr r (Tells nothing) → IfErr r (Tells b)
+memory_only b r h = told_on nothing b r by h
+  where
+    by : (f : NameFault) → Tells nothing f → Tells b f
+    by (At p at) h = absurd cc
+    by NoMemory h = tt

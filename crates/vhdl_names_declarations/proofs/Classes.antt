@@ -6,7 +6,7 @@ use Rattle.vhdl_names_rules.specs.units.Units.{Fixed}
 use Rattle.vhdl_names_rules.specs.Rules.{◌>>=◌, if_any}
 use Rattle.vhdl_names_rules.specs.Visibility as visibility
 use Rattle.vhdl_names_rules.specs.Visibility.{Meaning, Sight, Declares, names_of, count_of, ranges_count, declared_here, with_declared, with_variables}
-use Rattle.vhdl_names_rules.specs.Subtypes.{Subtype, subtype, form_range, form_direction, fixed_value, object}
+use Rattle.vhdl_names_rules.specs.Subtypes.{Subtype, object_subtype, form_range, form_direction, fixed_value, object}
 use Rattle.vhdl_names_rules.specs.Declarations.{within, within_variables, is_global, signals, variables, for_each}
 use Rattle.vhdl_names_declarations.specs.declared.counts.Counts.{Counts}
 use Rattle.vhdl_names_declarations.specs.Counts.{AreCounts}
@@ -39,11 +39,11 @@ module _ (inner : Sight) (i : t.Subtype) (v : Option t.Value) (meaning : Subtype
   numbered_from number ranges =
       typed_object inner i v >>= λ x. Some (record { declared = standing_names (meaning x.0) (form_direction x.0.form) (is_global inner i) number ranges ns; analysed = a x })
 
-  objects_are : (subtype inner i >>= λ s. (if_any (fixed_value inner s.type (form_range s.form)) v >>= λ default.
+  objects_are : (object_subtype inner i >>= λ s. (if_any (fixed_value inner s.type (form_range s.form)) v >>= λ default.
       Some (record { declared = standing_names (meaning s) (form_direction s.form) (is_global inner i) (count_of class before) (ranges_count before) ns; analysed = a (double s default) })))
       ≡ numbered_from (count_of class before) (ranges_count before)
   objects_are =
-      two_steps (subtype inner i) (λ s. if_any (fixed_value inner s.type (form_range s.form)) v)
+      two_steps (object_subtype inner i) (λ s. if_any (fixed_value inner s.type (form_range s.form)) v)
       (λ s default. record { declared = standing_names (meaning s) (form_direction s.form) (is_global inner i) (count_of class before) (ranges_count before) ns; analysed = a (double s default) })
 
   numbers_are : (number ranges : ℕ) → number ≡ count_of class before → ranges ≡ ranges_count before → numbered_from (count_of class before) (ranges_count before) ≡ numbered_from number ranges

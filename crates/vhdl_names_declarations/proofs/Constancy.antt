@@ -3,8 +3,6 @@ use Rattle.std.proofs.Common.{◌≡◌, ℕ, true, false, List, Option, Some, N
 use Rattle.std.specs.Prelude.{not, is_some, is_none, option_map}
 use Rattle.vhdl_tree.specs.Tree as t
 use Rattle.vhdl_tree.specs.Tree.{Ident, Expr}
-use Rattle.vhdl_names_rules.specs.declared.fault.NameFault.{NameFault}
-use Rattle.vhdl_names_rules.specs.declared.fault.NameFault.TheVariants.{At, NoMemory}
 use Rattle.vhdl_names_rules.specs.declared.fault.NameProblem.TheVariants.{LeftOut}
 use Rattle.vhdl_names_rules.specs.declared.kind.ElementKind.{ElementKind}
 use Rattle.vhdl_names_rules.specs.units.Expressions.{Static, Range, StaticTest}
@@ -18,13 +16,14 @@ use Rattle.vhdl_names_rules.specs.Subtypes as subtypes
 use Rattle.vhdl_names_rules.specs.Subtypes.{Subtype, subtype, integers_of, integer_subtype, value_range, form_range, form_direction, fixed_value, declaring_literal, class_of}
 use Rattle.vhdl_names_rules.specs.Declarations as rules
 use Rattle.vhdl_names_rules.specs.Declarations.{within, within_variables, as_kind, static_test, single_expression, is_global, constant_is_global, constants_by, constants_in, constants, for_each}
-use Rattle.vhdl_names_rules.specs.problems.Broken.{Broken, Tells, refused, unless}
+use Rattle.vhdl_names_rules.specs.problems.Broken.{Broken, refused, unless}
 use Rattle.vhdl_names_rules.specs.problems.Declarations.{of_single}
 use Rattle.vhdl_names_rules.specs.problems.Subtypes as subtypes_broken
 use Rattle.vhdl_names_rules.proofs.Telling.{IsKept, unless_kept}
 use Rattle.vhdl_names_rules.proofs.kept.Values.{integer_subtype_kept}
 use Rattle.vhdl_names_rules.proofs.kept.Keeping.{mapped}
 use Rattle.vhdl_names_values.specs.Marking.{integers_with}
+use Rattle.vhdl_names_values.proofs.Valued.{is_single}
 use Rattle.vhdl_names_declarations.specs.declared.counts.Counts.{Counts}
 use Rattle.vhdl_names_declarations.specs.Constants as c
 use Rattle.vhdl_names_declarations.specs.Constants.{Constants, of_integers, of_truths, of_values}
@@ -170,17 +169,7 @@ process_constants_is s d counts h = ap (λ o. o >>= enters (λ s. s.variables) w
 
 -- of one expression it is told as of the value
 pub of_single_is : (b : Expr → Broken) (v : t.Value) (e : Expr) → single_expression v ≡ Some e → b e ≡ of_single b v
-of_single_is b (t.single d) e h = ap b (by h)
-  where
-    by : Some d ≡ Some e → e ≡ d
-    by h = cc
-of_single_is b (t.others at d) e h = absurd cc
-
--- where no single expression stands
-pub no_single_told : (b : Expr → Broken) (v : t.Value) (f : NameFault) → Tells (c.no_single v) f → Tells (of_single b v) f
-no_single_told b (t.single e) NoMemory h = tt
-no_single_told b (t.single e) (At p at) h = absurd cc
-no_single_told b (t.others at e) f h = h
+of_single_is b v e h = sym (ap (of_single b) (is_single v e h))
 
 -- what is told of a subtype of integers that is given
 pub integers_kept : (s : Sight) (i : t.Subtype) (base : u.Integers) (type : IntegerSubtype) → integers_with s base i.constraint ≡ Some type → IsKept (subtypes_broken.integer_subtype s i)

@@ -28,7 +28,7 @@ use Rattle.vhdl_names_declarations.specs.Entered.{entering}
 use Rattle.vhdl_names_declarations.specs.Porting.{Standing}
 use Rattle.vhdl_names_declarations.specs.Typed as typed
 use Rattle.vhdl_names_declarations.specs.Typed.{Generic}
-use Rattle.vhdl_names_declarations.proofs.Marks.{of_another_class}
+use Rattle.vhdl_names_values.proofs.Classed.{of_another_class}
 use Rattle.vhdl_names_declarations.proofs.Turns.{declares_all, enters, number_of}
 
 abbrev integers_in : u.Integers → Option (ℕ × Range) → IntegerSubtype

@@ -7,15 +7,15 @@ use Rattle.vhdl_lexer.specs.declared.language.Language.TheVariants.{Wide}
 use Rattle.vhdl_tree.specs.declared.declaration.Mode.{Mode}
 use Rattle.vhdl_tree.specs.declared.operator.Direction.{Direction}
 use Rattle.vhdl_tree.specs.Tree as t
-use Rattle.vhdl_names_rules.specs.declared.kind.ElementKind.{ElementKind}
+use Rattle.vhdl_names_rules.specs.declared.kind.ObjectType.{ObjectType}
 use Rattle.vhdl_names_rules.specs.units.Units as u
 use Rattle.vhdl_names_rules.specs.units.Units.{Fixed}
 use Rattle.vhdl_names_rules.specs.Rules.{◌>>=◌, if_any, is_wide, met}
 use Rattle.vhdl_names_rules.specs.Visibility as visibility
 use Rattle.vhdl_names_rules.specs.Visibility.{Name, Sight, Declared, Declares, declare, names_of, count_of, ranges_count, with_declared, are_distinct, all_declared}
 use Rattle.vhdl_names_rules.specs.Interfaces.{declared_names}
-use Rattle.vhdl_names_rules.specs.Subtypes.{Subtype, subtype, form_range, form_direction, fixed_value}
-use Rattle.vhdl_names_rules.specs.Declarations.{as_kind, is_global, mode_of, port, without_port, without_ports, unfinished}
+use Rattle.vhdl_names_rules.specs.Subtypes.{Subtype, object_subtype, form_range, form_direction, fixed_value}
+use Rattle.vhdl_names_rules.specs.Declarations.{as_port_type, is_global, mode_of, port, without_port, without_ports, unfinished}
 use Rattle.vhdl_names_rules.specs.problems.Broken.{◌▸◌}
 use Rattle.vhdl_names_rules.specs.problems.Declarations as broken
 use Rattle.vhdl_names_rules.specs.problems.Twice.{twice}
@@ -32,23 +32,23 @@ use Rattle.vhdl_names_declarations.proofs.Turns.{has_more, more_is}
 
 pub record Group : Type 0 where
   pub mode : Mode
-  pub kind : ElementKind
+  pub type : ObjectType
   pub direction : Option Direction
   pub is_global : Bool
   pub names : List Name
 
 abbrev pub standing_of : Group → Standing
-standing_of g = record { meaning = λ k. visibility.port k g.mode g.kind; direction = g.direction; is_global = g.is_global }
+standing_of g = record { meaning = λ k. visibility.port k g.mode g.type; direction = g.direction; is_global = g.is_global }
 
 -- hidden, and behind declarations
 abbrev pub hidden_names : Group → List Declared
 hidden_names g = all_declared visibility.unfinished g.names
 
 abbrev pub stood : List Declared → Group → List Declared
-stood ds g = standing_names (λ k. visibility.port k g.mode g.kind) g.direction g.is_global (count_of visibility.is_port ds) (ranges_count ds) g.names
+stood ds g = standing_names (λ k. visibility.port k g.mode g.type) g.direction g.is_global (count_of visibility.is_port ds) (ranges_count ds) g.names
 
 stood_names : (ds : List Declared) (g : Group) → declared_names (stood ds g) ≡ g.names
-stood_names ds g = names_stand (λ k. visibility.port k g.mode g.kind) g.direction g.is_global (count_of visibility.is_port ds) (ranges_count ds) g.names
+stood_names ds g = names_stand (λ k. visibility.port k g.mode g.type) g.direction g.is_global (count_of visibility.is_port ds) (ranges_count ds) g.names
 
 pub stood_size : (ds : List Declared) (g : Group) → length (stood ds g) ≡ length g.names
 stood_size ds g = sym (length-map (stood ds g) (λ (d : Declared). d.name)) ∙ ap length (stood_names ds g)
@@ -73,7 +73,7 @@ settled_last ds (h ∷ gs) g = settled_last (ds ++ stood ds h) gs g
 
 -- ---- where ports mean nothing
 
-without_standing : (m : Mode) (k : ElementKind) (d : Option Direction) (b : Bool) (number ranges : ℕ) (ns : List Name) →
+without_standing : (m : Mode) (k : ObjectType) (d : Option Direction) (b : Bool) (number ranges : ℕ) (ns : List Name) →
     map without_port (standing_names (λ n. visibility.port n m k) d b number ranges ns) ≡ all_declared visibility.unfinished ns
 without_standing m k d b number ranges [] = go d
   where
@@ -115,32 +115,32 @@ module _ (s : Sight) (p : t.Port) where
   abbrev outer : Sight
   outer = without_ports s
 
-  abbrev standing_as : Subtype → ElementKind → Standing
-  standing_as x kind = record { meaning = λ k. visibility.port k (mode_of p.mode) kind; direction = form_direction x.form; is_global = is_global outer p.subtype }
+  abbrev standing_as : Subtype → ObjectType → Standing
+  standing_as x type = record { meaning = λ k. visibility.port k (mode_of p.mode) type; direction = form_direction x.form; is_global = is_global outer p.subtype }
 
-  abbrev typed_as : Subtype → ElementKind → Option Fixed → Port
-  typed_as x kind default = record { standing = standing_as x kind; subtype = x; default = default }
+  abbrev typed_as : Subtype → ObjectType → Option Fixed → Port
+  typed_as x type default = record { standing = standing_as x type; subtype = x; default = default }
 
-  abbrev declared_as : Subtype → ElementKind → Option Fixed → Declares u.Port
-  declared_as x kind default = declares (standing_as x kind) (names_of p.names) (ports_of p (typed_as x kind default))
+  abbrev declared_as : Subtype → ObjectType → Option Fixed → Declares u.Port
+  declared_as x type default = declares (standing_as x type) (names_of p.names) (ports_of p (typed_as x type default))
 
   port_stands : port s p ≡ as_declared (typed.port outer p)
   unfolding port
-  port_stands = first (subtype outer p.subtype)
+  port_stands = first (object_subtype outer p.subtype)
     where
-      last : (x : Subtype) (kind : ElementKind) (o : Option (Option Fixed)) → (o >>= λ default. Some (declared_as x kind default)) ≡ as_declared (o >>= λ default. Some (typed_as x kind default))
-      last x kind None = refl
-      last x kind (Some default) = refl
+      last : (x : Subtype) (type : ObjectType) (o : Option (Option Fixed)) → (o >>= λ default. Some (declared_as x type default)) ≡ as_declared (o >>= λ default. Some (typed_as x type default))
+      last x type None = refl
+      last x type (Some default) = refl
 
-      next : (x : Subtype) (o : Option ElementKind) → (o >>= λ kind. (if_any (fixed_value outer x.type (form_range x.form)) p.default >>= λ default. Some (declared_as x kind default)))
-          ≡ as_declared (o >>= λ kind. (if_any (fixed_value outer x.type (form_range x.form)) p.default >>= λ default. Some (typed_as x kind default)))
+      next : (x : Subtype) (o : Option ObjectType) → (o >>= λ type. (if_any (fixed_value outer x.type (form_range x.form)) p.default >>= λ default. Some (declared_as x type default)))
+          ≡ as_declared (o >>= λ type. (if_any (fixed_value outer x.type (form_range x.form)) p.default >>= λ default. Some (typed_as x type default)))
       next x None = refl
-      next x (Some kind) = last x kind (if_any (fixed_value outer x.type (form_range x.form)) p.default)
+      next x (Some type) = last x type (if_any (fixed_value outer x.type (form_range x.form)) p.default)
 
-      first : (o : Option Subtype) → (o >>= λ x. (as_kind x.type >>= λ kind. (if_any (fixed_value outer x.type (form_range x.form)) p.default >>= λ default. Some (declared_as x kind default))))
-          ≡ as_declared (o >>= λ x. (as_kind x.type >>= λ kind. (if_any (fixed_value outer x.type (form_range x.form)) p.default >>= λ default. Some (typed_as x kind default))))
+      first : (o : Option Subtype) → (o >>= λ x. (as_port_type x.type >>= λ type. (if_any (fixed_value outer x.type (form_range x.form)) p.default >>= λ default. Some (declared_as x type default))))
+          ≡ as_declared (o >>= λ x. (as_port_type x.type >>= λ type. (if_any (fixed_value outer x.type (form_range x.form)) p.default >>= λ default. Some (typed_as x type default))))
       first None = refl
-      first (Some x) = next x (as_kind x.type)
+      first (Some x) = next x (as_port_type x.type)
 
 record Shape (p : t.Port) (x : Port) : Type 0 where
   group : Group
@@ -149,11 +149,11 @@ record Shape (p : t.Port) (x : Port) : Type 0 where
 
 shape : (s : Sight) (p : t.Port) (x : Port) → typed.port s p ≡ Some x → Shape p x
 shape s p x h =
-    let a = comes (subtype s p.subtype) _ x h in
-    let k = comes (as_kind a.value.type) _ x a.rest in
+    let a = comes (object_subtype s p.subtype) _ x h in
+    let k = comes (as_port_type a.value.type) _ x a.rest in
     let d = comes (if_any (fixed_value s a.value.type (form_range a.value.form)) p.default) _ x k.rest in
     record {
-      group = record { mode = mode_of p.mode; kind = k.value; direction = form_direction a.value.form; is_global = is_global s p.subtype; names = names_of p.names };
+      group = record { mode = mode_of p.mode; type = k.value; direction = form_direction a.value.form; is_global = is_global s p.subtype; names = names_of p.names };
       standing = sym (ap (λ (y : Port). y.standing) (some_is _ x d.rest));
       names = refl;
     }
@@ -250,7 +250,7 @@ module _ (s inner : Sight) (gs : List Group) (b : Behind s inner gs) (wide : s.l
           names = grown ∙ ap (λ l. l ++ unfinished p.names) b.names ∙ append_assoc s.region (hidden_all gs) (unfinished p.names)
               ∙ ap (λ l. s.region ++ l) (ap (λ ns. hidden_all gs ++ all_declared visibility.unfinished ns) (sym g.names) ∙ sym (hidden_last gs g.group));
           without = ap (map without_port) last ∙ map-append without_port (settled_list s.region gs) es ∙ ap (λ l. l ++ map without_port es) b.without
-              ∙ ap (λ l. inner.region ++ l) (without_standing g.group.mode g.group.kind g.group.direction g.group.is_global (count_of visibility.is_port (settled_list s.region gs)) (ranges_count (settled_list s.region gs)) g.group.names
+              ∙ ap (λ l. inner.region ++ l) (without_standing g.group.mode g.group.type g.group.direction g.group.is_global (count_of visibility.is_port (settled_list s.region gs)) (ranges_count (settled_list s.region gs)) g.group.names
               ∙ ap (all_declared visibility.unfinished) g.names) ∙ sym grown;
           kept = kept ∙ ap (λ (o : Sight). record o { region = inner'.region }) b.kept;
         };

@@ -8,7 +8,6 @@ pub mod Hiding
 pub mod Keyed
 pub mod Labelling
 pub mod Listed
-pub mod Marks
 pub mod Naming
 pub mod Numbering
 pub mod Orders

@@ -62,8 +62,8 @@ module _ (ds : List Declared) (g : Group) (gs : List Group) (x : Settled) (c : C
   names_are =
       ap (λ n. standing_names (class_view x.class) x.direction x.is_global n c.ranges g.names) (number_is c x.class)
       ∙ ap (λ st. stand_from c st g.names) standing
-      ∙ ap (λ n. standing_names (λ k. visibility.port k g.mode g.kind) g.direction g.is_global n c.ranges g.names) counts.ports
-      ∙ ap (λ r. standing_names (λ k. visibility.port k g.mode g.kind) g.direction g.is_global (count_of visibility.is_port ds) r g.names) counts.ranges
+      ∙ ap (λ n. standing_names (λ k. visibility.port k g.mode g.type) g.direction g.is_global n c.ranges g.names) counts.ports
+      ∙ ap (λ r. standing_names (λ k. visibility.port k g.mode g.type) g.direction g.is_global (count_of visibility.is_port ds) r g.names) counts.ranges
 
   abbrev by : (region : List Declared) (a b : ℕ) → List Declared
   by region a b = take a region ++ (standing_names (class_view x.class) x.direction x.is_global (next_of c x.class) c.ranges (declared_names (drop a (take b region))) ++ drop b region)

@@ -3,15 +3,15 @@ use Rattle.std.proofs.Common.{◌≡◌, ℕ, Bool, true, false, List, ◌++◌,
 use Rattle.std.specs.Prelude.{if◌then◌else◌}
 use Rattle.vhdl_lexer.specs.declared.language.Language.TheVariants.{Profile}
 use Rattle.vhdl_tree.specs.Tree as t
-use Rattle.vhdl_names_rules.specs.declared.kind.ElementKind.{ElementKind}
+use Rattle.vhdl_names_rules.specs.declared.kind.ObjectType.{ObjectType}
 use Rattle.vhdl_names_rules.specs.units.Units as u
 use Rattle.vhdl_names_rules.specs.units.Units.{Fixed}
 use Rattle.vhdl_names_rules.specs.Rules.{◌>>=◌, if_any, is_wide, met}
 use Rattle.vhdl_names_rules.specs.Visibility as visibility
 use Rattle.vhdl_names_rules.specs.Visibility.{Sight, Declared, Declares, names_of, numbered, ranged, global_if, count_of, ranges_count, with_declared, are_distinct}
 use Rattle.vhdl_names_rules.specs.Interfaces.{declared_names}
-use Rattle.vhdl_names_rules.specs.Subtypes.{Subtype, subtype, form_range, form_direction, fixed_value, object}
-use Rattle.vhdl_names_rules.specs.Declarations.{as_kind, is_global, mode_of, port, without_port, without_ports, unfinished, within, for_each}
+use Rattle.vhdl_names_rules.specs.Subtypes.{Subtype, object_subtype, form_range, form_direction, fixed_value, object}
+use Rattle.vhdl_names_rules.specs.Declarations.{as_port_type, is_global, mode_of, port, without_port, without_ports, unfinished, within, for_each}
 use Rattle.vhdl_names_declarations.specs.declared.counts.Counts.{Counts}
 use Rattle.vhdl_names_declarations.specs.declared.region.Settled.{Settled}
 use Rattle.vhdl_names_declarations.specs.Counts.{AreCounts}
@@ -31,15 +31,15 @@ module _ (s : Sight) (p : t.Port) (c : Counts) (h : AreCounts c s.region) where
   abbrev outer : Sight
   outer = without_ports s
 
-  abbrev port_names : ℕ → ℕ → Subtype → ElementKind → Option Fixed → Option (Declares u.Port)
-  port_names number ranges x kind default = Some (record {
-    declared = global_if (is_global outer p.subtype) (ranged (form_direction x.form) ranges (numbered (λ k. visibility.port k (mode_of p.mode) kind) number (names_of p.names)));
+  abbrev port_names : ℕ → ℕ → Subtype → ObjectType → Option Fixed → Option (Declares u.Port)
+  port_names number ranges x type default = Some (record {
+    declared = global_if (is_global outer p.subtype) (ranged (form_direction x.form) ranges (numbered (λ k. visibility.port k (mode_of p.mode) type) number (names_of p.names)));
     analysed = for_each (λ n. record { mode = mode_of p.mode; object = object x default n }) p.names;
   })
 
-  abbrev typed_as : Subtype → ElementKind → Option Fixed → Option Port
-  typed_as x kind default = Some (record {
-    standing = record { meaning = λ k. visibility.port k (mode_of p.mode) kind; direction = form_direction x.form; is_global = is_global outer p.subtype };
+  abbrev typed_as : Subtype → ObjectType → Option Fixed → Option Port
+  typed_as x type default = Some (record {
+    standing = record { meaning = λ k. visibility.port k (mode_of p.mode) type; direction = form_direction x.form; is_global = is_global outer p.subtype };
     subtype = x;
     default = default;
   })
@@ -47,24 +47,24 @@ module _ (s : Sight) (p : t.Port) (c : Counts) (h : AreCounts c s.region) where
   abbrev ports_from : Option Port → Option (Declares u.Port)
   ports_from o = declares_all c (names_of p.names) port_standing (ports_of p) o
 
-  last : (x : Subtype) (kind : ElementKind) (o : Option (Option Fixed)) → (o >>= λ default. port_names (count_of visibility.is_port s.region) (ranges_count s.region) x kind default) ≡ ports_from (o >>= λ default. typed_as x kind default)
-  last x kind None = refl
-  last x kind (Some default) =
-      ap (λ n. port_names n (ranges_count s.region) x kind default) (sym h.ports) ∙ ap (λ r. port_names c.ports r x kind default) (sym h.ranges)
+  last : (x : Subtype) (type : ObjectType) (o : Option (Option Fixed)) → (o >>= λ default. port_names (count_of visibility.is_port s.region) (ranges_count s.region) x type default) ≡ ports_from (o >>= λ default. typed_as x type default)
+  last x type None = refl
+  last x type (Some default) =
+      ap (λ n. port_names n (ranges_count s.region) x type default) (sym h.ports) ∙ ap (λ r. port_names c.ports r x type default) (sym h.ranges)
 
-  next : (x : Subtype) (o : Option ElementKind) → (o >>= λ kind. (if_any (fixed_value outer x.type (form_range x.form)) p.default >>= λ default. port_names (count_of visibility.is_port s.region) (ranges_count s.region) x kind default))
-      ≡ ports_from (o >>= λ kind. (if_any (fixed_value outer x.type (form_range x.form)) p.default >>= λ default. typed_as x kind default))
+  next : (x : Subtype) (o : Option ObjectType) → (o >>= λ type. (if_any (fixed_value outer x.type (form_range x.form)) p.default >>= λ default. port_names (count_of visibility.is_port s.region) (ranges_count s.region) x type default))
+      ≡ ports_from (o >>= λ type. (if_any (fixed_value outer x.type (form_range x.form)) p.default >>= λ default. typed_as x type default))
   next x None = refl
-  next x (Some kind) = last x kind (if_any (fixed_value outer x.type (form_range x.form)) p.default)
+  next x (Some type) = last x type (if_any (fixed_value outer x.type (form_range x.form)) p.default)
 
-  first : (o : Option Subtype) → (o >>= λ x. (as_kind x.type >>= λ kind. (if_any (fixed_value outer x.type (form_range x.form)) p.default >>= λ default. port_names (count_of visibility.is_port s.region) (ranges_count s.region) x kind default)))
-      ≡ ports_from (o >>= λ x. (as_kind x.type >>= λ kind. (if_any (fixed_value outer x.type (form_range x.form)) p.default >>= λ default. typed_as x kind default)))
+  first : (o : Option Subtype) → (o >>= λ x. (as_port_type x.type >>= λ type. (if_any (fixed_value outer x.type (form_range x.form)) p.default >>= λ default. port_names (count_of visibility.is_port s.region) (ranges_count s.region) x type default)))
+      ≡ ports_from (o >>= λ x. (as_port_type x.type >>= λ type. (if_any (fixed_value outer x.type (form_range x.form)) p.default >>= λ default. typed_as x type default)))
   first None = refl
-  first (Some x) = next x (as_kind x.type)
+  first (Some x) = next x (as_port_type x.type)
 
   pub port_is : entering port s p ≡ (declares_all c (names_of p.names) port_standing (ports_of p) (typed.port outer p) >>= enters (λ s. s.region) with_declared s)
   unfolding port
-  port_is = ap (λ o. o >>= enters (λ s. s.region) with_declared s) (first (subtype outer p.subtype))
+  port_is = ap (λ o. o >>= enters (λ s. s.region) with_declared s) (first (object_subtype outer p.subtype))
 
 -- ---- the narrow language, whose ports have those before them in sight
 

@@ -5,7 +5,7 @@ use Rattle.vhdl_tree.specs.Tree.{Ident, Expr}
 use Rattle.vhdl_names_rules.specs.declared.kind.ElementKind.{ElementKind}
 use Rattle.vhdl_names_rules.specs.units.Expressions.{Static, Range, StaticTest}
 use Rattle.vhdl_names_rules.specs.units.Units as u
-use Rattle.vhdl_names_rules.specs.declared.fault.NameProblem.TheVariants.{TypeMismatch, LeftOut}
+use Rattle.vhdl_names_rules.specs.declared.fault.NameProblem.TheVariants.{LeftOut}
 use Rattle.vhdl_names_rules.specs.Rules.{◌>>=◌, ◌>>◌, rule}
 use Rattle.vhdl_names_rules.specs.Visibility as visibility
 use Rattle.vhdl_names_rules.specs.Visibility.{Sight, Declared, Declares, declaration, declared_here}
@@ -13,7 +13,7 @@ use Rattle.vhdl_names_rules.specs.Expressions.{static}
 use Rattle.vhdl_names_rules.specs.Subtypes as subtypes
 use Rattle.vhdl_names_rules.specs.Subtypes.{subtype, integers_of, form_range, form_direction, fixed_value, declaring_literal}
 use Rattle.vhdl_names_rules.specs.Declarations.{as_kind, static_test, single_expression, is_global, constant_is_global, constants_in, within_variables, for_each}
-use Rattle.vhdl_names_rules.specs.problems.Broken.{Broken, nothing, refused, ◌▸◌}
+use Rattle.vhdl_names_rules.specs.problems.Broken.{Broken, ◌▸◌}
 use Rattle.vhdl_names_rules.specs.problems.Places.{start}
 use Rattle.vhdl_names_rules.specs.problems.Declarations.{standing_twice, typed_constants}
 use Rattle.vhdl_names_rules.specs.views.Integers.{static_view, subtype_view}
@@ -80,10 +80,6 @@ by_class sight d mark subtypes.others = other sight d
 abbrev pub constant : Sight → t.Constants → Option Constants
 constant sight d =
     declaration sight d.subtype.mark.text >>= λ mark. by_class sight d mark (subtypes.class_of mark.meaning)
-
-abbrev pub no_single : t.Value → Broken
-no_single (t.single e) = nothing
-no_single (t.others at e) = refused TypeMismatch at
 
 -- how they stand in their region
 abbrev pub standing_view : Settled → Standing

@@ -48,7 +48,7 @@ counted c d = by d.meaning
 abbrev pub next_of : Counts → ObjectClass → ℕ
 next_of c k.Generic = c.generics
 next_of c k.BooleanGeneric = c.generics
-next_of c (k.Port mode kind) = c.ports
+next_of c (k.Port mode type) = c.ports
 next_of c k.Integer = c.integers
 next_of c k.Boolean = c.integers
 next_of c (k.Constant kind values) = c.constants

@@ -9,8 +9,8 @@ use Rattle.vhdl_names_rules.specs.Rules.{◌>>=◌, ◌>>◌, rule, if_any}
 use Rattle.vhdl_names_rules.specs.Visibility as visibility
 use Rattle.vhdl_names_rules.specs.Visibility.{Sight, Meaning, are_distinct}
 use Rattle.vhdl_names_rules.specs.Interfaces.{declared_names}
-use Rattle.vhdl_names_rules.specs.Declarations.{as_kind, is_global, mode_of, unfinished, within, for_each}
-use Rattle.vhdl_names_rules.specs.Subtypes.{Subtype, subtype, form_range, form_direction, fixed_value, object}
+use Rattle.vhdl_names_rules.specs.Declarations.{as_port_type, is_global, mode_of, unfinished, within, for_each}
+use Rattle.vhdl_names_rules.specs.Subtypes.{Subtype, object_subtype, form_range, form_direction, fixed_value, object}
 use Rattle.vhdl_names_rules.specs.problems.Broken.{Broken, ◌▸◌}
 use Rattle.vhdl_names_rules.specs.problems.Declarations.{standing_twice, typed_port}
 use Rattle.vhdl_names_units.specs.declared.declaration.Ports.{Ports}
@@ -43,12 +43,12 @@ port_view p = record {
 
 abbrev pub port : Sight → t.Port → Option Port
 port sight p = do
-  x ← subtype sight p.subtype
-  kind ← as_kind x.type
+  x ← object_subtype sight p.subtype
+  type ← as_port_type x.type
   default ← if_any (fixed_value sight x.type (form_range x.form)) p.default
   Some (record {
     standing = record {
-      meaning = λ k. visibility.port k (mode_of p.mode) kind;
+      meaning = λ k. visibility.port k (mode_of p.mode) type;
       direction = form_direction x.form;
       is_global = is_global sight p.subtype;
     };

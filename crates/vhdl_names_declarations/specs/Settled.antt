@@ -16,7 +16,7 @@ use Rattle.vhdl_names_declarations.specs.Counts.{next_of}
 abbrev pub class_view : ObjectClass → ℕ → Meaning
 class_view c.Generic k = visibility.generic k
 class_view c.BooleanGeneric k = visibility.boolean_generic k
-class_view (c.Port mode kind) k = visibility.port k mode kind
+class_view (c.Port mode type) k = visibility.port k mode type
 class_view c.Integer k = visibility.integer_constant k
 class_view c.Boolean k = visibility.boolean_constant k
 class_view (c.Constant kind values) k = visibility.constant k kind (option_map (λ vs. vs.items) values)

@@ -1,5 +1,5 @@
 -- What a subtype is declared to be, and what is analysed of it.
-use Rattle.std.specs.Prelude.{Bool, not, is_some, if◌then◌else◌, List, [], ◌∷◌, Option, Some, None}
+use Rattle.std.specs.Prelude.{ℕ, Bool, not, is_some, if◌then◌else◌, List, [], ◌∷◌, Option, Some, None}
 use Rattle.vhdl_tree.specs.declared.operator.Direction.{Direction}
 use Rattle.vhdl_tree.specs.Tree as t
 use Rattle.vhdl_names_rules.specs.units.Units as u
@@ -56,6 +56,9 @@ integers sight base d mark = do
     analysed = if_ranged (λ x. u.integer_subtype d.name.at s) (numbers_direction mark s);
   })
 
+abbrev pub vector_subtype : (at : ℕ) → u.Form → List u.Declaration
+vector_subtype at form = if_ranged (u.vector_subtype at) (form_range form)
+
 abbrev pub constrained : Sight → t.SubtypeDeclaration → Declared → Option Subtype
 constrained sight d mark = do
   s ← subtypes.subtype sight d.subtype
@@ -63,7 +66,7 @@ constrained sight d mark = do
     meaning = mark.meaning;
     direction = form_direction s.form;
     is_global = is_global sight d.subtype;
-    analysed = if_ranged (u.vector_subtype d.name.at) (form_range s.form);
+    analysed = vector_subtype d.name.at s.form;
   })
 
 abbrev pub booleans : Sight → t.SubtypeDeclaration → Declared → Option Subtype

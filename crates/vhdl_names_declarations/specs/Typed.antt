@@ -12,7 +12,7 @@ use Rattle.vhdl_names_rules.specs.Visibility.{Sight, Meaning, Declared, declarat
 use Rattle.vhdl_names_rules.specs.Expressions.{static}
 use Rattle.vhdl_names_rules.specs.Declarations.{as_kind, static_test, is_global}
 use Rattle.vhdl_names_rules.specs.Subtypes as subtypes
-use Rattle.vhdl_names_rules.specs.Subtypes.{Subtype, subtype, form_range, form_direction, integers_of, fixed_value}
+use Rattle.vhdl_names_rules.specs.Subtypes.{Subtype, subtype, object_subtype, form_range, form_direction, integers_of, fixed_value}
 use Rattle.vhdl_names_rules.specs.problems.Broken.{Broken, ◌▸◌, where_given, of_any}
 use Rattle.vhdl_names_rules.specs.problems.Declarations as broken
 use Rattle.vhdl_names_rules.specs.problems.Expressions as expressions_broken
@@ -20,20 +20,8 @@ use Rattle.vhdl_names_rules.specs.problems.Subtypes as subtypes_broken
 use Rattle.vhdl_names_units.specs.views.Answers.{fixed_view}
 use Rattle.vhdl_names_units.specs.views.Declarations.{generic_type_view}
 use Rattle.vhdl_names_values.specs.Marking.{integers_with}
-use Rattle.vhdl_names_declarations.specs.declared.class.TypeClass.{TypeClass}
-use Rattle.vhdl_names_declarations.specs.declared.class.TypeClass.TheVariants as c
 use Rattle.vhdl_names_declarations.specs.declared.generics.TypedGeneric.{TypedGeneric}
 use Rattle.vhdl_names_declarations.specs.Settled.{class_view}
-
--- ---- classes of types
-
-abbrev pub type_class_view : TypeClass → subtypes.TypeClass
-type_class_view c.Integers = subtypes.integers
-type_class_view c.Booleans = subtypes.booleans
-type_class_view c.Others = subtypes.others
-
-abbrev pub class_of : Meaning → subtypes.TypeClass
-class_of = subtypes.class_of
 
 -- ---- generics: what they are declared to be, by number, with a range or none; their type and default
 
@@ -103,7 +91,7 @@ by_class sight g d subtypes.booleans = rule LeftOut (is_wide sight.language) >> 
 by_class sight g d subtypes.others = rule LeftOut (is_wide sight.language) >> others sight g
 
 abbrev pub generic : Sight → t.Generic → Option Generic
-generic sight g = declaration sight g.subtype.mark.text >>= λ d. by_class sight g d (class_of d.meaning)
+generic sight g = declaration sight g.subtype.mark.text >>= λ d. by_class sight g d (subtypes.class_of d.meaning)
 
 -- which rules they break behind their mark
 abbrev pub integers_break : Sight → t.Generic → Broken
@@ -124,6 +112,6 @@ others_break sight g =
 
 abbrev pub typed_object : Sight → t.Subtype → Option t.Value → Option (Subtype × Option Fixed)
 typed_object sight s v = do
-  x ← subtype sight s
+  x ← object_subtype sight s
   default ← if_any (fixed_value sight x.type (form_range x.form)) v
   Some (x, default)

@@ -2,7 +2,6 @@
 
 ghost use Rattle.std.specs.Prelude.{◌≡◌, IfOk};
 ghost use Rattle.vhdl_names_declarations.specs.Settled.{class_view};
-ghost use Rattle.vhdl_names_declarations.specs.Typed as typed;
 ghost use Rattle.vhdl_names_sight.specs.Views.{meaning_view};
 
 use std::alloc::{AllocError, Global};
@@ -16,7 +15,7 @@ use vhdl_values::Nine;
 pub enum ObjectClass {
     Generic,
     BooleanGeneric,
-    Port(Mode, ElementKind),
+    Port(Mode, ObjectType),
     Integer,
     Boolean,
     /// A constant that is no integer, with the literal that declares it, if one does.
@@ -33,7 +32,7 @@ impl ObjectClass {
         match self {
             ObjectClass::Generic => Ok(Meaning::Generic(number)),
             ObjectClass::BooleanGeneric => Ok(Meaning::BooleanGeneric(number)),
-            ObjectClass::Port(mode, kind) => Ok(Meaning::Port(number, *mode, *kind)),
+            ObjectClass::Port(mode, object_type) => Ok(Meaning::Port(number, *mode, *object_type)),
             ObjectClass::Integer => Ok(Meaning::IntegerConstant(number)),
             ObjectClass::Boolean => Ok(Meaning::BooleanConstant(number)),
             ObjectClass::Constant(kind, values) => {
@@ -43,24 +42,5 @@ impl ObjectClass {
             ObjectClass::Signal(object_type) => Ok(Meaning::Signal(number, *object_type)),
             ObjectClass::Variable(object_type) => Ok(Meaning::Variable(number, *object_type)),
         }
-    }
-}
-
-/// Of which class a type is: of integers, of booleans, or of the nine values or an enumeration.
-#[derive(Clone, Copy)]
-pub enum TypeClass {
-    Integers,
-    Booleans,
-    Others,
-}
-
-/// The class of a type.
-pub fn class_of(meaning: &Meaning) -> TypeClass
-    ensures { typed.type_class_view result ≡ typed.class_of (meaning_view meaning.now) }
-{
-    match meaning {
-        Meaning::IntegerType(_) => TypeClass::Integers,
-        Meaning::BooleanType => TypeClass::Booleans,
-        _ => TypeClass::Others,
     }
 }

@@ -14,7 +14,7 @@ ghost use Rattle.vhdl_names_units.specs.views.Declarations.{declaration_view};
 ghost use Rattle.vhdl_names_rules.specs.problems.Broken.{Tells};
 ghost use Rattle.vhdl_names_rules.specs.problems.Declarations as broken;
 
-use crate::class::{ObjectClass, TypeClass, class_of};
+use crate::class::ObjectClass;
 use crate::counts::{Counts, region_is_small};
 use crate::generics::is_global;
 use crate::names::copied_names;
@@ -28,8 +28,10 @@ use vhdl_names_rules::{
 };
 use vhdl_names_sight::{Sight, declaration_of};
 use vhdl_names_units::{Declaration, Fixed, Form};
-use vhdl_names_values::{fixed_value, integer_subtype, integers_of, subtype};
-use vhdl_tree::{Constants, Expr, Identifier, Value};
+use vhdl_names_values::{
+    TypeClass, class_of, fixed_value, integer_subtype, integers_of, single_expression, subtype,
+};
+use vhdl_tree::{Constants, Expr, Identifier};
 use vhdl_values::Nine;
 
 /// What constants of one declaration are: integers, with the byte at which a wrong value is told if
@@ -46,18 +48,6 @@ enum Constant {
 struct TypedConstant {
     constant: Constant,
     is_global: bool,
-}
-
-/// The value of an integer or boolean constant is one expression; `(others => e)` is a
-/// TypeMismatch.
-fn single_expression(value: &Value) -> Result<&Expr, NameFault>
-    ensures given { Gives (λ e. tree.view e.now) (rules.single_expression (tree.value_view value.now)) result }
-    ensures told { IfErr result (Tells (typed.no_single (tree.value_view value.now))) }
-{
-    match value {
-        Value::Expr(e) => Ok(e),
-        Value::Others { at, .. } => Err(NameProblem::TypeMismatch.at(*at)),
-    }
 }
 
 /// The byte at which a value of a subtype is told where it is wrong, if not at a name: that of a

@@ -18,7 +18,7 @@ ghost use Rattle.vhdl_names_rules.specs.problems.Declarations as broken;
 ghost use Rattle.vhdl_names_rules.specs.problems.Expressions as expressions_broken;
 ghost use Rattle.vhdl_names_rules.specs.problems.Interfaces as interfaces_broken;
 
-use crate::class::{ObjectClass, TypeClass, class_of};
+use crate::class::ObjectClass;
 use crate::counts::Counts;
 use crate::names::copied_names;
 use crate::ports::kind_of;
@@ -29,7 +29,9 @@ use vhdl_names_parts::subtype_is_local;
 use vhdl_names_rules::{IntegerBase, NameFault, NameProblem};
 use vhdl_names_sight::{Meaning, Sight, declaration_of, names_are_apart};
 use vhdl_names_units::{Fixed, GenericType, Generics};
-use vhdl_names_values::{fixed_expression, integer_subtype, integers_of, subtype};
+use vhdl_names_values::{
+    TypeClass, class_of, fixed_expression, integer_subtype, integers_of, subtype,
+};
 use vhdl_tree::{Expr, Generic, Subtype};
 
 /// What generics of one declaration are, beside their names.

@@ -16,7 +16,7 @@ pub mod process;
 mod region;
 pub mod subtypes;
 
-pub use class::{ObjectClass, TypeClass, class_of};
+pub use class::ObjectClass;
 pub use counts::Counts;
 pub use labels::{declare_if_any, declare_label, declare_labels, labels_are_distinct};
 pub use region::{Settled, declare, declare_entry, declare_name, hide, settle};

@@ -26,7 +26,7 @@ use std::alloc::{AllocError, Global};
 use vhdl_names_rules::{NameFault, ObjectType, TargetRange};
 use vhdl_names_sight::Sight;
 use vhdl_names_units::{Declaration, Fixed, Objects, Subtype};
-use vhdl_names_values::{fixed_value, subtype};
+use vhdl_names_values::{fixed_value, object_subtype};
 use vhdl_tree::{Identifier, Signals, Subtype as TreeSubtype, Value, Variables};
 
 /// A default for objects of a type, with this range if they are vectors, if there is one.
@@ -60,7 +60,7 @@ pub fn object_type(
     ensures told { IfErr result (Tells
         (broken.object sight.now (tree.subtype_view indication.now) (tree.option_value_view value.now))) }
 {
-    let subtype = subtype(sight, indication)?;
+    let subtype = object_subtype(sight, indication)?;
     let default = fixed_if_any(sight, subtype.object_type, subtype.form.range(), value)?;
     Ok((subtype, default))
 }

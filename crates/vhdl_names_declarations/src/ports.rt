@@ -24,18 +24,30 @@ use vhdl_lexer::Language;
 use vhdl_names_rules::{ElementKind, NameFault, NameProblem, ObjectType};
 use vhdl_names_sight::{Sight, names_are_apart};
 use vhdl_names_units::{Fixed, Ports, Subtype};
-use vhdl_names_values::subtype;
+use vhdl_names_values::object_subtype;
 use vhdl_tree::{Mode, Port};
 
-/// A type of the nine values, whose mark is at byte `at`; ports and constants of an enumeration are
-/// left out.
+/// A type of the nine values, whose mark is at byte `at`; other constants are left out.
 pub fn kind_of(object_type: ObjectType, at: usize) -> Result<ElementKind, NameFault>
     ensures given { Gives (λ k. k) (rules.as_kind object_type) result }
     ensures told { IfErr result (Tells (refused LeftOut at)) }
 {
     match object_type {
         ObjectType::Elements(kind) => Ok(kind),
+        ObjectType::Enumeration { .. } | ObjectType::Integers | ObjectType::Booleans => {
+            Err(NameProblem::LeftOut.at(at))
+        }
+    }
+}
+
+/// A type of ports, whose mark is at byte `at`; those of an enumeration are left out.
+fn port_type_of(object_type: ObjectType, at: usize) -> Result<ObjectType, NameFault>
+    ensures given { Gives (λ t. t) (rules.as_port_type object_type) result }
+    ensures told { IfErr result (Tells (refused LeftOut at)) }
+{
+    match object_type {
         ObjectType::Enumeration { .. } => Err(NameProblem::LeftOut.at(at)),
+        ObjectType::Elements(_) | ObjectType::Integers | ObjectType::Booleans => Ok(object_type),
     }
 }
 
@@ -52,12 +64,12 @@ fn port_type(sight: &Sight, port: &Port) -> Result<TypedPort, NameFault>
     ensures given { Gives typed.port_view (typed.port sight.now (tree.port_view port.now)) result }
     ensures told { IfErr result (Tells (broken.typed_port sight.now (tree.port_view port.now))) }
 {
-    let subtype = subtype(sight, &port.subtype)?;
-    let kind = kind_of(subtype.object_type, port.subtype.mark.at)?;
+    let subtype = object_subtype(sight, &port.subtype)?;
+    let object_type = port_type_of(subtype.object_type, port.subtype.mark.at)?;
     let range = subtype.form.range();
     let default = fixed_if_any(sight, subtype.object_type, range, &port.default)?;
     let settled = Settled {
-        class: ObjectClass::Port(port.mode.unwrap_or(Mode::In), kind),
+        class: ObjectClass::Port(port.mode.unwrap_or(Mode::In), object_type),
         direction: subtype.form.direction(),
         is_global: is_global(sight, &port.subtype),
     };

@@ -10,17 +10,19 @@ ghost use Rattle.vhdl_names_rules.specs.Visibility as visibility;
 ghost use Rattle.vhdl_names_rules.specs.views.Integers.{base_view};
 ghost use Rattle.vhdl_tree.specs.View as tree;
 ghost use Rattle.vhdl_names_sight.specs.Views.{entry_of};
+ghost use Rattle.vhdl_names_units.specs.views.Answers.{form_view};
 ghost use Rattle.vhdl_names_rules.specs.problems.Broken.{Tells};
 ghost use Rattle.vhdl_names_rules.specs.problems.Declarations as broken;
 
-use crate::class::{TypeClass, class_of};
 use crate::counts::Counts;
 use crate::generics::is_global;
 use crate::region::{declare, finish};
 use vhdl_names_rules::{DeclaredRange, IntegerBase, NameFault, NameProblem};
 use vhdl_names_sight::{Entry, Meaning, Sight, declaration_of};
 use vhdl_names_units::{Declaration, Form};
-use vhdl_names_values::{integer_subtype, integers_of, numbers_direction, subtype};
+use vhdl_names_values::{
+    TypeClass, class_of, integer_subtype, integers_of, numbers_direction, subtype,
+};
 use vhdl_tree::{Direction, SubtypeDeclaration};
 
 /// What a subtype is: as its type, with a range of this direction, if it has one; and what is
@@ -107,6 +109,17 @@ fn booleans(
     as_it_was(sight, mark, declaration)
 }
 
+/// What is analysed of a subtype whose name is at byte `at`: a vector's range.
+fn vector_subtype(at: usize, form: Form) -> Option<Declaration>
+    ensures { typed.analysed_view result ≡ typed.vector_subtype at (form_view form) }
+{
+    match form {
+        Form::Vector(range) => Some(Declaration::VectorSubtype(at, range)),
+        Form::Element | Form::Enumeration(_) | Form::Boolean => None,
+        Form::Number(_subtype) => None,
+    }
+}
+
 /// A subtype of vectors with a range, of one element or of an enumeration.
 fn constrained(
     sight: &Sight,
@@ -120,10 +133,7 @@ fn constrained(
 {
     let subtype = subtype(sight, &declaration.subtype)?;
     let direction = subtype.form.direction();
-    let analysed = match subtype.form {
-        Form::Vector(range) => Some(Declaration::VectorSubtype(declaration.name.at, range)),
-        _ => None,
-    };
+    let analysed = vector_subtype(declaration.name.at, subtype.form);
     Ok(TypedSubtype {
         meaning: mark.meaning.copied(sight.alloc)?,
         direction,

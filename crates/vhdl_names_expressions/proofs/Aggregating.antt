@@ -4,7 +4,7 @@ use Rattle.std.specs.Prelude.{not, ◌||◌, option_map, is_some}
 use Rattle.vhdl_names_rules.specs.declared.kind.ElementKind.{ElementKind}
 use Rattle.vhdl_names_rules.specs.declared.kind.ElementKind.TheVariants.{Element}
 use Rattle.vhdl_names_rules.specs.declared.kind.ObjectType.{ObjectType}
-use Rattle.vhdl_names_rules.specs.declared.kind.ObjectType.TheVariants.{Elements, Enumeration}
+use Rattle.vhdl_names_rules.specs.declared.kind.ObjectType.TheVariants.{Elements, Enumeration, Integers}
 use Rattle.vhdl_names_rules.specs.declared.integer.StaticRange.{StaticRange}
 use Rattle.vhdl_names_rules.specs.declared.integer.TargetRange.{TargetRange}
 use Rattle.vhdl_names_rules.specs.declared.fault.NameFault.{NameFault}
@@ -14,7 +14,7 @@ use Rattle.vhdl_names_rules.specs.units.Expressions.{Range}
 use Rattle.vhdl_names_rules.specs.units.Statements.{Given, single, filled}
 use Rattle.vhdl_names_rules.specs.Rules.{◌>>=◌, ◌>>◌, met, then_some}
 use Rattle.vhdl_names_rules.specs.Types as types
-use Rattle.vhdl_names_rules.specs.Types.{Typed, elements, enumerated, composite, TypedElements}
+use Rattle.vhdl_names_rules.specs.Types.{Typed, integer, computed, elements, enumerated, composite, TypedElements}
 use Rattle.vhdl_names_rules.specs.Operators.{is_vector}
 use Rattle.vhdl_names_rules.specs.Aggregates.{is_named, aggregate}
 use Rattle.vhdl_names_rules.specs.Expressions.{as_composite, as_filled, as_value}
@@ -24,6 +24,8 @@ use Rattle.vhdl_names_rules.proofs.Telling.{unless_kept, told_right, told_same}
 use Rattle.vhdl_names_rules.specs.problems.Aggregates as aggregates
 use Rattle.vhdl_names_rules.specs.problems.Expressions.{given, is_vector_type}
 use Rattle.vhdl_names_operators.specs.Resolving.{is_plain}
+use Rattle.vhdl_names_numbers.specs.Integers.{integer_of}
+use Rattle.vhdl_names_operators.proofs.Numbering.{integer_same}
 use Rattle.vhdl_names_expressions.specs.Elements.{filling, as_filling, lacks_range, as_listed, listed_breaks, plain_value}
 use Rattle.vhdl_names_expressions.proofs.Asking.{no_filled}
 use Rattle.vhdl_names_expressions.proofs.Filling.{no_vectors, of_vectors}
@@ -73,11 +75,11 @@ vector_filled k x h = refl
 -- of a type of vectors, or of another one
 pub type_filled : (type : ObjectType) (x : Typed) → is_vector_type type ≡ true → as_filled type x ≡ as_filling x
 type_filled (Elements k) x h = vector_filled k x h
-type_filled (Enumeration e count) x h = absurd (true≢false (sym h))
+type_filled type x h = absurd (true≢false (sym h))
 
 pub none_filled : (type : ObjectType) (x : Typed) → is_vector_type type ≡ false → as_filled type x ≡ None
 none_filled (Elements k) x h = no_filled k x h
-none_filled (Enumeration e count) x h = refl
+none_filled type x h = refl
 
 broken_listed : (k : ElementKind) (at : ℕ) (b : Bool) (es zs : TypedElements) → is_vector k ≡ true → filling es ≡ Err zs → aggregates.composite (Elements k) at b es ≡ listed_breaks k at b es
 broken_listed k at b (types.element (types.others p ∷ []) q x types.no_elements) zs v h = absurd cc
@@ -137,7 +139,7 @@ module _ (k : ElementKind) (at : ℕ) (es : TypedElements) where
 
 pub composite_value : (type : ObjectType) (r : Option Range) (at : ℕ) (es : TypedElements) → as_value type r (composite at es) ≡ as_composite type at r es
 composite_value (Elements k) r at es = refl
-composite_value (Enumeration e count) r at es = refl
+composite_value type r at es = refl
 
 pub value_plain : (type : ObjectType) (r : Option Range) (x : Typed) → is_plain x ≡ true → as_value type r x ≡ plain_value type x
 value_plain (Elements k) r (composite at es) h = absurd cc
@@ -146,7 +148,19 @@ value_plain (Elements k) r x h = refl
 value_plain (Enumeration e count) r (composite at es) h = absurd cc
 value_plain (Enumeration e count) r (enumerated d size x) h = refl
 value_plain (Enumeration e count) r x h = refl
+value_plain type r (composite at es) h = absurd cc
+value_plain type r x h = refl
 
 pub value_breaks : (type : ObjectType) (r : Option Range) (at : ℕ) (x : Typed) → is_plain x ≡ true → given type r at x ≡ lacking TypeMismatch at (plain_value type x)
 value_breaks type r at (composite p es) h = absurd cc
 value_breaks type r at x h = ap (lacking TypeMismatch at) (value_plain type r x h)
+
+-- ---- values of an integer type
+
+pub number_given : (x i : Typed) → integer_of x ≡ Some i → plain_value Integers x ≡ plain_value Integers i
+number_given x i h = ap (plain_value Integers) (integer_same x i h)
+
+pub no_number_given : (x : Typed) → integer_of x ≡ None → plain_value Integers x ≡ None
+no_number_given (integer s) h = absurd cc
+no_number_given (computed j) h = absurd cc
+no_number_given x h = refl

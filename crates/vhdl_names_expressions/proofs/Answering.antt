@@ -1,6 +1,7 @@
 -- What a step of an expression's analysis answers, what it gives and what it tells, by what its parts answer.
 use Rattle.std.proofs.Common.{◌≡◌, ◌≢◌, ℕ, ◌+◌, suc, ◌<◌, Bool, false, List, length, get_or, drop, option_map, Option, Some, None, Result, IfErr, Vec, Box, Global, refl, sym, ap, ◌∙◌, arith}
 use Rattle.std.specs.Prelude.{IsErrAnd, map}
+use Rattle.vhdl_lexer.specs.declared.language.Language.{Language}
 use Rattle.vhdl_tree.specs.Tree as t
 use Rattle.vhdl_tree.specs.Tree.{Ident, Attribute, elements_of}
 use Rattle.vhdl_tree.specs.View.{view, element_view}
@@ -22,7 +23,7 @@ use Rattle.vhdl_names_rules.specs.Names.{Suffix}
 use Rattle.vhdl_names_rules.specs.Types.{TypedElements}
 use Rattle.vhdl_names_rules.specs.Expressions as are
 use Rattle.vhdl_names_rules.specs.Expressions.{as_integer, in_parentheses}
-use Rattle.vhdl_names_rules.specs.Operators.{Typed, as_computed, composite, inverse, raised, operated}
+use Rattle.vhdl_names_rules.specs.Operators.{Typed, as_computed, composite, inverse, raised}
 use Rattle.vhdl_names_rules.specs.views.Integers.{static_view}
 use Rattle.vhdl_names_rules.specs.views.Expressions.{typed_view}
 use Rattle.vhdl_names_rules.specs.problems.Broken.{Broken, Tells, refused, ◌▸◌, lacking}
@@ -33,6 +34,7 @@ use Rattle.vhdl_names_rules.proofs.Along.{gives_along}
 use Rattle.vhdl_names_rules.proofs.Memory.{memory_gives, memory_told}
 use Rattle.vhdl_names_rules.proofs.Passing.{passed_on, told_by}
 use Rattle.vhdl_names_rules.proofs.Telling.{told_same}
+use Rattle.vhdl_names_operators.specs.Steps.{operated}
 use Rattle.vhdl_names_operators.specs.Resolving.{kind_of, operand_breaks}
 use Rattle.vhdl_names_expressions.specs.Breaking.{link_breaks, all_break, started_breaks}
 use Rattle.vhdl_names_expressions.specs.Chosen.{started, links_of}
@@ -116,18 +118,25 @@ module _ (sight : Sight) (b : Bool) (v : Typed) (l : Link) where
       passed typed_view (linked sight b (Some v) l) (link_breaks sight b (Some v) l) (are.typed sight (view l.operand)) (typed sight (view l.operand)) f r
       (no_operand sight b v l) (link_first sight b v l f)
 
-  -- an operator on both operands, where the sight has this much of numbers
-  pub link_answers : (y z : Typed) (n : Bool) (r : Result code.Typed NameFault) → are.typed sight (view l.operand) ≡ Some y → z ≡ enclosed_if b y → n ≡ sight.numbers →
-      Answer typed_view (operated n l.at l.operator v z)
-      (operand_breaks l.operator (kind_of z) v ▸ operand_breaks l.operator (kind_of v) z ▸ lacking (operator_problem l.operator v z) l.at (operated n l.at l.operator v z)) r →
+  -- what an operator breaks that makes this of both operands
+  abbrev operator_breaks : Typed → Option Typed → Broken
+  operator_breaks z o = operand_breaks l.operator (kind_of z) v ▸ operand_breaks l.operator (kind_of v) z ▸ lacking (operator_problem l.operator v z) l.at o
+
+  -- an operator on both operands, where the sight has this language, and this much of numbers
+  pub link_answers : (y z : Typed) (w : Language) (n : Bool) (r : Result code.Typed NameFault) → are.typed sight (view l.operand) ≡ Some y → z ≡ enclosed_if b y →
+      w ≡ sight.language → n ≡ sight.numbers → Answer typed_view (operated w n l.at l.operator v z) (operator_breaks z (operated w n l.at l.operator v z)) r →
       Answer typed_view (linked sight b (Some v) l) (link_breaks sight b (Some v) l) r
-  link_answers y z n r given same numbers a = record {
-    given = gives_along typed_view (linked sight b (Some v) l) (operated n l.at l.operator v z) r
-        (ap (λ o. o >>= λ y. operated sight.numbers l.at l.operator v (enclosed_if b y)) given ∙ ap (operated sight.numbers l.at l.operator v) (sym same)
-        ∙ ap (λ m. operated m l.at l.operator v z) (sym numbers)) a.given;
-    told = operator_on sight b v y z l r given same
-        (told_as _ _ r (ap (λ m. operand_breaks l.operator (kind_of z) v ▸ operand_breaks l.operator (kind_of v) z ▸ lacking (operator_problem l.operator v z) l.at (operated m l.at l.operator v z)) numbers) a.told);
-  }
+  link_answers y z w n r given same language numbers a =
+      let made : operated w n l.at l.operator v z ≡ operated sight.language sight.numbers l.at l.operator v z =
+      ap (λ k. operated k n l.at l.operator v z) language ∙ ap (λ m. operated sight.language m l.at l.operator v z) numbers in
+      record {
+        given =
+            gives_along typed_view (linked sight b (Some v) l) (operated w n l.at l.operator v z) r
+            (ap (λ o. o >>= λ y. operated sight.language sight.numbers l.at l.operator v (enclosed_if b y)) given
+            ∙ ap (operated sight.language sight.numbers l.at l.operator v) (sym same) ∙ sym made)
+            a.given;
+        told = operator_on sight b v y z l r given same (told_as _ _ r (ap (operator_breaks z) made) a.told);
+      }
 
 -- the links that are left, on what is done, give the whole, and what they break first, the whole breaks first
 module _ (sight : Sight) (first v : Typed) (ls : List Link) (i : ℕ) where

@@ -16,7 +16,7 @@ use Rattle.vhdl_names_rules.specs.Visibility.{Sight}
 use Rattle.vhdl_tree.specs.declared.operator.Operator.{Operator}
 use Rattle.vhdl_names_rules.specs.declared.kind.ElementKind.{ElementKind}
 use Rattle.vhdl_names_rules.specs.declared.kind.ElementKind.TheVariants.{Element}
-use Rattle.vhdl_names_rules.specs.Operators.{Typed, elements, operated}
+use Rattle.vhdl_names_rules.specs.Operators.{Typed, elements}
 use Rattle.vhdl_names_rules.specs.Expressions as are
 use Rattle.vhdl_names_rules.specs.Expressions.{beside}
 use Rattle.vhdl_names_rules.proofs.laws.Rules.{comes}
@@ -27,12 +27,13 @@ use Rattle.vhdl_names_rules.specs.problems.Expressions.{typed, operand}
 use Rattle.vhdl_names_rules.proofs.Telling.{IsKept, both_kept, behind_kept, lacking_kept, given_kept, told_same, told_left, told_right, told_lacking, told_given, told_on}
 use Rattle.vhdl_names_rules.proofs.kept.Expressions.{typed_kept}
 use Rattle.vhdl_names_rules.proofs.kept.Operands.{first_kept, second_kept}
+use Rattle.vhdl_names_operators.specs.Steps.{operated}
 use Rattle.vhdl_names_operators.specs.Resolving.{kind_of, operand_breaks}
 use Rattle.vhdl_names_operators.proofs.Resolving.{operand_is}
 use Rattle.vhdl_names_expressions.specs.Breaking.{link_breaks, all_break, started_breaks}
 use Rattle.vhdl_names_expressions.specs.Chosen.{started, links_of}
 use Rattle.vhdl_names_expressions.specs.Steps.{is_parens, enclosed_if, linked}
-use Rattle.vhdl_names_expressions.proofs.Chains.{beside_if, linked_typed, started_is}
+use Rattle.vhdl_names_expressions.proofs.Chains.{beside_if, operated_on, operated_is, linked_typed, started_is}
 
 -- ---- parts in turn
 
@@ -85,16 +86,21 @@ asked_of sight e wanted see at v r given same h k =
 
 -- ---- chains
 
--- what an operator breaks on operands, of which the right one counts as this one
+-- what an operator breaks that makes this of operands, of which the right one counts as this one
+abbrev of_operator : Link → (v y z : Typed) → Option Typed → Broken
+of_operator l v y z o = operand l.operator y v ▸ operand l.operator v y ▸ lacking (operator_problem l.operator v z) l.at o
+
 abbrev on_operands : Sight → Link → (v y z : Typed) → Broken
-on_operands sight l v y z =
-    operand l.operator y v ▸ operand l.operator v y ▸ lacking (operator_problem l.operator v z) l.at (operated sight.numbers l.at l.operator v z)
+on_operands sight l v y z = of_operator l v y z (operated sight.language sight.numbers l.at l.operator v z)
 
 operator_is : (sight : Sight) (x : t.Expr) (l : Link) (o q : Option Typed) →
-    where_given o (λ v. where_given q (λ y. on_operands sight l v y (beside x y))) ≡ where_given o (λ v. where_given q (λ y. on_operands sight l v y (enclosed_if (is_parens x) y)))
+    where_given o (λ v. where_given q (λ y. of_operator l v y (beside x y) (operated_on sight l x v y)))
+    ≡ where_given o (λ v. where_given q (λ y. on_operands sight l v y (enclosed_if (is_parens x) y)))
 operator_is sight x l None q = refl
 operator_is sight x l (Some v) None = refl
-operator_is sight x l (Some v) (Some y) = ap (on_operands sight l v y) (beside_if x y)
+operator_is sight x l (Some v) (Some y) =
+    ap (λ z. of_operator l v y z (operated_on sight l x v y)) (beside_if x y)
+    ∙ ap (of_operator l v y (enclosed_if (is_parens x) y)) (operated_is sight l x v y)
 
 -- what stands in parentheses is of its kind, and is an aggregate or none
 kind_enclosed : (b : Bool) (y : Typed) → kind_of (enclosed_if b y) ≡ kind_of y
@@ -110,11 +116,11 @@ operand_enclosed q k true y = refl
 -- an operator on its operands, as the code has it
 operands_are : (sight : Sight) (l : Link) (b : Bool) (v y : Typed) →
     (operand_breaks l.operator (kind_of (enclosed_if b y)) v ▸ operand_breaks l.operator (kind_of v) (enclosed_if b y)
-    ▸ lacking (operator_problem l.operator v (enclosed_if b y)) l.at (operated sight.numbers l.at l.operator v (enclosed_if b y)))
+    ▸ lacking (operator_problem l.operator v (enclosed_if b y)) l.at (operated sight.language sight.numbers l.at l.operator v (enclosed_if b y)))
     ≡ on_operands sight l v y (enclosed_if b y)
 operands_are sight l b v y =
     let z = enclosed_if b y in
-    let last = lacking (operator_problem l.operator v z) l.at (operated sight.numbers l.at l.operator v z) in
+    let last = lacking (operator_problem l.operator v z) l.at (operated sight.language sight.numbers l.at l.operator v z) in
     ap (λ c. c ▸ operand_breaks l.operator (kind_of v) z ▸ last) (ap (λ k. operand_breaks l.operator k v) (kind_enclosed b y) ∙ sym (operand_is l.operator y v))
     ∙ ap (λ c. operand l.operator y v ▸ c ▸ last) (operand_enclosed l.operator (kind_of v) b y ∙ sym (operand_is l.operator v y))
 
@@ -123,19 +129,20 @@ abbrev behind_parens : Bool → t.Expr
 behind_parens true = t.parens 0 (t.integer 0 [])
 behind_parens false = t.integer 0 []
 
-as_beside : (b : Bool) (y : Typed) → enclosed_if b y ≡ beside (behind_parens b) y
-as_beside true y = refl
-as_beside false y = refl
+parens_behind : (b : Bool) → is_parens (behind_parens b) ≡ b
+parens_behind true = refl
+parens_behind false = refl
 
 -- an operator that gives a value breaks nothing
-on_operands_kept : (sight : Sight) (l : Link) (b : Bool) (v y w : Typed) → operated sight.numbers l.at l.operator v (enclosed_if b y) ≡ Some w
+on_operands_kept : (sight : Sight) (l : Link) (b : Bool) (v y w : Typed) → operated sight.language sight.numbers l.at l.operator v (enclosed_if b y) ≡ Some w
     → IsKept (on_operands sight l v y (enclosed_if b y))
 on_operands_kept sight l b v y w h =
     let d = behind_parens b in
-    let k = sym (ap (operated sight.numbers l.at l.operator v) (as_beside b y)) ∙ h in
-    both_kept (operand l.operator y v) _ (first_kept sight.numbers l.at l.operator d v y w k)
-    (both_kept (operand l.operator v y) _ (second_kept sight.numbers l.at l.operator d v y w k)
-    (lacking_kept (operator_problem l.operator v (enclosed_if b y)) l.at (operated sight.numbers l.at l.operator v (enclosed_if b y)) w h))
+    let k : operated_on sight l d v y ≡ Some w =
+    operated_is sight l d v y ∙ ap (λ p. operated sight.language sight.numbers l.at l.operator v (enclosed_if p y)) (parens_behind b) ∙ h in
+    both_kept (operand l.operator y v) _ (first_kept sight.language sight.numbers l.at l.operator d v y w k)
+    (both_kept (operand l.operator v y) _ (second_kept sight.language sight.numbers l.at l.operator d v y w k)
+    (lacking_kept (operator_problem l.operator v (enclosed_if b y)) l.at (operated sight.language sight.numbers l.at l.operator v (enclosed_if b y)) w h))
 
 binary_is : (sight : Sight) (b : Bool) (x : t.Expr) (l : Link) →
     typed sight (t.binary b l.operator l.at x (view l.operand)) ≡ (typed sight x ▸ link_breaks sight (is_parens x) (are.typed sight x) l)
@@ -178,7 +185,7 @@ chain_first sight e box k f is same h =
 -- a link that is given breaks nothing
 link_kept : (sight : Sight) (b : Bool) (v w : Typed) (l : Link) → linked sight b (Some v) l ≡ Some w → IsKept (link_breaks sight b (Some v) l)
 link_kept sight b v w l h =
-    let y = comes (are.typed sight (view l.operand)) (λ y. operated sight.numbers l.at l.operator v (enclosed_if b y)) w h in
+    let y = comes (are.typed sight (view l.operand)) (λ y. operated sight.language sight.numbers l.at l.operator v (enclosed_if b y)) w h in
     both_kept (typed sight (view l.operand)) _ (typed_kept (view l.operand) sight y.value y.is)
     (given_kept (λ q. on_operands sight l v q (enclosed_if b q)) (are.typed sight (view l.operand)) y.value y.is (on_operands_kept sight l b v y.value w y.rest))
 
@@ -240,12 +247,12 @@ rest_goes sight v w ls i j l lt e next gives =
 -- an operator, where both operands are given
 pub operator_on : {X : Type 0} (sight : Sight) (b : Bool) (v y z : Typed) (l : Link) (r : Result X NameFault) → are.typed sight (view l.operand) ≡ Some y →
     z ≡ enclosed_if b y → IfErr r (Tells
-    (operand_breaks l.operator (kind_of z) v ▸ operand_breaks l.operator (kind_of v) z ▸ lacking (operator_problem l.operator v z) l.at (operated sight.numbers l.at l.operator v z))) →
+    (operand_breaks l.operator (kind_of z) v ▸ operand_breaks l.operator (kind_of v) z ▸ lacking (operator_problem l.operator v z) l.at (operated sight.language sight.numbers l.at l.operator v z))) →
     IfErr r (Tells (link_breaks sight b (Some v) l))
 operator_on sight b v y z l r given at h =
     asked_told (typed sight (view l.operand)) (are.typed sight (view l.operand)) (λ q. on_operands sight l v q (enclosed_if b q)) y r (typed_kept (view l.operand) sight y given) given
     (told_as _ _ r
-    (ap (λ q. operand_breaks l.operator (kind_of q) v ▸ operand_breaks l.operator (kind_of v) q ▸ lacking (operator_problem l.operator v q) l.at (operated sight.numbers l.at l.operator v q)) at
+    (ap (λ q. operand_breaks l.operator (kind_of q) v ▸ operand_breaks l.operator (kind_of v) q ▸ lacking (operator_problem l.operator v q) l.at (operated sight.language sight.numbers l.at l.operator v q)) at
     ∙ operands_are sight l b v y) h)
 
 pub link_first : (sight : Sight) (b : Bool) (v : Typed) (l : Link) (f : NameFault) → Tells (typed sight (view l.operand)) f → Tells (link_breaks sight b (Some v) l) f

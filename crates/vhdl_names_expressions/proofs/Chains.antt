@@ -1,5 +1,6 @@
 -- The types of chains, names and arguments, each as the code comes to it.
 use Rattle.std.proofs.Common.{◌≡◌, ℕ, suc, ◌<◌, ◌≤◌, Bool, true, false, List, [], ◌∷◌, ◌++◌, map, length, get_or, drop, drop-cons, Option, Some, None, Vec, Box, Global, append_assoc, append-nil, refl, sym, ap, ◌∙◌}
+use Rattle.std.specs.Option.{option_or}
 use Rattle.std.proofs.lemmas.List.{drop_all}
 use Rattle.vhdl_tree.specs.Tree as t
 use Rattle.vhdl_tree.specs.Tree.{Ident, Attribute, exprs_of}
@@ -7,16 +8,23 @@ use Rattle.vhdl_tree.specs.View.{view, chain_view, pair_view, suffix_view}
 use Rattle.vhdl_tree.specs.declared.expression.Suffix as f
 use Rattle.vhdl_tree.specs.declared.expression.Suffix.TheVariants as s
 use Rattle.vhdl_tree.specs.declared.operator.Direction.{Direction}
+use Rattle.vhdl_tree.specs.declared.operator.Operator.{Operator}
 use Rattle.vhdl_tree.specs.declared.expression.Expr.{Expr}
 use Rattle.vhdl_tree.specs.declared.expression.Expr.TheVariants as x
 use Rattle.vhdl_tree.specs.declared.expression.Chain.{Chain, out-Chain}
 use Rattle.vhdl_tree.specs.declared.expression.Link.{Link}
 use Rattle.vhdl_tree.proofs.Rows.{chain_is, view_arguments}
-use Rattle.vhdl_names_rules.specs.Rules.{◌>>=◌}
+use Rattle.vhdl_names_rules.specs.Rules.{◌>>=◌, wider}
+use Rattle.vhdl_names_rules.specs.declared.kind.ElementKind.{ElementKind}
+use Rattle.vhdl_names_rules.specs.declared.kind.ElementKind.TheVariants.{Element}
+use Rattle.vhdl_names_rules.specs.units.Expressions as u
 use Rattle.vhdl_names_rules.specs.Visibility.{Sight, Declared, declaration}
 use Rattle.vhdl_names_rules.specs.Names.{Suffix}
-use Rattle.vhdl_names_rules.specs.Operators.{Typed, integer, computed, operated}
-use Rattle.vhdl_names_rules.specs.Expressions.{typed, typed_suffix, typed_each, named, beside, sliced, static, as_integer}
+use Rattle.vhdl_names_rules.specs.Operators as table
+use Rattle.vhdl_names_rules.specs.Operators.{Typed, integer, computed, elements, truths_related}
+use Rattle.vhdl_names_rules.specs.Expressions.{typed, typed_suffix, typed_each, named, enclosed, beside, sliced, static, as_integer}
+use Rattle.vhdl_names_operators.specs.Steps.{operated}
+use Rattle.vhdl_names_operators.proofs.Relating.{beside_elements}
 use Rattle.vhdl_names_expressions.specs.Chosen.{arguments_of, started, links_of}
 use Rattle.vhdl_names_numbers.specs.Integers.{integer_of}
 use Rattle.vhdl_names_expressions.specs.Steps.{is_parens, enclosed_if, linked, all_linked, computed_of}
@@ -27,17 +35,38 @@ pub beside_if : (x : t.Expr) (y : Typed) → beside x y ≡ enclosed_if (is_pare
 beside_if (t.bits at s) y = refl
 beside_if x y = refl
 
+elements_enclosed : (q : Operator) (x : Typed) (k : ElementKind) (v : u.Vector) → truths_related q x (enclosed (elements k v)) ≡ None
+elements_enclosed q x Element (u.character c) = beside_elements q x Element (u.enclosed_character c)
+elements_enclosed q x k v = beside_elements q x k v
+
+-- a truth in parentheses is the same
+truths_enclosed : (q : Operator) (b : Bool) (x y : Typed) → truths_related q x y ≡ truths_related q x (enclosed_if b y)
+truths_enclosed q false x y = refl
+truths_enclosed q true x (elements k v) = beside_elements q x k v ∙ sym (elements_enclosed q x k v)
+truths_enclosed q true x y = refl
+
+-- an operator on operands, of which the right one stands behind this expression
+abbrev pub operated_on : Sight → Link → t.Expr → (x y : Typed) → Option Typed
+operated_on sight l d x y =
+    option_or (table.operated sight.numbers l.at l.operator x (beside d y)) (wider sight.language (truths_related l.operator x y))
+
+pub operated_is : (sight : Sight) (l : Link) (d : t.Expr) (x y : Typed) →
+    operated_on sight l d x y ≡ operated sight.language sight.numbers l.at l.operator x (enclosed_if (is_parens d) y)
+operated_is sight l d x y =
+    ap (λ z. option_or (table.operated sight.numbers l.at l.operator x z) (wider sight.language (truths_related l.operator x y))) (beside_if d y)
+    ∙ ap (λ o. option_or (table.operated sight.numbers l.at l.operator x (enclosed_if (is_parens d) y)) (wider sight.language o)) (truths_enclosed l.operator (is_parens d) x y)
+
 pub linked_typed : (sight : Sight) (b : Bool) (x : t.Expr) (l : Link) →
     typed sight (t.binary b l.operator l.at x (view l.operand)) ≡ linked sight (is_parens x) (typed sight x) l
 unfolding typed
 linked_typed sight b x l = go (typed sight x)
   where
     next : (v : Typed) (o : Option Typed) →
-        (o >>= λ y. operated sight.numbers l.at l.operator v (beside x y)) ≡ (o >>= λ y. operated sight.numbers l.at l.operator v (enclosed_if (is_parens x) y))
+        (o >>= λ y. operated_on sight l x v y) ≡ (o >>= λ y. operated sight.language sight.numbers l.at l.operator v (enclosed_if (is_parens x) y))
     next v None = refl
-    next v (Some y) = ap (operated sight.numbers l.at l.operator v) (beside_if x y)
+    next v (Some y) = operated_is sight l x v y
 
-    go : (o : Option Typed) → (o >>= λ v. (typed sight (view l.operand) >>= λ y. operated sight.numbers l.at l.operator v (beside x y))) ≡ linked sight (is_parens x) o l
+    go : (o : Option Typed) → (o >>= λ v. (typed sight (view l.operand) >>= λ y. operated_on sight l x v y)) ≡ linked sight (is_parens x) o l
     go None = refl
     go (Some v) = next v (typed sight (view l.operand))
 

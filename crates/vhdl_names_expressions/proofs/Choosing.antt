@@ -24,7 +24,7 @@ use Rattle.vhdl_tree.specs.View.{suffix_view, choice_view}
 use Rattle.vhdl_tree.specs.declared.expression.Choice as h
 use Rattle.vhdl_tree.proofs.Rows.{view_arguments}
 use Rattle.vhdl_names_rules.specs.declared.kind.ObjectType.{ObjectType}
-use Rattle.vhdl_names_rules.specs.declared.kind.ObjectType.TheVariants.{Elements, Enumeration}
+use Rattle.vhdl_names_rules.specs.declared.kind.ObjectType.TheVariants.{Elements}
 use Rattle.vhdl_names_rules.specs.units.Statements.{Choice}
 use Rattle.vhdl_names_rules.specs.Rules.{◌>>=◌, ◌>>◌, met, each}
 use Rattle.vhdl_names_rules.specs.Visibility as visibility
@@ -152,7 +152,7 @@ none_after (Some d) f = refl
 -- a name is no literal
 name_unchosen : (type : ObjectType) (n : t.Ident) (y : t.Suffix) (a : Option t.Attribute) → c.literal_choice type (t.named n y a) ≡ None
 name_unchosen (Elements k) n y a = ap (option_map Choice.values) (no_literal k (t.named n y a) refl)
-name_unchosen (Enumeration e count) n y a = refl
+name_unchosen type n y a = refl
 
 -- a name whose identifier comes first
 pub chosen_named : (sight : Sight) (type : ObjectType) (n : t.Ident) (y : t.Suffix) (a : Option t.Attribute) →

@@ -17,3 +17,4 @@ pub mod Namings
 pub mod Answering
 pub mod AnsweringLists
 pub mod AnsweringBounds
+pub mod Selecting

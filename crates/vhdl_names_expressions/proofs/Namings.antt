@@ -15,7 +15,7 @@ use Rattle.vhdl_names_rules.specs.Types.{Typed, interval}
 use Rattle.vhdl_names_rules.specs.Names.{Suffix, plain, denoted, attributed}
 use Rattle.vhdl_names_rules.specs.Ranges.{named_range, range_attribute, sized_by}
 use Rattle.vhdl_names_rules.specs.Expressions as are
-use Rattle.vhdl_names_rules.specs.Expressions.{named}
+use Rattle.vhdl_names_rules.specs.Expressions.{valued, named}
 use Rattle.vhdl_names_rules.specs.problems.Broken.{Broken, Tells, nothing, refused, ◌▸◌, lacking, where_given}
 use Rattle.vhdl_names_rules.specs.problems.Operators.{name_problem}
 use Rattle.vhdl_names_rules.specs.problems.Expressions as broken
@@ -24,7 +24,6 @@ use Rattle.vhdl_names_rules.proofs.Telling.{IsKept, lacking_kept, told_same, tol
 use Rattle.vhdl_names_rules.proofs.kept.Expressions.{declared_kept, typed_suffix_kept}
 use Rattle.vhdl_names_rules.proofs.laws.Ranged.{named_by_range, named_alone, named_valued}
 use Rattle.vhdl_names_expressions.specs.Asked.{subtype_range, attribute_range_breaks}
-use Rattle.vhdl_names_expressions.specs.Steps.{valued}
 
 -- ---- what has no value
 

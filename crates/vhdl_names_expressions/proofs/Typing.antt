@@ -17,10 +17,11 @@ use Rattle.vhdl_names_rules.specs.Rules.{◌>>=◌}
 use Rattle.vhdl_names_rules.specs.Visibility.{Sight, Declared, declaration}
 use Rattle.vhdl_names_rules.specs.Names.{Suffix}
 use Rattle.vhdl_names_rules.specs.Types.{TypedElements}
-use Rattle.vhdl_names_rules.specs.Operators.{Typed, composite, inverse, raised, operated}
+use Rattle.vhdl_names_rules.specs.Operators.{Typed, composite, inverse, raised}
 use Rattle.vhdl_names_rules.specs.Expressions.{typed, typed_suffix, typed_elements, named, qualified, in_parentheses, absolute, signed, static, static_range}
 use Rattle.vhdl_names_rules.specs.problems.Broken.{Broken}
 use Rattle.vhdl_names_rules.specs.problems.Expressions as broken
+use Rattle.vhdl_names_operators.specs.Steps.{operated}
 use Rattle.vhdl_names_expressions.specs.Steps.{enclosed_if, linked}
 use Rattle.vhdl_names_expressions.proofs.Chains.{named_in_turn}
 
@@ -165,4 +166,4 @@ module _ (sight : Sight) (r : t.Range) where
 -- ---- links
 
 pub no_operand : (sight : Sight) (b : Bool) (v : Typed) (l : Link) → typed sight (view l.operand) ≡ None → linked sight b (Some v) l ≡ None
-no_operand sight b v l h = ap (λ (o : Option Typed). o >>= λ y. operated sight.numbers l.at l.operator v (enclosed_if b y)) h
+no_operand sight b v l h = ap (λ (o : Option Typed). o >>= λ y. operated sight.language sight.numbers l.at l.operator v (enclosed_if b y)) h

@@ -4,14 +4,18 @@ use Rattle.std.specs.Prelude.{ℕ, not, Option, Some, None, is_none}
 use Rattle.vhdl_tree.specs.Tree as t
 use Rattle.vhdl_tree.specs.Tree.{Expr, Name}
 use Rattle.vhdl_names_rules.specs.declared.kind.ObjectType.{ObjectType}
-use Rattle.vhdl_names_rules.specs.units.Expressions.{Range, StaticTest, Value}
+use Rattle.vhdl_names_rules.specs.declared.kind.ObjectType.TheVariants.{Integers, Booleans}
+use Rattle.vhdl_names_rules.specs.units.Expressions as u
+use Rattle.vhdl_names_rules.specs.units.Expressions.{Range, StaticTest}
 use Rattle.vhdl_names_rules.specs.declared.fault.NameProblem.TheVariants.{TypeMismatch, WriteOfIn, LeftOut}
 use Rattle.vhdl_names_rules.specs.Rules.{◌>>=◌, ◌>>◌, rule, wider}
 use Rattle.vhdl_names_rules.specs.Ranges.{named_range}
 use Rattle.vhdl_names_rules.specs.Visibility.{Sight, Declared, declaration}
 use Rattle.vhdl_names_rules.specs.Names.{Suffix}
 use Rattle.vhdl_names_rules.specs.Expressions.{typed, typed_suffix, as_range, as_static_test}
-use Rattle.vhdl_names_rules.specs.Choices.{selector}
+use Rattle.vhdl_names_rules.specs.Choices.{Selector, value, truth, selector}
+use Rattle.vhdl_names_rules.specs.Operators as operators
+use Rattle.vhdl_names_rules.specs.Operators.{Typed, integer}
 use Rattle.vhdl_names_rules.specs.Statements.{is_input, mode_of, Target, as_signal_target}
 use Rattle.vhdl_names_rules.specs.problems.Broken.{Broken, ◌▸◌, lacking, where_given}
 use Rattle.vhdl_names_rules.specs.problems.Expressions as broken
@@ -19,8 +23,19 @@ use Rattle.vhdl_names_rules.specs.problems.Expressions as broken
 abbrev pub static_condition : Sight → Expr → Option StaticTest
 static_condition sight e = typed sight e >>= as_static_test
 
-abbrev pub selected_by : Sight → Expr → Option (ObjectType × Value)
-selected_by sight e = typed sight e >>= selector
+abbrev pub selected_by : Sight → Expr → Option (ObjectType × Selector)
+selected_by sight e = typed sight e >>= selector sight.language
+
+-- an integer or a truth that a case is on in the wider language alone
+abbrev pub wide_selector : Typed → Option (ObjectType × Selector)
+wide_selector (integer s) = Some (Integers, value (u.Value.computed (u.static s)))
+wide_selector (operators.truth t) = Some (Booleans, truth t)
+wide_selector _ = None
+
+-- the expression that a boolean is given
+abbrev pub boolean_value : ObjectType → t.Value → Option Expr
+boolean_value Booleans (t.single e) = Some e
+boolean_value _ _ = None
 
 -- the range of a subtype of integers
 abbrev pub subtype_range : Sight → Name → Option Range

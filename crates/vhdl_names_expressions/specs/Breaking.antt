@@ -5,10 +5,11 @@ use Rattle.vhdl_tree.specs.declared.expression.Link.{Link}
 use Rattle.vhdl_tree.specs.View.{view}
 use Rattle.vhdl_names_rules.specs.Visibility.{Sight}
 use Rattle.vhdl_names_rules.specs.Expressions as are
-use Rattle.vhdl_names_rules.specs.Operators.{Typed, operated}
+use Rattle.vhdl_names_rules.specs.Operators.{Typed}
 use Rattle.vhdl_names_rules.specs.problems.Broken.{Broken, nothing, ◌▸◌, lacking, where_given}
 use Rattle.vhdl_names_rules.specs.problems.Expressions.{typed, operand}
 use Rattle.vhdl_names_rules.specs.problems.Operators.{operator_problem}
+use Rattle.vhdl_names_operators.specs.Steps.{operated}
 use Rattle.vhdl_names_expressions.specs.Steps.{is_parens, enclosed_if, linked}
 
 -- a link's right operand, and its operator on what the left operand is, which may stand in parentheses
@@ -18,7 +19,7 @@ link_breaks sight b o l =
     ▸ where_given o (λ x. where_given (are.typed sight (view l.operand)) (λ y.
     operand l.operator y x ▸ operand l.operator x y
     ▸ lacking (operator_problem l.operator x (enclosed_if b y)) l.at
-    (operated sight.numbers l.at l.operator x (enclosed_if b y))))
+    (operated sight.language sight.numbers l.at l.operator x (enclosed_if b y))))
 
 -- further links, on what stands before them
 abbrev pub all_break : Sight → Option Typed → List Link → Broken

@@ -1,17 +1,18 @@
 -- What single steps of an aggregate without a type, and of a qualified expression, answer.
-use Rattle.std.specs.Prelude.{◌≡◌, ◌==◌, ℕ, Bool, true, false, not, ◌||◌, is_some, List, [], ◌∷◌, map, Option, Some, None, Result, Ok, Err, Vec}
+use Rattle.std.specs.Prelude.{◌≡◌, ◌==◌, ℕ, Bool, true, false, not, ◌||◌, is_some, List, [], ◌∷◌, map, Option, Some, None, option_map, Result, Ok, Err, Vec}
 use Rattle.std.specs.Global.{Global}
 use Rattle.vhdl_tree.specs.Tree as t
 use Rattle.vhdl_names_rules.specs.declared.kind.ElementKind.{ElementKind}
 use Rattle.vhdl_names_rules.specs.declared.kind.ElementKind.TheVariants.{Element}
 use Rattle.vhdl_names_rules.specs.declared.kind.ObjectType.{ObjectType}
-use Rattle.vhdl_names_rules.specs.declared.kind.ObjectType.TheVariants.{Elements, Enumeration}
+use Rattle.vhdl_names_rules.specs.declared.kind.ObjectType.TheVariants.{Elements, Enumeration, Integers}
 use Rattle.vhdl_names_rules.specs.declared.fault.NameProblem.{NameProblem}
 use Rattle.vhdl_names_rules.specs.declared.fault.NameProblem.TheVariants.{TypeMismatch, LeftOut}
 use Rattle.vhdl_names_rules.specs.declared.typed.Typed.{Typed as CodeTyped}
 use Rattle.vhdl_names_rules.specs.declared.typed.TypedElement.{TypedElement, out-TypedElement}
 use Rattle.vhdl_names_rules.specs.Types as types
 use Rattle.vhdl_names_rules.specs.Types.{Typed, elements, enumerated, TypedChoice, TypedElements}
+use Rattle.vhdl_names_rules.specs.Operators.{as_computed}
 use Rattle.vhdl_names_rules.specs.Rules.{◌>>=◌, ◌>>◌, rule, given_that}
 use Rattle.vhdl_names_rules.specs.Visibility as visibility
 use Rattle.vhdl_names_rules.specs.Visibility.{Sight, Meaning, DeclaredRange}
@@ -108,6 +109,7 @@ as_filling _ = None
 abbrev pub plain_value : ObjectType → Typed → Option Given
 plain_value (Elements k) (elements j x) = given_that TypeMismatch (fits k j) (single (u.elements x))
 plain_value (Enumeration e count) (enumerated d size x) = given_that TypeMismatch (e == d) (single x)
+plain_value Integers x = option_map (λ j. single (u.Value.computed j)) (as_computed x)
 plain_value _ _ = None
 
 -- of the type of one element

@@ -1,28 +1,25 @@
-//! What statements ask of an expression beside a condition: a value of a type (IEEE 1076-2008,
-//! 9.3.3, 10.5) and what a case selects by (10.9). Each takes memory for what is analysed, and
-//! fails at the first byte where a rule is broken.
+//! The value of a type that an expression is (IEEE 1076-2008, 9.3.3, 10.5). Each takes memory for
+//! what is analysed, and fails at the first byte where a rule is broken.
 
 ghost use Rattle.std.specs.Prelude.{◌≡◌, map, option_map, is_some, IfOk, IfErr};
 ghost use Rattle.vhdl_names_rules.specs.problems.Broken.{Tells, refused, ◌▸◌, unless, lacking};
-ghost use Rattle.vhdl_names_rules.specs.problems.Choices as choices;
 ghost use Rattle.vhdl_names_rules.specs.problems.Expressions as broken;
 ghost use Rattle.vhdl_names_rules.specs.declared.fault.NameProblem.TheVariants.{TypeMismatch};
-ghost use Rattle.vhdl_names_rules.specs.Choices.{selector as selector_of};
 ghost use Rattle.vhdl_names_rules.specs.Expressions as rules;
 ghost use Rattle.vhdl_names_rules.specs.Gives.{Gives};
-ghost use Rattle.vhdl_names_rules.specs.declared.kind.ObjectType.TheVariants.{Elements, Enumeration};
+ghost use Rattle.vhdl_names_rules.specs.declared.kind.ObjectType.TheVariants.{Elements, Enumeration, Integers};
 ghost use Rattle.vhdl_tree.specs.Tree as t;
 ghost use Rattle.vhdl_tree.specs.View as trees;
 ghost use Rattle.vhdl_names_rules.specs.views.Expressions.{typed_view, choice_view, typed_elements_view};
 ghost use Rattle.vhdl_names_rules.specs.views.Integers.{target_range_view, option_range_view};
 ghost use Rattle.vhdl_names_rules.specs.problems.Aggregates as aggregates;
-ghost use Rattle.vhdl_names_expressions.specs.Asked.{selected_by};
 ghost use Rattle.vhdl_names_expressions.specs.Elements as steps;
 ghost use Rattle.vhdl_names_expressions.specs.Elements.{filling as filling_of, sole_view as filling_view};
-ghost use Rattle.vhdl_names_units.specs.views.Answers.{given_view, selector_view};
+ghost use Rattle.vhdl_names_units.specs.views.Answers.{given_view};
 
 use crate::expressions::{start, typed};
 use std::alloc::{AllocError, Global};
+use vhdl_names_numbers::Integer;
 use vhdl_names_operators::{aggregate, is_named};
 use vhdl_names_rules::{
     ElementKind, NameFault, NameProblem, ObjectType, StaticRange, TargetRange, Typed, TypedChoice,
@@ -72,6 +69,20 @@ fn as_state(
         }
     }
     Err(NameProblem::TypeMismatch.at(at))
+}
+
+/// The value of an integer type that an operand is, which starts at byte `at`.
+fn as_number(alloc: Global, operand: Typed, at: usize) -> Result<Given, NameFault>
+    ensures given { Gives given_view (steps.plain_value Integers (typed_view operand)) result }
+    ensures told { IfErr result (Tells (refused TypeMismatch at)) }
+{
+    match Integer::of(operand) {
+        Ok(integer) => {
+            let value = Value::Computed(integer.into_computed());
+            Ok(Given::Single(Box::new(alloc, value)?))
+        }
+        Err(operand) => Err(without(operand, NameProblem::TypeMismatch.at(at))),
+    }
 }
 
 /// Whether a choice is `others`.
@@ -215,7 +226,7 @@ fn given_composite(
 {
     match object_type {
         ObjectType::Elements(kind) => as_composite(alloc, kind, range, elements, at),
-        ObjectType::Enumeration { .. } => {
+        ObjectType::Enumeration { .. } | ObjectType::Integers | ObjectType::Booleans => {
             Err(without(elements, NameProblem::TypeMismatch.at(at)))
         }
     }
@@ -234,6 +245,8 @@ fn as_plain(
     match object_type {
         ObjectType::Elements(kind) => as_elements(alloc, kind, operand, at),
         ObjectType::Enumeration { number, count } => as_state(alloc, number, count, operand, at),
+        ObjectType::Integers => as_number(alloc, operand, at),
+        ObjectType::Booleans => Err(without(operand, NameProblem::TypeMismatch.at(at))),
     }
 }
 
@@ -264,7 +277,7 @@ fn is_vector_type(object_type: ObjectType) -> bool
 {
     match object_type {
         ObjectType::Elements(kind) => kind.is_vector(),
-        ObjectType::Enumeration { .. } => false,
+        ObjectType::Enumeration { .. } | ObjectType::Integers | ObjectType::Booleans => false,
     }
 }
 
@@ -331,36 +344,4 @@ pub fn given(
             as_filled(sight.alloc, object_type, operand, *at, start(element))
         }
     }
-}
-
-/// The type and the value that a case selects by, of an operand which starts at byte `at`.
-fn as_selector(operand: Typed, at: usize) -> Result<(ObjectType, Value), NameFault>
-    ensures given { Gives selector_view (selector_of (typed_view operand)) result }
-    ensures told { IfErr result (Tells (refused TypeMismatch at)) }
-{
-    match operand {
-        Typed::Elements(ElementKind::OpenVector, vector) => Ok((
-            ObjectType::Elements(ElementKind::LogicVector),
-            Value::Elements(vector),
-        )),
-        Typed::Elements(kind, vector) => {
-            Ok((ObjectType::Elements(kind), Value::Elements(vector)))
-        }
-        Typed::Enumerated {
-            number,
-            count,
-            value,
-        } => Ok((ObjectType::Enumeration { number, count }, value)),
-        _ => Err(NameProblem::TypeMismatch.at(at)),
-    }
-}
-
-/// The type and the value that a case selects by: elements of the nine values, or an enumeration
-/// (10.9).
-pub fn selector(sight: &Sight, e: &Expr) -> Result<(ObjectType, Value), NameFault>
-    ensures given { Gives selector_view (selected_by sight.now (trees.view e.now)) result }
-    ensures told { IfErr result (Tells (choices.selected_by sight.now (trees.view e.now))) }
-{
-    let value = typed(sight, e)?;
-    as_selector(value, start(e))
 }

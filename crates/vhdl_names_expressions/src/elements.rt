@@ -63,7 +63,7 @@ fn has_local_bounds(sight: &Sight, range: &Range) -> bool
 /// A choice of an element.
 #[cycle(typed)]
 #[tactic(auto, unfolding(vhdl_names_rules::specs::Expressions::typed_choice))]
-fn typed_choice(sight: &Sight, choice: &Choice) -> Result<TypedChoice, NameFault>
+pub fn typed_choice(sight: &Sight, choice: &Choice) -> Result<TypedChoice, NameFault>
     ensures given { Gives choice_view (rules.typed_choice sight.now (tree_choice_view choice.now)) result }
     ensures told { IfErr result (Tells (broken.typed_choice sight.now (tree_choice_view choice.now))) }
 {

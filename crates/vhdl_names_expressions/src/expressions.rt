@@ -168,6 +168,7 @@ fn link(sight: &Sight, link: &Link, after_parens: bool, first: Typed) -> Result<
     let operand = beside(after_parens, operand);
     operated(
         sight.alloc,
+        sight.language,
         sight.has_numbers,
         link.operator,
         link.at,

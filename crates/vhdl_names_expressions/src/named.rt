@@ -126,7 +126,7 @@ fn valued(
     at: usize,
 ) -> Result<Typed, NameFault>
     ensures given { Gives typed_view
-        (steps.valued at (option_map attribute_view attribute.now) (meaning_view entry.now.meaning)
+        (rules.valued at (option_map attribute_view attribute.now) (meaning_view entry.now.meaning)
         (option_map declared_range_view entry.now.range) (typed_suffix_view suffix)) result }
     ensures told { IfErr result (Tells
         (broken.with_suffix at (option_map attribute_view attribute.now) (meaning_view entry.now.meaning)

@@ -48,9 +48,7 @@ fn as_signal(entry: &Entry, suffix: TypedSuffix, at: usize) -> Result<SignalName
     ensures told { IfErr result (Tells (refused (broken.signal_problem (meaning_view entry.now.meaning)) at)) }
 {
     let (signal, mode, object_type) = match &entry.meaning {
-        Meaning::Port(k, mode, kind) => {
-            (Signal::Port(*k), Some(*mode), ObjectType::Elements(*kind))
-        }
+        Meaning::Port(k, mode, object_type) => (Signal::Port(*k), Some(*mode), *object_type),
         Meaning::Signal(k, object_type) => (Signal::Signal(*k), None, *object_type),
         Meaning::Unfinished => return Err(NameProblem::Undeclared.at(at)),
         _ => return Err(NameProblem::WrongKind.at(at)),
@@ -81,7 +79,7 @@ fn as_signal_target(entry: &Entry, suffix: TypedSuffix, at: usize) -> Result<Tar
     ensures told { IfErr result (Tells (refused (broken.signal_problem (meaning_view entry.now.meaning)) at)) }
 {
     let (signal, object_type) = match &entry.meaning {
-        Meaning::Port(k, _, kind) => (Signal::Port(*k), ObjectType::Elements(*kind)),
+        Meaning::Port(k, _, object_type) => (Signal::Port(*k), *object_type),
         Meaning::Signal(k, object_type) => (Signal::Signal(*k), *object_type),
         Meaning::Unfinished => return Err(NameProblem::Undeclared.at(at)),
         _ => return Err(NameProblem::WrongKind.at(at)),

@@ -11,7 +11,7 @@ use Rattle.vhdl_names_rules.specs.Visibility as visibility
 use Rattle.vhdl_names_rules.specs.Visibility.{Meaning, Sight}
 use Rattle.vhdl_names_rules.specs.Names.{Suffix}
 use Rattle.vhdl_names_rules.specs.Expressions.{typed_suffix}
-use Rattle.vhdl_names_rules.specs.Instances.{Formal, as_name, is_kind, may_join}
+use Rattle.vhdl_names_rules.specs.Instances.{Formal, as_name, is_type, may_join}
 use Rattle.vhdl_names_rules.specs.Statements.{SignalName, signal}
 use Rattle.vhdl_names_rules.specs.declared.fault.NameFault.{NameFault}
 use Rattle.vhdl_names_rules.specs.declared.fault.NameProblem.{NameProblem}
@@ -129,7 +129,7 @@ module _ (sight : Sight) (n : t.Name) where
 
 module _ (sight : Sight) (f : Formal) (e : t.Expr) (x : NameFault) where
   abbrev of_signal : t.Name → SignalName → Broken
-  of_signal n s = unless TypeMismatch n.identifier.at (is_kind f.kind s.type) ▸ unless WriteOfIn n.identifier.at (may_join f.mode s.mode)
+  of_signal n s = unless TypeMismatch n.identifier.at (is_type f.type s.type) ▸ unless WriteOfIn n.identifier.at (may_join f.mode s.mode)
 
   abbrev of_name : t.Name → Broken
   of_name n = actual_signal sight n ▸ where_given (signal sight n) (of_signal n)
@@ -152,15 +152,15 @@ module _ (sight : Sight) (f : Formal) (e : t.Expr) (x : NameFault) where
       (told_right (actual_signal sight n) (where_given (signal sight n) (of_signal n)) x (actual_signal_kept sight n s k)
       (told_given (of_signal n) (signal sight n) s x k w))
 
-  pub other_kind_told : (n : t.Name) → as_name e ≡ Some n → (s : SignalName) → signal sight n ≡ Some s → is_kind f.kind s.type ≡ false
+  pub other_type_told : (n : t.Name) → as_name e ≡ Some n → (s : SignalName) → signal sight n ≡ Some s → is_type f.type s.type ≡ false
       → Tells (refused TypeMismatch n.identifier.at) x → Tells (port_actual sight f e) x
-  other_kind_told n h s k q w =
-      at_signal n h s k (told_left (unless TypeMismatch n.identifier.at (is_kind f.kind s.type)) (unless WriteOfIn n.identifier.at (may_join f.mode s.mode)) x
-      (told_unless TypeMismatch n.identifier.at (is_kind f.kind s.type) x (λ m. q) w))
+  other_type_told n h s k q w =
+      at_signal n h s k (told_left (unless TypeMismatch n.identifier.at (is_type f.type s.type)) (unless WriteOfIn n.identifier.at (may_join f.mode s.mode)) x
+      (told_unless TypeMismatch n.identifier.at (is_type f.type s.type) x (λ m. q) w))
 
-  pub not_joined_told : (n : t.Name) → as_name e ≡ Some n → (s : SignalName) → signal sight n ≡ Some s → is_kind f.kind s.type ≡ true → may_join f.mode s.mode ≡ false
+  pub not_joined_told : (n : t.Name) → as_name e ≡ Some n → (s : SignalName) → signal sight n ≡ Some s → is_type f.type s.type ≡ true → may_join f.mode s.mode ≡ false
       → Tells (refused WriteOfIn n.identifier.at) x → Tells (port_actual sight f e) x
   not_joined_told n h s k a q w =
-      at_signal n h s k (told_right (unless TypeMismatch n.identifier.at (is_kind f.kind s.type)) (unless WriteOfIn n.identifier.at (may_join f.mode s.mode)) x
-      (unless_kept TypeMismatch n.identifier.at (is_kind f.kind s.type) a)
+      at_signal n h s k (told_right (unless TypeMismatch n.identifier.at (is_type f.type s.type)) (unless WriteOfIn n.identifier.at (may_join f.mode s.mode)) x
+      (unless_kept TypeMismatch n.identifier.at (is_type f.type s.type) a)
       (told_unless WriteOfIn n.identifier.at (may_join f.mode s.mode) x (λ m. q) w))

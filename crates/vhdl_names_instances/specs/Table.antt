@@ -35,7 +35,7 @@ abbrev pub seens_view : Vec Formals Global → List Seen
 seens_view v = map seen_view v.items
 
 abbrev pub type_of : Formal → PortType
-type_of f = record { mode = f.mode; kind = f.kind }
+type_of f = record { mode = f.mode; object_type = f.type }
 
 abbrev pub kind_of : GenericFormal → GenericKind
 kind_of f = by f.kind

@@ -11,6 +11,7 @@ ghost use Rattle.vhdl_names_rules.specs.Gives.{Gives};
 ghost use Rattle.vhdl_names_rules.specs.Instances as rules;
 ghost use Rattle.vhdl_names_rules.specs.Statements.{signal as signal_of};
 ghost use Rattle.vhdl_names_rules.specs.declared.fault.NameProblem.TheVariants.{LeftOut};
+ghost use Rattle.vhdl_names_rules.specs.declared.kind.ObjectType.TheVariants.{Elements};
 ghost use Rattle.vhdl_names_rules.specs.Visibility as visibility;
 ghost use Rattle.vhdl_names_rules.specs.views.Vectors.{place_view};
 ghost use Rattle.vhdl_tree.specs.View.{view, name_view, attribute_view, suffix_view};
@@ -24,22 +25,34 @@ use vhdl_names_sight::{Meaning, Sight};
 use vhdl_names_units::{Actuals, SignalName};
 use vhdl_tree::{Expr, Mode, Name, Suffix};
 
-/// A port as it is associated: its mode and kind.
+/// A port as it is associated: its mode and type.
 #[derive(Clone, Copy)]
 pub struct PortType {
     pub mode: Mode,
-    pub kind: ElementKind,
+    pub object_type: ObjectType,
 }
 
 /// Whether an actual has the kind of its formal.
-fn is_kind(kind: ElementKind, object_type: ObjectType) -> bool
-    ensures { result ≡ rules.is_kind kind object_type }
+fn is_kind(kind: ElementKind, actual: ObjectType) -> bool
+    ensures { result ≡ rules.is_type (Elements kind) actual }
 {
-    match (kind, object_type) {
+    match (kind, actual) {
         (ElementKind::Element, ObjectType::Elements(ElementKind::Element)) => true,
         (ElementKind::LogicVector, ObjectType::Elements(ElementKind::LogicVector)) => true,
         (ElementKind::Unsigned, ObjectType::Elements(ElementKind::Unsigned)) => true,
         _ => false,
+    }
+}
+
+/// Whether an actual has the type of its formal.
+fn is_type(formal: ObjectType, actual: ObjectType) -> bool
+    ensures { result ≡ rules.is_type formal actual }
+{
+    match formal {
+        ObjectType::Elements(kind) => is_kind(kind, actual),
+        ObjectType::Enumeration { .. } => false,
+        ObjectType::Integers => matches!(actual, ObjectType::Integers),
+        ObjectType::Booleans => matches!(actual, ObjectType::Booleans),
     }
 }
 
@@ -125,7 +138,7 @@ pub(crate) fn port_actual(sight: &Sight, port: PortType, e: &Expr) -> Result<Sig
         None => Err(NameProblem::LeftOut.at(start(e))),
         Some(name) => {
             let actual = actual_signal(sight, name)?;
-            if !is_kind(port.kind, actual.object_type) {
+            if !is_type(port.object_type, actual.object_type) {
                 return Err(NameProblem::TypeMismatch.at(name.identifier.at));
             }
             if !may_join(port.mode, actual.mode) {

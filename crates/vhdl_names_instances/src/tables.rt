@@ -34,9 +34,9 @@ fn port_type(meaning: &Meaning) -> Option<PortType>
     ensures { result ≡ steps.port_type (meaning_view meaning.now) }
 {
     match meaning {
-        Meaning::Port(_, mode, kind) => Some(PortType {
+        Meaning::Port(_, mode, object_type) => Some(PortType {
             mode: *mode,
-            kind: *kind,
+            object_type: *object_type,
         }),
         _ => None,
     }

@@ -9,7 +9,7 @@ use Rattle.vhdl_names_rules.specs.units.Units.{Form}
 use Rattle.vhdl_names_rules.specs.Rules.{◌>>=◌, then_some}
 use Rattle.vhdl_names_rules.specs.Names.{is_static_part}
 use Rattle.vhdl_names_rules.specs.Edges.{Edge, edge, edge_to, level, waited_level}
-use Rattle.vhdl_names_rules.specs.sound.Expressions.{Inside, Shape, one, vector, state, static_fits, range_fits, part_shape, signal_form, place_shape, is_elements, fits_shape, value_fits_beside, edge_fits, test_fits}
+use Rattle.vhdl_names_rules.specs.sound.Expressions.{Inside, Shape, one, vector, state, number, static_fits, range_fits, part_shape, signal_form, place_shape, is_elements, fits_shape, value_fits_beside, edge_fits, test_fits}
 use Rattle.vhdl_names_rules.proofs.laws.Rules.{comes, some_is}
 use Rattle.vhdl_names_rules.proofs.kept.Keeping.{mapped}
 use Rattle.vhdl_names_laws.specs.Meanings.{Counts}
@@ -24,6 +24,7 @@ before_character : (i : Inside) (o : Option Shape) (v : Nine)
 before_character i (Some one) v h = refl
 before_character i (Some vector) v h = absurd cc
 before_character i (Some (state n)) v h = absurd cc
+before_character i (Some number) v h = absurd cc
 before_character i None v h = absurd cc
 
 level_is_one : (i : Inside) (t : Test) (f : Edge) → test_fits i t ≡ true → level t ≡ Some f → place_shape i f.place ≡ Some one

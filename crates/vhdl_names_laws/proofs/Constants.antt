@@ -295,10 +295,9 @@ module _ (p : Place) where
           declared = r.declared_all (is_global inner d.subtype) (form_direction form) (ranges_count (p.before sight)) (λ k. mark.meaning) 0 (d.name ∷ []);
           analysed = if_ranged (u.vector_subtype d.name.at) (form_range form);
         })
-    vectors_added mark u.element is f fits = type_step i counts sight (is_global inner d.subtype) None d.name.text mark.meaning [] h is f refl refl
     vectors_added mark (u.vector x) is f fits =
         type_step i counts sight (is_global inner d.subtype) (Some x.direction) d.name.text mark.meaning (u.vector_subtype d.name.at x ∷ []) h is f (and_from (range_fits i x) true fits refl) refl
-    vectors_added mark (u.enumeration count) is f fits = type_step i counts sight (is_global inner d.subtype) None d.name.text mark.meaning [] h is f refl refl
+    vectors_added mark _ is f fits = type_step i counts sight (is_global inner d.subtype) None d.name.text mark.meaning [] h is f refl refl
 
     -- of which class a type is
     of_integers : (m : Meaning) → class_of m ≡ subtypes.integers → is_type m ≡ true

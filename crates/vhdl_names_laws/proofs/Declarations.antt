@@ -10,7 +10,7 @@ use Rattle.vhdl_names_rules.specs.units.Units as u
 use Rattle.vhdl_names_rules.specs.Rules.{if_any}
 use Rattle.vhdl_names_rules.specs.Visibility as visibility
 use Rattle.vhdl_names_rules.specs.Visibility.{Name, declare, count_of, ranges_count, Sight, declaration, meaning, Declares}
-use Rattle.vhdl_names_rules.specs.Subtypes.{subtype, form_range, form_direction, fixed_value, object}
+use Rattle.vhdl_names_rules.specs.Subtypes.{object_subtype, form_range, form_direction, fixed_value, object}
 use Rattle.vhdl_names_rules.specs.Declarations.{is_global, signals, variables, process_declaration}
 use Rattle.vhdl_names_rules.specs.Interfaces.{EntityView, component}
 use Rattle.vhdl_names_rules.specs.Files as files
@@ -19,7 +19,7 @@ use Rattle.vhdl_names_rules.specs.sound.Units.{object_fits, declaration_fits, wi
 use Rattle.vhdl_names_laws.specs.Meanings.{Counts, type_shape, IsCounted}
 use Rattle.vhdl_names_laws.proofs.Statics.{some_same, HasMore, more_of, keeps_all, keeps_before}
 use Rattle.vhdl_names_laws.proofs.Served.{served}
-use Rattle.vhdl_names_laws.proofs.Subtypes.{object_more, subtype_is, no_name, object_is}
+use Rattle.vhdl_names_laws.proofs.Subtypes.{object_more, object_subtype_is, no_name, object_is}
 use Rattle.vhdl_names_laws.proofs.InOrder as r
 use Rattle.vhdl_names_laws.proofs.InOrder.{declared_one}
 use Rattle.vhdl_names_rules.proofs.laws.Rules.{comes}
@@ -39,9 +39,9 @@ unfolding signals
 signals_step i counts sight d x h q =
     let inner = within region sight d.names in
     let in' = served i counts inner (inside_within region i counts sight d.names h.inside) in
-    let a = comes (subtype inner d.subtype) _ x q in
+    let a = comes (object_subtype inner d.subtype) _ x q in
     let c = comes (if_any (fixed_value inner a.value.type (form_range a.value.form)) d.default) _ x a.rest in
-    let f = subtype_is i counts inner d.subtype a.value in' a.is in
+    let f = object_subtype_is i counts inner d.subtype a.value in' a.is in
     let make : Ident → u.Declaration = λ n. u.Declaration.signal (object a.value c.value n) in
     let global = is_global inner d.subtype in
     let direction = form_direction a.value.form in
@@ -79,9 +79,9 @@ unfolding variables
 variables_step i counts sight d x h q =
     let inner = within in_process sight d.names in
     let in' = served i counts inner (inside_within in_process i counts sight d.names h.inside) in
-    let a = comes (subtype inner d.subtype) _ x q in
+    let a = comes (object_subtype inner d.subtype) _ x q in
     let c = comes (if_any (fixed_value inner a.value.type (form_range a.value.form)) d.default) _ x a.rest in
-    let f = subtype_is i counts inner d.subtype a.value in' a.is in
+    let f = object_subtype_is i counts inner d.subtype a.value in' a.is in
     let make : Ident → u.Declaration = λ n. u.Declaration.variable (object a.value c.value n) in
     let global = is_global inner d.subtype in
     let direction = form_direction a.value.form in

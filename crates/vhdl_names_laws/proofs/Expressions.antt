@@ -34,7 +34,7 @@ use Rattle.vhdl_names_laws.proofs.Statics.{some_same}
 use Rattle.vhdl_names_laws.proofs.Shapes.{given, fitting_kinds}
 use Rattle.vhdl_names_laws.proofs.Aggregates.{aggregate_fits}
 use Rattle.vhdl_names_laws.proofs.Ranges.{RangeFits, EachFits, SuffixFits, any_declared_fits, sized_fits}
-use Rattle.vhdl_names_laws.proofs.Operators.{inverse_fits, as_computed_fits, raised_fits, operated_fits}
+use Rattle.vhdl_names_laws.proofs.Operators.{inverse_fits, as_computed_fits, raised_fits, binary_fits}
 use Rattle.vhdl_names_rules.proofs.kept.Keeping.{mapped}
 use Rattle.vhdl_names_laws.proofs.Served.{IsServed, served, serving}
 use Rattle.vhdl_names_rules.proofs.laws.Rules.{comes}
@@ -154,8 +154,8 @@ mutual
   typed_fits (t.binary begins op at d f) i counts sight x h g =
       let a = comes (typed sight d) _ x g in
       let b = comes (typed sight f) _ x a.rest in
-      operated_fits i counts sight.numbers at op a.value (beside d b.value) x (typed_fits d i counts sight a.value h a.is)
-      (beside_fits i counts d b.value (typed_fits f i counts sight b.value h b.is)) b.rest
+      let right = typed_fits f i counts sight b.value h b.is in
+      binary_fits i counts sight.language sight.numbers at op a.value b.value (beside d b.value) x (typed_fits d i counts sight a.value h a.is) right (beside_fits i counts d b.value right) b.rest
   typed_fits (t.aggregate at es) i counts sight x h g =
       let a = mapped (o.composite at) (typed_elements sight es) x g in
       subst (TypedFits i counts) a.is (elements_are es i counts sight a.value h a.from)
@@ -200,7 +200,7 @@ mutual
       subst (λ xs. list_all (choice_fits i) xs ≡ true) (some_same (a.value ∷ b.value) xs b.rest)
       (and_from (choice_fits i a.value) (list_all (choice_fits i) b.value) (choice_is c i counts sight a.value h a.is) (choices_are cs i counts sight b.value h b.is))
 
-  choice_is : (c : t.Choice) (i : Inside) (counts : Counts) (sight : Sight) (x : TypedChoice) → IsServed i counts sight → typed_choice sight c ≡ Some x → choice_fits i x ≡ true
+  pub choice_is : (c : t.Choice) (i : Inside) (counts : Counts) (sight : Sight) (x : TypedChoice) → IsServed i counts sight → typed_choice sight c ≡ Some x → choice_fits i x ≡ true
   choice_is (t.chosen d) i counts sight x h g =
       let a = comes (typed sight d) _ x g in
       let b = comes (as_index (start d) a.value) _ x a.rest in

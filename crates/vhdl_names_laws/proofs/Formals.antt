@@ -7,13 +7,13 @@ use Rattle.vhdl_names_rules.specs.Visibility.{Declared}
 use Rattle.vhdl_names_rules.specs.Instances as n
 use Rattle.vhdl_names_rules.specs.Instances.{Formal, GenericKind, GenericFormal}
 use Rattle.vhdl_names_rules.specs.sound.Expressions.{shape_of}
-use Rattle.vhdl_names_laws.specs.Meanings.{kind_shape}
+use Rattle.vhdl_names_laws.specs.Meanings.{kind_shape, type_shape}
 
 -- the formal of a port
 pub record IsFormal (f : Formal) (p : u.Port) : Type 0 where
   pub name : p.object.name ≡ f.name
   pub mode : p.mode ≡ f.mode
-  pub shape : shape_of p.object.form ≡ kind_shape f.kind
+  pub shape : shape_of p.object.form ≡ type_shape f.type
 
 -- a generic as it is associated is of its type
 abbrev pub IsOfType : GenericKind → u.GenericType → Type 0

@@ -10,7 +10,7 @@ use Rattle.vhdl_tree.specs.Tree.{Ident, Expr}
 use Rattle.vhdl_names_rules.specs.declared.kind.ElementKind.{ElementKind}
 use Rattle.vhdl_names_rules.specs.declared.kind.ElementKind.TheVariants.{Element, LogicVector, Unsigned}
 use Rattle.vhdl_names_rules.specs.declared.kind.ObjectType.{ObjectType}
-use Rattle.vhdl_names_rules.specs.declared.kind.ObjectType.TheVariants.{Elements}
+use Rattle.vhdl_names_rules.specs.declared.kind.ObjectType.TheVariants.{Elements, Integers, Booleans}
 use Rattle.vhdl_names_rules.specs.declared.fault.NameProblem.TheVariants.{LeftOut}
 use Rattle.vhdl_names_rules.specs.units.Expressions.{SignalPart}
 use Rattle.vhdl_names_rules.specs.units.Units as u
@@ -28,7 +28,7 @@ use Rattle.vhdl_names_rules.specs.Declarations.{static_test}
 use Rattle.vhdl_names_rules.specs.Statements.{SignalName, signal, is_input}
 use Rattle.vhdl_names_rules.specs.Interfaces.{EntityView}
 use Rattle.vhdl_names_rules.specs.Instances as n
-use Rattle.vhdl_names_rules.specs.Instances.{Formal, GenericKind, GenericFormal, generic_formal, aggregate_actual, value_as_actual, generic_actual, generic_actuals, port_formal, as_name, is_kind, port_actual, port_actuals, instance}
+use Rattle.vhdl_names_rules.specs.Instances.{Formal, GenericKind, GenericFormal, generic_formal, aggregate_actual, value_as_actual, generic_actual, generic_actuals, port_formal, as_name, is_type, port_actual, port_actuals, instance}
 use Rattle.vhdl_names_rules.specs.sound.Expressions.{Inside, vector, shape_of, place_shape, fits_shape}
 use Rattle.vhdl_names_rules.specs.sound.Units as w
 use Rattle.vhdl_names_rules.specs.sound.Units.{fixed_fits, generic_value_fits, generic_default_fits, generic_actuals_fit, actual_fits, actuals_fit, instance_fits}
@@ -61,11 +61,13 @@ AreUnits units entities = (k : ℕ) (e : EntityView) → slice_get entities k �
 
 -- ---- actuals of ports
 
-kind_is : (k : ElementKind) (type : ObjectType) → is_kind k type ≡ true → type_shape type ≡ kind_shape k
-kind_is Element (Elements Element) h = refl
-kind_is LogicVector (Elements LogicVector) h = refl
-kind_is Unsigned (Elements Unsigned) h = refl
-kind_is _ _ h = absurd cc
+type_is : (formal type : ObjectType) → is_type formal type ≡ true → type_shape type ≡ type_shape formal
+type_is (Elements Element) (Elements Element) h = refl
+type_is (Elements LogicVector) (Elements LogicVector) h = refl
+type_is (Elements Unsigned) (Elements Unsigned) h = refl
+type_is Integers Integers h = refl
+type_is Booleans Booleans h = refl
+type_is _ _ h = absurd cc
 
 joins : (i : Inside) (counts : Counts) (mode : Mode) (x : SignalName) → SignalFits i counts x → n.may_join mode x.mode ≡ true → w.may_join i mode x.place.signal ≡ true
 joins i counts In x h k = refl
@@ -77,12 +79,12 @@ unfolding port_actual
 place_is i counts sight f p d z h g q =
     let a = comes (as_name d) _ z q in
     let b = comes (signal sight a.value) _ z a.rest in
-    let c = kept (is_kind f.kind b.value.type) _ z b.rest in
+    let c = kept (is_type f.type b.value.type) _ z b.rest in
     let m = kept (n.may_join f.mode b.value.mode) _ z c.1 in
     let s = signal_fits i counts sight a.value b.value h b.is in
     subst (λ z. (fits_shape (shape_of p.object.form) (place_shape i z) && w.may_join i p.mode z.signal) ≡ true) (some_same b.value.place z m.1)
     (and_from (fits_shape (shape_of p.object.form) (place_shape i b.value.place)) (w.may_join i p.mode b.value.place.signal)
-    (fits_self (shape_of p.object.form) (place_shape i b.value.place) (s.shape ∙ ap Some (kind_is f.kind b.value.type c.0 ∙ sym g.shape)))
+    (fits_self (shape_of p.object.form) (place_shape i b.value.place) (s.shape ∙ ap Some (type_is f.type b.value.type c.0 ∙ sym g.shape)))
     (ap (λ mode. w.may_join i mode b.value.place.signal) g.mode ∙ joins i counts f.mode b.value s m.0))
 
 actual_is : (i : Inside) (counts : Counts) (sight : Sight) (f : Formal) (p : u.Port) (d : Option Expr) (z : Option SignalPart) → IsInside i counts sight → IsFormal f p

@@ -107,6 +107,8 @@ pub form_ranges : (f : Form) (n : ℕ) → next_range (form_direction f) n ≡ n
 form_ranges u.element n = omega arith
 form_ranges (u.vector r) n = omega arith
 form_ranges (u.enumeration count) n = omega arith
+form_ranges (u.Form.number s) n = omega arith
+form_ranges u.boolean n = omega arith
 
 -- that range is the last
 pub last_range : (i : Inside) (direction : Option Direction) (k : ℕ) → i.ranges ≡ next_range direction k → RangeFits i (range_at direction k)

@@ -14,6 +14,7 @@ use Rattle.vhdl_names_rules.specs.units.Statements as s
 use Rattle.vhdl_names_rules.specs.units.Units as u
 use Rattle.vhdl_names_rules.specs.Visibility.{Name, are_distinct, ends, Sight, with_variables}
 use Rattle.vhdl_names_rules.specs.Rules.{◌>>=◌}
+use Rattle.vhdl_names_rules.specs.Choices.{selecting}
 use Rattle.vhdl_names_rules.specs.Statements.{signal_target, conditional}
 use Rattle.vhdl_names_rules.specs.Declarations.{process_declaration}
 use Rattle.vhdl_names_rules.specs.Interfaces.{EntityView}
@@ -49,7 +50,7 @@ selected_named : (sight : Sight) (label : Option Ident) (a : t.SelectedAssignmen
     → concurrent_is_named x ≡ true
 selected_named sight label a rest x h q =
     let p = selected_parts sight label a x q in
-    subst (λ x. concurrent_is_named x ≡ true) p.is (assigning_named a.at label rest (s.case_of a.at p.chosen.by.value.1 p.chosen.all.value) h)
+    subst (λ x. concurrent_is_named x ≡ true) p.is (assigning_named a.at label rest (selecting a.at p.chosen.by.value.1 p.chosen.all.value) h)
 
 process_named : (sight : Sight) (label : Option Ident) (d : t.Process) (x : u.Process) → label_is_named (label_of label) ≡ true → AllByRecursion (λ (v : t.ProcessDeclaration). AreWords (spell_process_declaration v)) d.declarations
     → process sight label d ≡ Some x → (label_is_named x.label && list_all declaration_is_named x.declarations) ≡ true

@@ -12,7 +12,7 @@ use Rattle.vhdl_names_rules.specs.units.Units.{Form}
 use Rattle.vhdl_names_rules.specs.Rules.{◌>>=◌, then_some}
 use Rattle.vhdl_names_rules.specs.Known.{is_known, are_known}
 use Rattle.vhdl_names_rules.specs.Subtypes.{is_known_value}
-use Rattle.vhdl_names_rules.specs.sound.Expressions.{Inside, Shape, one, vector, static_fits, range_fits, static_test_fits, port_form, part_shape, signal_form, place_shape, is_vector, has_vector, is_vector_shape, chosen_shape, computed_fits, chosen_fits, is_elements, operated_shape, with_static, any_range_fits, index_fits, is_one, are_elements, vector_shape, elements_fit, fits_shape}
+use Rattle.vhdl_names_rules.specs.sound.Expressions.{Inside, Shape, one, vector, number, static_fits, range_fits, static_test_fits, port_form, part_shape, signal_form, place_shape, is_vector, has_vector, is_vector_shape, chosen_shape, computed_fits, chosen_fits, is_elements, operated_shape, with_static, any_range_fits, index_fits, is_one, is_number, are_elements, vector_shape, elements_fit, fits_shape}
 use Rattle.vhdl_names_rules.specs.sound.Statements.{given_fits}
 use Rattle.vhdl_names_rules.specs.sound.Units.{without_objects}
 use Rattle.vhdl_names_rules.proofs.laws.Rules.{comes}
@@ -123,10 +123,16 @@ module _ (i j : Inside) (h : HasNumbers i j) (c : Keeps i.constants j.constants)
       let a = and_parts (has_vector f) (chosen_fits i x) y.holds in
       ap (λ b. then_some b (chosen_shape x)) (and_from (has_vector g) (chosen_fits j x) (vector_more_is f g stays a.0) (k a.1)) ∙ ap Some y.is
 
+  number_more : (f g : Option Form) → ((z : Form) → f ≡ Some z → g ≡ Some z) → is_number f ≡ true → is_number g ≡ true
+  number_more None g stays q = absurd cc
+  number_more (Some z) g stays q = ap is_number (stays z refl) ∙ q
+
   mutual
     -- an integer that a run computes names an object
     computed_more : (x : Computed) → b ≡ true → computed_fits i x ≡ true → computed_fits j x ≡ true
     computed_more (e.static s) k q = static_more i j h s q
+    computed_more (e.signal_number x) k q = number_more (signal_form i x) (signal_form j x) (forms k x) q
+    computed_more (e.variable_number n) k q = number_more (slice_get i.variables n) (slice_get j.variables n) (variables k n) q
     computed_more (e.number_of at x) k q = vector_stays (vector_shape i x) (vector_shape j x) (λ z g. vector_more x z (or_left b (is_known x) k) g) q
     computed_more (e.Computed.negated at x) k q = computed_more x k q
     computed_more (e.magnitude at x) k q = computed_more x k q
@@ -241,6 +247,13 @@ module _ (i j : Inside) (h : HasNumbers i j) (c : Keeps i.constants j.constants)
   pub alone_elements_more : (es : Elements) → elements_fit (without_objects i) es ≡ true → elements_fit (without_objects j) es ≡ true
   alone_elements_more es q = elements_more (without_objects i) (without_objects j) numbers c true no_place no_form (λ t k y g. g) es refl q
 
+  number_stays : (x : Computed) → computed_fits (without_objects i) x ≡ true → computed_fits (without_objects j) x ≡ true
+  number_stays x q = computed_more (without_objects i) (without_objects j) numbers c true no_place no_form (λ t k y g. g) x refl q
+
+  -- a shape that is there under a condition
+  there : (b d : Bool) (x z : Shape) → (b ≡ true → d ≡ true) → then_some b x ≡ Some z → then_some d x ≡ Some z
+  there b d x z f q = let g = given b x z q in ap (λ b. then_some b x) (f g.holds) ∙ ap Some g.is
+
   pub given_more : (x : Shape) (g : s.Given) → given_fits (without_objects i) x g ≡ true → given_fits (without_objects j) x g ≡ true
   given_more x (s.single (e.Value.position p)) q = q
   given_more x (s.single (e.Value.elements y)) q =
@@ -248,6 +261,14 @@ module _ (i j : Inside) (h : HasNumbers i j) (c : Keeps i.constants j.constants)
   given_more x (s.single (e.state_of (e.port k))) q = absurd cc
   given_more x (s.single (e.state_of (e.Signal.signal k))) q = absurd cc
   given_more x (s.single (e.state_of_variable k)) q = absurd cc
+  given_more x (s.single (e.Value.computed y)) q =
+      let few = computed_fits (without_objects i) y in
+      let many = computed_fits (without_objects j) y in
+      shape_stays x (then_some few number) (then_some many number) (λ z g. there few many number z (number_stays y) g) q
+  given_more x (s.single (e.static_truth t)) q =
+      let few = static_test_fits (without_objects i) t in
+      let many = static_test_fits (without_objects j) t in
+      shape_stays x (then_some few one) (then_some many one) (λ z g. there few many one z (test_more (without_objects i) (without_objects j) numbers t) g) q
   given_more x (s.filled y) q =
       let a = and_parts (is_vector x) (fits_shape one (vector_shape (without_objects i) y)) q in
       and_from (is_vector x) (fits_shape one (vector_shape (without_objects j) y)) a.0

@@ -1,11 +1,12 @@
 -- What names denote is what their meanings say (IEEE 1076-2008, clause 8).
 use Rattle.std.proofs.Common.{◌≡◌, ℕ, Bool, true, false, not, List, [], ◌∷◌, Option, Some, None, refl, ap, sym, ◌∙◌, subst, cond}
-use Rattle.std.specs.Prelude.{codes, if◌then◌else◌, nat_lt, ◌&&◌}
+use Rattle.std.specs.Prelude.{codes, nat_lt, ◌&&◌}
 use Rattle.std.specs.List.{slice_get}
 use Rattle.std.specs.Option.{option_map}
 use Rattle.std.specs.Str.{bytes_eq}
 use Rattle.std.proofs.lemmas.Bool.{and_parts, and_from}
 use Rattle.std.proofs.lemmas.Option.{slice_get-map}
+use Rattle.vhdl_values.specs.declared.scalar.Nine.TheVariants.{One}
 use Rattle.vhdl_values.specs.declared.kinds.Counted.{Counted}
 use Rattle.vhdl_values.specs.declared.kinds.Counted.TheVariants.{Shift}
 use Rattle.vhdl_values.specs.declared.kinds.Edge.{Edge}
@@ -16,7 +17,7 @@ use Rattle.vhdl_tree.specs.declared.declaration.Mode.{Mode}
 use Rattle.vhdl_names_rules.specs.declared.kind.ElementKind.{ElementKind}
 use Rattle.vhdl_names_rules.specs.declared.kind.ElementKind.TheVariants.{Element, LogicVector, Unsigned, OpenVector}
 use Rattle.vhdl_names_rules.specs.declared.kind.ObjectType.{ObjectType}
-use Rattle.vhdl_names_rules.specs.declared.kind.ObjectType.TheVariants.{Elements, Enumeration}
+use Rattle.vhdl_names_rules.specs.declared.kind.ObjectType.TheVariants.{Elements, Enumeration, Integers, Booleans}
 use Rattle.vhdl_names_rules.specs.declared.kind.Function.{Function}
 use Rattle.vhdl_names_rules.specs.declared.kind.Function.TheVariants.{EdgeCall, ByCount, ToUnsigned, ToInteger}
 use Rattle.vhdl_names_rules.specs.units.Expressions as e
@@ -30,10 +31,10 @@ use Rattle.vhdl_names_rules.specs.Operators as o
 use Rattle.vhdl_names_rules.specs.Operators.{Typed}
 use Rattle.vhdl_names_rules.specs.Known.{is_known}
 use Rattle.vhdl_names_rules.specs.Names as n
-use Rattle.vhdl_names_rules.specs.Names.{Suffix, AnyPart, part, part_of, chosen, any_part, place_of, if_plain, read_by, signal_part, variable_part, constant_part, converted, is_static, is_static_part, edge_signal, edge_of, counted, encoding, number_of, called, denoted, attributed}
+use Rattle.vhdl_names_rules.specs.Names.{Suffix, AnyPart, part, part_of, chosen, any_part, place_of, if_plain, read_by, signal_part, variable_part, constant_part, converted, is_static, is_static_part, edge_signal, edge_of, counted, encoding, number_of, called, read_object, read_variable, denoted, attributed}
 use Rattle.vhdl_names_rules.specs.Ranges.{range_attribute, sized_by}
 use Rattle.vhdl_names_rules.specs.Expressions.{named}
-use Rattle.vhdl_names_rules.specs.sound.Expressions.{Inside, one, vector, state, shape_of, static_fits, range_fits, part_shape, port_form, signal_form, place_shape, is_elements, is_vector, has_vector, is_vector_shape, chosen_shape, computed_fits, chosen_fits, with_static, vector_shape, value_shape, state_shape, edge_fits}
+use Rattle.vhdl_names_rules.specs.sound.Expressions.{Inside, one, vector, state, number, shape_of, static_fits, range_fits, part_shape, port_form, signal_form, place_shape, is_elements, is_vector, has_vector, is_vector_shape, chosen_shape, computed_fits, chosen_fits, with_static, is_number, vector_shape, value_shape, state_shape, value_fits_beside, edge_fits}
 use Rattle.vhdl_names_laws.specs.Meanings.{Counts, kind_shape, type_shape, IsForm, IsCounted, IsPort, MeaningFits, DeclaredFits, TypedFits}
 use Rattle.vhdl_names_laws.proofs.Statics.{some_same}
 use Rattle.vhdl_names_laws.proofs.Ranges.{RangeFits, EachFits, SuffixFits, range_attribute_fits, sized_fits}
@@ -86,8 +87,8 @@ module _ (i : Inside) (counts : Counts) where
   part_of_fits f (Elements k) s p h c t g =
       let a = mapped (λ (q : Part × ElementKind). (q.0, Elements q.1)) (part k s) p g in
       subst (λ (q : Part × ObjectType). (part_shape i f q.0 ≡ Some (type_shape q.1)) × IsCounted counts q.1) a.is (part_fits f k s a.value h t a.from, tt)
-  part_of_fits f (Enumeration d count) n.plain p h c t g =
-      subst (λ (q : Part × ObjectType). (part_shape i f q.0 ≡ Some (type_shape q.1)) × IsCounted counts q.1) (some_same (e.whole, Enumeration d count) p g) (ap Some h, c)
+  part_of_fits f type n.plain p h c t g =
+      subst (λ (q : Part × ObjectType). (part_shape i f q.0 ≡ Some (type_shape q.1)) × IsCounted counts q.1) (some_same (e.whole, type) p g) (ap Some h, c)
   part_of_fits f _ _ p h c t g = absurd cc
 
   -- ---- objects that are read
@@ -135,8 +136,8 @@ module _ (i : Inside) (counts : Counts) where
       → vector_shape i (e.in_signal at z c) ≡ then_some (is_vector (shape_of f) && chosen_fits i c) (chosen_shape c)
   read_chosen at z f h c = ap (λ w. then_some (has_vector w && chosen_fits i c) (chosen_shape c)) h
 
-  pub port_form_is : (k : ℕ) (mode : Mode) (kind : ElementKind) (f : IsPort i.ports k mode kind) → signal_form i (e.port k) ≡ Some (port_form f.port)
-  port_form_is k mode kind f = slice_get-map port_form i.ports k ∙ ap (option_map port_form) f.at
+  pub port_form_is : (k : ℕ) (mode : Mode) (type : ObjectType) (f : IsPort counts i.ports k mode type) → signal_form i (e.port k) ≡ Some (port_form f.port)
+  port_form_is k mode type f = slice_get-map port_form i.ports k ∙ ap (option_map port_form) f.at
 
   -- an object's form
   pub the_form : (type : ObjectType) (w : Option Form) → IsForm counts type w → (f : Form) × (w ≡ Some f) × (shape_of f ≡ type_shape type)
@@ -148,11 +149,47 @@ module _ (i : Inside) (counts : Counts) where
 
   -- a signal or variable of an enumeration
   state_is : (f : Form) (count : ℕ) → shape_of f ≡ state count → state_shape f ≡ Some (state count)
-  state_is f count h = ap (λ x. then_some (not (is_elements x)) x) h
+  state_is (u.enumeration n) count h = ap Some h
+  state_is _ count h = absurd cc
+
+  -- one of an integer type, and of boolean
+  number_is : (f : Form) → shape_of f ≡ number → is_number (Some f) ≡ true
+  number_is (u.Form.number s) h = refl
+  number_is _ h = absurd cc
+
+  boolean_is : (at : ℕ) (x : Vector) → vector_shape i x ≡ Some one → TypedFits i counts (n.is_true at x)
+  boolean_is at x h = ap (λ o. value_fits_beside i o (e.Value.elements (e.enclosed_character One))) h
 
   plain_fits : (s : Suffix) (x y : Typed) → TypedFits i counts x → if_plain s x ≡ Some y → TypedFits i counts y
   plain_fits n.plain x y h g = subst (TypedFits i counts) (some_same x y g) h
   plain_fits _ x y h g = absurd cc
+
+  -- a signal or port, and a variable, of any type
+  object_fits : (at : ℕ) (z : Signal) (f : Form) → signal_form i z ≡ Some f → (type : ObjectType) → shape_of f ≡ type_shape type → IsCounted counts type → (s : Suffix) (y : Typed) → SuffixFits i counts s
+      → read_object at z type s ≡ Some y → TypedFits i counts y
+  object_fits at z f h (Elements kind) t c s y w g = read_fits (signal_part at z) f (read_place at z f h) (read_chosen at z f h) kind t s y w g
+  object_fits at z f h (Enumeration d count) t c s y w g =
+      plain_fits s (o.enumerated d count (e.state_of z)) y
+      (fits_self (state count) (value_shape i (e.state_of z)) (ap (λ w. w >>= state_shape) h ∙ state_is f count t), c) g
+  object_fits at z f h Integers t c s y w g = plain_fits s (o.computed (e.signal_number z)) y (ap is_number h ∙ number_is f t) g
+  object_fits at z f h Booleans t c s y w g =
+      plain_fits s (n.is_true at (signal_part at z (n.fixed e.whole))) y
+      (boolean_is at (signal_part at z (n.fixed e.whole)) (read_place at z f h e.whole ∙ ap (λ x. then_some (is_elements x) x) t)) g
+
+  variable_place : (at k : ℕ) (f : Form) → slice_get i.variables k ≡ Some f → (p : Part) → vector_shape i (e.of_variable at k p) ≡ (part_shape i f p >>= λ x. then_some (is_elements x) x)
+  variable_place at k f h p = ap (λ w. w >>= λ f. part_shape i f p >>= λ x. then_some (is_elements x) x) h
+
+  variable_fits : (at k : ℕ) (f : Form) → slice_get i.variables k ≡ Some f → (type : ObjectType) → shape_of f ≡ type_shape type → IsCounted counts type → (s : Suffix) (y : Typed) → SuffixFits i counts s
+      → read_variable at k type s ≡ Some y → TypedFits i counts y
+  variable_fits at k f h (Elements kind) t c s y w g =
+      read_fits (variable_part at k) f (variable_place at k f h) (λ c. ap (λ w. then_some (has_vector w && chosen_fits i c) (chosen_shape c)) h) kind t s y w g
+  variable_fits at k f h (Enumeration d count) t c s y w g =
+      plain_fits s (o.enumerated d count (e.state_of_variable k)) y
+      (fits_self (state count) (value_shape i (e.state_of_variable k)) (ap (λ w. w >>= state_shape) h ∙ state_is f count t), c) g
+  variable_fits at k f h Integers t c s y w g = plain_fits s (o.computed (e.variable_number k)) y (ap is_number h ∙ number_is f t) g
+  variable_fits at k f h Booleans t c s y w g =
+      plain_fits s (n.is_true at (variable_part at k (n.fixed e.whole))) y
+      (boolean_is at (variable_part at k (n.fixed e.whole)) (variable_place at k f h e.whole ∙ ap (λ x. then_some (is_elements x) x) t)) g
 
   -- ---- conversions and calls
 
@@ -263,25 +300,14 @@ module _ (i : Inside) (counts : Counts) where
   denoted_fits at (visibility.loop_parameter k) s y h t g = plain_fits s (o.integer (e.loop_parameter k)) y h g
   denoted_fits at (visibility.boolean_generic k) s y h t g = plain_fits s (n.known at (e.generic k)) y h g
   denoted_fits at (visibility.boolean_constant k) s y h t g = plain_fits s (n.known at (e.Static.constant k)) y h g
-  denoted_fits at (visibility.boolean_literal b) s y h t g = plain_fits s (n.known at (e.number (if b then 1 else 0))) y refl g
-  denoted_fits at (visibility.port k mode kind) s y h t g =
-      read_fits (signal_part at (e.port k)) (port_form h.port) (read_place at (e.port k) (port_form h.port) (port_form_is k mode kind h))
-      (read_chosen at (e.port k) (port_form h.port) (port_form_is k mode kind h)) kind h.shape s y t g
-  denoted_fits at (visibility.signal k (Elements kind)) s y h t g =
-      let f = the_form (Elements kind) (slice_get i.signals k) h in
-      read_fits (signal_part at (e.Signal.signal k)) f.0 (read_place at (e.Signal.signal k) f.0 f.1) (read_chosen at (e.Signal.signal k) f.0 f.1) kind f.2 s y t g
-  denoted_fits at (visibility.signal k (Enumeration d count)) s y h t g =
-      let f = the_form (Enumeration d count) (slice_get i.signals k) h in
-      plain_fits s (o.enumerated d count (e.state_of (e.Signal.signal k))) y
-      (fits_self (state count) (value_shape i (e.state_of (e.Signal.signal k))) (ap (λ w. w >>= state_shape) f.1 ∙ state_is f.0 count f.2), h.counted) g
-  denoted_fits at (visibility.variable k (Elements kind)) s y h t g =
-      let f = the_form (Elements kind) (slice_get i.variables k) h in
-      read_fits (variable_part at k) f.0 (λ p. ap (λ w. w >>= λ f. part_shape i f p >>= λ x. then_some (is_elements x) x) f.1)
-      (λ c. ap (λ w. then_some (has_vector w && chosen_fits i c) (chosen_shape c)) f.1) kind f.2 s y t g
-  denoted_fits at (visibility.variable k (Enumeration d count)) s y h t g =
-      let f = the_form (Enumeration d count) (slice_get i.variables k) h in
-      plain_fits s (o.enumerated d count (e.state_of_variable k)) y
-      (fits_self (state count) (value_shape i (e.state_of_variable k)) (ap (λ w. w >>= state_shape) f.1 ∙ state_is f.0 count f.2), h.counted) g
+  denoted_fits at (visibility.boolean_literal b) s y h t g = plain_fits s (n.known at (e.number (n.position_of b))) y refl g
+  denoted_fits at (visibility.port k mode type) s y h t g = object_fits at (e.port k) (port_form h.port) (port_form_is k mode type h) type h.shape h.counted s y t g
+  denoted_fits at (visibility.signal k type) s y h t g =
+      let f = the_form type (slice_get i.signals k) h in
+      object_fits at (e.Signal.signal k) f.0 f.1 type f.2 h.counted s y t g
+  denoted_fits at (visibility.variable k type) s y h t g =
+      let f = the_form type (slice_get i.variables k) h in
+      variable_fits at k f.0 f.1 type f.2 h.counted s y t g
   denoted_fits at (visibility.constant k kind values) s y h t g =
       let f = the_form (Elements kind) (slice_get i.constants k) h.0 in
       read_fits (constant_part at k) f.0 (λ p. ap (λ w. w >>= λ f. part_shape i f p >>= λ x. then_some (is_elements x) x) f.1)

@@ -1,8 +1,11 @@
 -- Operators make of operands that are what their types say such results (IEEE 1076-2008, 9.2).
 use Rattle.std.proofs.Common.{◌≡◌, ℕ, Bool, true, false, ◌&&◌, ◌==◌, Option, Some, None, refl, ap, sym, ◌∙◌, subst}
 use Rattle.std.specs.Prelude.{slice_get}
+use Rattle.std.specs.Option.{option_or}
 use Rattle.std.proofs.lemmas.Bool.{and_from, eqb-true}
+use Rattle.vhdl_lexer.specs.declared.language.Language.{Language}
 use Rattle.vhdl_values.specs.declared.kinds.Logic.{Logic}
+use Rattle.vhdl_values.specs.declared.kinds.Logic.TheVariants.{Xor, Xnor}
 use Rattle.vhdl_values.specs.declared.kinds.Cmp.{Cmp}
 use Rattle.vhdl_tree.specs.declared.operator.Operator.{Operator}
 use Rattle.vhdl_tree.specs.declared.operator.Operator.TheVariants as op
@@ -15,14 +18,14 @@ use Rattle.vhdl_names_rules.specs.declared.operator.VectorOperator.{VectorOperat
 use Rattle.vhdl_names_rules.specs.declared.operator.VectorOperator.TheVariants as v
 use Rattle.vhdl_names_rules.specs.units.Expressions as e
 use Rattle.vhdl_names_rules.specs.units.Expressions.{Static, Computed, Vector, Value, Test}
-use Rattle.vhdl_names_rules.specs.Rules.{◌>>=◌, met, then_some}
+use Rattle.vhdl_names_rules.specs.Rules.{◌>>=◌, met, then_some, wider}
 use Rattle.vhdl_names_rules.specs.Operators as o
-use Rattle.vhdl_names_rules.specs.Operators.{Typed, common_kind, joined_kind, is_number, are_numbers, binary, both, negated, logical, inverse, concatenated, as_computed, computes, raised, integral, arithmetic, integers_compared, compares, equal_by, equality, ordering, operated, beside_vector}
+use Rattle.vhdl_names_rules.specs.Operators.{Typed, common_kind, joined_kind, is_number, are_numbers, binary, both, negated, logical, inverse, concatenated, as_computed, computes, raised, integral, arithmetic, integers_compared, compares, equal_by, equality, ordering, truths_related, operated, beside_vector}
 use Rattle.vhdl_names_rules.specs.Types.{TypedElements}
 use Rattle.vhdl_names_rules.specs.sound.Expressions.{Inside, Shape, one, vector, state, static_fits, static_test_fits, same_shape, is_elements, is_vector_shape, computed_fits, operated_shape, with_static, vector_shape, value_shape, fits_shape, value_fits, value_fits_beside, values_fit, test_fits}
 use Rattle.vhdl_names_laws.specs.Meanings.{Counts, kind_shape, TypedFits, ElementsFit}
 use Rattle.vhdl_names_laws.proofs.Statics.{some_same}
-use Rattle.vhdl_names_laws.proofs.Shapes.{Given, given, shape_elements, same_self, same_shapes, fits_self, kind_is_vector}
+use Rattle.vhdl_names_laws.proofs.Shapes.{Given, given, wider_is, of_either, shape_elements, same_self, same_shapes, fits_self, kind_is_vector}
 use Rattle.vhdl_names_laws.proofs.Aggregates.{aggregate_fits}
 use Rattle.vhdl_names_rules.proofs.kept.Keeping.{mapped}
 use Rattle.vhdl_names_rules.proofs.laws.Rules.{comes, kept}
@@ -90,6 +93,8 @@ states_fit i count (e.Value.position p) (e.Value.position q) h t = refl
 states_fit i count (e.Value.elements x) y h t = beside i count (value_shape i (e.Value.elements x)) y h t
 states_fit i count (e.state_of x) y h t = beside i count (value_shape i (e.state_of x)) y h t
 states_fit i count (e.state_of_variable x) y h t = beside i count (value_shape i (e.state_of_variable x)) y h t
+states_fit i count (e.Value.computed x) y h t = beside i count (value_shape i (e.Value.computed x)) y h t
+states_fit i count (e.static_truth b) y h t = beside i count (value_shape i (e.static_truth b)) y h t
 states_fit i count x y h t = beside i count (value_shape i y) x t h
 
 -- two of one shape
@@ -119,7 +124,7 @@ module _ (i : Inside) (counts : Counts) where
   both_fits op (e.Test.fixed s) _ h k = and_from (static_test_fits i s) _ h k
   both_fits op _ t h k = and_from _ (test_fits i t) h k
 
-  negated_fits : (t : Test) → test_fits i t ≡ true → test_fits i (negated t) ≡ true
+  pub negated_fits : (t : Test) → test_fits i t ≡ true → test_fits i (negated t) ≡ true
   negated_fits (e.Test.fixed t) h = h
   negated_fits _ h = h
 
@@ -282,7 +287,7 @@ module _ (i : Inside) (counts : Counts) where
       (and_from (computed_fits i s) (fits_shape vector (vector_shape i y)) h (fits_self vector (vector_shape i y) (vector_is y k t (number_shape k c.holds))))
   ordering_fits numbers at op x y z h t g = compares_fits at op x y z h t g
 
-  pub operated_fits : (numbers : Bool) (at : ℕ) (by : Operator) (x y z : Typed) → TypedFits i counts x → TypedFits i counts y → operated numbers at by x y ≡ Some z → TypedFits i counts z
+  operated_fits : (numbers : Bool) (at : ℕ) (by : Operator) (x y z : Typed) → TypedFits i counts x → TypedFits i counts y → operated numbers at by x y ≡ Some z → TypedFits i counts z
   operated_fits numbers at op.Equal x y z h t g = equality_fits at _ (e.alike at) (λ x y. refl) x y z h t g
   operated_fits numbers at op.NotEqual x y z h t g = equality_fits at _ (e.unlike at) (λ x y. refl) x y z h t g
   operated_fits numbers at op.Less x y z h t g = ordering_fits numbers at _ x y z h t g
@@ -297,3 +302,16 @@ module _ (i : Inside) (counts : Counts) where
   operated_fits numbers at op.Modulo x y z h t g = integral_fits at _ x y z h t g
   operated_fits numbers at op.Remainder x y z h t g = integral_fits at _ x y z h t g
   operated_fits numbers at _ x y z h t g = logical_fits at _ x y z h t g
+
+  -- = and /= of truths
+  related_fits : (by : Operator) (x y z : Typed) → TypedFits i counts x → TypedFits i counts y → truths_related by x y ≡ Some z → TypedFits i counts z
+  related_fits op.Equal (o.truth s) (o.truth r) z h t g = known (o.truth (both Xnor s r)) z g (both_fits Xnor s r h t)
+  related_fits op.NotEqual (o.truth s) (o.truth r) z h t g = known (o.truth (both Xor s r)) z g (both_fits Xor s r h t)
+  related_fits by x y z h t g = absurd cc
+
+  -- an operator, with its right operand as it stands beside the left one, in either language
+  pub binary_fits : (language : Language) (numbers : Bool) (at : ℕ) (by : Operator) (x y w z : Typed) → TypedFits i counts x → TypedFits i counts y → TypedFits i counts w
+      → option_or (operated numbers at by x w) (wider language (truths_related by x y)) ≡ Some z → TypedFits i counts z
+  binary_fits language numbers at by x y w z h t s g =
+      of_either (TypedFits i counts) (operated numbers at by x w) (wider language (truths_related by x y)) z (λ z e. operated_fits numbers at by x w z h s e)
+      (λ z e. related_fits by x y z h t (wider_is language (truths_related by x y) z e)) g

@@ -11,8 +11,9 @@ use Rattle.vhdl_tree.specs.Tree as t
 use Rattle.vhdl_tree.specs.Tree.{Ident, Expr}
 use Rattle.vhdl_tree.specs.declared.declaration.Mode.{Mode}
 use Rattle.vhdl_names_rules.specs.declared.kind.ElementKind.{ElementKind}
+use Rattle.vhdl_names_rules.specs.declared.kind.ElementKind.TheVariants.{Element}
 use Rattle.vhdl_names_rules.specs.declared.kind.ObjectType.{ObjectType}
-use Rattle.vhdl_names_rules.specs.declared.kind.ObjectType.TheVariants.{Elements, Enumeration}
+use Rattle.vhdl_names_rules.specs.declared.kind.ObjectType.TheVariants.{Elements, Enumeration, Integers, Booleans}
 use Rattle.vhdl_names_rules.specs.units.Expressions.{StaticTest}
 use Rattle.vhdl_names_rules.specs.units.Units as u
 use Rattle.vhdl_names_rules.specs.units.Units.{Form, Fixed}
@@ -21,20 +22,20 @@ use Rattle.vhdl_names_rules.specs.Visibility as visibility
 use Rattle.vhdl_names_rules.specs.Visibility.{Name, Meaning, DeclaredRange, Declared, declare, count_of, ranges_count, Sight, meaning, with_declared, Declares}
 use Rattle.vhdl_names_rules.specs.Expressions.{typed, static, as_static_test}
 use Rattle.vhdl_names_rules.specs.Subtypes as subtypes
-use Rattle.vhdl_names_rules.specs.Subtypes.{subtype, form_range, form_direction, integer_subtype, TypeClass, class_of, fixed_value, object}
-use Rattle.vhdl_names_rules.specs.Declarations.{is_global, GenericForm, integer_generic, static_test, boolean_generic, as_kind, other_generic, generic_form, generic, mode_of, without_port, without_ports, port}
+use Rattle.vhdl_names_rules.specs.Subtypes.{subtype, object_subtype, form_range, form_direction, integer_subtype, TypeClass, class_of, fixed_value, object}
+use Rattle.vhdl_names_rules.specs.Declarations.{is_global, GenericForm, integer_generic, static_test, boolean_generic, as_kind, as_port_type, other_generic, generic_form, generic, mode_of, without_port, without_ports, port}
 use Rattle.vhdl_names_rules.specs.Instances as n
 use Rattle.vhdl_names_rules.specs.Instances.{GenericKind, generic_kind, generic_formal, port_formal}
 use Rattle.vhdl_names_rules.specs.sound.Expressions.{Inside, shape_of, static_test_fits, is_elements}
 use Rattle.vhdl_names_rules.specs.sound.Units as w
-use Rattle.vhdl_names_rules.specs.sound.Units.{form_fits, object_fits, port_fits, ranges_of, generic_type_fits, generic_value_fits, generic_default_fits}
-use Rattle.vhdl_names_laws.specs.Meanings.{Counts, kind_shape, type_shape, DeclaredFits, AllFit, IsInside}
+use Rattle.vhdl_names_rules.specs.sound.Units.{form_fits, object_fits, is_port_shape, port_fits, ranges_of, generic_type_fits, generic_value_fits, generic_default_fits}
+use Rattle.vhdl_names_laws.specs.Meanings.{Counts, kind_shape, type_shape, IsCounted, DeclaredFits, AllFit, IsInside}
 use Rattle.vhdl_names_laws.proofs.Statics.{some_same, get_last, HasMore, more_of, keeps_all, keeps_before, each_append}
 use Rattle.vhdl_names_rules.proofs.kept.Keeping.{mapped}
 use Rattle.vhdl_names_laws.proofs.Shapes.{shape_elements}
 use Rattle.vhdl_names_laws.proofs.Expressions.{typed_fits, static_integer_fits}
 use Rattle.vhdl_names_laws.proofs.Values.{static_condition_fits}
-use Rattle.vhdl_names_laws.proofs.Subtypes.{generic_type_more, generic_default_more, object_more, subtype_is, form_range_fits, integer_subtype_is, fixed_value_fits, no_name, object_is}
+use Rattle.vhdl_names_laws.proofs.Subtypes.{generic_type_more, generic_default_more, object_more, subtype_is, object_subtype_is, form_range_fits, integer_subtype_is, fixed_value_fits, no_name, object_is}
 use Rattle.vhdl_names_laws.proofs.Served.{Serves, AllServe, IsServed, serves, all_serve, served}
 use Rattle.vhdl_names_laws.proofs.Names.{named_fits}
 use Rattle.vhdl_names_laws.proofs.InOrder as r
@@ -45,7 +46,24 @@ use Rattle.vhdl_names_laws.proofs.Known.{IsKnown, region, inside_more, known_one
 
 pub elements_kind : (type : ObjectType) (kind : ElementKind) → as_kind type ≡ Some kind → type_shape type ≡ kind_shape kind
 elements_kind (Elements k) kind q = ap kind_shape (some_same k kind q)
-elements_kind (Enumeration e count) kind q = absurd cc
+elements_kind _ kind q = absurd cc
+
+-- the type of a port is no enumeration
+record IsPortType (type x : ObjectType) : Type 0 where
+  same : type ≡ x
+  fits : is_port_shape (type_shape x) ≡ true
+
+kind_is_port : (k : ElementKind) → is_port_shape (kind_shape k) ≡ true
+kind_is_port Element = refl
+kind_is_port _ = refl
+
+port_type : (type x : ObjectType) → as_port_type type ≡ Some x → IsPortType type x
+port_type (Elements k) x q =
+    let e = some_same (Elements k) x q in
+    record { same = e; fits = ap (λ x. is_port_shape (type_shape x)) (sym e) ∙ kind_is_port k }
+port_type (Enumeration n count) x q = absurd cc
+port_type Integers x q = let e = some_same Integers x q in record { same = e; fits = ap (λ x. is_port_shape (type_shape x)) (sym e) }
+port_type Booleans x q = let e = some_same Booleans x q in record { same = e; fits = ap (λ x. is_port_shape (type_shape x)) (sym e) }
 
 -- ---- constants and generics of a form
 
@@ -319,37 +337,38 @@ module _ (ranges : ℕ) (gs : List u.Generic) where
       → r.Step with_port port_is with_declared KnownPorts i sight x
   unfolding port
   port_step i counts sight p x h q =
-      let a = comes (subtype (without_ports sight) p.subtype) _ x q in
-      let b = comes (as_kind a.value.type) _ x a.rest in
+      let a = comes (object_subtype (without_ports sight) p.subtype) _ x q in
+      let b = comes (as_port_type a.value.type) _ x a.rest in
       let c = comes (if_any (fixed_value (without_ports sight) a.value.type (form_range a.value.form)) p.default) _ x b.rest in
-      let f = subtype_is (without i) counts (without_ports sight) p.subtype a.value (list_served (without i) counts sight h.unseen) a.is in
-      let shape = f.shape ∙ elements_kind a.value.type b.value b.is in
+      let f = object_subtype_is (without i) counts (without_ports sight) p.subtype a.value (list_served (without i) counts sight h.unseen) a.is in
+      let t = port_type a.value.type b.value b.is in
+      let shape = f.shape ∙ ap type_shape t.same in
       let make : Ident → u.Port = λ n. record { mode = mode_of p.mode; object = object a.value c.value n } in
       let global = is_global (without_ports sight) p.subtype in
       let direction = form_direction a.value.form in
       subst (r.Step with_port port_is with_declared KnownPorts i sight) (some_same _ x c.rest)
       (r.names_step with_port port_is with_declared KnownPorts region.none region.twice global direction (λ k. visibility.port k (mode_of p.mode) b.value)
       (λ (s : Sight). count_of visibility.is_port s.region) (λ (s : Sight). ranges_count s.region) make
-      (λ i counts. object_fits (without i) (object a.value c.value no_name) ≡ true)
-      (λ i counts sight n ok k. single global i counts sight n.text (make n) (mode_of p.mode) b.value refl refl shape k)
-      (λ i counts n ok. and_from (object_fits (without i) (object a.value c.value n)) (is_elements (shape_of a.value.form)) ok (ap is_elements shape ∙ shape_elements b.value))
-      (λ i counts n ok. object_more (without i) (without (with_port i (make n))) (more_unseen i counts (make n)).numbers (keeps_all i.constants) (object a.value c.value no_name) ok)
+      (λ i counts. (object_fits (without i) (object a.value c.value no_name) ≡ true) × IsCounted counts b.value)
+      (λ i counts sight n ok k. single global i counts sight n.text (make n) (mode_of p.mode) b.value refl refl shape ok.1 k)
+      (λ i counts n ok. and_from (object_fits (without i) (object a.value c.value n)) (is_port_shape (shape_of a.value.form)) ok.0 (ap is_port_shape shape ∙ t.fits))
+      (λ i counts n ok. (object_more (without i) (without (with_port i (make n))) (more_unseen i counts (make n)).numbers (keeps_all i.constants) (object a.value c.value no_name) ok.0, ok.1))
       (λ sight n. one_more region visibility.is_port sight (declared_one global direction (ranges_count sight.region) (visibility.port (count_of visibility.is_port sight.region) (mode_of p.mode) b.value) n.text) refl)
       (λ sight n. ranges_more region sight global direction (ranges_count sight.region) (visibility.port (count_of visibility.is_port sight.region) (mode_of p.mode) b.value) n.text)
       p.names i counts sight
-      (object_is (without i) counts (without_ports sight) a.value p.default c.value (list_served (without i) counts sight h.unseen) f c.is) h)
+      (object_is (without i) counts (without_ports sight) a.value p.default c.value (list_served (without i) counts sight h.unseen) f c.is, subst (IsCounted counts) t.same f.counted) h)
     where
-      single : (g : Bool) (i : Inside) (counts : Counts) (sight : Sight) (n : Name) (p : u.Port) (mode : Mode) (kind : ElementKind) → p.object.name ≡ n → p.mode ≡ mode
-          → shape_of p.object.form ≡ kind_shape kind → KnownPorts i counts sight
+      single : (g : Bool) (i : Inside) (counts : Counts) (sight : Sight) (n : Name) (p : u.Port) (mode : Mode) (type : ObjectType) → p.object.name ≡ n → p.mode ≡ mode
+          → shape_of p.object.form ≡ type_shape type → IsCounted counts type → KnownPorts i counts sight
           → KnownPorts (with_port i p) counts
-          (with_declared sight (declared_one g (form_direction p.object.form) (ranges_count sight.region) (visibility.port (count_of visibility.is_port sight.region) mode kind) n ∷ []))
-      single g i counts sight n p mode kind same e s k =
+          (with_declared sight (declared_one g (form_direction p.object.form) (ranges_count sight.region) (visibility.port (count_of visibility.is_port sight.region) mode type) n ∷ []))
+      single g i counts sight n p mode type same e s ct k =
           let c = count_of visibility.is_port sight.region in
           let m = ranges_count sight.region in
-          let d = declared_one g (form_direction p.object.form) m (visibility.port c mode kind) n in
+          let d = declared_one g (form_direction p.object.form) m (visibility.port c mode type) n in
           let j = with_port i p in
           let fits : DeclaredFits j counts d = record {
-            meaning = record { port = p; at = ap (slice_get (i.ports ++ p ∷ [])) k.known.counted.ports ∙ get_last i.ports p; mode_is = e; shape = s };
+            meaning = record { port = p; at = ap (slice_get (i.ports ++ p ∷ [])) k.known.counted.ports ∙ get_last i.ports p; mode_is = e; shape = s; counted = ct };
             range = last_form_range j p.object.form m i.ranges refl k.known.counted.ranges;
           } in
           record {
@@ -360,6 +379,6 @@ module _ (ranges : ℕ) (gs : List u.Generic) where
                 inside_unranged (without j) counts sight d (inside_more (without i) (without j) counts counts (unranged sight) (more_unseen i counts p) refl refl k.unseen)
                 (record { meaning = fits.meaning; range = tt });
             formals =
-                more_formals IsFormal port_formal sight.region (d ∷ []) i.ports (record { name = n; mode = mode; kind = kind }) p refl k.formals (record { name = same; mode = e; shape = s });
+                more_formals IsFormal port_formal sight.region (d ∷ []) i.ports (record { name = n; mode = mode; type = type }) p refl k.formals (record { name = same; mode = e; shape = s });
             generics = same_formals IsGeneric generic_formal sight.region (d ∷ []) gs refl k.generics;
           }

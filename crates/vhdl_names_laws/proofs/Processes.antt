@@ -9,22 +9,23 @@ use Rattle.vhdl_tree.specs.Tree as t
 use Rattle.vhdl_tree.specs.Tree.{Ident}
 use Rattle.vhdl_tree.specs.Pieces.{IsEach}
 use Rattle.vhdl_tree.specs.grammar.Process.{IsProcessDeclarationIn, IsProcessIn}
-use Rattle.vhdl_names_rules.specs.units.Expressions.{Static, StaticTest, Range, SignalPart, Value}
+use Rattle.vhdl_names_rules.specs.units.Expressions.{Static, StaticTest, Range, SignalPart}
 use Rattle.vhdl_names_rules.specs.units.Statements as s
 use Rattle.vhdl_names_rules.specs.units.Units as u
 use Rattle.vhdl_names_rules.specs.units.Units.{Form, Fixed, Units}
 use Rattle.vhdl_names_rules.specs.Rules.{each, if_any}
 use Rattle.vhdl_names_rules.specs.Visibility.{Declared, Sight, declared_here, declaration, meaning, with_variables, Declares}
 use Rattle.vhdl_names_rules.specs.Subtypes as subtypes'
-use Rattle.vhdl_names_rules.specs.Subtypes.{subtype, form_range, integer_subtype, numbers_direction, TypeClass, class_of, fixed_value, object}
+use Rattle.vhdl_names_rules.specs.Subtypes.{subtype, object_subtype, form_range, integer_subtype, numbers_direction, TypeClass, class_of, fixed_value, object}
 use Rattle.vhdl_names_rules.specs.Declarations.{in_order, within_variables, variables, as_kind, single_expression, static_test, told_at, constants_by, constants_in, if_ranged, is_open, others_declared, as_it_was, subtype_by, subtype_in, enumeration_in, process_declaration}
 use Rattle.vhdl_names_rules.specs.Expressions.{static, condition}
 use Rattle.vhdl_names_rules.specs.Edges.{Edge, waited_edge}
 use Rattle.vhdl_names_rules.specs.Statements as sequential
 use Rattle.vhdl_names_rules.specs.Statements.{SignalName, signal, signal_target, conditional, alone}
+use Rattle.vhdl_names_rules.specs.Choices.{selecting}
 use Rattle.vhdl_names_rules.specs.Concurrent.{assigning, assignment, selected, sensitivity, awaited, resumed_by, behind_wait, process}
-use Rattle.vhdl_names_rules.specs.sound.Expressions.{Inside, Shape, edge_fits, place_shape, value_shape}
-use Rattle.vhdl_names_rules.specs.sound.Statements.{selector_fits, statement_fits, statements_fit, alternatives_fit}
+use Rattle.vhdl_names_rules.specs.sound.Expressions.{Inside, Shape, edge_fits, place_shape}
+use Rattle.vhdl_names_rules.specs.sound.Statements.{statement_fits, statements_fit}
 use Rattle.vhdl_names_rules.specs.sound.Units.{sensitivity_fits, process_fits, concurrent_fits, is_signal, declaration_fits, with_declaration, declarations_fit, with_declarations}
 use Rattle.vhdl_names_laws.specs.Meanings.{Counts, IsInside}
 use Rattle.vhdl_names_laws.proofs.Statics.{some_same, HasNumbers, Keeps, keeps_all, keeps_before}
@@ -37,7 +38,7 @@ use Rattle.vhdl_names_laws.proofs.Served.{served}
 use Rattle.vhdl_names_laws.proofs.Expressions.{typed_fits}
 use Rattle.vhdl_names_laws.proofs.Values.{condition_fits}
 use Rattle.vhdl_names_laws.proofs.Awaiting.{level_fits, edge_is_place}
-use Rattle.vhdl_names_laws.proofs.Choices.{selector_is, each_all, covered_fits, arranged_fits}
+use Rattle.vhdl_names_laws.proofs.Choices.{selected_shape, selector_is, each_all, covered_fits, arranged_fits, selecting_fits}
 use Rattle.vhdl_names_laws.proofs.Statements.{signal_fits, target_is, conditional_is, alone_fits, statements_are}
 use Rattle.vhdl_names_laws.proofs.Statements.{assignment_is as one_assigned}
 use Rattle.vhdl_names_laws.proofs.InOrder as r
@@ -184,7 +185,7 @@ no_signal = record { integers = λ at s n. refl; truths = λ at x. refl; constan
 variables_lack : (sight : Sight) (d : t.Variables) (x : Declares u.Declaration) → variables sight d ≡ Some x → list_any is_signal x.analysed ≡ false
 unfolding variables
 variables_lack sight d x h =
-    let s = comes (subtype (within_variables sight d.names) d.subtype) _ x h in
+    let s = comes (object_subtype (within_variables sight d.names) d.subtype) _ x h in
     let c = comes (if_any (fixed_value (within_variables sight d.names) s.value.type (form_range s.value.form)) d.default) _ x s.rest in
     subst (LacksIt is_signal no_signal) (some_same _ x c.rest) (any_named is_signal (λ n. u.Declaration.variable (object s.value c.value n)) (λ n. refl) d.names)
 
@@ -296,21 +297,17 @@ assignment_is units i counts sight a x h q =
     (assigning_fits units i a.target.identifier.at a.label c.value
     (conditional_is i counts sight h.inside b.value (target_is i counts sight false a.target b.value h.inside b.is) a.branches a.otherwise c.value c.is))
 
-select_is : (i : Inside) (at : ℕ) (by : Value) (alts : s.Alternatives) → selector_fits i by ≡ true → alternatives_fit i (value_shape i by) alts ≡ true → statement_fits i (s.case_of at by alts) ≡ true
-unfolding statement_fits
-select_is i at by alts h k = and_from (selector_fits i by) (alternatives_fit i (value_shape i by) alts) h k
-
 pub selected_is : (units : Units) (i : Inside) (counts : Counts) (sight : Sight) (label : Option Ident) (a : t.SelectedAssignment) (x : u.Concurrent) → IsOutside i counts sight
     → selected sight label a ≡ Some x → concurrent_fits units i x ≡ true
 selected_is units i counts sight label a x h q =
     let p = selected_parts sight label a x q in
-    let f = selector_is i counts p.chosen.operand.value p.chosen.by.value (typed_fits a.selector i counts sight p.chosen.operand.value (served i counts sight h.inside) p.chosen.operand.is) p.chosen.by.is in
+    let f = selector_is sight.language i counts p.chosen.operand.value p.chosen.by.value (typed_fits a.selector i counts sight p.chosen.operand.value (served i counts sight h.inside) p.chosen.operand.is) p.chosen.by.is in
     let g = target_is i counts sight false a.target p.to.value h.inside p.to.is in
     subst (λ x. concurrent_fits units i x ≡ true) p.is
-    (assigning_fits units i a.at label (s.case_of a.at p.chosen.by.value.1 p.chosen.all.value)
-    (select_is i a.at p.chosen.by.value.1 p.chosen.all.value f.fits
-    (arranged_fits i (value_shape i p.chosen.by.value.1) p.chosen.choices.value p.chosen.bodies.value p.chosen.all.value
-    (covered_fits i counts sight h.inside (value_shape i p.chosen.by.value.1) p.chosen.by.value.0 f.selects f.counted (map (λ (w : t.Waveform). w.choices) a.waveforms) p.chosen.choices.value p.chosen.choices.is)
+    (assigning_fits units i a.at label (selecting a.at p.chosen.by.value.1 p.chosen.all.value)
+    (selecting_fits i counts a.at p.chosen.by.value.1 p.chosen.all.value f.fits
+    (arranged_fits i (selected_shape i p.chosen.by.value.1) p.chosen.choices.value p.chosen.bodies.value p.chosen.all.value
+    (covered_fits i counts sight h.inside (selected_shape i p.chosen.by.value.1) p.chosen.by.value.0 f.selects f.counted (map (λ (w : t.Waveform). w.choices) a.waveforms) p.chosen.choices.value p.chosen.choices.is)
     (each_all (λ (w : t.Waveform). option_map alone (sequential.assignment sight p.to.value w.value)) (statements_fit i) (λ w y k.
     let b = mapped alone (sequential.assignment sight p.to.value w.value) y k in
     subst (λ y. statements_fit i y ≡ true) b.is

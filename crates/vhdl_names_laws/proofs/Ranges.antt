@@ -78,17 +78,17 @@ module _ (i : Inside) where
   same_static : (x y : Static) → Some x ≡ Some y → static_fits i x ≡ true → static_fits i y ≡ true
   same_static x y h f = subst (λ s. static_fits i s ≡ true) (some_same x y h) f
 
-  least_fits : (at : ℕ) (w : IntegerType) → static_fits i (least at w) ≡ true
-  least_fits at Integer = refl
-  least_fits at Natural = refl
-  least_fits at Positive = refl
+  least_fits : (w : IntegerType) → static_fits i (least w) ≡ true
+  least_fits Integer = refl
+  least_fits Natural = refl
+  least_fits Positive = refl
 
-  type_bound_fits : (at : ℕ) (b : Bound) (w : IntegerType) (s : Static) → type_bound at b w ≡ Some s → static_fits i s ≡ true
-  type_bound_fits at Left w s g = same_static (least at w) s g (least_fits at w)
-  type_bound_fits at Low w s g = same_static (least at w) s g (least_fits at w)
-  type_bound_fits at Right w s g = same_static _ s g refl
-  type_bound_fits at High w s g = same_static _ s g refl
-  type_bound_fits at Length w s g = absurd cc
+  type_bound_fits : (b : Bound) (w : IntegerType) (s : Static) → type_bound b w ≡ Some s → static_fits i s ≡ true
+  type_bound_fits Left w s g = same_static (least w) s g (least_fits w)
+  type_bound_fits Low w s g = same_static (least w) s g (least_fits w)
+  type_bound_fits Right w s g = same_static _ s g refl
+  type_bound_fits High w s g = same_static _ s g refl
+  type_bound_fits Length w s g = absurd cc
 
   integers_bound_fits : (b : Bound) (d : DeclaredRange) (s : Static) → nat_lt d.number i.ranges ≡ true → integers_bound b d ≡ Some s → static_fits i s ≡ true
   integers_bound_fits Length d s h g = absurd cc
@@ -98,7 +98,7 @@ module _ (i : Inside) where
   integers_bound_fits Low d s h g = same_static (e.bound Low d.number) s g h
 
   bound_fits : (at : ℕ) (b : Bound) (y : Ranged) (s : Static) → RangedFits y → bound at b y ≡ Some s → static_fits i s ≡ true
-  bound_fits at b (r.of_type w) s h g = type_bound_fits at b w s g
+  bound_fits at b (r.of_type w) s h g = type_bound_fits b w s g
   bound_fits at b (r.of_integers d) s h g = integers_bound_fits b d s h g
   bound_fits at b (r.of_vector d) s h g = same_static (e.bound b d.number) s g h
   bound_fits at b (r.of_slice d x) s h g =

@@ -9,7 +9,7 @@ use Rattle.vhdl_names_rules.specs.declared.kind.ElementKind.TheVariants.{Element
 use Rattle.vhdl_names_rules.specs.Rules.{then_some, wider}
 use Rattle.vhdl_names_rules.specs.Operators as o
 use Rattle.vhdl_names_rules.specs.Expressions.{fits}
-use Rattle.vhdl_names_rules.specs.sound.Expressions.{Shape, one, vector, state, same_shape, is_elements, fits_shape}
+use Rattle.vhdl_names_rules.specs.sound.Expressions.{Shape, one, vector, state, number, same_shape, is_elements, fits_shape}
 use Rattle.vhdl_names_laws.specs.Meanings.{kind_shape}
 use Rattle.vhdl_names_laws.proofs.Statics.{some_same}
 
@@ -47,6 +47,7 @@ pub same_shapes : (x y : Shape) → same_shape x y ≡ true → x ≡ y
 same_shapes one one h = refl
 same_shapes vector vector h = refl
 same_shapes (state m) (state n) h = ap state (eqb-true m n h)
+same_shapes number number h = refl
 same_shapes _ _ h = absurd cc
 
 pub fits_self : (x : Shape) (o : Option Shape) → o ≡ Some x → fits_shape x o ≡ true

@@ -3,6 +3,8 @@ use Rattle.std.proofs.Common.{◌≡◌, ℕ, suc, Bool, true, false, ◌&&◌, 
 use Rattle.std.specs.Option.{option_map}
 use Rattle.std.specs.List.{slice_get, list_all}
 use Rattle.std.proofs.lemmas.Bool.{and_from, lt-ltb}
+use Rattle.vhdl_values.specs.declared.scalar.Nine.{Nine}
+use Rattle.vhdl_values.specs.declared.scalar.Nine.TheVariants.{One, Zero}
 use Rattle.vhdl_tree.specs.declared.declaration.Mode.{Mode}
 use Rattle.vhdl_tree.specs.declared.declaration.Mode.TheVariants.{In, Out}
 use Rattle.vhdl_tree.specs.Tree as t
@@ -10,7 +12,7 @@ use Rattle.vhdl_tree.specs.Tree.{Ident}
 use Rattle.vhdl_names_rules.specs.declared.kind.ElementKind.{ElementKind}
 use Rattle.vhdl_names_rules.specs.declared.kind.ElementKind.TheVariants.{Element, LogicVector, Unsigned}
 use Rattle.vhdl_names_rules.specs.declared.kind.ObjectType.{ObjectType}
-use Rattle.vhdl_names_rules.specs.declared.kind.ObjectType.TheVariants.{Elements, Enumeration}
+use Rattle.vhdl_names_rules.specs.declared.kind.ObjectType.TheVariants.{Elements}
 use Rattle.vhdl_names_rules.specs.units.Expressions as e
 use Rattle.vhdl_names_rules.specs.units.Expressions.{Part, Signal, Chosen}
 use Rattle.vhdl_names_rules.specs.units.Units.{Form}
@@ -21,9 +23,10 @@ use Rattle.vhdl_names_rules.specs.Visibility.{Name, Meaning, DeclaredRange, Sigh
 use Rattle.vhdl_names_rules.specs.Operators as o
 use Rattle.vhdl_names_rules.specs.Names as n'
 use Rattle.vhdl_names_rules.specs.Names.{Suffix, AnyPart, part, part_of, chosen, any_part, any_part_of}
-use Rattle.vhdl_names_rules.specs.Expressions.{static_range, condition, value_given}
-use Rattle.vhdl_names_rules.specs.Statements.{part_range, SignalName, named_part, as_signal, signal, is_input, mode_of, Target, part_target, assigned_signal, assigned_variable, as_signal_target, as_variable_target, target_by, assignment, alone, last_branch, branches, conditional, before, choice_lists, statement, statements, conditionals, otherwise, alternatives}
-use Rattle.vhdl_names_rules.specs.sound.Expressions.{Inside, Shape, shape_of, is_vector, has_vector, chosen_shape, range_fits, any_range_fits, chosen_fits, part_shape, port_form, signal_form, place_shape, value_shape, test_fits}
+use Rattle.vhdl_names_rules.specs.Expressions as to
+use Rattle.vhdl_names_rules.specs.Expressions.{static_range, condition, Assigned, truth_of, value_assigned}
+use Rattle.vhdl_names_rules.specs.Statements.{part_range, SignalName, named_part, as_signal, signal, is_input, mode_of, Target, part_target, assigned_signal, assigned_variable, as_signal_target, as_variable_target, target_by, alone, boolean_assigned, assigned_to, assignment, last_branch, branches, conditional, before, choice_lists, statement, statements, conditionals, otherwise, alternatives}
+use Rattle.vhdl_names_rules.specs.sound.Expressions.{Inside, Shape, one, shape_of, is_vector, has_vector, chosen_shape, range_fits, any_range_fits, chosen_fits, part_shape, port_form, signal_form, place_shape, test_fits}
 use Rattle.vhdl_names_rules.specs.sound.Statements as w
 use Rattle.vhdl_names_rules.specs.sound.Statements.{given_fits, given_fits_target, is_out, is_driven, selector_fits, statement_fits, statements_fit, branches_fit, alternatives_fit}
 use Rattle.vhdl_names_laws.specs.Meanings.{Counts, kind_shape, type_shape, IsCounted, IsPort, MeaningFits, IsInside}
@@ -34,8 +37,8 @@ use Rattle.vhdl_names_laws.proofs.Names.{part_fits, part_of_fits, chosen_is, por
 use Rattle.vhdl_names_laws.proofs.Shapes.{of_either}
 use Rattle.vhdl_names_laws.proofs.Served.{served}
 use Rattle.vhdl_names_laws.proofs.Expressions.{typed_fits, suffix_fits, static_range_fits}
-use Rattle.vhdl_names_laws.proofs.Values.{given_is, condition_fits}
-use Rattle.vhdl_names_laws.proofs.Choices.{selector_is, covered_fits, arranged_fits}
+use Rattle.vhdl_names_laws.proofs.Values.{AssignedFits, assigned_is, condition_fits}
+use Rattle.vhdl_names_laws.proofs.Choices.{selected_shape, selector_is, covered_fits, arranged_fits, selecting_fits}
 use Rattle.vhdl_names_rules.proofs.laws.Rules.{comes, kept, not_true}
 use Rattle.vhdl_names_rules.proofs.laws.Parts.{case_parts}
 use Rattle.vhdl_names_laws.proofs.Parts.{signal_parts, signal_target_parts, variable_target_parts}
@@ -49,9 +52,9 @@ pub record SignalFits (i : Inside) (counts : Counts) (x : SignalName) : Type 0 w
   pub driven : is_input x.mode ≡ false → is_driven i x.place.signal ≡ true
   pub range : any_range_fits i x.range ≡ true
 
-out_port : (i : Inside) (k : ℕ) (mode : Mode) (kind : ElementKind) → IsPort i.ports k mode kind → is_input (Some mode) ≡ false → is_driven i (e.port k) ≡ true
-out_port i k In kind h n = absurd cc
-out_port i k Out kind h n =
+out_port : (i : Inside) (counts : Counts) (k : ℕ) (mode : Mode) (type : ObjectType) → IsPort counts i.ports k mode type → is_input (Some mode) ≡ false → is_driven i (e.port k) ≡ true
+out_port i counts k In type h n = absurd cc
+out_port i counts k Out type h n =
     ap is_out h.at ∙ ap (λ mode. is_out (Some (record { mode = mode; object = h.port.object }))) h.mode_is
 
 -- the range of a part
@@ -71,20 +74,20 @@ module _ (i : Inside) (counts : Counts) (d : Option DeclaredRange) (r : RangeFit
   part_range_fits (Elements k) suffix p f q =
       let a = mapped (λ (p : Part × ElementKind). (p.0, Elements p.1)) (part k suffix) p q in
       subst (λ (p : Part × ObjectType). HasRange p.0) a.is (of_part k suffix a.value f a.from)
-  part_range_fits (Enumeration n count) n'.plain p f q = subst (λ (p : Part × ObjectType). HasRange p.0) (some_same (e.whole, Enumeration n count) p q) (any_declared_fits i d r)
-  part_range_fits (Enumeration n count) _ p f q = absurd cc
+  part_range_fits type n'.plain p f q = subst (λ (p : Part × ObjectType). HasRange p.0) (some_same (e.whole, type) p q) (any_declared_fits i d r)
+  part_range_fits _ _ p f q = absurd cc
 
 as_signal_fits : (i : Inside) (counts : Counts) (at : ℕ) (name : Name) (d : Meaning) (r : Option DeclaredRange) (b : Bool) (suffix : Suffix) (x : SignalName)
     → MeaningFits i counts d → RangeFits i r → SuffixFits i counts suffix
     → as_signal at (record { name = name; meaning = d; range = r; is_global = b }) suffix ≡ Some x → SignalFits i counts x
-as_signal_fits i counts at name (visibility.port k mode kind) r b suffix x h z f q =
-    let a = mapped (named_part at (e.port k) (Some mode) r) (part_of (Elements kind) suffix) x q in
-    let p = part_of_fits i counts (port_form h.port) (Elements kind) suffix a.value h.shape tt f a.from in
+as_signal_fits i counts at name (visibility.port k mode type) r b suffix x h z f q =
+    let a = mapped (named_part at (e.port k) (Some mode) r) (part_of type suffix) x q in
+    let p = part_of_fits i counts (port_form h.port) type suffix a.value h.shape h.counted f a.from in
     subst (SignalFits i counts) a.is (record {
-      shape = ap (λ w. w >>= λ f. part_shape i f a.value.0) (port_form_is i counts k mode kind h) ∙ p.0;
+      shape = ap (λ w. w >>= λ f. part_shape i f a.value.0) (port_form_is i counts k mode type h) ∙ p.0;
       counted = p.1;
-      driven = λ n. out_port i k mode kind h n;
-      range = part_range_fits i counts r z (Elements kind) suffix a.value f a.from;
+      driven = λ n. out_port i counts k mode type h n;
+      range = part_range_fits i counts r z type suffix a.value f a.from;
     })
 as_signal_fits i counts at name (visibility.signal k type) r b suffix x h z f q =
     let a = mapped (named_part at (e.Signal.signal k) None r) (part_of type suffix) x q in
@@ -147,13 +150,13 @@ module _ (i : Inside) (counts : Counts) (at : ℕ) (r : Option DeclaredRange) (r
   of_type (Elements k) suffix p h c w q =
       let a = mapped (λ (p : AnyPart × ElementKind). (p.0, Elements p.1)) (any_part k suffix) p q in
       subst IsTarget a.is (of_elements k suffix a.value h w a.from)
-  of_type (Enumeration n count) n'.plain p h c w q =
-      subst IsTarget (some_same (n'.fixed e.whole, Enumeration n count) p q) (record {
-        fits = λ g y. to_part e.whole (type_shape (Enumeration n count)) g (ap Some h) y;
+  of_type type n'.plain p h c w q =
+      subst IsTarget (some_same (n'.fixed e.whole, type) p q) (record {
+        fits = λ g y. to_part e.whole (type_shape type) g (ap Some h) y;
         counted = c;
         range = any_declared_fits i r ranged;
       })
-  of_type (Enumeration n count) _ p h c w q = absurd cc
+  of_type _ _ p h c w q = absurd cc
 
   pub target_fits : (type : ObjectType) (suffix : Suffix) (x : Target) → shape_of f ≡ type_shape type → IsCounted counts type → SuffixFits i counts suffix
       → option_map (part_target at r assigned) (any_part_of type suffix) ≡ Some x → GivenFits i counts x
@@ -193,11 +196,11 @@ module _ (i : Inside) (at k : ℕ) (f : Form) (form : slice_get i.variables k �
 as_signal_target_fits : (i : Inside) (counts : Counts) (at : ℕ) (name : Name) (d : Meaning) (r : Option DeclaredRange) (b : Bool) (suffix : Suffix) (x : Target)
     → MeaningFits i counts d → RangeFits i r → SuffixFits i counts suffix → is_input (mode_of d) ≡ false
     → as_signal_target at (record { name = name; meaning = d; range = r; is_global = b }) suffix ≡ Some x → GivenFits i counts x
-as_signal_target_fits i counts at name (visibility.port k mode kind) r b suffix x h z w m q =
-    let form = port_form_is i counts k mode kind h in
-    let out = out_port i k mode kind h m in
+as_signal_target_fits i counts at name (visibility.port k mode type) r b suffix x h z w m q =
+    let form = port_form_is i counts k mode type h in
+    let out = out_port i counts k mode type h m in
     target_fits i counts at r z (port_form h.port) (assigned_signal at (e.port k))
-    (signal_part_fits i at (e.port k) (port_form h.port) form out) (signal_chosen_fits i at (e.port k) (port_form h.port) form out) (Elements kind) suffix x h.shape tt w q
+    (signal_part_fits i at (e.port k) (port_form h.port) form out) (signal_chosen_fits i at (e.port k) (port_form h.port) form out) type suffix x h.shape h.counted w q
 as_signal_target_fits i counts at name (visibility.signal k type) r b suffix x h z w m q =
     let g = the_form i counts type (slice_get i.signals k) h in
     target_fits i counts at r z g.0 (assigned_signal at (e.Signal.signal k))
@@ -253,14 +256,27 @@ inside_loop i counts sight n h =
 -- ---- assignments, of values alone and under conditions
 
 module _ (i : Inside) (counts : Counts) (sight : Sight) (h : IsInside i counts sight) (x : Target) (f : GivenFits i counts x) where
-  pub assignment_is : (v : t.Value) (y : s.Statement) → assignment sight x v ≡ Some y → statement_fits i y ≡ true
-  assignment_is v y q =
-      let a = mapped x.assigned (value_given sight x.type x.range v) y q in
-      subst (λ y. statement_fits i y ≡ true) a.is (f.fits a.value (given_is i counts sight x.type x.range v a.value (served i counts sight h) f.range f.counted a.from))
-
   pub alone_fits : (y : s.Statement) → statement_fits i y ≡ true → statements_fit i (alone y) ≡ true
   unfolding statement_fits
   alone_fits y t = and_from (statement_fits i y) true t refl
+
+  -- to a boolean '1' or '0'
+  boolean_fits : (v : Nine) → type_shape x.type ≡ one → statements_fit i (boolean_assigned x v) ≡ true
+  boolean_fits v is =
+      let g = s.single (e.Value.elements (e.enclosed_character v)) in
+      alone_fits (x.assigned g) (f.fits g (ap (λ z. given_fits i z g) is))
+
+  assigned_fits : (a : Assigned) → AssignedFits i (type_shape x.type) a → statement_fits i (assigned_to x a) ≡ true
+  unfolding statement_fits
+  assigned_fits (to.given g) k = f.fits g k
+  assigned_fits (truth_of r) k =
+      and_from (test_fits i r && statements_fit i (boolean_assigned x One)) (statements_fit i (boolean_assigned x Zero))
+      (and_from (test_fits i r) (statements_fit i (boolean_assigned x One)) k.1 (boolean_fits One k.0)) (boolean_fits Zero k.0)
+
+  pub assignment_is : (v : t.Value) (y : s.Statement) → assignment sight x v ≡ Some y → statement_fits i y ≡ true
+  assignment_is v y q =
+      let a = mapped (assigned_to x) (value_assigned sight x.type x.range v) y q in
+      subst (λ y. statement_fits i y ≡ true) a.is (assigned_fits a.value (assigned_is i counts sight x.type x.range v a.value (served i counts sight h) f.range f.counted a.from))
 
   last_branch_is : (v : Option t.Value) (bs : s.Branches) → last_branch sight x v ≡ Some bs → branches_fit i bs ≡ true
   unfolding statement_fits
@@ -324,11 +340,11 @@ mutual
       (conditionals_are bs i counts sight b.value c.value h (otherwise_is o i counts sight b.value h b.is) c.is)
   statement_is (t.case_of at d alts end) i counts sight label x h q =
       let p = case_parts sight label at d alts end x q in
-      let f = selector_is i counts p.chosen.operand.value p.chosen.by.value (typed_fits d i counts sight p.chosen.operand.value (served i counts sight h) p.chosen.operand.is) p.chosen.by.is in
+      let f = selector_is sight.language i counts p.chosen.operand.value p.chosen.by.value (typed_fits d i counts sight p.chosen.operand.value (served i counts sight h) p.chosen.operand.is) p.chosen.by.is in
       subst (λ x. statement_fits i x ≡ true) p.is
-      (and_from (selector_fits i p.chosen.by.value.1) (alternatives_fit i (value_shape i p.chosen.by.value.1) p.chosen.all.value) f.fits
-      (arranged_fits i (value_shape i p.chosen.by.value.1) p.chosen.choices.value p.chosen.bodies.value p.chosen.all.value
-      (covered_fits i counts sight h (value_shape i p.chosen.by.value.1) p.chosen.by.value.0 f.selects f.counted (choice_lists alts) p.chosen.choices.value p.chosen.choices.is)
+      (selecting_fits i counts at p.chosen.by.value.1 p.chosen.all.value f.fits
+      (arranged_fits i (selected_shape i p.chosen.by.value.1) p.chosen.choices.value p.chosen.bodies.value p.chosen.all.value
+      (covered_fits i counts sight h (selected_shape i p.chosen.by.value.1) p.chosen.by.value.0 f.selects f.counted (choice_lists alts) p.chosen.choices.value p.chosen.choices.is)
       (alternatives_are alts i counts sight p.chosen.bodies.value h p.chosen.bodies.is) p.chosen.all.is))
   statement_is (t.for_of at n r body end) i counts sight label x h q =
       let a = kept (label_ends label end) _ x q in

@@ -9,7 +9,7 @@ use Rattle.vhdl_values.specs.declared.scalar.Nine.{Nine}
 use Rattle.vhdl_names_rules.specs.declared.kind.ElementKind.{ElementKind}
 use Rattle.vhdl_names_rules.specs.declared.kind.ElementKind.TheVariants.{Element}
 use Rattle.vhdl_names_rules.specs.declared.kind.ObjectType.{ObjectType}
-use Rattle.vhdl_names_rules.specs.declared.kind.ObjectType.TheVariants.{Elements, Enumeration}
+use Rattle.vhdl_names_rules.specs.declared.kind.ObjectType.TheVariants.{Elements, Enumeration, Integers, Booleans}
 use Rattle.vhdl_names_rules.specs.units.Expressions as e
 use Rattle.vhdl_names_rules.specs.units.Expressions.{Static, Range}
 use Rattle.vhdl_names_rules.specs.units.Units as u
@@ -69,6 +69,7 @@ below k m n l t = let a : k < m = ltb-true k m t in lt-ltb k n (omega (arith, a,
 
 pub static_more : (i j : Inside) → HasNumbers i j → (s : Static) → static_fits i s ≡ true → static_fits j s ≡ true
 static_more i j h (e.number n) t = refl
+static_more i j h e.least_integer t = refl
 static_more i j h (e.generic k) t = below k i.generics j.generics h.generics t
 static_more i j h (e.Static.constant k) t = below k i.integers j.integers h.integers t
 static_more i j h (e.generate_parameter k) t = below k i.generates j.generates h.generates t
@@ -99,17 +100,19 @@ pub literal_of_more : (i j : Inside) (kind : ElementKind) (vs : Option (List Nin
 literal_of_more i j kind None h = tt
 literal_of_more i j kind (Some vs) h = literal_more i j kind vs h
 
+counted_more : (counts more : Counts) → Keeps counts more → (type : ObjectType) → IsCounted counts type → IsCounted more type
+counted_more counts more c (Elements kind) t = tt
+counted_more counts more c (Enumeration n count) t = c n count t
+counted_more counts more c Integers t = tt
+counted_more counts more c Booleans t = tt
+
 -- an object's form, by its number
 form_more : (counts more : Counts) (type : ObjectType) (fs gs : List Form) (k : ℕ) → Keeps counts more → Keeps fs gs → IsForm counts type (slice_get fs k) → IsForm more type (slice_get gs k)
-form_more counts more type fs gs k c f h = record { shape = by (slice_get fs k) refl h.shape; counted = counted type h.counted }
+form_more counts more type fs gs k c f h = record { shape = by (slice_get fs k) refl h.shape; counted = counted_more counts more c type h.counted }
   where
     by : (o : Option Form) → slice_get fs k ≡ o → option_map shape_of o ≡ Some (type_shape type) → option_map shape_of (slice_get gs k) ≡ Some (type_shape type)
     by None e t = absurd cc
     by (Some g) e t = ap (option_map shape_of) (f k g e) ∙ t
-
-    counted : (type : ObjectType) → IsCounted counts type → IsCounted more type
-    counted (Elements kind) t = tt
-    counted (Enumeration n count) t = c n count t
 
 pub meaning_more : (i j : Inside) (counts more : Counts) → HasMore i j counts more → (d : Meaning) → MeaningFits i counts d → MeaningFits j more d
 meaning_more i j counts more h (visibility.generic k) f = below k i.generics j.generics h.numbers.generics f
@@ -118,7 +121,8 @@ meaning_more i j counts more h (visibility.generate_parameter k) f = below k i.g
 meaning_more i j counts more h (visibility.loop_parameter k) f = below k i.loops j.loops h.numbers.loops f
 meaning_more i j counts more h (visibility.boolean_generic k) f = below k i.generics j.generics h.numbers.generics f
 meaning_more i j counts more h (visibility.boolean_constant k) f = below k i.integers j.integers h.numbers.integers f
-meaning_more i j counts more h (visibility.port k mode kind) f = record { port = f.port; at = h.ports k f.port f.at; mode_is = f.mode_is; shape = f.shape }
+meaning_more i j counts more h (visibility.port k mode type) f =
+    record { port = f.port; at = h.ports k f.port f.at; mode_is = f.mode_is; shape = f.shape; counted = counted_more counts more h.counts type f.counted }
 meaning_more i j counts more h (visibility.signal k type) f = form_more counts more type i.signals j.signals k h.counts h.signals f
 meaning_more i j counts more h (visibility.variable k type) f = form_more counts more type i.variables j.variables k h.counts h.variables f
 meaning_more i j counts more h (visibility.constant k kind values) f =

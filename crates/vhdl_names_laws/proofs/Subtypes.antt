@@ -1,6 +1,6 @@
 -- Types of objects, values of constants and defaults fit (IEEE 1076-2008, 6.3 and 6.4.2).
 use Rattle.std.proofs.Common.{◌≡◌, ℕ, ◌<◌, Bool, true, false, ◌&&◌, ◌==◌, List, [], ◌∷◌, Option, Some, None, refl, ap, sym, ◌∙◌, subst, arith}
-use Rattle.std.specs.Prelude.{nat_lt}
+use Rattle.std.specs.Prelude.{nat_lt, is_none}
 use Rattle.std.specs.List.{slice_get}
 use Rattle.std.specs.Option.{option_map}
 use Rattle.std.proofs.lemmas.Bool.{and_parts, and_from, ltb-true, lt-ltb}
@@ -9,9 +9,10 @@ use Rattle.vhdl_tree.specs.Tree.{Ident, Expr}
 use Rattle.vhdl_names_rules.specs.declared.kind.ElementKind.{ElementKind}
 use Rattle.vhdl_names_rules.specs.declared.kind.ElementKind.TheVariants.{Element, LogicVector, Unsigned}
 use Rattle.vhdl_names_rules.specs.declared.kind.ObjectType.{ObjectType}
-use Rattle.vhdl_names_rules.specs.declared.kind.ObjectType.TheVariants.{Elements, Enumeration}
+use Rattle.vhdl_names_rules.specs.declared.kind.ObjectType.TheVariants.{Elements, Enumeration, Integers, Booleans}
 use Rattle.vhdl_names_rules.specs.declared.kind.Function.TheVariants.{ToUnsigned}
 use Rattle.vhdl_names_rules.specs.declared.fault.NameProblem.TheVariants.{LeftOut}
+use Rattle.vhdl_names_rules.specs.units.Expressions as e
 use Rattle.vhdl_names_rules.specs.units.Expressions.{Range}
 use Rattle.vhdl_names_rules.specs.units.Statements.{Given}
 use Rattle.vhdl_names_rules.specs.units.Units as u
@@ -24,58 +25,23 @@ use Rattle.vhdl_names_rules.specs.Operators as o
 use Rattle.vhdl_names_rules.specs.Operators.{Typed}
 use Rattle.vhdl_names_rules.specs.Ranges.{declared_range}
 use Rattle.vhdl_names_rules.specs.problems.Places.{range_start}
-use Rattle.vhdl_names_rules.specs.Expressions.{typed_each, static_range, value_given}
-use Rattle.vhdl_names_rules.specs.Subtypes.{Subtype, marked, index_range, one_range, subtype, form_range, integers_of, is_range, value_range, integer_subtype, literal_values, named_value, encoded_value, literal_value, fixed, filled_value, plain_value, is_known_value, known_value, fixed_value, declaring_literal}
-use Rattle.vhdl_names_rules.specs.sound.Expressions.{Inside, Shape, one, vector, state, static_fits, range_fits, any_range_fits, is_elements, shape_of, fits_shape}
+use Rattle.vhdl_names_rules.specs.Expressions.{typed, typed_each, static_range, value_given}
+use Rattle.vhdl_names_rules.specs.Subtypes.{Subtype, TypeClass, integers, booleans, others, class_of, integer_object, boolean_object, subtype_of_class, object_subtype, static_value, single_value, marked, index_range, one_range, subtype, form_range, integers_of, is_range, value_range, integer_subtype, literal_values, named_value, encoded_value, literal_value, fixed, filled_value, plain_value, is_known_value, known_value, fixed_value, declaring_literal}
+use Rattle.vhdl_names_rules.specs.sound.Expressions.{Inside, Shape, one, vector, state, number, static_fits, range_fits, any_range_fits, is_elements, shape_of, fits_shape}
 use Rattle.vhdl_names_rules.specs.sound.Statements.{given_fits}
 use Rattle.vhdl_names_rules.specs.sound.Units.{form_fits, fixed_fits, default_fits, may_be_resolved, object_fits, integers_fit, subtype_range_fits, subtype_fits, generic_type_fits, generic_value_fits, generic_default_fits}
-use Rattle.vhdl_names_laws.specs.Meanings.{Counts, kind_shape, type_shape, IsCounted, IsLiteralOf, MeaningFits}
+use Rattle.vhdl_names_laws.specs.Meanings.{Counts, kind_shape, type_shape, IsCounted, IsLiteralOf, MeaningFits, TypedFits}
 use Rattle.vhdl_names_laws.proofs.Statics.{some_same, Keeps, HasNumbers, static_more, range_more}
 use Rattle.vhdl_names_laws.proofs.Shapes.{given, of_either, wider_is, fits_self, kind_is_vector}
 use Rattle.vhdl_names_laws.proofs.Ranges.{EachFits, RangeFits, declared_range_fits}
 use Rattle.vhdl_names_laws.proofs.More.{test_more, given_more, alone_elements_more, known_given}
 use Rattle.vhdl_names_rules.proofs.kept.Keeping.{mapped}
 use Rattle.vhdl_names_laws.proofs.Served.{IsServed, serving, meant}
-use Rattle.vhdl_names_laws.proofs.Expressions.{each_fits, static_range_fits}
+use Rattle.vhdl_names_laws.proofs.Expressions.{typed_fits, each_fits, static_range_fits}
 use Rattle.vhdl_names_laws.proofs.Values.{same_count, literal_values_fit, given_is}
 use Rattle.vhdl_names_rules.proofs.laws.Rules.{comes, kept}
 
 -- ---- more inside
-
-pub form_more : (i j : Inside) → HasNumbers i j → (f : Form) → form_fits i f ≡ true → form_fits j f ≡ true
-form_more i j h u.element k = refl
-form_more i j h (u.vector r) k = range_more i j h r k
-form_more i j h (u.enumeration count) k = k
-
-constant_more : (z : Shape) (a b : Option Form) → ((f : Form) → a ≡ Some f → b ≡ Some f) → fits_shape z (option_map shape_of a) ≡ true → fits_shape z (option_map shape_of b) ≡ true
-constant_more z None b h k = absurd cc
-constant_more z (Some f) b h k = ap (λ b. fits_shape z (option_map shape_of b)) (h f refl) ∙ k
-
-pub fixed_more : (i j : Inside) → HasNumbers i j → Keeps i.constants j.constants → (z : Shape) (v : Fixed) → fixed_fits i z v ≡ true → fixed_fits j z v ≡ true
-fixed_more i j h c one (u.Fixed.literal (a ∷ [])) k = k
-fixed_more i j h c vector (u.Fixed.literal (a ∷ vs)) k = k
-fixed_more i j h c (state n) (u.Fixed.literal vs) k = absurd cc
-fixed_more i j h c (state n) (u.Fixed.constant m) k = absurd cc
-fixed_more i j h c one (u.Fixed.encoded a b) k = absurd cc
-fixed_more i j h c vector (u.Fixed.encoded a b) k =
-    let p = and_parts (static_fits i a) (static_fits i b) k in
-    and_from (static_fits j a) (static_fits j b) (static_more i j h a p.0) (static_more i j h b p.1)
-fixed_more i j h c (state n) (u.Fixed.encoded a b) k = absurd cc
-fixed_more i j h c one (u.Fixed.filled v) k = absurd cc
-fixed_more i j h c vector (u.Fixed.filled v) k = refl
-fixed_more i j h c (state n) (u.Fixed.filled v) k = absurd cc
-fixed_more i j h c one (u.Fixed.given g) k = given_more i j h c one g k
-fixed_more i j h c vector (u.Fixed.given g) k = given_more i j h c vector g k
-fixed_more i j h c (state n) (u.Fixed.given g) k = given_more i j h c (state n) g k
-fixed_more i j h c one (u.Fixed.aggregate at es) k = absurd cc
-fixed_more i j h c vector (u.Fixed.aggregate at es) k = alone_elements_more i j h c es k
-fixed_more i j h c (state n) (u.Fixed.aggregate at es) k = absurd cc
-fixed_more i j h c z (u.Fixed.constant m) k = constant_more z (slice_get i.constants m) (slice_get j.constants m) (c m) k
-fixed_more i j h c _ _ k = k
-
-pub default_more : (i j : Inside) → HasNumbers i j → Keeps i.constants j.constants → (z : Shape) (v : Option Fixed) → default_fits i z v ≡ true → default_fits j z v ≡ true
-default_more i j h c z None k = refl
-default_more i j h c z (Some v) k = fixed_more i j h c z v k
 
 integers_more : (i j : Inside) → HasNumbers i j → (b : u.Integers) → integers_fit i b ≡ true → integers_fit j b ≡ true
 integers_more i j h (u.of_type w) k = refl
@@ -89,6 +55,51 @@ pub integer_subtype_more : (i j : Inside) → HasNumbers i j → (s : u.IntegerS
 integer_subtype_more i j h s k =
     let a = and_parts (integers_fit i s.base) (subtype_range_fits i s.range) k in
     and_from (integers_fit j s.base) (subtype_range_fits j s.range) (integers_more i j h s.base a.0) (subtype_range_more i j h s.range a.1)
+
+pub form_more : (i j : Inside) → HasNumbers i j → (f : Form) → form_fits i f ≡ true → form_fits j f ≡ true
+form_more i j h u.element k = refl
+form_more i j h (u.vector r) k = range_more i j h r k
+form_more i j h (u.enumeration count) k = k
+form_more i j h (u.Form.number s) k = integer_subtype_more i j h s k
+form_more i j h u.boolean k = refl
+
+constant_more : (z : Shape) (a b : Option Form) → ((f : Form) → a ≡ Some f → b ≡ Some f) → fits_shape z (option_map shape_of a) ≡ true → fits_shape z (option_map shape_of b) ≡ true
+constant_more z None b h k = absurd cc
+constant_more z (Some f) b h k = ap (λ b. fits_shape z (option_map shape_of b)) (h f refl) ∙ k
+
+pub fixed_more : (i j : Inside) → HasNumbers i j → Keeps i.constants j.constants → (z : Shape) (v : Fixed) → fixed_fits i z v ≡ true → fixed_fits j z v ≡ true
+fixed_more i j h c one (u.Fixed.literal (a ∷ [])) k = k
+fixed_more i j h c vector (u.Fixed.literal (a ∷ vs)) k = k
+fixed_more i j h c (state n) (u.Fixed.literal vs) k = absurd cc
+fixed_more i j h c (state n) (u.Fixed.constant m) k = absurd cc
+fixed_more i j h c number (u.Fixed.literal vs) k = absurd cc
+fixed_more i j h c number (u.Fixed.constant m) k = absurd cc
+fixed_more i j h c one (u.Fixed.encoded a b) k = absurd cc
+fixed_more i j h c vector (u.Fixed.encoded a b) k =
+    let p = and_parts (static_fits i a) (static_fits i b) k in
+    and_from (static_fits j a) (static_fits j b) (static_more i j h a p.0) (static_more i j h b p.1)
+fixed_more i j h c (state n) (u.Fixed.encoded a b) k = absurd cc
+fixed_more i j h c number (u.Fixed.encoded a b) k = absurd cc
+fixed_more i j h c one (u.Fixed.filled v) k = absurd cc
+fixed_more i j h c vector (u.Fixed.filled v) k = refl
+fixed_more i j h c (state n) (u.Fixed.filled v) k = absurd cc
+fixed_more i j h c number (u.Fixed.filled v) k = absurd cc
+fixed_more i j h c one (u.Fixed.given g) k = given_more i j h c one g k
+fixed_more i j h c vector (u.Fixed.given g) k = given_more i j h c vector g k
+fixed_more i j h c (state n) (u.Fixed.given g) k = given_more i j h c (state n) g k
+fixed_more i j h c number (u.Fixed.given g) k = given_more i j h c number g k
+fixed_more i j h c one (u.Fixed.aggregate at es) k = absurd cc
+fixed_more i j h c vector (u.Fixed.aggregate at es) k = alone_elements_more i j h c es k
+fixed_more i j h c (state n) (u.Fixed.aggregate at es) k = absurd cc
+fixed_more i j h c number (u.Fixed.aggregate at es) k = absurd cc
+fixed_more i j h c number (u.Fixed.integer n) k = static_more i j h n k
+fixed_more i j h c one (u.Fixed.truth b) k = test_more i j h b k
+fixed_more i j h c z (u.Fixed.constant m) k = constant_more z (slice_get i.constants m) (slice_get j.constants m) (c m) k
+fixed_more i j h c _ _ k = k
+
+pub default_more : (i j : Inside) → HasNumbers i j → Keeps i.constants j.constants → (z : Shape) (v : Option Fixed) → default_fits i z v ≡ true → default_fits j z v ≡ true
+default_more i j h c z None k = refl
+default_more i j h c z (Some v) k = fixed_more i j h c z v k
 
 pub generic_type_more : (i j : Inside) → HasNumbers i j → (w : u.GenericType) → generic_type_fits i w ≡ true → generic_type_fits j w ≡ true
 generic_type_more i j h (u.integers s) k = integer_subtype_more i j h s k
@@ -166,7 +177,7 @@ subtype_is i counts sight d s h q =
 pub form_range_fits : (i : Inside) (f : Form) → form_fits i f ≡ true → any_range_fits i (form_range f) ≡ true
 form_range_fits i u.element h = refl
 form_range_fits i (u.vector r) h = h
-form_range_fits i (u.enumeration count) h = refl
+form_range_fits i _ h = refl
 
 -- ---- subtypes of integers
 
@@ -201,6 +212,22 @@ integer_subtype_is i counts sight d s h q =
     (and_from (integers_fit i c.value) (subtype_range_fits i a.value) (integers_are i b.value.meaning b.value.range b.value.name b.value.is_global c.value f.mark c.is)
     (any_value_range i counts sight d.constraint a.value h a.is))
 
+-- of a signal, port or variable
+class_is : (i : Inside) (counts : Counts) (sight : Sight) (d : t.Subtype) (c : TypeClass) (s : Subtype) → IsServed i counts sight → subtype_of_class sight d c ≡ Some s → SubtypeFits i counts s
+class_is i counts sight d integers s h q =
+    let a = comes (integer_subtype sight d) _ s (wider_is sight.language (integer_object sight d) s q) in
+    subst (SubtypeFits i counts) (some_same _ s a.rest) (record { form = integer_subtype_is i counts sight d a.value h a.is; resolved = refl; shape = refl; counted = tt })
+class_is i counts sight d booleans s h q =
+    let a = kept (is_none d.constraint) _ s (wider_is sight.language (boolean_object d) s q) in
+    subst (SubtypeFits i counts) (some_same _ s a.1) (record { form = refl; resolved = refl; shape = refl; counted = tt })
+class_is i counts sight d others s h q = subtype_is i counts sight d s h q
+
+pub object_subtype_is : (i : Inside) (counts : Counts) (sight : Sight) (d : t.Subtype) (s : Subtype) → IsServed i counts sight → object_subtype sight d ≡ Some s → SubtypeFits i counts s
+unfolding object_subtype
+object_subtype_is i counts sight d s h q =
+    let m = comes (meaning sight d.mark.text) _ s q in
+    class_is i counts sight d (class_of m.value) s h m.rest
+
 -- ---- values
 
 -- what is named: a constant of the kind, or a literal of the enumeration
@@ -234,7 +261,7 @@ literal_value_fits : (i : Inside) (type : ObjectType) (d : Expr) (v : Fixed) →
 literal_value_fits i (Elements k) d v q =
     let a = mapped u.Fixed.literal (literal_values k d) v q in
     subst (λ v. fixed_fits i (kind_shape k) v ≡ true) a.is (literal_values_fit i k d a.value a.from)
-literal_value_fits i (Enumeration e count) d v q = absurd cc
+literal_value_fits i _ d v q = absurd cc
 
 fixed_is : (i : Inside) (counts : Counts) (sight : Sight) (type : ObjectType) (d : Expr) (v : Fixed) → IsServed i counts sight → IsCounted counts type
     → fixed sight type d ≡ Some v → fixed_fits i (type_shape type) v ≡ true
@@ -264,6 +291,7 @@ given_is_fixed : (i : Inside) (x : Shape) (g : Given) → is_known_value g ≡ t
 given_is_fixed i one g k h = known_given i one g k h
 given_is_fixed i vector g k h = known_given i vector g k h
 given_is_fixed i (state n) g k h = known_given i (state n) g k h
+given_is_fixed i number g k h = known_given i number g k h
 
 pub known_fits : (i : Inside) (type : ObjectType) (g : Given) (v : Fixed) → given_fits i (type_shape type) g ≡ true → given_that LeftOut (is_known_value g) (u.Fixed.given g) ≡ Some v
     → fixed_fits i (type_shape type) v ≡ true
@@ -271,9 +299,24 @@ known_fits i type g v h q =
     let a = given (is_known_value g) (u.Fixed.given g) v q in
     subst (λ v. fixed_fits i (type_shape type) v ≡ true) a.is (given_is_fixed i (type_shape type) g a.holds h)
 
+-- an integer, and a boolean
+static_value_fits : (i : Inside) (counts : Counts) (type : ObjectType) (y : Typed) (v : Fixed) → TypedFits i counts y → static_value type y ≡ Some v → fixed_fits i (type_shape type) v ≡ true
+static_value_fits i counts Integers (o.integer n) v h q = subst (λ v. fixed_fits i number v ≡ true) (some_same (u.Fixed.integer n) v q) h
+static_value_fits i counts Booleans (o.truth (e.Test.fixed b)) v h q = subst (λ v. fixed_fits i one v ≡ true) (some_same (u.Fixed.truth b) v q) h
+static_value_fits i counts _ _ v h q = absurd cc
+
+single_value_fits : (i : Inside) (counts : Counts) (sight : Sight) (type : ObjectType) (d : t.Value) (v : Fixed) → IsServed i counts sight → single_value sight type d ≡ Some v
+    → fixed_fits i (type_shape type) v ≡ true
+single_value_fits i counts sight type (t.single d) v h q =
+    let a = comes (typed sight d) (static_value type) v q in
+    static_value_fits i counts type a.value v (typed_fits d i counts sight a.value h a.is) a.rest
+single_value_fits i counts sight type (t.others at d) v h q = absurd cc
+
 pub fixed_value_fits : (i : Inside) (counts : Counts) (sight : Sight) (type : ObjectType) (r : Option Range) (d : t.Value) (v : Fixed) → IsServed i counts sight → any_range_fits i r ≡ true
     → IsCounted counts type → fixed_value sight type r d ≡ Some v → fixed_fits i (type_shape type) v ≡ true
 unfolding fixed_value
+fixed_value_fits i counts sight Integers r d v h f n q = single_value_fits i counts sight Integers d v h q
+fixed_value_fits i counts sight Booleans r d v h f n q = single_value_fits i counts sight Booleans d v h q
 fixed_value_fits i counts sight type r d v h f n q =
     of_either (λ v. fixed_fits i (type_shape type) v ≡ true) (plain_value sight type d) (wider sight.language (known_value sight type r d)) v
     (λ z e. plain_value_fits i counts sight type d z h n e)

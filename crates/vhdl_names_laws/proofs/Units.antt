@@ -15,7 +15,7 @@ use Rattle.vhdl_names_rules.specs.units.Units.{Units}
 use Rattle.vhdl_names_rules.specs.Rules.{each, if_any}
 use Rattle.vhdl_names_rules.specs.Visibility.{Sight, are_distinct, with_declared, Declares}
 use Rattle.vhdl_names_rules.specs.Packages.{sight_of}
-use Rattle.vhdl_names_rules.specs.Subtypes.{subtype, form_range, fixed_value, object}
+use Rattle.vhdl_names_rules.specs.Subtypes.{object_subtype, form_range, fixed_value, object}
 use Rattle.vhdl_names_rules.specs.Declarations.{within, signals}
 use Rattle.vhdl_names_rules.specs.Interfaces.{EntityView}
 use Rattle.vhdl_names_rules.specs.Instances.{generic_formal, port_formal}
@@ -48,7 +48,7 @@ no_variable = record { integers = λ at s n. refl; truths = λ at x. refl; const
 signals_lack : (sight : Sight) (d : t.Signals) (x : Declares u.Declaration) → signals sight d ≡ Some x → list_any is_variable x.analysed ≡ false
 unfolding signals
 signals_lack sight d x h =
-    let s = comes (subtype (within sight d.names) d.subtype) _ x h in
+    let s = comes (object_subtype (within sight d.names) d.subtype) _ x h in
     let c = comes (if_any (fixed_value (within sight d.names) s.value.type (form_range s.value.form)) d.default) _ x s.rest in
     subst (λ (x : Declares u.Declaration). list_any is_variable x.analysed ≡ false) (some_same _ x c.rest)
     (any_named is_variable (λ n. u.Declaration.signal (object s.value c.value n)) (λ n. refl) d.names)

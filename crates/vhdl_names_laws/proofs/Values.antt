@@ -11,23 +11,24 @@ use Rattle.vhdl_tree.specs.Tree.{Expr}
 use Rattle.vhdl_names_rules.specs.declared.kind.ElementKind.{ElementKind}
 use Rattle.vhdl_names_rules.specs.declared.kind.ElementKind.TheVariants.{Element, LogicVector, Unsigned}
 use Rattle.vhdl_names_rules.specs.declared.kind.ObjectType.{ObjectType}
-use Rattle.vhdl_names_rules.specs.declared.kind.ObjectType.TheVariants.{Elements, Enumeration}
+use Rattle.vhdl_names_rules.specs.declared.kind.ObjectType.TheVariants.{Elements, Enumeration, Integers, Booleans}
 use Rattle.vhdl_names_rules.specs.units.Expressions as e
 use Rattle.vhdl_names_rules.specs.units.Expressions.{Range, Test, StaticTest}
 use Rattle.vhdl_names_rules.specs.units.Statements as s
 use Rattle.vhdl_names_rules.specs.units.Statements.{Given}
 use Rattle.vhdl_names_rules.specs.units.Units as u
-use Rattle.vhdl_names_rules.specs.Rules.{each}
+use Rattle.vhdl_names_rules.specs.Rules.{each, then_some}
 use Rattle.vhdl_names_rules.specs.Visibility.{Sight}
 use Rattle.vhdl_names_rules.specs.Literals.{nine_of, values_of_string, values_of_bits, values_by, quoted, at_least_one}
 use Rattle.vhdl_names_rules.specs.Operators as o
-use Rattle.vhdl_names_rules.specs.Operators.{Typed}
+use Rattle.vhdl_names_rules.specs.Operators.{Typed, as_computed}
 use Rattle.vhdl_names_rules.specs.Types as types
 use Rattle.vhdl_names_rules.specs.Types.{TypedElements}
 use Rattle.vhdl_names_rules.specs.Aggregates.{is_named, aggregate}
-use Rattle.vhdl_names_rules.specs.Expressions.{typed, fits, as_aggregate, as_composite, as_value, as_filled, value_given, as_test, condition, as_static_test}
+use Rattle.vhdl_names_rules.specs.Expressions as to
+use Rattle.vhdl_names_rules.specs.Expressions.{typed, fits, as_aggregate, as_composite, as_value, as_filled, value_given, Assigned, truth_of, as_boolean, value_assigned, as_test, condition, as_static_test}
 use Rattle.vhdl_names_rules.specs.Subtypes.{literal_values}
-use Rattle.vhdl_names_rules.specs.sound.Expressions.{Inside, one, vector, state, is_vector, any_range_fits, vector_shape, fits_shape, value_fits, test_fits, static_test_fits}
+use Rattle.vhdl_names_rules.specs.sound.Expressions.{Inside, Shape, one, vector, state, number, is_vector, any_range_fits, vector_shape, fits_shape, value_fits, test_fits, static_test_fits}
 use Rattle.vhdl_names_rules.specs.sound.Statements.{given_fits}
 use Rattle.vhdl_names_rules.specs.sound.Units.{fixed_fits}
 use Rattle.vhdl_names_laws.specs.Meanings.{Counts, kind_shape, type_shape, IsCounted, TypedFits, ElementsFit}
@@ -35,6 +36,7 @@ use Rattle.vhdl_names_laws.proofs.Statics.{some_same}
 use Rattle.vhdl_names_laws.proofs.Shapes as p
 use Rattle.vhdl_names_laws.proofs.Shapes.{fits_self, fitting_kinds, kind_is_vector}
 use Rattle.vhdl_names_laws.proofs.Aggregates.{aggregate_fits}
+use Rattle.vhdl_names_laws.proofs.Operators.{as_computed_fits}
 use Rattle.vhdl_names_rules.proofs.kept.Keeping.{mapped}
 use Rattle.vhdl_names_laws.proofs.Served.{IsServed}
 use Rattle.vhdl_names_laws.proofs.Expressions.{typed_fits}
@@ -67,7 +69,7 @@ as_composite_fits : (i : Inside) (counts : Counts) (type : ObjectType) (at : ℕ
     → as_composite type at r es ≡ Some g → given_fits i (type_shape type) g ≡ true
 as_composite_fits i counts (Elements k) at r (types.element (types.others p ∷ []) q y types.no_elements) g f h w = as_filled_fits i counts (Elements k) y g h.1 w
 as_composite_fits i counts (Elements k) at r es g f h w = as_aggregate_fits i counts k at r es g f h w
-as_composite_fits i counts (Enumeration n count) at r es g f h w = absurd cc
+as_composite_fits i counts _ at r es g f h w = absurd cc
 
 pub as_value_fits : (i : Inside) (counts : Counts) (type : ObjectType) (r : Option Range) (y : Typed) (g : Given) → any_range_fits i r ≡ true → IsCounted counts type → TypedFits i counts y
     → as_value type r y ≡ Some g → given_fits i (type_shape type) g ≡ true
@@ -79,6 +81,9 @@ as_value_fits i counts (Enumeration n count) r (o.enumerated d size y) g f c h q
     let b = same_count counts n d count size a.holds c h.1 in
     subst (λ g. given_fits i (state count) g ≡ true) a.is (ap (λ m. value_fits i (state m) y) b ∙ h.0)
 as_value_fits i counts type r (o.composite at es) g f c h q = as_composite_fits i counts type at r es g f h q
+as_value_fits i counts Integers r y g f c h q =
+    let a = mapped (λ j. s.single (e.Value.computed j)) (as_computed y) g q in
+    subst (λ g. given_fits i number g ≡ true) a.is (ap (λ b. fits_shape number (then_some b number)) (as_computed_fits i counts y a.value h a.from))
 as_value_fits i counts _ r _ g f c h q = absurd cc
 
 pub given_is : (i : Inside) (counts : Counts) (sight : Sight) (type : ObjectType) (r : Option Range) (w : t.Value) (g : Given) → IsServed i counts sight → any_range_fits i r ≡ true
@@ -90,6 +95,29 @@ given_is i counts sight type r (t.single d) g h f c q =
 given_is i counts sight type r (t.others at d) g h f c q =
     let a = comes (typed sight d) (as_filled type) g q in
     as_filled_fits i counts type a.value g (typed_fits d i counts sight a.value h a.is) a.rest
+
+-- ---- what statements assign
+
+-- a value, or to a boolean a truth
+abbrev pub AssignedFits : Inside → Shape → Assigned → Type 0
+AssignedFits i x (to.given g) = given_fits i x g ≡ true
+AssignedFits i x (truth_of t) = (x ≡ one) × (test_fits i t ≡ true)
+
+as_boolean_fits : (i : Inside) (counts : Counts) (y : Typed) (a : Assigned) → TypedFits i counts y → as_boolean y ≡ Some a → AssignedFits i one a
+as_boolean_fits i counts (o.truth (e.Test.fixed t)) a h q =
+    subst (AssignedFits i one) (some_same (to.given (s.single (e.static_truth t))) a q) (ap (λ b. fits_shape one (then_some b one)) h)
+as_boolean_fits i counts (o.truth t) a h q = subst (AssignedFits i one) (some_same (truth_of t) a q) (refl, h)
+as_boolean_fits i counts _ a h q = absurd cc
+
+pub assigned_is : (i : Inside) (counts : Counts) (sight : Sight) (type : ObjectType) (r : Option Range) (w : t.Value) (a : Assigned) → IsServed i counts sight → any_range_fits i r ≡ true
+    → IsCounted counts type → value_assigned sight type r w ≡ Some a → AssignedFits i (type_shape type) a
+unfolding value_assigned
+assigned_is i counts sight Booleans r (t.single d) a h f c q =
+    let b = comes (typed sight d) as_boolean a q in
+    as_boolean_fits i counts b.value a (typed_fits d i counts sight b.value h b.is) b.rest
+assigned_is i counts sight type r w a h f c q =
+    let m = mapped to.given (value_given sight type r w) a q in
+    subst (AssignedFits i (type_shape type)) m.is (given_is i counts sight type r w m.value h f c m.from)
 
 -- ---- conditions
 

@@ -13,8 +13,8 @@ use Rattle.vhdl_tree.specs.grammar.Process.{spell_process_declaration}
 use Rattle.vhdl_names_rules.specs.units.Units as u
 use Rattle.vhdl_names_rules.specs.Rules.{if_any}
 use Rattle.vhdl_names_rules.specs.Visibility.{Declared, Sight, declared_here, Declares}
-use Rattle.vhdl_names_rules.specs.Subtypes.{subtype, form_range, fixed_value}
-use Rattle.vhdl_names_rules.specs.Declarations.{in_order, within, within_variables, as_kind, without_ports, port, signals, variables, process_declaration}
+use Rattle.vhdl_names_rules.specs.Subtypes.{object_subtype, form_range, fixed_value}
+use Rattle.vhdl_names_rules.specs.Declarations.{in_order, within, within_variables, as_port_type, without_ports, port, signals, variables, process_declaration}
 use Rattle.vhdl_names_rules.specs.Interfaces.{EntityView, component}
 use Rattle.vhdl_names_rules.specs.Files.{declaration}
 use Rattle.vhdl_names_rules.specs.sound.Named.{has_text, objects_are_named, declaration_is_named}
@@ -77,8 +77,8 @@ PortIsWord p = IsWord p.object.name
 pub port_named : (sight : Sight) (d : t.Port) (x : Declares u.Port) → NamesAreWords d.names → port sight d ≡ Some x → AllByRecursion PortIsWord x.analysed
 unfolding port
 port_named sight d x h q =
-    let a = comes (subtype (without_ports sight) d.subtype) _ x q in
-    let b = comes (as_kind a.value.type) _ x a.rest in
+    let a = comes (object_subtype (without_ports sight) d.subtype) _ x q in
+    let b = comes (as_port_type a.value.type) _ x a.rest in
     let c = comes (if_any (fixed_value (without_ports sight) a.value.type (form_range a.value.form)) d.default) _ x b.rest in
     subst (λ x. AllByRecursion PortIsWord x.analysed) (some_same _ x c.rest) (for_names _ PortIsWord (λ n g. g) d.names h)
 
@@ -88,14 +88,14 @@ IsNamed d = declaration_is_named d ≡ true
 variables_named : (sight : Sight) (d : t.Variables) (x : Declares u.Declaration) → NamesAreWords d.names → variables sight d ≡ Some x → AllByRecursion IsNamed x.analysed
 unfolding variables
 variables_named sight d x h q =
-    let a = comes (subtype (within_variables sight d.names) d.subtype) _ x q in
+    let a = comes (object_subtype (within_variables sight d.names) d.subtype) _ x q in
     let c = comes (if_any (fixed_value (within_variables sight d.names) a.value.type (form_range a.value.form)) d.default) _ x a.rest in
     subst (λ x. AllByRecursion IsNamed x.analysed) (some_same _ x c.rest) (for_names _ IsNamed (λ n g. g.some) d.names h)
 
 signals_named : (sight : Sight) (d : t.Signals) (x : Declares u.Declaration) → NamesAreWords d.names → signals sight d ≡ Some x → AllByRecursion IsNamed x.analysed
 unfolding signals
 signals_named sight d x h q =
-    let a = comes (subtype (within sight d.names) d.subtype) _ x q in
+    let a = comes (object_subtype (within sight d.names) d.subtype) _ x q in
     let c = comes (if_any (fixed_value (within sight d.names) a.value.type (form_range a.value.form)) d.default) _ x a.rest in
     subst (λ x. AllByRecursion IsNamed x.analysed) (some_same _ x c.rest) (for_names _ IsNamed (λ n g. g.some) d.names h)
 

@@ -3,6 +3,7 @@ pub mod Aggregates
 pub mod Operators
 pub mod Names
 pub mod Expressions
+pub mod Choices
 pub mod Statements
 pub mod Values
 pub mod Declarations

@@ -6,7 +6,7 @@ use Rattle.vhdl_tree.specs.declared.declaration.Mode.{Mode}
 use Rattle.vhdl_names_rules.specs.declared.kind.ElementKind.{ElementKind}
 use Rattle.vhdl_names_rules.specs.declared.kind.ElementKind.TheVariants.{Element, LogicVector, Unsigned, OpenVector}
 use Rattle.vhdl_names_rules.specs.declared.kind.ObjectType.{ObjectType}
-use Rattle.vhdl_names_rules.specs.declared.kind.ObjectType.TheVariants.{Elements, Enumeration}
+use Rattle.vhdl_names_rules.specs.declared.kind.ObjectType.TheVariants.{Elements, Enumeration, Integers, Booleans}
 use Rattle.vhdl_names_rules.specs.units.Units as u
 use Rattle.vhdl_names_rules.specs.units.Units.{Form}
 use Rattle.vhdl_names_rules.specs.Visibility as visibility
@@ -15,7 +15,7 @@ use Rattle.vhdl_names_rules.specs.Operators as o
 use Rattle.vhdl_names_rules.specs.Operators.{Typed}
 use Rattle.vhdl_names_rules.specs.Types as types
 use Rattle.vhdl_names_rules.specs.Types.{TypedChoice, TypedElements}
-use Rattle.vhdl_names_rules.specs.sound.Expressions.{Inside, Shape, one, vector, state, shape_of, static_fits, range_fits, index_fits, computed_fits, vector_shape, value_fits, test_fits}
+use Rattle.vhdl_names_rules.specs.sound.Expressions.{Inside, Shape, one, vector, state, number, shape_of, static_fits, range_fits, index_fits, computed_fits, vector_shape, value_fits, test_fits}
 use Rattle.vhdl_names_rules.specs.sound.Units.{fixed_fits}
 
 -- ---- types
@@ -29,6 +29,8 @@ kind_shape OpenVector = vector
 abbrev pub type_shape : ObjectType → Shape
 type_shape (Elements k) = kind_shape k
 type_shape (Enumeration e count) = state count
+type_shape Integers = number
+type_shape Booleans = one
 
 -- How many literals each enumeration has, by its number.
 abbrev pub Counts : Type 0
@@ -38,6 +40,8 @@ Counts = List ℕ
 abbrev pub IsCounted : Counts → ObjectType → Type 0
 IsCounted counts (Elements k) = Unit {0}
 IsCounted counts (Enumeration e count) = slice_get counts e ≡ Some count
+IsCounted counts Integers = Unit {0}
+IsCounted counts Booleans = Unit {0}
 
 -- objects of this form are of this type
 pub record IsForm (counts : Counts) (type : ObjectType) (form : Option Form) : Type 0 where
@@ -46,12 +50,13 @@ pub record IsForm (counts : Counts) (type : ObjectType) (form : Option Form) : T
 
 -- ---- meanings
 
--- the port of a number has this mode and kind
-pub record IsPort (ports : List u.Port) (k : ℕ) (mode : Mode) (kind : ElementKind) : Type 0 where
+-- the port of a number has this mode and type
+pub record IsPort (counts : Counts) (ports : List u.Port) (k : ℕ) (mode : Mode) (type : ObjectType) : Type 0 where
   pub port : u.Port
   pub at : slice_get ports k ≡ Some port
   pub mode_is : port.mode ≡ mode
-  pub shape : shape_of port.object.form ≡ kind_shape kind
+  pub shape : shape_of port.object.form ≡ type_shape type
+  pub counted : IsCounted counts type
 
 -- the literal that declares a constant has its kind
 abbrev pub IsLiteralOf : Inside → ElementKind → Option (List Nine) → Type 0
@@ -67,7 +72,7 @@ MeaningFits i counts (visibility.generate_parameter k) = IsTrue (nat_lt k i.gene
 MeaningFits i counts (visibility.loop_parameter k) = IsTrue (nat_lt k i.loops)
 MeaningFits i counts (visibility.boolean_generic k) = IsTrue (nat_lt k i.generics)
 MeaningFits i counts (visibility.boolean_constant k) = IsTrue (nat_lt k i.integers)
-MeaningFits i counts (visibility.port k mode kind) = IsPort i.ports k mode kind
+MeaningFits i counts (visibility.port k mode type) = IsPort counts i.ports k mode type
 MeaningFits i counts (visibility.signal k type) = IsForm counts type (slice_get i.signals k)
 MeaningFits i counts (visibility.variable k type) = IsForm counts type (slice_get i.variables k)
 MeaningFits i counts (visibility.constant k kind values) =

@@ -6,3 +6,4 @@ pub mod Numbering
 pub mod Arranging
 pub mod Composing
 pub mod Resolving
+pub mod Relating

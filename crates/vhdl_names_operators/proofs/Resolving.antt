@@ -1,6 +1,7 @@
 -- Aggregates as operands: what an operator makes of them, and what they break.
 use Rattle.std.proofs.Common.{◌≡◌, ℕ, Bool, true, false, cond, ◌&&◌, [], Option, Some, None, Vec, Global, refl, ap, sym, ◌∙◌}
 use Rattle.std.specs.Prelude.{option_map}
+use Rattle.vhdl_lexer.specs.declared.language.Language.{Language}
 use Rattle.vhdl_values.specs.declared.kinds.Cmp.{Cmp}
 use Rattle.vhdl_values.specs.declared.kinds.Cmp.TheVariants.{Eq, Ne}
 use Rattle.vhdl_tree.specs.declared.operator.Operator.{Operator}
@@ -16,7 +17,6 @@ use Rattle.vhdl_names_rules.specs.declared.typed.Typed.TheBlock.{shown-the_row-T
 use Rattle.vhdl_names_rules.specs.declared.typed.TypedElement.{TypedElement}
 use Rattle.vhdl_names_rules.specs.units.Expressions as u
 use Rattle.vhdl_names_rules.specs.Rules.{◌>>=◌, ◌>>◌, met}
-use Rattle.vhdl_names_rules.specs.Operators as o
 use Rattle.vhdl_names_rules.specs.Operators.{Typed, elements, composite, is_vector, common_kind, equal_by, equality, beside_vector}
 use Rattle.vhdl_names_rules.specs.Types.{TypedElements}
 use Rattle.vhdl_names_rules.specs.Aggregates.{aggregate}
@@ -31,8 +31,10 @@ use Rattle.vhdl_names_rules.proofs.Telling.{IsKept, both_kept, behind_kept, unle
 use Rattle.vhdl_names_rules.proofs.kept.Keeping.{nothing_kept, mapped}
 use Rattle.vhdl_names_rules.proofs.kept.Aggregates.{aggregate_kept}
 use Rattle.vhdl_names_rules.proofs.kept.Operands.{first_kept, second_kept}
+use Rattle.vhdl_names_operators.specs.Steps.{operated}
 use Rattle.vhdl_names_operators.specs.Resolving as steps
 use Rattle.vhdl_names_operators.specs.Resolving.{kind_of, is_plain, vector_kind, operand_breaks}
+use Rattle.vhdl_names_operators.proofs.Relating.{unrelated, beside_elements}
 
 -- ---- one operand
 
@@ -145,21 +147,16 @@ operand_is q y (composite at es) = refl
 operand_is q y x = refl
 
 -- what an operator is offered for breaks nothing
-pub left_kept : (numbers : Bool) (at : ℕ) (q : Operator) (x y z : Typed) → o.operated numbers at q x y ≡ Some z → IsKept (operand_breaks q (kind_of y) x)
-left_kept numbers at q x y z h = sym (operand_is q y x) ∙ first_kept numbers at q (t.integer 0 []) x y z h
+pub left_kept : (language : Language) (numbers : Bool) (at : ℕ) (q : Operator) (x y z : Typed) → operated language numbers at q x y ≡ Some z → IsKept (operand_breaks q (kind_of y) x)
+left_kept language numbers at q x y z h = sym (operand_is q y x) ∙ first_kept language numbers at q (t.integer 0 []) x y z h
 
-pub right_kept : (numbers : Bool) (at : ℕ) (q : Operator) (x y z : Typed) → o.operated numbers at q x y ≡ Some z → IsKept (operand_breaks q (kind_of x) y)
-right_kept numbers at q x y z h = sym (operand_is q x y) ∙ second_kept numbers at q (t.integer 0 []) x y z h
+pub right_kept : (language : Language) (numbers : Bool) (at : ℕ) (q : Operator) (x y z : Typed) → operated language numbers at q x y ≡ Some z → IsKept (operand_breaks q (kind_of x) y)
+right_kept language numbers at q x y z h = sym (operand_is q x y) ∙ second_kept language numbers at q (t.integer 0 []) x y z h
 
 -- an operator on what operands resolve to: the same, with the same problem
-pub record Same (numbers : Bool) (at : ℕ) (q : Operator) (x y z w : Typed) : Type 0 where
-  pub operated : o.operated numbers at q x y ≡ o.operated numbers at q z w
+pub record Same (language : Language) (numbers : Bool) (at : ℕ) (q : Operator) (x y z w : Typed) : Type 0 where
+  pub result : operated language numbers at q x y ≡ operated language numbers at q z w
   pub problem : operator_problem q x y ≡ operator_problem q z w
-
-pub same_lacking : (numbers : Bool) (at : ℕ) (q : Operator) (x y z w : Typed) → Same numbers at q x y z w
-    → lacking (operator_problem q z w) at (o.operated numbers at q z w) ≡ lacking (operator_problem q x y) at (o.operated numbers at q x y)
-same_lacking numbers at q x y z w s =
-    ap (λ p. lacking p at (o.operated numbers at q z w)) (sym s.problem) ∙ ap (lacking (operator_problem q x y) at) (sym s.operated)
 
 common_same : (k : ElementKind) → is_vector k ≡ true → common_kind k k ≡ Some k
 common_same LogicVector h = refl
@@ -185,34 +182,65 @@ equal_right at c same k p es v z h =
     ∙ ap (option_map (equal_by at c same v m.value)) (sym (common_same k b.0))
     ∙ ap (equality at c same (elements k v)) m.is
 
-left_same : (numbers : Bool) (at : ℕ) (q : Operator) (k : ElementKind) (p : ℕ) (es : TypedElements) (v : u.Vector) (z : Typed) → steps.resolved q (Some k) (composite p es) ≡ Some z
-    → Same numbers at q (composite p es) (elements k v) z (elements k v)
-left_same numbers at op.Equal k p es v z h = record { operated = equal_left at Eq (u.alike at) k p es v z h; problem = refl }
-left_same numbers at op.NotEqual k p es v z h = record { operated = equal_left at Ne (u.unlike at) k p es v z h; problem = refl }
-left_same numbers at q k p es v z h = absurd cc
+module _ (language : Language) (numbers : Bool) (at : ℕ) where
+  pub same_lacking : (q : Operator) (x y z w : Typed) → Same language numbers at q x y z w
+      → lacking (operator_problem q z w) at (operated language numbers at q z w) ≡ lacking (operator_problem q x y) at (operated language numbers at q x y)
+  same_lacking q x y z w s =
+      ap (λ p. lacking p at (operated language numbers at q z w)) (sym s.problem) ∙ ap (lacking (operator_problem q x y) at) (sym s.result)
 
-right_same : (numbers : Bool) (at : ℕ) (q : Operator) (k : ElementKind) (p : ℕ) (es : TypedElements) (v : u.Vector) (z : Typed) → steps.resolved q (Some k) (composite p es) ≡ Some z
-    → Same numbers at q (elements k v) (composite p es) (elements k v) z
-right_same numbers at op.Equal k p es v z h = record { operated = equal_right at Eq (u.alike at) k p es v z h; problem = refl }
-right_same numbers at op.NotEqual k p es v z h = record { operated = equal_right at Ne (u.unlike at) k p es v z h; problem = refl }
-right_same numbers at q k p es v z h = absurd cc
+  left_same : (q : Operator) (k : ElementKind) (p : ℕ) (es : TypedElements) (v : u.Vector) (z : Typed) → steps.resolved q (Some k) (composite p es) ≡ Some z
+      → Same language numbers at q (composite p es) (elements k v) z (elements k v)
+  left_same op.Equal k p es v z h =
+      record {
+        result =
+            unrelated language numbers at op.Equal (composite p es) (elements k v) refl ∙ equal_left at Eq (u.alike at) k p es v z h
+            ∙ sym (unrelated language numbers at op.Equal z (elements k v) (beside_elements op.Equal z k v));
+        problem = refl;
+      }
+  left_same op.NotEqual k p es v z h =
+      record {
+        result =
+            unrelated language numbers at op.NotEqual (composite p es) (elements k v) refl ∙ equal_left at Ne (u.unlike at) k p es v z h
+            ∙ sym (unrelated language numbers at op.NotEqual z (elements k v) (beside_elements op.NotEqual z k v));
+        problem = refl;
+      }
+  left_same q k p es v z h = absurd cc
 
-along : (numbers : Bool) (at : ℕ) (q : Operator) (x y z w : Typed) → x ≡ z → y ≡ w → Same numbers at q x y z w
-along numbers at q x y z w e f = record {
-  operated = ap (λ a. o.operated numbers at q a y) e ∙ ap (o.operated numbers at q z) f;
-  problem = ap (λ a. operator_problem q a y) e ∙ ap (operator_problem q z) f;
-}
+  right_same : (q : Operator) (k : ElementKind) (p : ℕ) (es : TypedElements) (v : u.Vector) (z : Typed) → steps.resolved q (Some k) (composite p es) ≡ Some z
+      → Same language numbers at q (elements k v) (composite p es) (elements k v) z
+  right_same op.Equal k p es v z h =
+      record {
+        result =
+            unrelated language numbers at op.Equal (elements k v) (composite p es) refl ∙ equal_right at Eq (u.alike at) k p es v z h
+            ∙ sym (unrelated language numbers at op.Equal (elements k v) z refl);
+        problem = refl;
+      }
+  right_same op.NotEqual k p es v z h =
+      record {
+        result =
+            unrelated language numbers at op.NotEqual (elements k v) (composite p es) refl ∙ equal_right at Ne (u.unlike at) k p es v z h
+            ∙ sym (unrelated language numbers at op.NotEqual (elements k v) z refl);
+        problem = refl;
+      }
+  right_same q k p es v z h = absurd cc
 
-same_then : (numbers : Bool) (at : ℕ) (q : Operator) (x y a b z w : Typed) → Same numbers at q x y a b → a ≡ z → b ≡ w → Same numbers at q x y z w
-same_then numbers at q x y a b z w s e f =
-    let r = along numbers at q a b z w e f in
-    record { operated = s.operated ∙ r.operated; problem = s.problem ∙ r.problem }
+  along : (q : Operator) (x y z w : Typed) → x ≡ z → y ≡ w → Same language numbers at q x y z w
+  along q x y z w e f =
+      record {
+        result = ap (λ a. operated language numbers at q a y) e ∙ ap (operated language numbers at q z) f;
+        problem = ap (λ a. operator_problem q a y) e ∙ ap (operator_problem q z) f;
+      }
 
-pub both_resolved : (numbers : Bool) (at : ℕ) (q : Operator) (x y z w : Typed) → steps.resolved q (kind_of y) x ≡ Some z → steps.resolved q (kind_of x) y ≡ Some w → Same numbers at q x y z w
-both_resolved numbers at q (composite p es) (elements k v) z w h g =
-    same_then numbers at q (composite p es) (elements k v) z (elements k v) z w (left_same numbers at q k p es v z h) refl (some_is (elements k v) w g)
-both_resolved numbers at q (composite p es) y z w h g = absurd (alone q p es z h)
-both_resolved numbers at q (elements k v) (composite p es) z w h g =
-    same_then numbers at q (elements k v) (composite p es) (elements k v) w z w (right_same numbers at q k p es v w g) (some_is (elements k v) z h) refl
-both_resolved numbers at q x (composite p es) z w h g = absurd (alone q p es w g)
-both_resolved numbers at q x y z w h g = along numbers at q x y z w (some_is x z h) (some_is y w g)
+  same_then : (q : Operator) (x y a b z w : Typed) → Same language numbers at q x y a b → a ≡ z → b ≡ w → Same language numbers at q x y z w
+  same_then q x y a b z w s e f =
+      let r = along q a b z w e f in
+      record { result = s.result ∙ r.result; problem = s.problem ∙ r.problem }
+
+  pub both_resolved : (q : Operator) (x y z w : Typed) → steps.resolved q (kind_of y) x ≡ Some z → steps.resolved q (kind_of x) y ≡ Some w → Same language numbers at q x y z w
+  both_resolved q (composite p es) (elements k v) z w h g =
+      same_then q (composite p es) (elements k v) z (elements k v) z w (left_same q k p es v z h) refl (some_is (elements k v) w g)
+  both_resolved q (composite p es) y z w h g = absurd (alone q p es z h)
+  both_resolved q (elements k v) (composite p es) z w h g =
+      same_then q (elements k v) (composite p es) (elements k v) w z w (right_same q k p es v w g) (some_is (elements k v) z h) refl
+  both_resolved q x (composite p es) z w h g = absurd (alone q p es w g)
+  both_resolved q x y z w h g = along q x y z w (some_is x z h) (some_is y w g)

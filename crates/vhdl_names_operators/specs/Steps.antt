@@ -1,17 +1,23 @@
 -- What single steps of the code answer.
+use Rattle.vhdl_lexer.specs.declared.language.Language.{Language}
 use Rattle.vhdl_lexer.specs.declared.byte.ByteClass.{ByteClass}
 use Rattle.vhdl_lexer.specs.declared.byte.ByteClass.TheVariants.{Hexadecimal, Octal, Binary}
 use Rattle.vhdl_values.specs.declared.kinds.Cmp.{Cmp}
-use Rattle.vhdl_values.specs.declared.kinds.Cmp.TheVariants.{Ne}
+use Rattle.vhdl_values.specs.declared.kinds.Cmp.TheVariants.{Eq, Ne}
+use Rattle.vhdl_values.specs.declared.kinds.Logic.{Logic}
+use Rattle.vhdl_values.specs.declared.kinds.Logic.TheVariants.{Xor, Xnor}
+use Rattle.vhdl_tree.specs.declared.operator.Operator.{Operator}
 use Rattle.vhdl_names_rules.specs.units.Expressions as u
-use Rattle.vhdl_names_rules.specs.Rules.{◌>>◌, rule, given_that}
+use Rattle.vhdl_names_rules.specs.Rules.{◌>>◌, rule, given_that, wider}
 use Rattle.vhdl_names_numbers.specs.Integers.{integers_of}
 use Rattle.vhdl_names_rules.specs.Literals.{number_of}
-use Rattle.std.specs.Prelude.{ℕ, Bool, true, List, Option, option_map}
+use Rattle.std.specs.Prelude.{ℕ, Bool, true, List, Option, Some, None, option_map}
+use Rattle.std.specs.Option.{option_or}
 use Rattle.vhdl_names_rules.specs.declared.kind.ElementKind.TheVariants.{Unsigned}
 use Rattle.vhdl_names_rules.specs.declared.operator.Arithmetic.{Arithmetic}
 use Rattle.vhdl_names_rules.specs.declared.operator.Numeric.{Numeric}
-use Rattle.vhdl_names_rules.specs.Operators.{Typed, integer, computed, elements, is_number, are_numbers, arithmetic, ordering}
+use Rattle.vhdl_names_rules.specs.Operators as table
+use Rattle.vhdl_names_rules.specs.Operators.{Typed, integer, computed, elements, truth, both, is_number, are_numbers, arithmetic, ordering, truths_related}
 use Rattle.vhdl_names_rules.specs.declared.fault.NameProblem.TheVariants.{TypeMismatch, NotVisible}
 use Rattle.vhdl_names_rules.specs.units.Expressions.{Vector, Value, Test}
 use Rattle.vhdl_names_operators.specs.declared.literals.Base.{Base}
@@ -21,6 +27,25 @@ use Rattle.vhdl_names_operators.specs.declared.literals.Base.TheVariants as b
 abbrev pub same_by : (at : ℕ) → Cmp → Value → Value → Test
 same_by at Ne = u.unlike at
 same_by at _ = u.alike at
+
+-- the logical operator that = or /= of truths is
+abbrev pub truth_operator : Cmp → Option Logic
+truth_operator Eq = Some Xnor
+truth_operator Ne = Some Xor
+truth_operator _ = None
+
+abbrev pub truths_equal : Cmp → (x y : Test) → Option Typed
+truths_equal op x y = option_map (λ l. truth (both l x y)) (truth_operator op)
+
+-- = and /=, of truths in the wider language alone
+abbrev pub equality : Language → (at : ℕ) → Cmp → Typed → Typed → Option Typed
+equality language at op (truth x) (truth y) = wider language (truths_equal op x y)
+equality language at op x y = table.equality at op (same_by at op) x y
+
+-- what an operator makes of operands
+abbrev pub operated : Language → (numbers : Bool) → (at : ℕ) → Operator → Typed → Typed → Option Typed
+operated language numbers at op x y =
+    option_or (table.operated numbers at op x y) (wider language (truths_related op x y))
 
 -- numbers that are found for an operator of numeric_std, where it is in sight
 abbrev pub found : (numbers are_numbers : Bool) → Typed × Typed → Option (Typed × Typed)

@@ -4,6 +4,7 @@
 
 mod aggregates;
 mod beside;
+mod equality;
 mod literals;
 mod numbers;
 mod operands;

@@ -4,23 +4,21 @@
 ghost use Rattle.vhdl_names_rules.specs.problems.Broken.{Tells, refused, ◌▸◌, lacking};
 ghost use Rattle.vhdl_names_rules.specs.problems.Operators.{is_unordered, arithmetic_problem, order_problem, operator_problem};
 ghost use Rattle.vhdl_names_rules.specs.declared.fault.NameProblem.TheVariants.{TypeMismatch, LeftOut};
-ghost use Rattle.std.specs.Prelude.{◌≡◌, ◌==◌, true, ◌||◌, if◌then◌else◌, IfOk, IfErr};
+ghost use Rattle.std.specs.Prelude.{◌≡◌, true, ◌||◌, if◌then◌else◌, IfErr};
 ghost use Rattle.vhdl_names_rules.specs.Gives.{Gives};
-ghost use Rattle.vhdl_names_rules.specs.Rules.{given_that};
 ghost use Rattle.vhdl_names_rules.specs.Operators as table;
-ghost use Rattle.vhdl_names_rules.specs.views.Vectors.{value_view, vector_view};
-ghost use Rattle.vhdl_names_operators.specs.Steps.{same_by};
+ghost use Rattle.vhdl_names_operators.specs.Steps as steps;
 ghost use Rattle.vhdl_names_operators.specs.Resolving.{is_plain, kind_of as kind_seen, operand_breaks};
-ghost use Rattle.vhdl_names_numbers.specs.Integers.{integer_view};
 ghost use Rattle.vhdl_names_rules.specs.views.Expressions.{typed_view};
 
 use crate::beside::{kind_of, resolved};
+use crate::equality::equality;
 use crate::numbers::{as_numbers, calculated, compared};
-use std::alloc::{AllocError, Global};
-use vhdl_names_numbers::{Integer, as_integers, compared_to, compared_with, integers_compared};
+use std::alloc::Global;
+use vhdl_lexer::Language;
+use vhdl_names_numbers::as_integers;
 use vhdl_names_rules::{
-    Arithmetic, ElementKind, NameFault, NameProblem, Numeric, Test, Typed, Value, Vector,
-    VectorLink, VectorOperator, without,
+    Arithmetic, NameFault, NameProblem, Numeric, Typed, Vector, VectorLink, VectorOperator, without,
 };
 use vhdl_tree::Operator;
 use vhdl_values::{Cmp, Logic};
@@ -128,147 +126,6 @@ fn arithmetic(
     Ok(calculated(alloc, at, operator, by, numbers)?)
 }
 
-/// = or /= of two values, by equality.
-fn same(
-    alloc: Global,
-    comparison: Cmp,
-    at: usize,
-    left: Value,
-    right: Value,
-) -> Result<Typed, AllocError>
-    ensures { IfOk result (λ t. typed_view t ≡
-        table.truth (same_by at comparison (value_view left) (value_view right))) }
-{
-    let test = match comparison {
-        Cmp::Ne => Test::unlike(alloc, at, left, right)?,
-        _ => Test::alike(alloc, at, left, right)?,
-    };
-    Ok(Typed::Truth(test))
-}
-
-/// = or /=, at byte `at`, of two values, each of the enumeration of its number.
-fn same_of(
-    alloc: Global,
-    comparison: Cmp,
-    at: usize,
-    left: (usize, Value),
-    right: (usize, Value),
-) -> Result<Typed, NameFault>
-    ensures given { Gives typed_view (given_that TypeMismatch (left.0 == right.0)
-        (table.truth (same_by at comparison (value_view left.1) (value_view right.1)))) result }
-    ensures told { IfErr result (Tells (refused TypeMismatch at)) }
-{
-    let (number, value) = left;
-    let (other, beside) = right;
-    if number != other {
-        return Err(without((value, beside), NameProblem::TypeMismatch.at(at)));
-    }
-    Ok(same(alloc, comparison, at, value, beside)?)
-}
-
-/// = and /=, at byte `at`, of elements, and what stands beside them: elements of one kind, or an
-/// integer beside a number.
-fn elements_equal(
-    alloc: Global,
-    at: usize,
-    comparison: Cmp,
-    left: (ElementKind, Vector),
-    right: Typed,
-) -> Result<Typed, NameFault>
-    requires right { is_plain (typed_view right) ≡ true }
-    ensures given { Gives typed_view
-        (table.equality at comparison (same_by at comparison) (table.elements left.0 (vector_view left.1))
-        (typed_view right)) result }
-    ensures told { IfErr result (Tells (refused TypeMismatch at)) }
-{
-    let (j, x) = left;
-    let problem = NameProblem::TypeMismatch;
-    match right {
-        Typed::Elements(k, y) => match j.common(k) {
-            None => Err(without((x, y), problem.at(at))),
-            Some(ElementKind::Unsigned) => {
-                Ok(Typed::Truth(Test::compared(alloc, comparison, at, x, y)?))
-            }
-            Some(_) => Ok(same(
-                alloc,
-                comparison,
-                at,
-                Value::Elements(x),
-                Value::Elements(y),
-            )?),
-        },
-        right => match Integer::of(right) {
-            Ok(t) => match j {
-                ElementKind::Unsigned => {
-                    Ok(Typed::Truth(compared_to(alloc, comparison, at, x, t)?))
-                }
-                _ => Err(without((x, t), problem.at(at))),
-            },
-            Err(right) => Err(without((x, right), problem.at(at))),
-        },
-    }
-}
-
-/// = and /=, at byte `at`, of an integer, and an integer or a number.
-fn integer_equals(
-    alloc: Global,
-    at: usize,
-    comparison: Cmp,
-    left: Integer,
-    right: Typed,
-) -> Result<Typed, NameFault>
-    requires right { is_plain (typed_view right) ≡ true }
-    ensures given { Gives typed_view
-        (table.equality at comparison (same_by at comparison) (integer_view left) (typed_view right)) result }
-    ensures told { IfErr result (Tells (refused TypeMismatch at)) }
-{
-    let problem = NameProblem::TypeMismatch;
-    match right {
-        Typed::Elements(k, y) => match k {
-            ElementKind::Unsigned => {
-                Ok(Typed::Truth(compared_with(alloc, comparison, at, left, y)?))
-            }
-            _ => Err(without((left, y), problem.at(at))),
-        },
-        right => match Integer::of(right) {
-            Ok(right) => Ok(integers_compared(alloc, comparison, at, left, right)?),
-            Err(right) => Err(without((left, right), problem.at(at))),
-        },
-    }
-}
-
-/// = and /=, at byte `at`.
-fn equality(
-    alloc: Global,
-    at: usize,
-    comparison: Cmp,
-    operands: (Typed, Typed),
-) -> Result<Typed, NameFault>
-    requires left { is_plain (typed_view operands.0) ≡ true }
-    requires right { is_plain (typed_view operands.1) ≡ true }
-    ensures given { Gives typed_view
-        (table.equality at comparison (same_by at comparison) (typed_view operands.0) (typed_view operands.1)) result }
-    ensures told { IfErr result (Tells (refused TypeMismatch at)) }
-{
-    let (left, right) = operands;
-    let problem = NameProblem::TypeMismatch;
-    match left {
-        Typed::Elements(j, x) => elements_equal(alloc, at, comparison, (j, x), right),
-        Typed::Enumerated { number, value, .. } => match right {
-            Typed::Enumerated {
-                number: other,
-                value: beside,
-                ..
-            } => same_of(alloc, comparison, at, (number, value), (other, beside)),
-            right => Err(without((value, right), problem.at(at))),
-        },
-        left => match Integer::of(left) {
-            Ok(integer) => integer_equals(alloc, at, comparison, integer, right),
-            Err(left) => Err(without((left, right), problem.at(at))),
-        },
-    }
-}
-
 /// Whether ordering it is left out: an element, a std_logic_vector and an enumeration.
 fn is_left_out(operand: &Typed) -> bool
     ensures { result ≡ is_unordered (typed_view operand.now) }
@@ -329,6 +186,7 @@ pub fn power(alloc: Global, at: usize, base: Typed, exponent: Typed) -> Result<T
 /// A binary operator, at byte `at`, on operands of which none is an aggregate.
 fn applied(
     alloc: Global,
+    language: Language,
     numbers: bool,
     operator: Operator,
     at: usize,
@@ -337,10 +195,10 @@ fn applied(
     requires left { is_plain (typed_view operands.0) ≡ true }
     requires right { is_plain (typed_view operands.1) ≡ true }
     ensures given { Gives typed_view
-        (table.operated numbers at operator (typed_view operands.0) (typed_view operands.1)) result }
+        (steps.operated language numbers at operator (typed_view operands.0) (typed_view operands.1)) result }
     ensures told { IfErr result (Tells
         (lacking (operator_problem operator (typed_view operands.0) (typed_view operands.1)) at
-        (table.operated numbers at operator (typed_view operands.0) (typed_view operands.1)))) }
+        (steps.operated language numbers at operator (typed_view operands.0) (typed_view operands.1)))) }
 {
     match operator {
         Operator::And => logical(alloc, at, Logic::And, operands),
@@ -349,8 +207,8 @@ fn applied(
         Operator::Xnor => logical(alloc, at, Logic::Xnor, operands),
         Operator::Nand => logical(alloc, at, Logic::Nand, operands),
         Operator::Nor => logical(alloc, at, Logic::Nor, operands),
-        Operator::Equal => equality(alloc, at, Cmp::Eq, operands),
-        Operator::NotEqual => equality(alloc, at, Cmp::Ne, operands),
+        Operator::Equal => equality(alloc, language, at, Cmp::Eq, operands),
+        Operator::NotEqual => equality(alloc, language, at, Cmp::Ne, operands),
         Operator::Less => ordering(alloc, numbers, at, Cmp::Lt, operands),
         Operator::LessEqual => ordering(alloc, numbers, at, Cmp::Le, operands),
         Operator::Greater => ordering(alloc, numbers, at, Cmp::Gt, operands),
@@ -376,22 +234,24 @@ fn applied(
 #[inline(never)]
 pub fn operated(
     alloc: Global,
+    language: Language,
     numbers: bool,
     operator: Operator,
     at: usize,
     left: Typed,
     right: Typed,
 ) -> Result<Typed, NameFault>
-    ensures given { Gives typed_view (table.operated numbers at operator (typed_view left) (typed_view right)) result }
+    ensures given { Gives typed_view
+        (steps.operated language numbers at operator (typed_view left) (typed_view right)) result }
     ensures told { IfErr result (Tells
         (operand_breaks operator (kind_seen (typed_view right)) (typed_view left)
         ▸ operand_breaks operator (kind_seen (typed_view left)) (typed_view right)
         ▸ lacking (operator_problem operator (typed_view left) (typed_view right)) at
-        (table.operated numbers at operator (typed_view left) (typed_view right)))) }
+        (steps.operated language numbers at operator (typed_view left) (typed_view right)))) }
 {
     let own = kind_of(&left);
     let other = kind_of(&right);
     let first = resolved(alloc, operator, other, left)?;
     let second = resolved(alloc, operator, own, right)?;
-    applied(alloc, numbers, operator, at, (first, second))
+    applied(alloc, language, numbers, operator, at, (first, second))
 }

@@ -10,7 +10,7 @@ use Rattle.vhdl_values.specs.declared.kinds.Edge.{Edge}
 use Rattle.vhdl_names_rules.specs.declared.kind.ElementKind.{ElementKind}
 use Rattle.vhdl_names_rules.specs.declared.kind.ElementKind.TheVariants.{Element, LogicVector, Unsigned, OpenVector}
 use Rattle.vhdl_names_rules.specs.declared.kind.ObjectType.{ObjectType}
-use Rattle.vhdl_names_rules.specs.declared.kind.ObjectType.TheVariants.{Elements, Enumeration}
+use Rattle.vhdl_names_rules.specs.declared.kind.ObjectType.TheVariants.{Elements}
 use Rattle.vhdl_names_rules.specs.declared.integer.Static.{Static}
 use Rattle.vhdl_names_rules.specs.declared.integer.Static.TheVariants as s
 use Rattle.vhdl_names_rules.specs.declared.integer.StaticStart.{StaticStart}
@@ -209,8 +209,8 @@ part_unchosen (Elements k) s = by (rules.part k s) (rules.chosen k s)
     by (Some p) free = refl
     by None (Some c) = refl
     by None None = refl
-part_unchosen (Enumeration e count) rules.plain = refl
-part_unchosen (Enumeration e count) s = refl
+part_unchosen type rules.plain = refl
+part_unchosen type s = refl
 
 -- ---- vectors that are no signals
 

@@ -5,13 +5,13 @@ ghost use Rattle.vhdl_names_rules.specs.problems.Broken.{Tells, refused, lacking
 ghost use Rattle.vhdl_names_rules.specs.problems.Expressions as broken;
 ghost use Rattle.vhdl_names_rules.specs.problems.Operators.{name_problem};
 ghost use Rattle.vhdl_names_rules.specs.declared.fault.NameProblem.TheVariants.{TypeMismatch};
-ghost use Rattle.std.specs.Prelude.{◌≡◌, if◌then◌else◌, option_map, IfErr};
+ghost use Rattle.std.specs.Prelude.{◌≡◌, option_map, IfOk, IfErr};
 ghost use Rattle.vhdl_names_rules.specs.Gives.{Gives};
 ghost use Rattle.vhdl_names_rules.specs.Names as rules;
 ghost use Rattle.vhdl_names_rules.specs.Operators as table;
 ghost use Rattle.vhdl_names_rules.specs.Visibility as visibility;
 ghost use Rattle.vhdl_names_rules.specs.views.Integers.{static_view};
-ghost use Rattle.vhdl_names_rules.specs.views.Vectors.{signal_view, value_view};
+ghost use Rattle.vhdl_names_rules.specs.views.Vectors.{signal_view, vector_view, value_view};
 ghost use Rattle.vhdl_tree.specs.View.{attribute_view};
 ghost use Rattle.vhdl_names_parts.specs.Steps.{conversion, counting, encoding, two};
 ghost use Rattle.vhdl_names_sight.specs.Views.{meaning_view};
@@ -19,15 +19,15 @@ ghost use Rattle.vhdl_names_rules.specs.views.Expressions.{typed_view, typed_suf
 
 use crate::edges::{edge_of, edge_signal};
 use crate::parts::{if_plain, part, sole_argument, two_arguments};
-use std::alloc::Global;
+use std::alloc::{AllocError, Global};
 use vhdl_names_numbers::{count_of, encoded, number_of};
 use vhdl_names_rules::{
-    AnyPart, ElementKind, Function, NameFault, NameProblem, ObjectType, Signal, SignalPart, Static,
-    StaticTest, Test, Typed, TypedSuffix, Value, Vector, without,
+    AnyPart, Computed, ElementKind, Function, NameFault, NameProblem, ObjectType, Part, Signal,
+    SignalPart, Static, StaticTest, Test, Typed, TypedSuffix, Value, Vector, without,
 };
 use vhdl_names_sight::Meaning;
 use vhdl_tree::Attribute;
-use vhdl_values::Counted;
+use vhdl_values::{Counted, Nine};
 
 /// A port or signal of the nine values, or a part of it. It may take the memory of a box, as a
 /// constant and a variable do.
@@ -163,19 +163,28 @@ fn enumerated(number: usize, count: u16, value: Value) -> Typed
     }
 }
 
-/// A signal, or part of one, whose name is at byte `at`.
-fn signal_of(
+/// Whether a boolean object is true, by its element, whose name is at byte `at`. It takes the
+/// memory of boxes.
+fn is_true(alloc: Global, object: Vector, at: usize) -> Result<Typed, AllocError>
+    ensures { IfOk result (λ t. typed_view t ≡ rules.is_true at (vector_view object)) }
+{
+    let one = Value::Elements(Vector::EnclosedCharacter(at, Nine::One));
+    let test = Test::alike(alloc, at, Value::Elements(object), one)?;
+    Ok(Typed::Truth(test))
+}
+
+/// A signal or port, or part of one, whose name is at byte `at`.
+fn read_object(
     alloc: Global,
-    number: usize,
+    signal: Signal,
     object_type: ObjectType,
     suffix: TypedSuffix,
     at: usize,
 ) -> Result<Typed, NameFault>
     ensures given { Gives typed_view
-        (rules.denoted at (visibility.signal number object_type) (typed_suffix_view suffix)) result }
+        (rules.read_object at (signal_view signal) object_type (typed_suffix_view suffix)) result }
     ensures told { IfErr result (Tells (refused TypeMismatch at)) }
 {
-    let signal = Signal::Signal(number);
     match object_type {
         ObjectType::Elements(kind) => read_signal(alloc, signal, kind, suffix, at),
         ObjectType::Enumeration { number, count } => {
@@ -185,11 +194,24 @@ fn signal_of(
                 at,
             )
         }
+        ObjectType::Integers => if_plain(
+            suffix,
+            Typed::Computed(Computed::SignalNumber(signal)),
+            at,
+        ),
+        ObjectType::Booleans => {
+            let element = Vector::Signal(SignalPart {
+                at,
+                signal,
+                part: Part::Whole,
+            });
+            if_plain(suffix, is_true(alloc, element, at)?, at)
+        }
     }
 }
 
 /// A variable, or part of one, whose name is at byte `at`.
-fn variable_of(
+fn read_variable(
     alloc: Global,
     number: usize,
     object_type: ObjectType,
@@ -197,7 +219,7 @@ fn variable_of(
     at: usize,
 ) -> Result<Typed, NameFault>
     ensures given { Gives typed_view
-        (rules.denoted at (visibility.variable number object_type) (typed_suffix_view suffix)) result }
+        (rules.read_variable at number object_type (typed_suffix_view suffix)) result }
     ensures told { IfErr result (Tells (refused TypeMismatch at)) }
 {
     match object_type {
@@ -216,12 +238,23 @@ fn variable_of(
             let value = Value::StateOfVariable(number);
             if_plain(suffix, enumerated(enumeration, count, value), at)
         }
+        ObjectType::Integers => {
+            if_plain(
+                suffix,
+                Typed::Computed(Computed::VariableNumber(number)),
+                at,
+            )
+        }
+        ObjectType::Booleans => {
+            let element = Vector::Variable(at, number, Part::Whole);
+            if_plain(suffix, is_true(alloc, element, at)?, at)
+        }
     }
 }
 
 /// The position of a boolean: `false` stands before `true` (16.3).
 fn position_of(is_true: bool) -> u32
-    ensures { result ≡ (if is_true then 1 else 0) }
+    ensures { result ≡ rules.position_of is_true }
 {
     if is_true { 1 } else { 0 }
 }
@@ -262,9 +295,13 @@ pub fn denoted(
             let position = Static::Number(position_of(*is_true));
             if_plain(suffix, known(position, at), at)
         }
-        Meaning::Port(k, _, kind) => read_signal(alloc, Signal::Port(*k), *kind, suffix, at),
-        Meaning::Signal(k, object_type) => signal_of(alloc, *k, *object_type, suffix, at),
-        Meaning::Variable(k, object_type) => variable_of(alloc, *k, *object_type, suffix, at),
+        Meaning::Port(k, _, object_type) => {
+            read_object(alloc, Signal::Port(*k), *object_type, suffix, at)
+        }
+        Meaning::Signal(k, object_type) => {
+            read_object(alloc, Signal::Signal(*k), *object_type, suffix, at)
+        }
+        Meaning::Variable(k, object_type) => read_variable(alloc, *k, *object_type, suffix, at),
         Meaning::Constant(k, kind, _) => read_constant(alloc, *k, *kind, suffix, at),
         Meaning::Literal {
             number,

@@ -123,10 +123,12 @@ pub fn any_part_of(
             let (part, kind) = part(kind, suffix, at)?;
             Ok((part, ObjectType::Elements(kind)))
         }
-        ObjectType::Enumeration { .. } => match suffix {
-            TypedSuffix::Plain => Ok((AnyPart::Static(Part::Whole), object_type)),
-            suffix => Err(without(suffix, NameProblem::TypeMismatch.at(at))),
-        },
+        ObjectType::Enumeration { .. } | ObjectType::Integers | ObjectType::Booleans => {
+            match suffix {
+                TypedSuffix::Plain => Ok((AnyPart::Static(Part::Whole), object_type)),
+                suffix => Err(without(suffix, NameProblem::TypeMismatch.at(at))),
+            }
+        }
     }
 }
 

@@ -95,30 +95,25 @@ fn bound_of(name: &[u8]) -> Option<Bound>
     }
 }
 
-/// The least integer of a type, whose name is at byte `at`.
-fn least(alloc: Global, own: IntegerType, at: usize) -> Result<Static, AllocError>
-    ensures { IfOk result (λ s. static_view s ≡ rules.least at own) }
+/// The least integer of a type.
+fn least(own: IntegerType) -> Static
+    ensures { static_view result ≡ rules.least own }
 {
     match own {
-        IntegerType::Integer => Static::negated(alloc, at, Static::Number(MAX_INTEGER)),
-        IntegerType::Natural => Ok(Static::Number(0)),
-        IntegerType::Positive => Ok(Static::Number(1)),
+        IntegerType::Integer => Static::LeastInteger,
+        IntegerType::Natural => Static::Number(0),
+        IntegerType::Positive => Static::Number(1),
     }
 }
 
-/// A bound of an integer type, whose name is at byte `at`; it has no length.
-fn type_bound(
-    alloc: Global,
-    bound: Bound,
-    own: IntegerType,
-    at: usize,
-) -> Result<Option<Static>, AllocError>
-    ensures { IfOk result (λ s. option_map static_view s ≡ rules.type_bound at bound own) }
+/// A bound of an integer type; it has no length.
+fn type_bound(bound: Bound, own: IntegerType) -> Option<Static>
+    ensures { option_map static_view result ≡ rules.type_bound bound own }
 {
     match bound {
-        Bound::Left | Bound::Low => Ok(Some(least(alloc, own, at)?)),
-        Bound::Right | Bound::High => Ok(Some(Static::Number(MAX_INTEGER))),
-        Bound::Length => Ok(None),
+        Bound::Left | Bound::Low => Some(least(own)),
+        Bound::Right | Bound::High => Some(Static::Number(MAX_INTEGER)),
+        Bound::Length => None,
     }
 }
 
@@ -132,7 +127,7 @@ fn bound(
     ensures { IfOk result (λ s. option_map static_view s ≡ rules.bound at bound (ranged_view ranged)) }
 {
     match ranged {
-        Ranged::Type(own) => type_bound(alloc, bound, own, at),
+        Ranged::Type(own) => Ok(type_bound(bound, own)),
         Ranged::Integers(range) => match bound {
             Bound::Length => Ok(None),
             _ => Ok(Some(Static::Bound(bound, range.number))),

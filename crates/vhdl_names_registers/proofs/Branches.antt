@@ -40,7 +40,7 @@ is_if x = false
 
 no_if : (x : Statement) → ((z : If) → x ≡ t.If z → ⊥) → is_if (statement_view x) ≡ false
 no_if (t.If x) other = absurd (other x refl)
-no_if (t.Case (Case' at selector shape alternatives others_shape others)) other = refl
+no_if (t.Case (Case' at selector shape alternatives last others_shape others)) other = refl
 no_if _ other = refl
 
 untied_first : (x y : s.Statement) → is_if x ≡ false → are_tied x y ≡ false

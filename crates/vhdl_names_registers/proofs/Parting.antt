@@ -110,7 +110,7 @@ no_elements_character _ other = refl
 pub no_null : (x : Statement) → (x ≡ st.Null → ⊥) → is_null (statement_view x) ≡ false
 no_null st.Null other = absurd (other refl)
 no_null (st.If (If' at shape branches otherwise)) other = refl
-no_null (st.Case (Case' at selector shape alternatives others_shape others)) other = refl
+no_null (st.Case (Case' at selector shape alternatives last others_shape others)) other = refl
 no_null _ other = refl
 
 -- ---- ifs

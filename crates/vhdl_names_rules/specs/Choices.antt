@@ -1,20 +1,26 @@
 -- Choices of case statements and selected assignments (IEEE 1076-2008, 10.9 and 11.6).
-use Rattle.std.specs.Prelude.{◌==◌, Bool, true, false, not, ◌&&◌, ◌||◌, List, [], ◌∷◌, flat_map, Option, Some, None, option_map}
+use Rattle.std.specs.Prelude.{ℕ, ◌==◌, Bool, true, false, not, ◌&&◌, ◌||◌, if◌then◌else◌, List, [], ◌∷◌, flat_map, Option, Some, None, option_map}
 use Rattle.std.specs.List.{list_all, list_any, range_with_len}
 use Rattle.vhdl_values.specs.Scalar.{are_same}
 use Rattle.vhdl_tree.specs.Tree as t
 use Rattle.vhdl_tree.specs.Tree.{Expr}
 use Rattle.vhdl_names_rules.specs.declared.kind.ElementKind.TheVariants.{Element, LogicVector, Unsigned, OpenVector}
 use Rattle.vhdl_names_rules.specs.declared.kind.ObjectType.{ObjectType}
-use Rattle.vhdl_names_rules.specs.declared.kind.ObjectType.TheVariants.{Elements, Enumeration}
+use Rattle.vhdl_names_rules.specs.declared.kind.ObjectType.TheVariants.{Elements, Enumeration, Integers, Booleans}
 use Rattle.vhdl_names_rules.specs.units.Expressions as u
-use Rattle.vhdl_names_rules.specs.units.Expressions.{Value}
-use Rattle.vhdl_names_rules.specs.units.Statements.{Choice, values, position, Statements, Alternatives, others, alternative}
-use Rattle.vhdl_names_rules.specs.declared.fault.NameProblem.TheVariants.{WrongKind, TypeMismatch, NoOthers, ChoiceTwice}
-use Rattle.vhdl_names_rules.specs.Rules.{◌>>=◌, ◌>>◌, rule, each, given_that}
+use Rattle.vhdl_names_rules.specs.units.Expressions.{Value, Test}
+use Rattle.vhdl_names_rules.specs.units.Statements.{Choice, values, position, numbers, Statement, null_of, if_of, case_of, Statements, done, step, Branches, otherwise, branch, Alternatives, others, complete, alternative}
+use Rattle.vhdl_lexer.specs.declared.language.Language.{Language}
+use Rattle.vhdl_names_rules.specs.declared.fault.NameProblem.TheVariants.{WrongKind, TypeMismatch, LeftOut, NoOthers, ChoiceTwice}
+use Rattle.vhdl_names_rules.specs.Rules.{◌>>=◌, ◌>>◌, rule, each, given_that, wider}
 use Rattle.vhdl_names_rules.specs.Visibility as visibility
 use Rattle.vhdl_names_rules.specs.Visibility.{Meaning, Sight, meaning}
-use Rattle.vhdl_names_rules.specs.Operators.{Typed, elements, enumerated}
+use Rattle.vhdl_names_rules.specs.Names.{position_of}
+use Rattle.vhdl_names_rules.specs.Operators as operators
+use Rattle.vhdl_names_rules.specs.Operators.{Typed, integer, computed, elements, enumerated, negated}
+use Rattle.vhdl_names_rules.specs.Types as types
+use Rattle.vhdl_names_rules.specs.Types.{TypedChoice, place}
+use Rattle.vhdl_names_rules.specs.Expressions.{typed_choice}
 use Rattle.vhdl_names_rules.specs.Subtypes.{literal_values}
 
 -- ---- one choice
@@ -25,6 +31,7 @@ named_choice (Elements Element) (visibility.constant k Element (Some vs)) = Some
 named_choice (Elements LogicVector) (visibility.constant k LogicVector (Some vs)) = Some (values vs)
 named_choice (Elements Unsigned) (visibility.constant k Unsigned (Some vs)) = Some (values vs)
 named_choice (Enumeration e count) (visibility.literal d size p) = given_that TypeMismatch (d == e) (position p)
+named_choice Booleans (visibility.boolean_literal b) = Some (position (position_of b))
 named_choice _ _ = None
 
 abbrev pub literal_choice : ObjectType → Expr → Option Choice
@@ -38,7 +45,13 @@ chosen sight type e = literal_choice type e
 
 -- ---- the choices of one alternative: others alone, or choices without others
 
+-- an integer, or those of a range, locally static (9.4.2, 10.9)
+abbrev pub numbers_of : TypedChoice → Option Choice
+numbers_of (types.others at) = None
+numbers_of (place is_local i) = given_that LeftOut is_local (numbers i)
+
 abbrev pub choice : Sight → ObjectType → t.Choice → Option Choice
+choice sight Integers c = typed_choice sight c >>= numbers_of
 choice sight type (t.chosen e) = chosen sight type e
 choice sight type (t.chosen_range d direction e) = None
 choice sight type (t.otherwise at) = None
@@ -74,10 +87,15 @@ only_last_others [] = true
 only_last_others (cs ∷ []) = true
 only_last_others (cs ∷ ds ∷ rest) = not (is_others cs) && only_last_others (ds ∷ rest)
 
--- each literal of an enumeration has its choice
+-- each literal of an enumeration, as boolean is one, has its choice; of integers that is known where they are computed
+abbrev pub are_named : (count : ℕ) → List Choice → Bool
+are_named count cs = list_all (λ p. list_any (same_choice (position p)) cs) (range_with_len 0 count)
+
 abbrev pub names_all : ObjectType → List Choice → Bool
 names_all (Elements k) cs = false
-names_all (Enumeration e count) cs = list_all (λ p. list_any (same_choice (position p)) cs) (range_with_len 0 count)
+names_all (Enumeration e count) cs = are_named count cs
+names_all Booleans cs = are_named 2 cs
+names_all Integers cs = true
 
 -- the choices of each alternative
 abbrev pub covered : Sight → ObjectType → List (List t.Choice) → Option (List (List Choice))
@@ -90,15 +108,58 @@ covered sight type alternatives = do
 
 -- ---- selectors and alternatives
 
--- a case is on elements of the nine values or an enumeration; on an open vector it is one on std_logic_vector
-abbrev pub selector : Typed → Option (ObjectType × Value)
-selector (elements OpenVector x) = Some (Elements LogicVector, u.elements x)
-selector (elements k x) = Some (Elements k, u.elements x)
-selector (enumerated e count x) = Some (Enumeration e count, x)
-selector _ = None
+-- what a case is on: a value, or a truth
+pub data Selector : Type 0 where
+  value : Value → Selector
+  truth : Test → Selector
 
--- alternatives with what each does; the last is done otherwise
+-- a case is on elements of the nine values, an integer, an enumeration or a truth; on an open vector it is one on
+-- std_logic_vector
+abbrev pub selector : Language → Typed → Option (ObjectType × Selector)
+selector language (elements OpenVector x) = Some (Elements LogicVector, value (u.elements x))
+selector language (elements k x) = Some (Elements k, value (u.elements x))
+selector language (enumerated e count x) = Some (Enumeration e count, value x)
+selector language (integer s) = wider language (Some (Integers, value (u.Value.computed (u.static s))))
+selector language (computed x) = Some (Integers, value (u.Value.computed x))
+selector language (operators.truth t) = wider language (Some (Booleans, truth t))
+selector language _ = None
+
+-- the last alternative is done otherwise; where it chooses integers, these are kept
+abbrev pub last_by : List Choice → Statements → Alternatives
+last_by (numbers i ∷ cs) s = complete (numbers i ∷ cs) s
+last_by cs s = others s
+
+-- alternatives with what each does
 abbrev pub arranged : List (List Choice) → List Statements → Option Alternatives
-arranged (cs ∷ []) (s ∷ []) = Some (others s)
+arranged (cs ∷ []) (s ∷ []) = Some (last_by cs s)
 arranged (cs ∷ ds ∷ css) (s ∷ ss) = option_map (alternative cs s) (arranged (ds ∷ css) ss)
 arranged _ _ = None
+
+-- ---- the statement that selects
+
+abbrev pub always : (at : ℕ) → Test
+always at = u.Test.fixed (u.known at (u.number 1))
+
+-- the alternatives as branches, of which the first is done where this holds, and behind it the next
+abbrev pub branches_by : (at : ℕ) → Test → Alternatives → Branches
+branches_by at t (others s) = otherwise s
+branches_by at t (complete cs s) = otherwise s
+branches_by at t (alternative cs s alts) = branch t s (branches_by at (always at) alts)
+
+abbrev pub nothing_done : Statements
+nothing_done = step null_of done
+
+-- a truth is read, and nothing hangs on it
+abbrev pub read_only : (at : ℕ) → Test → Statement
+read_only at t = if_of at (branch t nothing_done (otherwise nothing_done))
+
+-- on a truth: an if of it, or of its negation, where the first alternative is for one of both; else the first is done
+abbrev pub deciding : (at : ℕ) → Test → Alternatives → Statement
+deciding at t (alternative (position p ∷ []) s alts) =
+    if_of at (branches_by at (if p == 1 then t else negated t) (alternative (position p ∷ []) s alts))
+deciding at t alts =
+    if_of at (otherwise (step (read_only at t) (step (if_of at (branches_by at (always at) alts)) done)))
+
+abbrev pub selecting : (at : ℕ) → Selector → Alternatives → Statement
+selecting at (value v) alts = case_of at v alts
+selecting at (truth t) alts = deciding at t alts

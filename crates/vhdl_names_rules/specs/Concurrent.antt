@@ -9,7 +9,7 @@ use Rattle.vhdl_names_rules.specs.Rules.{◌>>=◌, ◌>>◌, rule, given_that, 
 use Rattle.vhdl_names_rules.specs.Visibility.{Name, Sight, are_distinct, ends, label_ends, within_generate, with_variables}
 use Rattle.vhdl_names_rules.specs.Edges.{Edge, at_edge, waited_edge}
 use Rattle.vhdl_names_rules.specs.Expressions.{typed, static_range, condition, as_static_test}
-use Rattle.vhdl_names_rules.specs.Choices.{covered, selector, arranged}
+use Rattle.vhdl_names_rules.specs.Choices.{covered, selector, arranged, selecting}
 use Rattle.vhdl_names_rules.specs.Declarations.{in_order, process_declaration}
 use Rattle.vhdl_names_rules.specs.Interfaces.{EntityView, declared_names}
 use Rattle.vhdl_names_rules.specs.Instances.{instance}
@@ -43,12 +43,12 @@ assignment sight a = do
 unfoldable pub selected : Sight → Option Ident → t.SelectedAssignment → Option u.Concurrent
 selected sight label a = do
   e ← typed sight a.selector
-  by ← selector e
+  by ← selector sight.language e
   x ← signal_target sight a.target
   choices ← covered sight by.0 (map (λ w. w.choices) a.waveforms)
   bodies ← each (λ w. option_map alone (sequential.assignment sight x w.value)) a.waveforms
   all ← arranged choices bodies
-  Some (assigning a.at label (s.case_of a.at by.1 all))
+  Some (assigning a.at label (selecting a.at by.1 all))
 
 -- ---- processes (11.3)
 

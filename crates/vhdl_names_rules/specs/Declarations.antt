@@ -20,7 +20,7 @@ use Rattle.vhdl_names_rules.specs.Visibility.{declare, Name, Meaning, Declared, 
 use Rattle.vhdl_names_rules.specs.Local.{is_local, subtype_is_local}
 use Rattle.vhdl_names_rules.specs.Expressions.{typed, static, as_static_test}
 use Rattle.vhdl_names_rules.specs.Subtypes as subtypes
-use Rattle.vhdl_names_rules.specs.Subtypes.{Subtype, subtype, form_range, form_direction, integer_subtype, numbers_direction, TypeClass, class_of, fixed_value, declaring_literal, object}
+use Rattle.vhdl_names_rules.specs.Subtypes.{Subtype, subtype, object_subtype, form_range, form_direction, integer_subtype, numbers_direction, TypeClass, class_of, fixed_value, declaring_literal, object}
 use Rattle.vhdl_names_rules.specs.problems.Places.{start}
 
 -- ---- one declaration after another
@@ -99,10 +99,15 @@ boolean_generic sight s = do
     value = λ e. option_map u.Fixed.truth (static_test sight e);
   })
 
--- ports, constants and generics are of the nine values
+-- constants and generics are of the nine values
 abbrev pub as_kind : ObjectType → Option ElementKind
 as_kind (Elements k) = Some k
-as_kind (Enumeration e count) = None
+as_kind _ = None
+
+-- a port is of no enumeration
+abbrev pub as_port_type : ObjectType → Option ObjectType
+as_port_type (Enumeration e count) = None
+as_port_type type = Some type
 
 abbrev pub other_generic : Sight → t.Subtype → Option GenericForm
 other_generic sight s = do
@@ -149,12 +154,12 @@ without_ports sight = if is_wide sight.language then record sight { region = map
 
 unfoldable pub port : Sight → t.Port → Option (Declares u.Port)
 port sight p = do
-  s ← subtype (without_ports sight) p.subtype
-  kind ← as_kind s.type
+  s ← object_subtype (without_ports sight) p.subtype
+  type ← as_port_type s.type
   default ← if_any (fixed_value (without_ports sight) s.type (form_range s.form)) p.default
   Some (record {
     declared = global_if (is_global (without_ports sight) p.subtype)
-        (declared_with visibility.is_port (λ k. visibility.port k (mode_of p.mode) kind) (form_direction s.form)
+        (declared_with visibility.is_port (λ k. visibility.port k (mode_of p.mode) type) (form_direction s.form)
         sight.region p.names);
     analysed = for_each (λ n. record { mode = mode_of p.mode; object = object s default n }) p.names;
   })
@@ -163,7 +168,7 @@ port sight p = do
 
 unfoldable pub signals : Sight → t.Signals → Option (Declares u.Declaration)
 signals sight d = do
-  s ← subtype (within sight d.names) d.subtype
+  s ← object_subtype (within sight d.names) d.subtype
   default ← if_any (fixed_value (within sight d.names) s.type (form_range s.form)) d.default
   Some (record {
     declared = global_if (is_global (within sight d.names) d.subtype)
@@ -174,7 +179,7 @@ signals sight d = do
 
 unfoldable pub variables : Sight → t.Variables → Option (Declares u.Declaration)
 variables sight d = do
-  s ← subtype (within_variables sight d.names) d.subtype
+  s ← object_subtype (within_variables sight d.names) d.subtype
   default ← if_any (fixed_value (within_variables sight d.names) s.type (form_range s.form)) d.default
   Some (record {
     declared = global_if (is_global (within_variables sight d.names) d.subtype)

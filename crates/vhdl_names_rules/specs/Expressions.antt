@@ -10,7 +10,7 @@ use Rattle.vhdl_tree.specs.Tree.{Expr, Exprs, Attribute}
 use Rattle.vhdl_names_rules.specs.declared.kind.ElementKind.{ElementKind}
 use Rattle.vhdl_names_rules.specs.declared.kind.ElementKind.TheVariants.{Element, LogicVector, Unsigned, OpenVector}
 use Rattle.vhdl_names_rules.specs.declared.kind.ObjectType.{ObjectType}
-use Rattle.vhdl_names_rules.specs.declared.kind.ObjectType.TheVariants.{Elements, Enumeration}
+use Rattle.vhdl_names_rules.specs.declared.kind.ObjectType.TheVariants.{Elements, Enumeration, Integers, Booleans}
 use Rattle.vhdl_names_rules.specs.units.Expressions as u
 use Rattle.vhdl_names_rules.specs.units.Expressions.{Static, Computed, Test}
 use Rattle.vhdl_tree.specs.declared.operator.Direction.{Direction}
@@ -20,7 +20,7 @@ use Rattle.vhdl_names_rules.specs.Rules.{◌>>=◌, ◌>>◌, rule, given_that, 
 use Rattle.vhdl_names_rules.specs.Visibility as visibility
 use Rattle.vhdl_names_rules.specs.Visibility.{Meaning, DeclaredRange, Declared, Sight, declaration}
 use Rattle.vhdl_names_rules.specs.Literals.{number_of, nine_of, values_of_string, values_of_bits}
-use Rattle.vhdl_names_rules.specs.Operators.{Typed, integer, computed, elements, enumerated, truth, interval, composite, is_vector, inverse, as_computed, raised, operated}
+use Rattle.vhdl_names_rules.specs.Operators.{Typed, integer, computed, elements, enumerated, truth, interval, composite, is_vector, inverse, as_computed, raised, truths_related, operated}
 use Rattle.vhdl_names_rules.specs.Types as types
 use Rattle.vhdl_names_rules.specs.Types.{TypedChoice, place, TypedElements}
 use Rattle.vhdl_names_rules.specs.Names.{Suffix, plain, arguments, range, computed_range, denoted, attributed}
@@ -81,12 +81,15 @@ abbrev pub suffix_of : (is_name : Bool) → List Typed → Suffix
 suffix_of is_name (interval r ∷ []) = range r
 suffix_of is_name xs = arguments is_name xs
 
+-- what a name is as a value, with what follows it and an attribute
+abbrev pub valued : (at : ℕ) → Option Attribute → Meaning → Option DeclaredRange → Suffix → Option Typed
+valued at a m r s = denoted at m s >>= λ x. attributed a (sized_by at m r x)
+
 -- a name that starts at this byte, by its declaration, what follows it and an attribute: in the wider language also a
 -- range, and a bound or the length of one
 abbrev pub named : Language → (at : ℕ) → Option Attribute → Declared → Suffix → Option Typed
 named language at a d s =
-    option_or (wider language (range_attribute at a d s))
-    (denoted at d.meaning s >>= λ x. attributed a (sized_by at d.meaning d.range x))
+    option_or (wider language (range_attribute at a d s)) (valued at a d.meaning d.range s)
 
 -- an open vector takes the kind of the vector that it is assigned to
 abbrev pub fits : ElementKind → ElementKind → Bool
@@ -149,7 +152,7 @@ unfoldable mutual
   typed sight (t.binary begins op at d e) = do
     x ← typed sight d
     y ← typed sight e
-    operated sight.numbers at op x (beside d y)
+    option_or (operated sight.numbers at op x (beside d y)) (wider sight.language (truths_related op x y))
   -- aggregates (9.3.3) and qualified expressions (9.3.5)
   typed sight (t.aggregate at es) = option_map (composite at) (typed_elements sight es)
   typed sight (t.qualified n at es) = do
@@ -261,15 +264,33 @@ as_composite (Elements k) at r es = by (filling es)
     by : Option Typed → Option Given
     by (Some x) = as_filled (Elements k) x
     by None = as_aggregate k at r es
-as_composite (Enumeration e count) at r es = None
+as_composite type at r es = None
 
 abbrev pub as_value : ObjectType → Option u.Range → Typed → Option Given
 as_value (Elements k) r (elements j x) = given_that TypeMismatch (fits k j) (single (u.elements x))
 as_value (Enumeration e count) r (enumerated d size x) = given_that TypeMismatch (e == d) (single x)
 as_value type r (composite at es) = as_composite type at r es
+as_value Integers r x = option_map (λ j. single (u.Value.computed j)) (as_computed x)
 as_value _ r _ = None
 
--- what is given to a target of this type, with this range of indexes if it has one
+-- what is given to what is of this type, with this range of indexes if it has one
 unfoldable pub value_given : Sight → ObjectType → Option u.Range → t.Value → Option Given
 value_given sight type r (t.single e) = typed sight e >>= as_value type r
 value_given sight type r (t.others at e) = typed sight e >>= as_filled type
+
+-- ---- what statements assign
+
+-- a value; or to a boolean a truth that a run decides, where the value is none before (5.2.2.2)
+pub data Assigned : Type 0 where
+  given : Given → Assigned
+  truth_of : Test → Assigned
+
+abbrev pub as_boolean : Typed → Option Assigned
+as_boolean (truth (u.fixed t)) = Some (given (single (u.static_truth t)))
+as_boolean (truth t) = Some (truth_of t)
+as_boolean _ = None
+
+-- what is assigned to a target of this type
+unfoldable pub value_assigned : Sight → ObjectType → Option u.Range → t.Value → Option Assigned
+value_assigned sight Booleans r (t.single e) = typed sight e >>= as_boolean
+value_assigned sight type r v = option_map given (value_given sight type r v)

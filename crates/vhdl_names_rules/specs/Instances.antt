@@ -8,7 +8,7 @@ use Rattle.vhdl_tree.specs.Tree.{Ident, Expr, Association}
 use Rattle.vhdl_names_rules.specs.declared.kind.ElementKind.{ElementKind}
 use Rattle.vhdl_names_rules.specs.declared.kind.ElementKind.TheVariants.{Element, LogicVector, Unsigned}
 use Rattle.vhdl_names_rules.specs.declared.kind.ObjectType.{ObjectType}
-use Rattle.vhdl_names_rules.specs.declared.kind.ObjectType.TheVariants.{Elements}
+use Rattle.vhdl_names_rules.specs.declared.kind.ObjectType.TheVariants.{Elements, Integers, Booleans}
 use Rattle.vhdl_names_rules.specs.units.Expressions.{SignalPart}
 use Rattle.vhdl_names_rules.specs.units.Units as u
 use Rattle.vhdl_names_rules.specs.units.Units.{Fixed}
@@ -74,11 +74,11 @@ associated formals as' = do
 
 -- ---- actuals
 
--- a port as it is associated: its mode and kind
+-- a port as it is associated: its mode and type
 pub record Formal : Type 0 where
   pub name : Name
   pub mode : Mode
-  pub kind : ElementKind
+  pub type : ObjectType
 
 -- a generic as it is associated: an integer, a boolean, or of a kind of the nine values
 pub data GenericKind : Type 0 where
@@ -103,7 +103,7 @@ abbrev pub port_formal : Declared → Option Formal
 port_formal d = by d.name d.meaning
   where
     by : Name → Meaning → Option Formal
-    by n (visibility.port k mode kind) = Some (record { name = n; mode = mode; kind = kind })
+    by n (visibility.port k mode type) = Some (record { name = n; mode = mode; type = type })
     by n _ = None
 
 -- The actual of a generic is a static integer, a truth over such, or a value that names no signal. An aggregate has the
@@ -143,12 +143,14 @@ abbrev pub as_name : Expr → Option t.Name
 as_name (t.named n suffix attribute) = Some (record { identifier = n; suffix = suffix; attribute = attribute })
 as_name _ = None
 
--- an actual has the kind of the formal
-abbrev pub is_kind : ElementKind → ObjectType → Bool
-is_kind Element (Elements Element) = true
-is_kind LogicVector (Elements LogicVector) = true
-is_kind Unsigned (Elements Unsigned) = true
-is_kind _ _ = false
+-- an actual has the type of the formal
+abbrev pub is_type : ObjectType → ObjectType → Bool
+is_type (Elements Element) (Elements Element) = true
+is_type (Elements LogicVector) (Elements LogicVector) = true
+is_type (Elements Unsigned) (Elements Unsigned) = true
+is_type Integers Integers = true
+is_type Booleans Booleans = true
+is_type _ _ = false
 
 -- an out port drives no in port
 abbrev pub may_join : Mode → Option Mode → Bool
@@ -160,7 +162,7 @@ unfoldable pub port_actual : Sight → Formal → Expr → Option SignalPart
 port_actual sight f e = do
   n ← as_name e
   x ← signal sight n
-  rule TypeMismatch (is_kind f.kind x.type)
+  rule TypeMismatch (is_type f.type x.type)
   rule WriteOfIn (may_join f.mode x.mode)
   Some x.place
 

@@ -1,5 +1,5 @@
--- Which values name no signal and no variable (IEEE 1076-2008, 9.4.3). An integer that a run computes names one, since
--- to_integer asks for that, and so does what is chosen by it.
+-- Which values name no signal and no variable (IEEE 1076-2008, 9.4.3). An integer that a run computes names one: an
+-- object of an integer type is one, and to_integer asks for one; and so does what is chosen by it.
 use Rattle.std.specs.Prelude.{Bool, true, false, ◌&&◌}
 use Rattle.vhdl_names_rules.specs.units.Expressions as e
 use Rattle.vhdl_names_rules.specs.units.Expressions.{Vector}

@@ -1,6 +1,7 @@
 -- What names in expressions are (IEEE 1076-2008, clause 8): objects with their indexed and slice names, conversions and
 -- calls of the packages' functions (9.3.4, 9.3.6), and the attribute 'event (16.2.4).
 use Rattle.std.specs.Prelude.{ℕ, Bool, true, false, not, ◌&&◌, if◌then◌else◌, List, [], ◌∷◌, Option, Some, None, option_map, bytes_eq, codes}
+use Rattle.vhdl_values.specs.declared.scalar.Nine.TheVariants.{One}
 use Rattle.vhdl_values.specs.declared.kinds.Counted.{Counted}
 use Rattle.vhdl_values.specs.declared.kinds.Counted.TheVariants.{Shift}
 use Rattle.vhdl_values.specs.declared.kinds.Edge.{Edge}
@@ -10,7 +11,7 @@ use Rattle.vhdl_tree.specs.Tree.{Attribute}
 use Rattle.vhdl_names_rules.specs.declared.kind.ElementKind.{ElementKind}
 use Rattle.vhdl_names_rules.specs.declared.kind.ElementKind.TheVariants.{Element, LogicVector, Unsigned, OpenVector}
 use Rattle.vhdl_names_rules.specs.declared.kind.ObjectType.{ObjectType}
-use Rattle.vhdl_names_rules.specs.declared.kind.ObjectType.TheVariants.{Elements, Enumeration}
+use Rattle.vhdl_names_rules.specs.declared.kind.ObjectType.TheVariants.{Elements, Enumeration, Integers, Booleans}
 use Rattle.vhdl_names_rules.specs.declared.kind.Function.{Function}
 use Rattle.vhdl_names_rules.specs.declared.kind.Function.TheVariants.{EdgeCall, ByCount, ToUnsigned, ToInteger}
 use Rattle.vhdl_names_rules.specs.units.Expressions as u
@@ -43,11 +44,11 @@ part LogicVector (range r) = Some (u.slice r, LogicVector)
 part Unsigned (range r) = Some (u.slice r, Unsigned)
 part _ _ = None
 
--- an object of an enumeration has no parts
+-- an object of an enumeration or of an integer type has no parts
 abbrev pub part_of : ObjectType → Suffix → Option (Part × ObjectType)
 part_of (Elements k) s = option_map (λ p. (p.0, Elements p.1)) (part k s)
-part_of (Enumeration e count) plain = Some (u.whole, Enumeration e count)
-part_of (Enumeration e count) _ = None
+part_of type plain = Some (u.whole, type)
+part_of type _ = None
 
 -- what a run chooses: an element of a vector by its index, and a slice of one by its bounds
 abbrev pub chosen : ElementKind → Suffix → Option (Chosen × ElementKind)
@@ -66,8 +67,8 @@ any_part k s =
 
 abbrev pub any_part_of : ObjectType → Suffix → Option (AnyPart × ObjectType)
 any_part_of (Elements k) s = option_map (λ p. (p.0, Elements p.1)) (any_part k s)
-any_part_of (Enumeration e count) plain = Some (fixed u.whole, Enumeration e count)
-any_part_of (Enumeration e count) _ = None
+any_part_of type plain = Some (fixed u.whole, type)
+any_part_of type _ = None
 
 -- by the byte at which its name starts
 abbrev pub place_of : (at : ℕ) → Signal → Part → SignalPart
@@ -159,9 +160,28 @@ called at ToInteger = number_of at
 
 -- ---- all names
 
--- a boolean, by its position
+-- a boolean, by its position, 0 for false and 1 for true (5.2.2.2, 16.3)
 abbrev pub known : (at : ℕ) → Static → Typed
 known at s = truth (u.fixed (u.known at s))
+
+abbrev pub position_of : Bool → ℕ
+position_of b = if b then 1 else 0
+
+-- a boolean object, by its element; the literal is no part of an edge test
+abbrev pub is_true : (at : ℕ) → Vector → Typed
+is_true at x = truth (u.alike at (u.Value.elements x) (u.Value.elements (u.enclosed_character One)))
+
+abbrev pub read_object : (at : ℕ) → Signal → ObjectType → Suffix → Option Typed
+read_object at x (Elements kind) s = read_signal at x kind s
+read_object at x (Enumeration e count) s = if_plain s (enumerated e count (u.state_of x))
+read_object at x Integers s = if_plain s (computed (u.signal_number x))
+read_object at x Booleans s = if_plain s (is_true at (signal_part at x (fixed u.whole)))
+
+abbrev pub read_variable : (at : ℕ) → ℕ → ObjectType → Suffix → Option Typed
+read_variable at k (Elements kind) s = read_by (variable_part at k) kind s
+read_variable at k (Enumeration e count) s = if_plain s (enumerated e count (u.state_of_variable k))
+read_variable at k Integers s = if_plain s (computed (u.variable_number k))
+read_variable at k Booleans s = if_plain s (is_true at (variable_part at k (fixed u.whole)))
 
 -- what a name of this meaning is at this byte, with what follows it; types, components and labels are no values
 abbrev pub denoted : (at : ℕ) → Meaning → Suffix → Option Typed
@@ -171,13 +191,10 @@ denoted at (visibility.generate_parameter k) s = if_plain s (integer (u.generate
 denoted at (visibility.loop_parameter k) s = if_plain s (integer (u.loop_parameter k))
 denoted at (visibility.boolean_generic k) s = if_plain s (known at (u.generic k))
 denoted at (visibility.boolean_constant k) s = if_plain s (known at (u.Static.constant k))
-denoted at (visibility.boolean_literal b) s = if_plain s (known at (u.number (if b then 1 else 0)))
-denoted at (visibility.port k mode kind) s = read_signal at (u.port k) kind s
-denoted at (visibility.signal k (Elements kind)) s = read_signal at (u.Signal.signal k) kind s
-denoted at (visibility.signal k (Enumeration e count)) s =
-    if_plain s (enumerated e count (u.state_of (u.Signal.signal k)))
-denoted at (visibility.variable k (Elements kind)) s = read_by (variable_part at k) kind s
-denoted at (visibility.variable k (Enumeration e count)) s = if_plain s (enumerated e count (u.state_of_variable k))
+denoted at (visibility.boolean_literal b) s = if_plain s (known at (u.number (position_of b)))
+denoted at (visibility.port k mode type) s = read_object at (u.port k) type s
+denoted at (visibility.signal k type) s = read_object at (u.Signal.signal k) type s
+denoted at (visibility.variable k type) s = read_variable at k type s
 denoted at (visibility.constant k kind values) s = read_by (constant_part at k) kind s
 denoted at (visibility.literal e count p) s = if_plain s (enumerated e count (u.position p))
 denoted at (visibility.vector_type k is_resolved) s = converted k s

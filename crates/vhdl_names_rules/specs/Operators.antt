@@ -191,6 +191,12 @@ ordering numbers at op (computed s) (elements k y) = do
   given_that LeftOut (is_number k) (truth (u.compared_with_computed at op s y))
 ordering numbers at op x y = compares at op x y
 
+-- = and /= of truths (9.2.3), which the wider language alone has
+abbrev pub truths_related : Operator → Typed → Typed → Option Typed
+truths_related o.Equal (truth s) (truth t) = Some (truth (both l.Xnor s t))
+truths_related o.NotEqual (truth s) (truth t) = Some (truth (both l.Xor s t))
+truths_related _ _ _ = None
+
 -- ---- all binary operators
 
 abbrev pub operated : (numbers : Bool) → (at : ℕ) → Operator → Typed → Typed → Option Typed

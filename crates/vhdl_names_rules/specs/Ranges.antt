@@ -59,19 +59,19 @@ bound_of a =
     else if bytes_eq a (codes "length") then Some Length
     else None
 
--- integers are as small as they are great (own)
-abbrev pub least : (at : ℕ) → IntegerType → Static
-least at Integer = u.Static.negated at (u.number greatest_integer)
-least at Natural = u.number 0
-least at Positive = u.number 1
+-- (5.2.3.2, 16.3)
+abbrev pub least : IntegerType → Static
+least Integer = u.least_integer
+least Natural = u.number 0
+least Positive = u.number 1
 
 -- integers have no length here
-abbrev pub type_bound : (at : ℕ) → Bound → IntegerType → Option Static
-type_bound at Left w = Some (least at w)
-type_bound at Low w = Some (least at w)
-type_bound at Right w = Some (u.number greatest_integer)
-type_bound at High w = Some (u.number greatest_integer)
-type_bound at Length w = None
+abbrev pub type_bound : Bound → IntegerType → Option Static
+type_bound Left w = Some (least w)
+type_bound Low w = Some (least w)
+type_bound Right w = Some (u.number greatest_integer)
+type_bound High w = Some (u.number greatest_integer)
+type_bound Length w = None
 
 abbrev pub integers_bound : Bound → DeclaredRange → Option Static
 integers_bound Length r = None
@@ -79,7 +79,7 @@ integers_bound b r = Some (u.bound b r.number)
 
 -- of what has a range, whose name starts at this byte
 abbrev pub bound : (at : ℕ) → Bound → Ranged → Option Static
-bound at b (of_type w) = type_bound at b w
+bound at b (of_type w) = type_bound b w
 bound at b (of_integers r) = integers_bound b r
 bound at b (of_vector r) = Some (u.bound b r.number)
 bound at b (of_slice r x) = Some (u.slice_bound at b r.number x.left x.direction x.right)

@@ -1,8 +1,8 @@
 -- Registers as they are written, in the wider language: an edge beside other conditions, and in several ifs (IEEE
 -- 1076-2008, 9.2.2, 10.8). An if with a gated edge tests the edge and under it the gate, and ifs of one edge are one. A
--- run of the process does what it did: where `and` stops (9.2.2) is not seen, since no operand has an effect and each
--- index is computed before the run; and an edge is the same throughout a run. All else stays as it stands.
-use Rattle.std.specs.Prelude.{ℕ, Bool, false, ◌||◌, if◌then◌else◌, List, [], ◌∷◌, map, Option, Some, None, option_map, is_some, unwrap_or}
+-- run of the process does what it did: where `and` stops (9.2.2) is not seen, since no operand has an effect (an index
+-- outside is X, which is none either); and an edge is the same throughout a run. All else stays as it stands.
+use Rattle.std.specs.Prelude.{ℕ, Bool, false, ◌||◌, if◌then◌else◌, List, ◌∷◌, map, Option, Some, None, option_map, is_some, unwrap_or}
 use Rattle.vhdl_lexer.specs.declared.language.Language.{Language}
 use Rattle.vhdl_lexer.specs.declared.language.Language.TheVariants.{Profile, Wide}
 use Rattle.vhdl_tree.specs.Tree.{File}

@@ -1,11 +1,12 @@
 -- Sequential statements (IEEE 1076-2008, clause 10), with the declarations in sight.
 use Rattle.std.specs.Prelude.{ℕ, Bool, true, false, not, List, [], ◌∷◌, ◌++◌, Option, Some, None, option_map, is_none}
+use Rattle.vhdl_values.specs.declared.scalar.Nine.{Nine}
+use Rattle.vhdl_values.specs.declared.scalar.Nine.TheVariants.{One, Zero}
 use Rattle.vhdl_tree.specs.declared.declaration.Mode.{Mode}
 use Rattle.vhdl_tree.specs.declared.declaration.Mode.TheVariants.{In, Out}
 use Rattle.vhdl_tree.specs.Tree as t
 use Rattle.vhdl_tree.specs.Tree.{Ident}
 use Rattle.vhdl_names_rules.specs.declared.kind.ObjectType.{ObjectType}
-use Rattle.vhdl_names_rules.specs.declared.kind.ObjectType.TheVariants.{Elements}
 use Rattle.vhdl_names_rules.specs.units.Expressions as u
 use Rattle.vhdl_names_rules.specs.units.Expressions.{Part, SignalPart, Signal}
 use Rattle.vhdl_names_rules.specs.units.Statements as s
@@ -15,8 +16,8 @@ use Rattle.vhdl_names_rules.specs.Visibility as visibility
 use Rattle.vhdl_names_rules.specs.Visibility.{Name, Meaning, DeclaredRange, Declared, Sight, declaration, label_ends, within_loop}
 use Rattle.vhdl_names_rules.specs.Names.{Suffix, part_of, AnyPart, fixed, free, any_part_of, place_of}
 use Rattle.vhdl_names_rules.specs.Ranges.{declared_range}
-use Rattle.vhdl_names_rules.specs.Expressions.{typed, typed_suffix, static_range, condition, value_given}
-use Rattle.vhdl_names_rules.specs.Choices.{covered, selector, arranged}
+use Rattle.vhdl_names_rules.specs.Expressions.{typed, typed_suffix, static_range, condition, Assigned, given, truth_of, value_assigned}
+use Rattle.vhdl_names_rules.specs.Choices.{covered, selector, arranged, selecting}
 
 -- ---- names of signals and variables
 
@@ -41,7 +42,7 @@ as_signal at d suffix = by d.meaning
   where
     by : Meaning → Option SignalName
     by (visibility.port k mode kind) =
-        option_map (named_part at (u.port k) (Some mode) d.range) (part_of (Elements kind) suffix)
+        option_map (named_part at (u.port k) (Some mode) d.range) (part_of kind suffix)
     by (visibility.signal k type) =
         option_map (named_part at (u.Signal.signal k) None d.range) (part_of type suffix)
     by _ = None
@@ -96,7 +97,7 @@ abbrev pub as_signal_target : (at : ℕ) → Declared → Suffix → Option Targ
 as_signal_target at d suffix = by d.meaning
   where
     by : Meaning → Option Target
-    by (visibility.port k mode kind) = target_of at d.range (Elements kind) suffix (assigned_signal at (u.port k))
+    by (visibility.port k mode type) = target_of at d.range type suffix (assigned_signal at (u.port k))
     by (visibility.signal k type) = target_of at d.range type suffix (assigned_signal at (u.Signal.signal k))
     by _ = None
 
@@ -130,13 +131,23 @@ variable_target sight n = do
 
 -- ---- assignments
 
-abbrev pub assignment : Sight → Target → t.Value → Option s.Statement
-assignment sight x v = option_map x.assigned (value_given sight x.type x.range v)
-
--- value when condition else .. is an if (10.5.3, 10.6.3); without a last else it has none
 abbrev pub alone : s.Statement → s.Statements
 alone statement = s.step statement s.done
 
+-- '1' where a boolean is true, and '0' where it is false
+abbrev pub boolean_assigned : Target → Nine → s.Statements
+boolean_assigned x v = alone (x.assigned (s.single (u.Value.elements (u.enclosed_character v))))
+
+-- a truth that a run decides is assigned by an if
+abbrev pub assigned_to : Target → Assigned → s.Statement
+assigned_to x (given g) = x.assigned g
+assigned_to x (truth_of t) =
+    s.if_of x.at (s.branch t (boolean_assigned x One) (s.otherwise (boolean_assigned x Zero)))
+
+abbrev pub assignment : Sight → Target → t.Value → Option s.Statement
+assignment sight x v = option_map (assigned_to x) (value_assigned sight x.type x.range v)
+
+-- value when condition else .. is an if (10.5.3, 10.6.3); without a last else it has none
 abbrev pub last_branch : Sight → Target → Option t.Value → Option s.Branches
 last_branch sight x None = Some s.no_else
 last_branch sight x (Some v) = option_map (λ y. s.otherwise (alone y)) (assignment sight x v)
@@ -195,11 +206,11 @@ unfoldable mutual
   statement sight label (t.case_of at e alts end) = do
     rule WrongKind (label_ends label end)
     x ← typed sight e
-    by ← selector x
+    by ← selector sight.language x
     choices ← covered sight by.0 (choice_lists alts)
     bodies ← alternatives sight alts
     all ← arranged choices bodies
-    Some (s.case_of at by.1 all)
+    Some (selecting at by.1 all)
   -- a for loop (10.10); its parameter's range has the outer names in sight
   statement sight label (t.for_of at n r body end) = do
     rule WrongKind (label_ends label end)

@@ -1,5 +1,5 @@
 -- Subtype indications (IEEE 1076-2008, 6.3), and the values of constants and defaults.
-use Rattle.std.specs.Prelude.{ℕ, ◌==◌, Bool, true, false, List, [], ◌∷◌, Option, Some, None, option_map, is_some}
+use Rattle.std.specs.Prelude.{ℕ, ◌==◌, Bool, true, false, List, [], ◌∷◌, Option, Some, None, option_map, is_some, is_none}
 use Rattle.std.specs.Option.{option_or}
 use Rattle.vhdl_values.specs.declared.scalar.Nine.{Nine}
 use Rattle.vhdl_tree.specs.Tree as t
@@ -8,7 +8,7 @@ use Rattle.vhdl_tree.specs.Tree.{Ident, Expr}
 use Rattle.vhdl_names_rules.specs.declared.kind.ElementKind.{ElementKind}
 use Rattle.vhdl_names_rules.specs.declared.kind.ElementKind.TheVariants.{Element, LogicVector, Unsigned}
 use Rattle.vhdl_names_rules.specs.declared.kind.ObjectType.{ObjectType}
-use Rattle.vhdl_names_rules.specs.declared.kind.ObjectType.TheVariants.{Elements, Enumeration}
+use Rattle.vhdl_names_rules.specs.declared.kind.ObjectType.TheVariants.{Elements, Enumeration, Integers, Booleans}
 use Rattle.vhdl_names_rules.specs.declared.kind.Function.TheVariants.{ToUnsigned}
 use Rattle.vhdl_names_rules.specs.units.Expressions as e
 use Rattle.vhdl_names_rules.specs.units.Expressions.{Range}
@@ -21,9 +21,9 @@ use Rattle.vhdl_names_rules.specs.Visibility as visibility
 use Rattle.vhdl_names_rules.specs.Visibility.{Meaning, DeclaredRange, Declared, Sight, meaning, declaration}
 use Rattle.vhdl_names_rules.specs.Known.{is_known}
 use Rattle.vhdl_names_rules.specs.Literals.{nine_of, values_of_string, values_of_bits}
-use Rattle.vhdl_names_rules.specs.Operators.{Typed, integer, is_vector}
+use Rattle.vhdl_names_rules.specs.Operators.{Typed, integer, truth, is_vector}
 use Rattle.vhdl_names_rules.specs.Ranges.{declared_range}
-use Rattle.vhdl_names_rules.specs.Expressions.{typed_each, static_range, value_given}
+use Rattle.vhdl_names_rules.specs.Expressions.{typed, typed_each, static_range, value_given}
 use Rattle.vhdl_names_rules.specs.problems.Places.{range_start}
 
 -- ---- types of objects
@@ -123,6 +123,29 @@ class_of (visibility.integer_type w) = integers
 class_of visibility.boolean_type = booleans
 class_of _ = others
 
+-- ---- signals, ports and variables, which in the wider language may be integers and booleans
+
+abbrev pub integer_object : Sight → t.Subtype → Option Subtype
+integer_object sight s = do
+  x ← integer_subtype sight s
+  Some (record { type = Integers; form = u.Form.number x; is_resolved = false })
+
+-- a boolean has no range here (5.2.2.2)
+abbrev pub boolean_object : t.Subtype → Option Subtype
+boolean_object s = do
+  rule LeftOut (is_none s.constraint)
+  Some (record { type = Booleans; form = u.boolean; is_resolved = false })
+
+abbrev pub subtype_of_class : Sight → t.Subtype → TypeClass → Option Subtype
+subtype_of_class sight s integers = wider sight.language (integer_object sight s)
+subtype_of_class sight s booleans = wider sight.language (boolean_object s)
+subtype_of_class sight s others = subtype sight s
+
+unfoldable pub object_subtype : Sight → t.Subtype → Option Subtype
+object_subtype sight s = do
+  mark ← meaning sight s.mark.text
+  subtype_of_class sight s (class_of mark)
+
 -- ---- literals as they stand, which constants, defaults and choices ask for
 
 -- a character for one element, a string or a bit string for a vector
@@ -188,8 +211,20 @@ known_value sight type r v = do
   g ← value_given sight type r v
   given_that LeftOut (is_known_value g) (u.Fixed.given g)
 
+-- an integer, and a boolean, are static
+abbrev pub static_value : ObjectType → Typed → Option Fixed
+static_value Integers (integer s) = Some (u.Fixed.integer s)
+static_value Booleans (truth (e.Test.fixed t)) = Some (u.Fixed.truth t)
+static_value _ _ = None
+
+abbrev pub single_value : Sight → ObjectType → t.Value → Option Fixed
+single_value sight type (t.single e) = typed sight e >>= static_value type
+single_value sight type (t.others at e) = None
+
 -- of what has this type, and this range of indexes if it is a vector
 unfoldable pub fixed_value : Sight → ObjectType → Option Range → t.Value → Option Fixed
+fixed_value sight Integers r v = single_value sight Integers v
+fixed_value sight Booleans r v = single_value sight Booleans v
 fixed_value sight type r v =
     option_or (plain_value sight type v) (wider sight.language (known_value sight type r v))
 

@@ -55,7 +55,7 @@ pub data Meaning : Type 0 where
   boolean_constant : ℕ → Meaning
   boolean_literal : Bool → Meaning
   -- objects of other types
-  port : ℕ → Mode → ElementKind → Meaning
+  port : ℕ → Mode → ObjectType → Meaning
   signal : ℕ → ObjectType → Meaning
   variable : ℕ → ObjectType → Meaning
   -- with the literal that declares it, if one does

@@ -20,6 +20,8 @@ pub enum Static {
     /// The parameter of the generate, or of the loop, that has so many of its kind round it.
     GenerateParameter(usize),
     LoopParameter(usize),
+    /// The left bound of INTEGER (5.2.3.2).
+    LeastInteger,
     /// A minus sign, and the byte at which it starts.
     Negated(usize, Box<Static>),
     /// `abs`, and the byte at which it starts.
@@ -43,7 +45,7 @@ impl Drop for Static {
     #[cycle(integer)]
     fn drop(self) {
         take_apart!(self: Number(_) | Generic(_) | Constant(_) | GenerateParameter(_)
-            | LoopParameter(_) | Negated(_, _) | Absolute(_, _) | Bound(_, _)
+            | LoopParameter(_) | LeastInteger | Negated(_, _) | Absolute(_, _) | Bound(_, _)
             | SliceBound { at, bound, range, left, direction, right } | Chain(_, _));
     }
 }
@@ -132,6 +134,19 @@ pub enum Index {
     Range(usize, StaticRange),
 }
 
+impl Index {
+    ghost use Rattle.vhdl_names_rules.specs.views.Integers.{index_view};
+
+    /// The byte at which the choice starts.
+    pub fn at(&self) -> usize
+        ensures { result ≡ units.index_start (index_view self.now) }
+    {
+        match self {
+            Index::Single(at, _) | Index::Range(at, _) => *at,
+        }
+    }
+}
+
 /// A first operand with its operator, and further operators with their right operands.
 #[tactic(auto, using(crate::proofs::rows::Integers::view_chain))]
 fn chain(start: Box<StaticStart>, links: Vec<StaticLink>) -> Static
@@ -197,6 +212,7 @@ impl Static {
             Static::Constant(k) => Ok(Static::Constant(*k)),
             Static::GenerateParameter(k) => Ok(Static::GenerateParameter(*k)),
             Static::LoopParameter(k) => Ok(Static::LoopParameter(*k)),
+            Static::LeastInteger => Ok(Static::LeastInteger),
             Static::Negated(at, operand) => Static::negated(alloc, *at, operand.copied(alloc)?),
             Static::Absolute(at, operand) => Static::absolute(alloc, *at, operand.copied(alloc)?),
             Static::Bound(bound, range) => Ok(Static::Bound(*bound, *range)),

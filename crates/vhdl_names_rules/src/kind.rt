@@ -12,12 +12,14 @@ pub enum ElementKind {
     OpenVector,
 }
 
-/// The type of an object that is no integer: of the nine values, or the enumeration of this
-/// number, with so many literals.
+/// The type of an object: of the nine values, the enumeration of this number, with so many
+/// literals, or, in the wider language, of integers or boolean.
 #[derive(Clone, Copy)]
 pub enum ObjectType {
     Elements(ElementKind),
     Enumeration { number: usize, count: u16 },
+    Integers,
+    Booleans,
 }
 
 /// A function of the packages.

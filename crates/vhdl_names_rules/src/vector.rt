@@ -9,6 +9,7 @@ ghost use Rattle.vhdl_names_rules.specs.views.Vectors.{vector_view, start_view, 
 
 use crate::integer::{Index, Static, StaticRange};
 use crate::operator::{Arithmetic, Numeric, VectorOperator};
+use crate::test::StaticTest;
 use drops::take_apart;
 use std::alloc::{AllocError, Global};
 use vhdl_tree::Direction;
@@ -150,6 +151,9 @@ pub enum Computed {
     Static(Static),
     /// `to_integer`, of a number.
     Number(usize, Box<Vector>),
+    /// A signal, and the variable of this number, of an integer type.
+    SignalNumber(Signal),
+    VariableNumber(usize),
     /// A minus sign.
     Negated(usize, Box<Computed>),
     /// `abs`.
@@ -161,7 +165,8 @@ pub enum Computed {
 impl Drop for Computed {
     #[cycle(vector)]
     fn drop(self) {
-        take_apart!(self: Static(_) | Number(_, _) | Negated(_, _) | Magnitude(_, _) | Chain(_, _));
+        take_apart!(self: Static(_) | Number(_, _) | SignalNumber(_) | VariableNumber(_)
+            | Negated(_, _) | Magnitude(_, _) | Chain(_, _));
     }
 }
 
@@ -228,6 +233,10 @@ pub enum Value {
     /// A signal, or the variable of this number, of an enumeration.
     StateOf(Signal),
     StateOfVariable(usize),
+    /// An integer.
+    Computed(Computed),
+    /// A boolean that is static: 1 where it is true, and 0 where it is false.
+    StaticTruth(StaticTest),
 }
 
 /// A first operand with its operator, and further operators with their right operands.

@@ -21,7 +21,7 @@ pub enum Meaning {
     BooleanGeneric(usize),
     BooleanConstant(usize),
     BooleanLiteral(bool),
-    Port(usize, Mode, ElementKind),
+    Port(usize, Mode, ObjectType),
     Signal(usize, ObjectType),
     Variable(usize, ObjectType),
     /// A constant that is no integer, with the literal that declares it, if one does.
@@ -117,7 +117,7 @@ impl Meaning {
             Meaning::BooleanGeneric(k) => Ok(Meaning::BooleanGeneric(*k)),
             Meaning::BooleanConstant(k) => Ok(Meaning::BooleanConstant(*k)),
             Meaning::BooleanLiteral(is_true) => Ok(Meaning::BooleanLiteral(*is_true)),
-            Meaning::Port(k, mode, kind) => Ok(Meaning::Port(*k, *mode, *kind)),
+            Meaning::Port(k, mode, object_type) => Ok(Meaning::Port(*k, *mode, *object_type)),
             Meaning::Signal(k, object_type) => Ok(Meaning::Signal(*k, *object_type)),
             Meaning::Variable(k, object_type) => Ok(Meaning::Variable(*k, *object_type)),
             Meaning::Constant(k, kind, values) => {

@@ -5,8 +5,11 @@ pub mod Completing
 pub mod Conditional
 pub mod Concurrent
 pub mod Covering
+pub mod Deciding
 pub mod Entering
+pub mod Keys
 pub mod Labelling
 pub mod Sequential
 pub mod Told
 pub mod Turns
+pub mod Wholes

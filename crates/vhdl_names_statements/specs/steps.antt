@@ -1,4 +1,6 @@
+pub mod Deciding
 pub mod Cases
 pub mod Concurrent
+pub mod Keys
 pub mod Sequential
 pub mod Told

@@ -12,8 +12,9 @@ ghost use Rattle.vhdl_names_statements.specs.steps.Concurrent as steps;
 ghost use Rattle.vhdl_names_units.specs.views.Concurrent.{one_process};
 ghost use Rattle.vhdl_names_units.specs.views.Sequential as views;
 
-use crate::choices::{but_last, covered};
+use crate::choices::{Divided, arranged, covered};
 use crate::conditional::{alone, conditional, single};
+use crate::selecting::selecting;
 use std::alloc::{AllocError, Global};
 use vhdl_names_expressions::{selector, target};
 use vhdl_names_rules::{NameFault, ObjectType};
@@ -101,8 +102,8 @@ fn selected_parts(
     sight: &Sight,
     by: ObjectType,
     assignment: &syntax::SelectedAssignment,
-) -> Result<(Vec<Alternative>, Vec<Statement>), NameFault>
-    ensures given { Gives (λ p. cases.divided (views.alternatives_view p.0) (views.statements_view p.1))
+) -> Result<Divided, NameFault>
+    ensures given { Gives cases.arranged_view
         (steps.parts sight.now by (tree.selected_assignment_view assignment.now)) result }
     ensures told { IfErr result (Tells
         (problems.waveforms sight.now by (tree.selected_assignment_view assignment.now))) }
@@ -111,7 +112,7 @@ fn selected_parts(
     let lists = choice_lists(sight.alloc, &assignment.waveforms)?;
     let all = all_chosen(sight, by, &assignment.target, &assignment.waveforms);
     let all = covered(sight, by, assignment.at, &lists, all)?;
-    but_last(assignment.at, all)
+    arranged(sight.alloc, assignment.at, all)
 }
 
 /// What a conditional assignment, or one of a value alone, is analysed to: a process that is
@@ -147,8 +148,8 @@ pub fn selected(
         result }
     ensures told { IfErr result (Tells (problems.selected sight.now (tree.selected_assignment_view assignment.now))) }
 {
-    let (by, value) = selector(sight, &assignment.selector)?;
-    let (alternatives, others) = selected_parts(sight, by, assignment)?;
-    let statement = Statement::selection(assignment.at, value, alternatives, others);
+    let (by, selector) = selector(sight, &assignment.selector)?;
+    let all = selected_parts(sight, by, assignment)?;
+    let statement = selecting(sight.alloc, assignment.at, selector, all)?;
     Ok(assigning(sight.alloc, assignment.at, label, statement)?)
 }

@@ -1,7 +1,7 @@
 //! What the choices of a case cover (IEEE 1076-2008, 10.9).
 
-ghost use Rattle.std.specs.Prelude.{◌≡◌, ◌||◌, ◌∷◌, [], List, map, Option, IfErr, IfOk};
-ghost use Rattle.std.specs.List.{list_all, range_with_len};
+ghost use Rattle.std.specs.Prelude.{◌≡◌, ◌||◌, ◌∷◌, [], List, map, Option, option_map, IfErr, IfOk};
+ghost use Rattle.vhdl_values.specs.Scalar.{code_of};
 ghost use Rattle.vhdl_names_rules.specs.Choices as rules;
 ghost use Rattle.vhdl_names_rules.specs.problems.Broken.{Broken, Tells, nothing, refused, unless};
 ghost use Rattle.vhdl_names_rules.specs.problems.Covered as broken;
@@ -11,45 +11,60 @@ ghost use Rattle.vhdl_names_rules.specs.Rules.{rule};
 ghost use Rattle.vhdl_names_rules.specs.Visibility.{is_among};
 ghost use Rattle.vhdl_names_rules.specs.Gives.{Gives};
 ghost use Rattle.vhdl_tree.specs.View as tree;
-ghost use Rattle.vhdl_names_units.specs.views.Answers.{choice_view};
+ghost use Rattle.vhdl_names_rules.specs.units.Statements.{Statements};
+ghost use Rattle.vhdl_names_units.specs.views.Answers.{choice_view, choices_view};
 ghost use Rattle.vhdl_names_statements.specs.steps.Cases as steps;
+ghost use Rattle.vhdl_names_statements.specs.steps.Keys.{key_of, one_choice};
 ghost use Rattle.vhdl_names_statements.specs.steps.Told as told;
-ghost use Rattle.vhdl_names_units.specs.Once.{one_name, names_view, key_of};
+ghost use Rattle.vhdl_names_units.specs.Once.{one_name, names_view};
 ghost use Rattle.vhdl_names_units.specs.views.Sequential as views;
 ghost use Rattle.vhdl_names_units.specs.views.Sequential.{Chosen};
 
 use indexmap::IndexSet;
 use std::alloc::{AllocError, Global};
-use vhdl_names_expressions::start;
+use std::mem;
 use vhdl_names_rules::{NameFault, NameProblem, ObjectType};
 use vhdl_names_sight::Sight;
 use vhdl_names_units::{Alternative, Choice, Statement, earlier_in};
-use vhdl_names_values::choice;
+use vhdl_names_values::{choice, choice_start};
 use vhdl_tree as syntax;
+use vhdl_values::Nine;
 
 /// What tells choices apart: the places of their values among the nine, or 9 and a position.
 type Keys = IndexSet<Vec<usize>>;
 
-/// What tells a choice apart.
-fn key(alloc: Global, choice: &Choice) -> Result<Vec<usize>, AllocError>
-    ensures { IfOk result (λ k. k.items ≡ key_of (choice_view choice.now)) }
+/// The places of values among the nine.
+fn codes(alloc: Global, values: &[Nine]) -> Result<Vec<usize>, AllocError>
+    ensures { IfOk result (λ k. k.items ≡ map code_of values.now) }
+{
+    values
+        .iter()
+        .map(|value| value.code() as usize)
+        .collect(alloc)
+}
+
+/// What tells a choice apart; integers are told apart where they are computed.
+fn key(alloc: Global, choice: &Choice) -> Result<Option<Vec<usize>>, AllocError>
+    ensures { IfOk result (λ k. option_map (λ k. k.items) k ≡ key_of (choice_view choice.now)) }
 {
     match choice {
-        Choice::Values(values) => values
-            .iter()
-            .map(|value| value.code() as usize)
-            .collect(alloc),
-        Choice::Position(position) => [9, *position as usize].to_vec(alloc),
+        Choice::Values(values) => {
+            let codes = codes(alloc, values)?;
+            Ok(Some(codes))
+        }
+        Choice::Position(position) => {
+            let place = [9, *position as usize].to_vec(alloc)?;
+            Ok(Some(place))
+        }
+        Choice::Numbers(_) => Ok(None),
     }
 }
 
-/// One more choice, which none before it is. It stands at byte `at`.
-fn add_choice(alloc: Global, keys: &mut Keys, choice: &Choice, at: usize) -> Result<(), NameFault>
-    ensures given { Gives (λ _. names_view keys.new) (one_name (names_view keys.old) (key_of (choice_view choice.now)))
-        result }
+/// One more key, of a choice at byte `at`, which none before it is.
+fn add_key(keys: &mut Keys, key: Vec<usize>, at: usize) -> Result<(), NameFault>
+    ensures given { Gives (λ _. names_view keys.new) (one_name (names_view keys.old) key.items) result }
     ensures told { IfErr result (Tells (refused ChoiceTwice at)) }
 {
-    let key = key(alloc, choice)?;
     if keys.insert(key)? {
         Ok(())
     } else {
@@ -57,14 +72,16 @@ fn add_choice(alloc: Global, keys: &mut Keys, choice: &Choice, at: usize) -> Res
     }
 }
 
-/// The byte at which a choice stands.
-fn place(written: &syntax::Choice) -> usize
-    ensures { result ≡ choice_place (tree.choice_view written.now) }
+/// One more choice, at byte `at`, which none before it is. It takes the memory of its key.
+fn add_choice(alloc: Global, keys: &mut Keys, choice: &Choice, at: usize) -> Result<(), NameFault>
+    ensures given { Gives (λ _. names_view keys.new) (one_choice (names_view keys.old) (choice_view choice.now))
+        result }
+    ensures told { IfErr result (Tells (refused ChoiceTwice at)) }
 {
-    match written {
-        syntax::Choice::Expr(e) => start(e),
-        syntax::Choice::Range(range) => start(&range.left),
-        syntax::Choice::Others { at } => *at,
+    let key = key(alloc, choice)?;
+    match key {
+        Some(key) => add_key(keys, key, at),
+        None => Ok(()),
     }
 }
 
@@ -83,7 +100,7 @@ fn add_written(
         (told.once sight.now selected (names_view keys.old) (tree.choice_view written.now))) }
 {
     let analysed = choice(sight, selected, written)?;
-    add_choice(sight.alloc, keys, &analysed, place(written))
+    add_choice(sight.alloc, keys, &analysed, choice_start(written))
 }
 
 /// Choices one after another, up to the first that is refused or stands twice.
@@ -189,19 +206,22 @@ fn ends_in_others(lists: &[&[syntax::Choice]]) -> bool
     }
 }
 
-/// Whether each literal of an enumeration has its choice.
+/// Whether each literal of an enumeration, as boolean is one, has its choice; of integers that is
+/// known where they are computed.
 fn names_all(selected: ObjectType, keys: &Keys) -> bool
     ensures { result ≡ steps.has_all selected (names_view keys.now) }
 {
     match selected {
         ObjectType::Elements(_) => false,
         ObjectType::Enumeration { count, .. } => has_positions(keys, count),
+        ObjectType::Booleans => has_positions(keys, 2),
+        ObjectType::Integers => true,
     }
 }
 
 /// Whether the first so many literals have their choices.
 fn has_positions(keys: &Keys, count: u16) -> bool
-    ensures { result ≡ list_all (λ p. is_among (9 ∷ p ∷ []) (names_view keys.now)) (range_with_len 0 count) }
+    ensures { result ≡ steps.has_positions (names_view keys.now) count }
 {
     for position in 0..count {
         if !has_position(keys, position as usize) {
@@ -266,19 +286,74 @@ pub(crate) fn covered(
     }
 }
 
-/// Alternatives but the last, which is done otherwise. The case starts at byte `at`.
-pub(crate) fn but_last(
+/// Alternatives, of which the last one is done otherwise.
+#[derive(Drop)]
+pub(crate) struct Divided {
+    pub(crate) alternatives: Vec<Alternative>,
+    /// The choices of the last one, where they are integers.
+    pub(crate) last: Vec<Choice>,
+    pub(crate) others: Vec<Statement>,
+}
+
+/// The choices of an alternative, and what it does.
+fn parted(alloc: Global, alternative: Alternative) -> (Vec<Choice>, Vec<Statement>)
+    ensures choices { result.0 ≡ alternative.choices }
+    ensures statements { result.1 ≡ alternative.statements }
+{
+    let mut rest = alternative;
+    let choices = mem::replace(&mut rest.choices, Vec::new(alloc));
+    (choices, rest.into_statements())
+}
+
+/// Whether a choice is of integers.
+fn is_numbers(choice: &Choice) -> bool
+    ensures { result ≡ steps.is_numbers (choice_view choice.now) }
+{
+    matches!(choice, Choice::Numbers(_))
+}
+
+/// Whether choices are of integers, as the first one is.
+fn are_numbers(choices: &[Choice]) -> bool
+    ensures { result ≡ steps.are_numbers (map choice_view choices.now) }
+{
+    match choices.first() {
+        Some(first) => is_numbers(first),
+        None => false,
+    }
+}
+
+/// The choices of the last alternative, where they are integers.
+fn last_numbers(alloc: Global, choices: Vec<Choice>) -> Vec<Choice>
+    ensures { (s : Statements) →
+        views.last_alternative (choices_view result) s ≡ rules.last_by (choices_view choices) s }
+{
+    if are_numbers(&choices) {
+        choices
+    } else {
+        Vec::new(alloc)
+    }
+}
+
+/// Alternatives with the last one apart. The case starts at byte `at`.
+pub(crate) fn arranged(
+    alloc: Global,
     at: usize,
     alternatives: Vec<Alternative>,
-) -> Result<(Vec<Alternative>, Vec<Statement>), NameFault>
-    ensures given { Gives (λ p. steps.divided (views.alternatives_view p.0) (views.statements_view p.1))
-        (steps.but_last (views.alternatives_view alternatives)) result }
+) -> Result<Divided, NameFault>
+    ensures given { Gives steps.arranged_view (steps.arranged (views.alternatives_view alternatives)) result }
     ensures told { IfErr result (Tells (broken.any_alternative at (views.alternatives_view alternatives))) }
 {
     let mut rest = alternatives;
     match rest.pop() {
         None => Err(NameProblem::LeftOut.at(at)),
-        Some(last) => Ok((rest, last.into_statements())),
+        Some(last) => {
+            let (choices, others) = parted(alloc, last);
+            Ok(Divided {
+                alternatives: rest,
+                last: last_numbers(alloc, choices),
+                others,
+            })
+        }
     }
 }
 

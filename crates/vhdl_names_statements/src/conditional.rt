@@ -11,8 +11,9 @@ ghost use Rattle.vhdl_names_statements.specs.steps.Sequential as steps;
 ghost use Rattle.vhdl_names_statements.specs.steps.Told as told;
 ghost use Rattle.vhdl_names_units.specs.views.Sequential as views;
 
+use crate::selecting::assigned_to;
 use std::alloc::{AllocError, Global};
-use vhdl_names_expressions::{condition, given, target};
+use vhdl_names_expressions::{assigned as value_assigned, condition, target};
 use vhdl_names_rules::NameFault;
 use vhdl_names_sight::Sight;
 use vhdl_names_units::{Branch, Statement};
@@ -40,8 +41,8 @@ pub(crate) fn assigned(
         (told.assigned sight.now is_variable (tree.name_view name.now) (tree.value_view value.now))) }
 {
     let target = target(sight, is_variable, name)?;
-    let value = given(sight, target.object_type, target.range(), value)?;
-    Ok(Statement::assigned(target, value))
+    let value = value_assigned(sight, target.object_type, target.range(), value)?;
+    Ok(assigned_to(sight.alloc, target, value)?)
 }
 
 /// An assignment alone.

@@ -6,6 +6,7 @@
 mod assignments;
 mod choices;
 mod conditional;
+mod selecting;
 mod statements;
 
 pub use assignments::{assignment, selected};

@@ -17,8 +17,9 @@ ghost use Rattle.vhdl_names_statements.specs.steps.Cases as cases;
 ghost use Rattle.vhdl_names_statements.specs.steps.Sequential as steps;
 ghost use Rattle.vhdl_names_statements.specs.steps.Told as told;
 
-use crate::choices::{but_last, choice_lists, covered};
+use crate::choices::{Divided, arranged, choice_lists, covered};
 use crate::conditional::{assigned, conditional};
+use crate::selecting::selecting;
 use vhdl_names_expressions::{condition, selector, static_range};
 use vhdl_names_rules::{NameFault, ObjectType};
 use vhdl_names_sight::{Declared, Meaning, Sight};
@@ -209,9 +210,9 @@ fn case_statement(
     ensures told { IfErr result (Tells
         (broken.statement sight.old (option_map tree.ident_view label.now) (tree.case_view case.now))) }
 {
-    let (selected, value) = selector(sight, &case.selector)?;
-    let (alternatives, others) = case_parts(sight, selected, label, case)?;
-    Ok(Statement::selection(case.at, value, alternatives, others))
+    let (selected, selector) = selector(sight, &case.selector)?;
+    let all = case_parts(sight, selected, label, case)?;
+    Ok(selecting(sight.alloc, case.at, selector, all)?)
 }
 
 /// What a case statement does by the value selected, the last alternative apart.
@@ -221,8 +222,8 @@ fn case_parts(
     selected: ObjectType,
     label: &Option<Identifier>,
     case: &syntax::Case,
-) -> Result<(Vec<Alternative>, Vec<Statement>), NameFault>
-    ensures given { Gives (λ p. cases.divided (views.alternatives_view p.0) (views.statements_view p.1))
+) -> Result<Divided, NameFault>
+    ensures given { Gives cases.arranged_view
         (cases.parts sight.old selected (option_map tree.ident_view label.now)
         (tree.alternatives_view (out-Case case.now).alternatives)
         (tree.option_ident_view (out-Case case.now).end_label)) result }
@@ -235,7 +236,7 @@ fn case_parts(
     let all = alternatives(sight, selected, &case.alternatives);
     let all = covered(sight, selected, case.at, &lists, all)?;
     let all = ended(label, &case.end_label, all)?;
-    but_last(case.at, all)
+    arranged(sight.alloc, case.at, all)
 }
 
 /// The alternatives of a case statement.

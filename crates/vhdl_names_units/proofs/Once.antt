@@ -1,19 +1,14 @@
 -- Names that stand once, one after another, are distinct as a whole.
 use Rattle.std.proofs.Common.{◌≡◌, ℕ, Bool, true, false, not, List, [], ◌∷◌, ◌++◌, map, Some, None, Vec, Global, refl, ap, sym, ◌∙◌}
-use Rattle.std.specs.Prelude.{◌&&◌, ◌||◌, bytes_eq, if◌then◌else◌, nat_eq}
+use Rattle.std.specs.Prelude.{◌&&◌, ◌||◌, bytes_eq, if◌then◌else◌}
 use Rattle.std.specs.List.{list_any}
 use Rattle.std.proofs.lemmas.List.{append-nil, append_assoc, map-append}
 use Rattle.std.proofs.lemmas.Slice.Eq.{bytes_eq-Decides}
-use Rattle.vhdl_values.specs.declared.scalar.Nine.{Nine}
-use Rattle.vhdl_values.specs.declared.scalar.Nine.TheVariants.{U}
-use Rattle.vhdl_values.specs.Scalar.{code_of}
-use Rattle.vhdl_names_rules.specs.units.Statements.{Choice, values, position}
 use Rattle.vhdl_names_rules.specs.Rules.{◌>>=◌, then_some}
 use Rattle.vhdl_names_rules.specs.Visibility.{Name, is_among, are_distinct}
-use Rattle.vhdl_names_rules.specs.Choices.{same_choice, are_distinct_choices}
 use Rattle.indexmap.specs.IndexSet.{insert_key}
 use Rattle.vhdl_names_units.specs.Lists.{in_turn}
-use Rattle.vhdl_names_units.specs.Once.{one_name, key_of}
+use Rattle.vhdl_names_units.specs.Once.{one_name}
 
 eq-sym : (a b : Name) → bytes_eq a b ≡ bytes_eq b a
 eq-sym a b = go (bytes_eq a b) refl (bytes_eq b a) refl
@@ -101,34 +96,3 @@ inserted k ks ks' new e h t =
 pub refused : (k : Vec ℕ Global) (ks : List (Vec ℕ Global)) (new : Bool) → new ≡ not (list_any (λ x. bytes_eq k.items x.items) ks)
     → new ≡ false → one_name (map items ks) k.items ≡ None
 refused k ks new e t = ap (λ b. then_some b (map items ks ++ k.items ∷ [])) (ap not (sym (contained k.items ks)) ∙ sym e ∙ t)
-
--- ---- choices
-
-not_nine : (v : Nine) → nat_eq (code_of v) 9 ≡ false
-not_nine U = refl
-not_nine _ = refl
-
-nine_not : (v : Nine) → nat_eq 9 (code_of v) ≡ false
-nine_not U = refl
-nine_not _ = refl
-
-pub same_key : (c d : Choice) → bytes_eq (key_of c) (key_of d) ≡ same_choice c d
-same_key (values vs) (values ws) = refl
-same_key (values []) (position p) = refl
-same_key (values (v ∷ vs)) (position p) = ap (λ b. b && bytes_eq (map code_of vs) (p ∷ [])) (not_nine v)
-same_key (position p) (values []) = refl
-same_key (position p) (values (v ∷ vs)) = ap (λ b. b && bytes_eq (p ∷ []) (map code_of vs)) (nine_not v)
-same_key (position p) (position q) = and_true (nat_eq p q)
-  where
-    and_true : (b : Bool) → (b && true) ≡ b
-    and_true true = refl
-    and_true false = refl
-
-pub among_keys : (c : Choice) (cs : List Choice) → is_among (key_of c) (map key_of cs) ≡ list_any (same_choice c) cs
-among_keys c [] = refl
-among_keys c (d ∷ cs) = ap (λ b. b || is_among (key_of c) (map key_of cs)) (same_key c d) ∙ ap (λ b. same_choice c d || b) (among_keys c cs)
-
-pub distinct_keys : (cs : List Choice) → are_distinct (map key_of cs) ≡ are_distinct_choices cs
-distinct_keys [] = refl
-distinct_keys (c ∷ cs) =
-    ap (λ b. not b && are_distinct (map key_of cs)) (among_keys c cs) ∙ ap (λ b. not (list_any (same_choice c) cs) && b) (distinct_keys cs)

@@ -1,9 +1,7 @@
--- Names and choices that stand once, one after another.
+-- Names that stand once, one after another.
 use Rattle.std.specs.Prelude.{ℕ, not, List, [], ◌∷◌, ◌++◌, map, Option, Vec}
 use Rattle.std.specs.Global.{Global}
 use Rattle.indexmap.specs.IndexSet.{IndexSet}
-use Rattle.vhdl_values.specs.Scalar.{code_of}
-use Rattle.vhdl_names_rules.specs.units.Statements.{Choice, values, position}
 use Rattle.vhdl_names_rules.specs.declared.fault.NameProblem.TheVariants.{Twice}
 use Rattle.vhdl_names_rules.specs.Rules.{given_that}
 use Rattle.vhdl_names_rules.specs.Visibility.{Name, is_among}
@@ -14,8 +12,3 @@ one_name ns n = given_that Twice (not (is_among n ns)) (ns ++ n ∷ [])
 
 abbrev pub names_view : {S : Type 0} → IndexSet (Vec ℕ Global) S → List Name
 names_view s = map (λ (v : Vec ℕ Global). v.items) s.keys
-
--- numbers that tell choices apart
-abbrev pub key_of : Choice → List ℕ
-key_of (values vs) = map code_of vs
-key_of (position p) = 9 ∷ p ∷ []

@@ -7,8 +7,8 @@ ghost use Rattle.vhdl_names_rules.specs.views.Vectors.{part_view};
 
 use drops::take_apart;
 use vhdl_names_rules::{
-    AnyPart, DeclaredRange, ObjectType, Part, Signal, SignalPart, Static, StaticRange, StaticTest,
-    TargetRange, Value, Vector, VectorElement,
+    AnyPart, DeclaredRange, Index, IntegerSubtype, ObjectType, Part, Signal, SignalPart, Static,
+    StaticRange, StaticTest, TargetRange, Test, Value, Vector, VectorElement,
 };
 use vhdl_tree::{Direction, Mode};
 use vhdl_values::Nine;
@@ -25,15 +25,31 @@ impl Drop for Given {
     }
 }
 
-/// A choice of a case: the values of a literal, or an enumeration's literal by its position.
+/// What a statement assigns: a value, or to a boolean a truth that a run decides.
+#[derive(Drop)]
+pub enum Assigned {
+    Given(Given),
+    Truth(Test),
+}
+
+/// What a case is on: a value, or a truth.
+#[derive(Drop)]
+pub enum Selector {
+    Value(Value),
+    Truth(Test),
+}
+
+/// A choice of a case: the values of a literal, an enumeration's literal or a boolean by its
+/// position, or integers.
 pub enum Choice {
     Values(Vec<Nine>),
     Position(u8),
+    Numbers(Index),
 }
 
 impl Drop for Choice {
     fn drop(self) {
-        take_apart!(self: Values(_) | Position(_));
+        take_apart!(self: Values(_) | Position(_) | Numbers(_));
     }
 }
 
@@ -95,12 +111,15 @@ pub fn part_range(declared: Option<DeclaredRange>, part: &Part) -> Option<Target
     }
 }
 
-/// One element, a vector of this range, or an enumeration of so many literals.
+/// One element, a vector of this range, an enumeration of so many literals, an integer, or a
+/// boolean, which is one element.
 #[derive(Drop)]
 pub enum Form {
     Element,
     Vector(StaticRange),
     Enumeration(u16),
+    Number(IntegerSubtype),
+    Boolean,
 }
 
 impl Form {

@@ -15,7 +15,9 @@ mod sequential;
 mod unit;
 
 pub use actuals::{Actual, Actuals};
-pub use answers::{Choice, Fixed, Form, Given, Object, SignalName, Subtype, Target, part_range};
+pub use answers::{
+    Assigned, Choice, Fixed, Form, Given, Object, Selector, SignalName, Subtype, Target, part_range,
+};
 pub use concurrent::{Concurrent, Generate, Instance, Process, Scheme, Sensitivity};
 pub use declaration::{Declaration, GenericType, Generics, Objects, Ports};
 pub use faults::{earlier, earlier_in};

@@ -89,19 +89,21 @@ impl Drop for Branch {
 }
 
 /// A case statement, and the byte at which it starts. A case that names every literal of an
-/// enumeration and has no `others` does its last alternative there.
+/// enumeration and has no `others` does its last alternative there; so does one on an integer, of
+/// which `last` has the choices of that alternative.
 #[cycle(statement)]
 pub struct Case {
     pub at: usize,
     pub selector: Value,
     pub alternatives: Vec<Alternative>,
+    pub last: Vec<Choice>,
     pub others: Vec<Statement>,
 }
 
 impl Drop for Case {
     #[cycle(statement)]
     fn drop(self) {
-        take_apart!(self: { at, selector, alternatives, others });
+        take_apart!(self: { at, selector, alternatives, last, others });
     }
 }
 
@@ -245,17 +247,19 @@ impl Statement {
         at: usize,
         selector: Value,
         alternatives: Vec<Alternative>,
+        last: Vec<Choice>,
         others: Vec<Statement>,
     ) -> Statement
         ensures { views.statement_view result
             ≡ units.case_of at (value_view selector)
             (views.alternatives_of (views.alternatives_view alternatives)
-            (views.statements_of (views.statements_view others))) }
+            (views.last_alternative (choices_view last) (views.statements_of (views.statements_view others)))) }
     {
         Statement::Case(Case {
             at,
             selector,
             alternatives,
+            last,
             others,
         })
     }

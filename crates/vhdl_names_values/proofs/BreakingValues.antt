@@ -14,7 +14,7 @@ use Rattle.vhdl_names_rules.specs.declared.fault.NameProblem.TheVariants.{TypeMi
 use Rattle.vhdl_names_rules.specs.declared.kind.ElementKind.{ElementKind}
 use Rattle.vhdl_names_rules.specs.declared.kind.ElementKind.TheVariants.{Element, Unsigned}
 use Rattle.vhdl_names_rules.specs.declared.kind.ObjectType.{ObjectType}
-use Rattle.vhdl_names_rules.specs.declared.kind.ObjectType.TheVariants.{Elements, Enumeration}
+use Rattle.vhdl_names_rules.specs.declared.kind.ObjectType.TheVariants.{Elements}
 use Rattle.vhdl_names_rules.specs.Gives.{Gives}
 use Rattle.vhdl_names_rules.specs.Visibility as visibility
 use Rattle.vhdl_names_rules.specs.Visibility.{Sight, Meaning, Declared, DeclaredRange, declaration}
@@ -23,6 +23,7 @@ use Rattle.vhdl_names_rules.specs.Names as names
 use Rattle.vhdl_names_rules.specs.Names.{Suffix}
 use Rattle.vhdl_names_rules.specs.Expressions as are
 use Rattle.vhdl_names_rules.specs.Operators.{is_vector}
+use Rattle.vhdl_names_rules.specs.Declarations.{as_kind}
 use Rattle.vhdl_names_rules.specs.Rules.{◌>>=◌, ◌>>◌, met}
 use Rattle.vhdl_names_rules.specs.units.Units.{Fixed}
 use Rattle.vhdl_names_rules.specs.problems.Broken.{Broken, Tells, refused, ◌▸◌, unless, lacking, where_given, of_any}
@@ -30,7 +31,7 @@ use Rattle.vhdl_names_rules.specs.problems.Places.{start}
 use Rattle.vhdl_names_rules.specs.problems.Operators.{string_problem}
 use Rattle.vhdl_names_rules.specs.problems.Expressions.{meaning, no_attribute, typed_suffix, is_vector_type}
 use Rattle.vhdl_names_rules.specs.problems.Statements.{named}
-use Rattle.vhdl_names_rules.specs.problems.Subtypes.{fixed, literal, value_of, suffixed_problem, subtype, mark_problem, marked_by, is_marked, constraint}
+use Rattle.vhdl_names_rules.specs.problems.Subtypes.{fixed, is_element_type, literal, value_of, suffixed_problem, subtype, mark_problem, marked_by, is_marked, constraint}
 use Rattle.vhdl_names_rules.proofs.Telling.{told_same, told_left, told_right, told_on, at_is_told}
 use Rattle.vhdl_names_rules.proofs.kept.Expressions.{declared_kept}
 use Rattle.vhdl_names_sight.specs.declared.meaning.Meaning.{Meaning as DeclaredMeaning}
@@ -81,18 +82,26 @@ character_told k at c see (Ok x) h j = tt
 character_told k at c see (Err NoMemory) h j = tt
 character_told k at c see (Err (At p place)) h j = told_same (refused TypeMismatch at) _ (At p place) (sym (character_literal k at c (h (at_is_told p place)))) j
 
--- a literal is no value of an enumeration
-pub enumerated_character : (number count at c : ℕ) → literal (Enumeration number count) (t.character at c) ≡ refused TypeMismatch at
-unfolding ◌▸◌
-enumerated_character number count at c = refl
+-- a literal is no value of what is of no elements
+pub no_element_type : (type : ObjectType) → as_kind type ≡ None → is_element_type type ≡ false
+no_element_type (Elements k) h = absurd cc
+no_element_type type h = refl
 
-pub enumerated_string : (number count at : ℕ) (text : List ℕ) → literal (Enumeration number count) (t.string at text) ≡ refused TypeMismatch at
-unfolding ◌▸◌
-enumerated_string number count at text = refl
+pub no_vector_type : (type : ObjectType) → as_kind type ≡ None → is_vector_type type ≡ false
+no_vector_type (Elements k) h = absurd cc
+no_vector_type type h = refl
 
-pub enumerated_bits : (number count at : ℕ) (text : List ℕ) → literal (Enumeration number count) (t.bits at text) ≡ refused TypeMismatch at
+pub other_character : (type : ObjectType) (at c : ℕ) → as_kind type ≡ None → literal type (t.character at c) ≡ refused TypeMismatch at
 unfolding ◌▸◌
-enumerated_bits number count at text = refl
+other_character type at c h = ap (λ b. unless TypeMismatch at b ▸ lacking TypeMismatch at (nine_of c)) (no_element_type type h)
+
+pub other_string : (type : ObjectType) (at : ℕ) (text : List ℕ) → as_kind type ≡ None → literal type (t.string at text) ≡ refused TypeMismatch at
+unfolding ◌▸◌
+other_string type at text h = ap (λ b. unless TypeMismatch at b ▸ lacking (string_problem text) at (values_of_string text)) (no_vector_type type h)
+
+pub other_bits : (type : ObjectType) (at : ℕ) (text : List ℕ) → as_kind type ≡ None → literal type (t.bits at text) ≡ refused TypeMismatch at
+unfolding ◌▸◌
+other_bits type at text h = ap (λ b. unless TypeMismatch at b ▸ lacking LeftOut at (values_of_bits text)) (no_vector_type type h)
 
 -- what is no literal is left out
 pub other_literal : (type : ObjectType) (e : t.Expr) → is_literal e ≡ false → literal type e ≡ refused LeftOut (start e)

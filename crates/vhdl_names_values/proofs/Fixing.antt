@@ -1,7 +1,6 @@
 -- Values of constants and defaults: names with their identifier first, and calls by their two arguments.
 use Rattle.std.proofs.Common.{◌≡◌, ℕ, Bool, true, false, List, [], ◌∷◌, map, Option, Some, None, refl, sym, ap, ◌∙◌}
 use Rattle.std.specs.Prelude.{option_map, is_none}
-use Rattle.std.specs.Option.{option_or}
 use Rattle.vhdl_tree.specs.Tree as t
 use Rattle.vhdl_tree.specs.View.{view}
 use Rattle.vhdl_tree.specs.declared.expression.Expr.{Expr}
@@ -9,16 +8,16 @@ use Rattle.vhdl_tree.specs.declared.expression.Expr.TheVariants as x
 use Rattle.vhdl_names_rules.specs.declared.kind.Function.TheVariants.{ToUnsigned}
 use Rattle.vhdl_names_rules.specs.declared.kind.ElementKind.TheVariants.{Unsigned}
 use Rattle.vhdl_names_rules.specs.declared.kind.ObjectType.{ObjectType}
-use Rattle.vhdl_names_rules.specs.declared.kind.ObjectType.TheVariants.{Elements, Enumeration}
+use Rattle.vhdl_names_rules.specs.declared.kind.ObjectType.TheVariants.{Elements}
 use Rattle.vhdl_names_rules.specs.units.Expressions as u
 use Rattle.vhdl_names_rules.specs.units.Units.{Fixed}
-use Rattle.vhdl_names_rules.specs.Rules.{◌>>=◌, ◌>>◌, met, wider}
+use Rattle.vhdl_names_rules.specs.Rules.{◌>>=◌, ◌>>◌, met}
 use Rattle.vhdl_names_rules.specs.Visibility as visibility
 use Rattle.vhdl_names_rules.specs.Visibility.{Sight, Declared, declaration}
 use Rattle.vhdl_names_rules.specs.Names.{Suffix, arguments}
 use Rattle.vhdl_names_rules.specs.Operators as o
 use Rattle.vhdl_names_rules.specs.Operators.{integer, computed, elements, enumerated, truth, interval, composite}
-use Rattle.vhdl_names_rules.specs.Expressions.{typed, typed_each, typed_suffix, sliced, is_one_name, suffix_of, value_given}
+use Rattle.vhdl_names_rules.specs.Expressions.{typed, typed_each, typed_suffix, sliced, is_one_name, suffix_of}
 use Rattle.vhdl_names_rules.specs.Subtypes as r
 use Rattle.vhdl_names_rules.specs.declared.typed.Typed.{Typed}
 use Rattle.vhdl_names_parts.specs.Steps.{two}
@@ -27,7 +26,7 @@ use Rattle.vhdl_names_parts.proofs.Meant.{both_views, two_map}
 use Rattle.vhdl_names_expressions.specs.Asked.{unattributed}
 use Rattle.vhdl_names_rules.specs.Instances.{as_name}
 use Rattle.vhdl_names_expressions.specs.Chosen.{as_character}
-use Rattle.vhdl_names_values.specs.Fixing.{encoded_fixed, suffixed_value, filled_with, known_given}
+use Rattle.vhdl_names_values.specs.Fixing.{encoded_fixed, suffixed_value, filled_with}
 use Rattle.vhdl_names_expressions.proofs.Asking.{both}
 use Rattle.vhdl_names_expressions.proofs.Choosing.{no_literal, chain_is_no_character}
 
@@ -58,7 +57,7 @@ encoding_two xs = encode_two (map typed_view xs) ∙ ap encoded_fixed (two_map x
 -- a name is no literal
 name_unvalued : (type : ObjectType) (n : t.Ident) (y : t.Suffix) (a : Option t.Attribute) → r.literal_value type (t.named n y a) ≡ None
 name_unvalued (Elements k) n y a = ap (option_map Fixed.literal) (no_literal k (t.named n y a) refl)
-name_unvalued (Enumeration e count) n y a = refl
+name_unvalued type n y a = refl
 
 broken : {A B C : Type 0} (p : Option A) (q : Option B) (f : A → B → Option C) → (p >>= λ d. (q >>= λ s. (met false >> f d s))) ≡ None
 broken None q f = refl
@@ -127,11 +126,6 @@ fixed_literal sight type e h = refl
 
 -- ---- values
 
-pub fixed_single : (sight : Sight) (type : ObjectType) (x : Option u.Range) (e : t.Expr) →
-    r.fixed_value sight type x (t.single e) ≡ option_or (r.fixed sight type e) (wider sight.language (value_given sight type x (t.single e) >>= known_given))
-unfolding r.fixed_value
-fixed_single sight type x e = refl
-
 -- what is no character, chains of operators among it
 pub no_character : (e : Expr) → ((at code : ℕ) → e ≡ x.Character at code → ⊥) → None ≡ as_character (view e)
 no_character (x.Character at code) other = absurd (other at code refl)
@@ -140,10 +134,4 @@ no_character e other = refl
 
 pub filled_as : (type : ObjectType) (e : t.Expr) → r.filled_value type e ≡ filled_with type (as_character e)
 filled_as (Elements k) (t.character at s) = refl
-filled_as (Enumeration k m) (t.character at s) = refl
 filled_as type e = refl
-
-pub fixed_others : (sight : Sight) (type : ObjectType) (x : Option u.Range) (at : ℕ) (e : t.Expr) →
-    r.fixed_value sight type x (t.others at e) ≡ option_or (filled_with type (as_character e)) (wider sight.language (value_given sight type x (t.others at e) >>= known_given))
-unfolding r.fixed_value
-fixed_others sight type x at e = ap (λ o. option_or o (wider sight.language (value_given sight type x (t.others at e) >>= known_given))) (filled_as type e)

@@ -24,8 +24,8 @@ use Rattle.vhdl_names_rules.specs.problems.Subtypes as broken
 use Rattle.vhdl_names_rules.proofs.Telling.{IsKept, told_same, told_unless, at_is_told}
 use Rattle.vhdl_names_expressions.specs.Chosen.{as_character}
 use Rattle.vhdl_names_expressions.proofs.Breaking.{asked_told}
-use Rattle.vhdl_names_values.specs.Fixing.{filled_with, known_given, known_value, looks_further}
-use Rattle.vhdl_names_values.proofs.Fixing.{filled_as, fixed_others}
+use Rattle.vhdl_names_values.specs.Fixing.{filled_with, known_given, known_value, wider_value, looks_further}
+use Rattle.vhdl_names_values.proofs.Fixing.{filled_as}
 
 -- ---- what is given, and is known
 
@@ -57,34 +57,34 @@ no_further Profile f h n = refl
 no_further Wide (At p at) h n = absurd (true≢false h)
 no_further Wide NoMemory h n = absurd (n refl)
 
-module _ (sight : Sight) (type : ObjectType) (x : Option Range) (v : t.Value) (plain : Option Fixed)
-    (is : r.fixed_value sight type x v ≡ option_or plain (wider sight.language (known_value sight type x v))) where
-  pub plain_given : (p : Fixed) → plain ≡ Some p → r.fixed_value sight type x v ≡ Some p
-  plain_given p h = is ∙ ap (λ o. option_or o (wider sight.language (known_value sight type x v))) h
+module _ (sight : Sight) (type : ObjectType) (x : Option Range) (v : t.Value) (plain : Option Fixed) (is : r.plain_value sight type v ≡ plain) where
+  abbrev further : Option Fixed → Option Fixed
+  further o = option_or o (wider sight.language (known_value sight type x v))
+
+  pub plain_given : (p : Fixed) → plain ≡ Some p → wider_value sight type x v ≡ Some p
+  plain_given p h = ap further (is ∙ h)
 
   pub further_given : (l : Language) (f : NameFault) → l ≡ sight.language → looks_further l f ≡ true → (f ≢ NoMemory → plain ≡ None) →
-      r.fixed_value sight type x v ≡ known_value sight type x v
+      wider_value sight type x v ≡ known_value sight type x v
   further_given l f same h none =
       let w = further_wide l f h in
-      is ∙ ap (λ o. option_or o (wider sight.language (known_value sight type x v))) (none w.1)
-      ∙ ap (λ k. wider k (known_value sight type x v)) (sym same ∙ w.0)
+      ap further (is ∙ none w.1) ∙ ap (λ k. wider k (known_value sight type x v)) (sym same ∙ w.0)
 
   pub none_given : (l : Language) (f : NameFault) → l ≡ sight.language → looks_further l f ≡ false → (f ≢ NoMemory → plain ≡ None) →
-      f ≢ NoMemory → r.fixed_value sight type x v ≡ None
+      f ≢ NoMemory → wider_value sight type x v ≡ None
   none_given l f same h none n =
-      is ∙ ap (λ o. option_or o (wider sight.language (known_value sight type x v))) (none n)
-      ∙ ap (λ k. wider k (known_value sight type x v)) (sym same ∙ no_further l f h n)
+      ap further (is ∙ none n) ∙ ap (λ k. wider k (known_value sight type x v)) (sym same ∙ no_further l f h n)
 
 module _ (sight : Sight) (type : ObjectType) (x : Option Range) (v : t.Value) (l : Language) (f : NameFault) (same : l ≡ sight.language) where
   -- then the value of the wider language breaks what this breaks
-  pub further_breaks : looks_further l f ≡ true → (f ≢ NoMemory → r.plain_value sight type v ≡ None) → broken.fixed_value sight type x v ≡ broken.known_value sight type x v
+  pub further_breaks : looks_further l f ≡ true → (f ≢ NoMemory → r.plain_value sight type v ≡ None) → broken.fixed_value_in sight.language sight type x v ≡ broken.known_value sight type x v
   further_breaks h none =
       let w = further_wide l f h in
       ap (λ k. broken.fixed_value_in k sight type x v) (sym same ∙ w.0)
       ∙ ap (λ (o : Option Fixed). if is_some o then nothing else broken.known_value sight type x v) (none w.1)
 
   -- and else the plain one tells
-  pub plain_told : looks_further l f ≡ false → Tells (broken.plain_value sight type v) f → Tells (broken.fixed_value sight type x v) f
+  pub plain_told : looks_further l f ≡ false → Tells (broken.plain_value sight type v) f → Tells (broken.fixed_value_in sight.language sight type x v) f
   plain_told h k = subst (λ m. Tells (broken.fixed_value_in m sight type x v) f) same (go l f h k)
     where
       go : (k : Language) (g : NameFault) → looks_further k g ≡ false → Tells (broken.plain_value sight type v) g → Tells (broken.fixed_value_in k sight type x v) g
@@ -106,10 +106,5 @@ others_plain sight type at place o e is same =
     ∙ ap (λ b. unless LeftOut (start e) b ▸ unless TypeMismatch at (is_vector_type type) ▸ lacking TypeMismatch (start e) (filled_with type (as_character e))) (is_a_character e)
     ∙ ap (λ d. unless LeftOut (start e) (broken.is_character e) ▸ unless TypeMismatch at (is_vector_type type) ▸ lacking TypeMismatch (start e) d) (sym (filled_as type e))
 
-pub others_fixed : (sight : Sight) (type : ObjectType) (x : Option Range) (at : ℕ) (o : Option ℕ) (e : t.Expr) → o ≡ as_character e →
-    r.fixed_value sight type x (t.others at e) ≡ option_or (filled_with type o) (wider sight.language (known_value sight type x (t.others at e)))
-others_fixed sight type x at o e is =
-    fixed_others sight type x at e ∙ ap (λ d. option_or (filled_with type d) (wider sight.language (known_value sight type x (t.others at e)))) (sym is)
-
-pub others_none : (sight : Sight) (type : ObjectType) (at : ℕ) (o : Option ℕ) (e : t.Expr) → o ≡ as_character e → filled_with type o ≡ None → r.plain_value sight type (t.others at e) ≡ None
-others_none sight type at o e is h = filled_as type e ∙ ap (filled_with type) (sym is) ∙ h
+pub others_is : (sight : Sight) (type : ObjectType) (at : ℕ) (o : Option ℕ) (e : t.Expr) → o ≡ as_character e → r.plain_value sight type (t.others at e) ≡ filled_with type o
+others_is sight type at o e is = filled_as type e ∙ ap (filled_with type) (sym is)

@@ -1,5 +1,6 @@
 -- What single steps answer of the value of a constant or a default.
 use Rattle.std.specs.Prelude.{ℕ, Bool, true, false, Option, Some, None}
+use Rattle.std.specs.Option.{option_or}
 use Rattle.vhdl_lexer.specs.declared.language.Language.{Language}
 use Rattle.vhdl_lexer.specs.declared.language.Language.TheVariants.{Wide}
 use Rattle.vhdl_tree.specs.Tree.{Value}
@@ -16,8 +17,8 @@ use Rattle.vhdl_names_rules.specs.declared.kind.ObjectType.TheVariants.{Elements
 use Rattle.vhdl_names_rules.specs.Operators.{is_vector}
 use Rattle.vhdl_names_rules.specs.Literals.{nine_of}
 use Rattle.vhdl_names_rules.specs.declared.fault.NameProblem.TheVariants.{TypeMismatch, LeftOut}
-use Rattle.vhdl_names_rules.specs.Rules.{◌>>=◌, ◌>>◌, rule, given_that}
-use Rattle.vhdl_names_rules.specs.Subtypes.{named_value, encoded_value, is_known_value}
+use Rattle.vhdl_names_rules.specs.Rules.{◌>>=◌, ◌>>◌, rule, given_that, wider}
+use Rattle.vhdl_names_rules.specs.Subtypes.{named_value, encoded_value, plain_value, is_known_value}
 use Rattle.vhdl_names_rules.specs.Visibility.{Sight, Meaning}
 use Rattle.vhdl_names_rules.specs.Expressions.{value_given}
 use Rattle.vhdl_names_rules.specs.problems.Broken.{Broken, ◌▸◌, unless, where_given}
@@ -59,3 +60,7 @@ known_value_breaks sight type r at v =
 abbrev pub looks_further : Language → NameFault → Bool
 looks_further Wide (At p at) = true
 looks_further language fault = false
+
+-- a plain value, or in the wider language any that is known
+abbrev pub wider_value : Sight → ObjectType → Option Range → Value → Option Fixed
+wider_value sight type r v = option_or (plain_value sight type v) (wider sight.language (known_value sight type r v))

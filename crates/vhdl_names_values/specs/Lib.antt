@@ -1,3 +1,5 @@
-pub mod Fixing
+pub mod Choosing
+pub mod Classes
 pub mod Constraining
+pub mod Fixing
 pub mod Marking

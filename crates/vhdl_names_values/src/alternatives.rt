@@ -7,17 +7,21 @@ ghost use Rattle.vhdl_names_rules.specs.problems.Subtypes.{literal};
 ghost use Rattle.vhdl_names_rules.specs.Choices as rules;
 ghost use Rattle.vhdl_names_rules.specs.Gives.{Gives};
 ghost use Rattle.vhdl_names_rules.specs.Rules.{each};
-ghost use Rattle.vhdl_names_rules.specs.declared.kind.ObjectType.TheVariants.{Elements, Enumeration};
+ghost use Rattle.vhdl_names_rules.specs.declared.fault.NameProblem.TheVariants.{LeftOut};
+ghost use Rattle.vhdl_names_rules.specs.declared.kind.ObjectType.TheVariants.{Elements, Enumeration, Integers, Booleans};
+ghost use Rattle.vhdl_names_rules.specs.problems.Places.{choice_place};
+ghost use Rattle.vhdl_names_rules.specs.views.Expressions.{choice_view as typed_choice_view};
 ghost use Rattle.vhdl_tree.specs.Tree as t;
 ghost use Rattle.vhdl_tree.specs.View.{view, ident_view, suffix_view, attribute_view, choice_view as tree_choice_view};
 ghost use Rattle.vhdl_names_sight.specs.Views.{meaning_view};
 ghost use Rattle.vhdl_names_expressions.specs.Chosen.{is_bare};
+ghost use Rattle.vhdl_names_values.specs.Choosing as steps;
 ghost use Rattle.vhdl_names_units.specs.views.Answers.{choice_view, choices_view};
 
 use crate::literals::{literal_values, no_literal};
 use std::alloc::Global;
-use vhdl_names_expressions::{name_of, start};
-use vhdl_names_rules::{ElementKind, NameFault, NameProblem, ObjectType};
+use vhdl_names_expressions::{name_of, start, typed_choice};
+use vhdl_names_rules::{ElementKind, NameFault, NameProblem, ObjectType, TypedChoice, without};
 use vhdl_names_sight::{Meaning, Sight, meaning_of};
 use vhdl_names_units::Choice;
 use vhdl_tree::{Choice as TreeChoice, Expr, Name, Suffix};
@@ -70,6 +74,17 @@ fn position_choice(
     }
 }
 
+/// The choice that `true` or `false` is; the name is at byte `at`.
+fn truth_choice(meaning: &Meaning, at: usize) -> Result<Choice, NameFault>
+    ensures given { Gives choice_view (rules.named_choice Booleans (meaning_view meaning.now)) result }
+    ensures told { IfErr result (Tells (refused (broken.choice_problem (meaning_view meaning.now)) at)) }
+{
+    match meaning {
+        Meaning::BooleanLiteral(is_true) => Ok(Choice::Position(u8::from(*is_true))),
+        _ => Err(choice_problem(meaning).at(at)),
+    }
+}
+
 /// The choice that a literal of an enumeration is, or a constant that a literal declares; the name
 /// is at byte `at`.
 fn named_choice(object_type: ObjectType, meaning: &Meaning, at: usize) -> Result<Choice, NameFault>
@@ -79,6 +94,8 @@ fn named_choice(object_type: ObjectType, meaning: &Meaning, at: usize) -> Result
     match object_type {
         ObjectType::Elements(kind) => constant_choice(kind, meaning, at),
         ObjectType::Enumeration { number, count } => position_choice(number, count, meaning, at),
+        ObjectType::Booleans => truth_choice(meaning, at),
+        ObjectType::Integers => Err(choice_problem(meaning).at(at)),
     }
 }
 
@@ -127,7 +144,7 @@ fn literal_choice(alloc: Global, object_type: ObjectType, e: &Expr) -> Result<Ch
             let values = literal_values(alloc, kind, e)?;
             Ok(Choice::Values(values))
         }
-        ObjectType::Enumeration { .. } => Err(no_literal(e)),
+        _ => Err(no_literal(e)),
     }
 }
 
@@ -142,6 +159,59 @@ fn chosen(sight: &Sight, object_type: ObjectType, e: &Expr) -> Result<Choice, Na
     }
 }
 
+/// The byte at which a choice stands.
+pub fn choice_start(choice: &TreeChoice) -> usize
+    ensures { result ≡ choice_place (tree_choice_view choice.now) }
+{
+    match choice {
+        TreeChoice::Expr(e) => start(e),
+        TreeChoice::Range(range) => start(&range.left),
+        TreeChoice::Others { at } => *at,
+    }
+}
+
+/// Integers as a choice, which stands at byte `at`; they are locally static (9.4.2).
+fn as_numbers(typed: TypedChoice, at: usize) -> Result<Choice, NameFault>
+    ensures given { Gives choice_view (rules.numbers_of (typed_choice_view typed)) result }
+    ensures told { IfErr result (Tells (refused LeftOut at)) }
+{
+    match typed {
+        TypedChoice::Place(true, index) => Ok(Choice::Numbers(index)),
+        TypedChoice::Place(false, index) => Err(without(index, NameProblem::LeftOut.at(at))),
+        TypedChoice::Others(_) => Err(NameProblem::LeftOut.at(at)),
+    }
+}
+
+/// Integers as a choice.
+fn numbers(sight: &Sight, choice: &TreeChoice) -> Result<Choice, NameFault>
+    ensures given { Gives choice_view (rules.choice sight.now Integers (tree_choice_view choice.now)) result }
+    ensures told { IfErr result (Tells (broken.choice sight.now Integers (tree_choice_view choice.now))) }
+{
+    if let TreeChoice::Others { at } = choice {
+        return Err(NameProblem::WrongKind.at(*at));
+    }
+    let typed = typed_choice(sight, choice)?;
+    as_numbers(typed, choice_start(choice))
+}
+
+/// A choice of another type, which is no range.
+fn single_choice(
+    sight: &Sight,
+    object_type: ObjectType,
+    choice: &TreeChoice,
+) -> Result<Choice, NameFault>
+    ensures given { Gives choice_view
+        (steps.single_choice sight.now object_type (tree_choice_view choice.now)) result }
+    ensures told { IfErr result (Tells
+        (steps.single_choice_breaks sight.now object_type (tree_choice_view choice.now))) }
+{
+    match choice {
+        TreeChoice::Expr(e) => chosen(sight, object_type, e),
+        TreeChoice::Range(range) => Err(NameProblem::LeftOut.at(start(&range.left))),
+        TreeChoice::Others { at } => Err(NameProblem::WrongKind.at(*at)),
+    }
+}
+
 /// One choice that is not `others`. It takes memory for what is analysed.
 pub fn choice(
     sight: &Sight,
@@ -151,10 +221,9 @@ pub fn choice(
     ensures given { Gives choice_view (rules.choice sight.now object_type (tree_choice_view choice.now)) result }
     ensures told { IfErr result (Tells (broken.choice sight.now object_type (tree_choice_view choice.now))) }
 {
-    match choice {
-        TreeChoice::Expr(e) => chosen(sight, object_type, e),
-        TreeChoice::Range(range) => Err(NameProblem::LeftOut.at(start(&range.left))),
-        TreeChoice::Others { at } => Err(NameProblem::WrongKind.at(*at)),
+    match object_type {
+        ObjectType::Integers => numbers(sight, choice),
+        _ => single_choice(sight, object_type, choice),
     }
 }
 
@@ -199,8 +268,8 @@ fn are_others(all: &[TreeChoice]) -> bool
 }
 
 /// The choices of one alternative, none where it is `others`, which stands alone: literals as they
-/// stand, literals of an enumeration, and constants that a literal declares (10.9). It takes memory
-/// for what is analysed, and fails at the first byte where a rule is broken.
+/// stand, literals of an enumeration, constants that a literal declares, and integers (10.9). It
+/// takes memory for what is analysed, and fails at the first byte where a rule is broken.
 #[tactic(auto, using(vhdl_names_expressions::proofs::Choosing::choices_others, vhdl_names_expressions::proofs::Choosing::choices_each))]
 pub fn choices(
     sight: &Sight,

@@ -1,4 +1,5 @@
-//! The values of constants that are no integers, and of defaults (IEEE 1076-2008, 6.4.2.2, 9.4).
+//! The values of constants of the nine values and of enumerations, and of defaults of these
+//! (IEEE 1076-2008, 6.4.2.2, 9.4).
 
 ghost use Rattle.std.specs.Prelude.{◌≡◌, map, option_map, is_some, IfErr};
 ghost use Rattle.vhdl_names_rules.specs.problems.Broken.{Tells, refused, ◌▸◌, unless, lacking};
@@ -87,6 +88,7 @@ fn named_value(object_type: ObjectType, meaning: &Meaning, at: usize) -> Result<
     match object_type {
         ObjectType::Elements(kind) => constant_value(kind, meaning, at),
         ObjectType::Enumeration { number, count } => position_value(number, count, meaning, at),
+        ObjectType::Integers | ObjectType::Booleans => Err(value_problem(meaning).at(at)),
     }
 }
 
@@ -171,7 +173,7 @@ fn literal_value(alloc: Global, object_type: ObjectType, e: &Expr) -> Result<Fix
             let values = literal_values(alloc, kind, e)?;
             Ok(Fixed::Literal(values))
         }
-        ObjectType::Enumeration { .. } => Err(no_literal(e)),
+        _ => Err(no_literal(e)),
     }
 }
 
@@ -229,7 +231,10 @@ fn is_known_value(given: &Given) -> bool
         Given::Single(value) => match &**value {
             Value::Elements(vector) => is_known(vector),
             Value::Position(_) => true,
-            Value::StateOf(_) | Value::StateOfVariable(_) => false,
+            Value::StateOf(_)
+            | Value::StateOfVariable(_)
+            | Value::Computed(_)
+            | Value::StaticTruth(_) => false,
         },
         Given::Filled(vector) => is_known(vector),
     }
@@ -277,19 +282,19 @@ fn known_expression(
     as_known(given, start(e))
 }
 
-/// The value of a constant that is no integer, or a default, of a type, with this range if it is a
-/// vector's, that is an expression.
-pub fn fixed_expression(
+/// A value that is an expression: a plain one, or in the wider language any that is known.
+pub(crate) fn wider_expression(
     sight: &Sight,
     object_type: ObjectType,
     range: Option<TargetRange<'_>>,
     e: &Expr,
 ) -> Result<Fixed, NameFault>
     ensures given { Gives fixed_view
-        (rules.fixed_value sight.now object_type (option_map target_range_view range.entry)
+        (steps.wider_value sight.now object_type (option_map target_range_view range.entry)
         (t.single (view e.now))) result }
     ensures told { IfErr result (Tells
-        (broken.fixed_value sight.now object_type (option_map target_range_view range.entry) (t.single (view e.now)))) }
+        (broken.fixed_value_in sight.now.language sight.now object_type (option_map target_range_view range.entry)
+        (t.single (view e.now)))) }
 {
     match fixed(sight, object_type, e) {
         Ok(plain) => Ok(plain),
@@ -323,25 +328,22 @@ fn known_filling(
     as_known(given, at)
 }
 
-/// The value of a constant that is no integer, or a default, of a type, with this range if it is a
-/// vector's: a constant, a literal, a call of to_unsigned, or `(others => c)`; in the wider
-/// language any value that names no signal and no variable. It takes memory for what is analysed,
-/// and fails at the first byte where a rule is broken.
-pub fn fixed_value(
+/// The same of `(others => e)`, or an expression.
+pub(crate) fn wider_value(
     sight: &Sight,
     object_type: ObjectType,
     range: Option<TargetRange<'_>>,
     value: &TreeValue,
 ) -> Result<Fixed, NameFault>
     ensures given { Gives fixed_view
-        (rules.fixed_value sight.now object_type (option_map target_range_view range.entry) (tree_value_view value.now))
-        result }
+        (steps.wider_value sight.now object_type (option_map target_range_view range.entry)
+        (tree_value_view value.now)) result }
     ensures told { IfErr result (Tells
-        (broken.fixed_value sight.now object_type (option_map target_range_view range.entry)
+        (broken.fixed_value_in sight.now.language sight.now object_type (option_map target_range_view range.entry)
         (tree_value_view value.now))) }
 {
     match value {
-        TreeValue::Expr(e) => fixed_expression(sight, object_type, range, e),
+        TreeValue::Expr(e) => wider_expression(sight, object_type, range, e),
         TreeValue::Others { at, element } => {
             let place = start(element);
             match filled(object_type, character_of(element), *at, place) {

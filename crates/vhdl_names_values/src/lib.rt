@@ -4,12 +4,16 @@
 #![tactic(auto)]
 
 mod alternatives;
+mod by_type;
 mod fixed;
 mod integers;
 mod literals;
+mod objects;
 mod subtypes;
 
-pub use alternatives::{choice, choices};
-pub use fixed::{as_known, fixed_expression, fixed_value};
+pub use alternatives::{choice, choice_start, choices};
+pub use by_type::{fixed_expression, fixed_value, single_expression};
+pub use fixed::as_known;
 pub use integers::{integer_subtype, integers_of, numbers_direction};
+pub use objects::{TypeClass, class_of, object_subtype};
 pub use subtypes::subtype;

@@ -1,9 +1,11 @@
 //! Literals as they stand, which constants, defaults and choices ask for (IEEE 1076-2008, 9.3.2).
 
-ghost use Rattle.std.specs.Prelude.{◌≡◌, ℕ, IfErr};
+ghost use Rattle.std.specs.Prelude.{◌≡◌, None, IfErr};
 ghost use Rattle.vhdl_names_rules.specs.problems.Broken.{Tells, refused};
 ghost use Rattle.vhdl_names_rules.specs.problems.Subtypes as broken;
-ghost use Rattle.vhdl_names_rules.specs.declared.kind.ObjectType.TheVariants.{Elements, Enumeration};
+ghost use Rattle.vhdl_names_rules.specs.declared.kind.ObjectType.{ObjectType};
+ghost use Rattle.vhdl_names_rules.specs.declared.kind.ObjectType.TheVariants.{Elements};
+ghost use Rattle.vhdl_names_rules.specs.Declarations.{as_kind};
 ghost use Rattle.vhdl_names_rules.specs.declared.fault.NameProblem.TheVariants.{TypeMismatch};
 ghost use Rattle.vhdl_names_rules.specs.Gives.{Gives};
 ghost use Rattle.vhdl_names_rules.specs.Subtypes as subtypes;
@@ -37,11 +39,11 @@ fn character_values(
     }
 }
 
-/// What is told of an expression, which is no name, as a value of an enumeration: a literal is of
-/// another type, and any other form is left out.
+/// What is told of an expression, which is no name, as a value that is of no elements: a literal is
+/// of another type, and any other form is left out.
 #[tactic(auto, using(crate::proofs::BreakingValues::chain_literal))]
 pub(crate) fn no_literal(e: &Expr) -> NameFault
-    ensures { (number count : ℕ) → Tells (broken.literal (Enumeration number count) (view e.now)) result }
+    ensures { (type : ObjectType) → as_kind type ≡ None → Tells (broken.literal type (view e.now)) result }
 {
     match e {
         Expr::Character { at, .. } => NameProblem::TypeMismatch.at(*at),

@@ -48,8 +48,8 @@ expressions::link-returns-in_err-operand t c = link_passed c.args.sight.now c.ar
 
 pub expressions::link-returns : goal.expressions::link-returns
 expressions::link-returns t c =
-    link_answers c.args.sight.now c.args.after_parens (typed_view c.args.first) c.args.link.now (typed_view c.in_ok-operand.operand) (typed_view c.beside-operand.result) _ _
-    c.in_ok-operand.ensures.given c.beside-operand.ensures (ap (λ (x : Sight). x.numbers) c.sight.view_is) c.operated.ensures
+    link_answers c.args.sight.now c.args.after_parens (typed_view c.args.first) c.args.link.now (typed_view c.in_ok-operand.operand) (typed_view c.beside-operand.result) _ _ _
+    c.in_ok-operand.ensures.given c.beside-operand.ensures (ap (λ (x : Sight). x.language) c.sight.view_is) (ap (λ (x : Sight). x.numbers) c.sight.view_is) c.operated.ensures
 
 pub expressions::links-loop-next-init : goal.expressions::links-loop-next-init
 expressions::links-loop-next-init t c = (refl, refl)

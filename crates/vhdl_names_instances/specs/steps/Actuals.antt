@@ -9,7 +9,7 @@ use Rattle.vhdl_names_instances.specs.declared.actuals.PortType.{PortType}
 
 -- a formal that is a port of this mode and kind; nothing rests on its name
 abbrev pub formal : PortType → Formal
-formal p = record { name = []; mode = p.mode; kind = p.kind }
+formal p = record { name = []; mode = p.mode; type = p.object_type }
 
 abbrev pub port_entry : Sight → PortType → Option Expr → Option (Option SignalPart)
 port_entry sight p e = if_any (port_actual sight (formal p)) e

@@ -10,7 +10,7 @@ use Rattle.vhdl_names_instances.specs.declared.generics.GenericKind.TheVariants 
 use Rattle.vhdl_names_instances.specs.declared.actuals.PortType.{PortType}
 
 abbrev pub port_type : Meaning → Option PortType
-port_type (visibility.port k mode kind) = Some (record { mode = mode; kind = kind })
+port_type (visibility.port k mode type) = Some (record { mode = mode; object_type = type })
 port_type _ = None
 
 abbrev pub generic_kind : Meaning → Option GenericKind

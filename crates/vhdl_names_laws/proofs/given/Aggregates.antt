@@ -5,7 +5,7 @@ use Rattle.std.specs.List.{list_all}
 use Rattle.std.proofs.lemmas.Bool.{and_from}
 use Rattle.vhdl_names_rules.specs.declared.kind.ElementKind.{ElementKind}
 use Rattle.vhdl_names_rules.specs.declared.kind.ObjectType.{ObjectType}
-use Rattle.vhdl_names_rules.specs.declared.kind.ObjectType.TheVariants.{Elements, Enumeration}
+use Rattle.vhdl_names_rules.specs.declared.kind.ObjectType.TheVariants.{Elements}
 use Rattle.vhdl_names_rules.specs.declared.fault.NameProblem.TheVariants.{WrongKind, TypeMismatch, LeftOut}
 use Rattle.vhdl_names_rules.specs.units.Expressions as u
 use Rattle.vhdl_names_rules.specs.units.Expressions.{Range}
@@ -155,7 +155,6 @@ aggregate_given k at r es h = mapped_given (u.aggregate at r) (arranged k (is_so
 -- ---- what is given to a type
 
 pub composite_given : (type : ObjectType) (at : ℕ) (r : Option Range) (es : TypedElements) → IsKept (broken.composite type at (is_some r) es) → IsGiven (as_composite type at r es)
-composite_given (Enumeration e count) at r es h = absurd cc
 composite_given (Elements k) at r (element (types.others p ∷ []) q x no_elements) h = given TypeMismatch q (as_filled (Elements k) x) (parts _ _ h).1
 composite_given (Elements k) at r es h =
     let c = parts _ _ h in
@@ -164,3 +163,4 @@ composite_given (Elements k) at r es h =
     ruled (is_vector k) _ (holds TypeMismatch at (is_vector k) c.0)
     (ruled (is_some r || not (is_named es)) _ (holds LeftOut at (is_some r || not (is_named es)) d.0)
     (bound (aggregate k at r es) (λ x. Some (s.single (u.elements x))) a.value a.is (this (s.single (u.elements a.value)))))
+composite_given _ at r es h = absurd cc

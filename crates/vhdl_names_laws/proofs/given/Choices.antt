@@ -7,18 +7,17 @@ use Rattle.std.proofs.lemmas.List.Elements.{filter_map-append}
 use Rattle.vhdl_tree.specs.Tree as t
 use Rattle.vhdl_tree.specs.Tree.{Expr}
 use Rattle.vhdl_names_rules.specs.declared.kind.ObjectType.{ObjectType}
-use Rattle.vhdl_names_rules.specs.declared.kind.ObjectType.TheVariants.{Elements, Enumeration}
+use Rattle.vhdl_names_rules.specs.declared.kind.ObjectType.TheVariants.{Elements, Enumeration, Integers, Booleans}
 use Rattle.vhdl_names_rules.specs.declared.fault.NameProblem.TheVariants.{WrongKind, TypeMismatch, NoOthers, ChoiceTwice, LeftOut}
-use Rattle.vhdl_names_rules.specs.units.Expressions.{Value}
 use Rattle.vhdl_names_rules.specs.units.Statements as units
-use Rattle.vhdl_names_rules.specs.units.Statements.{Choice, Statements, others, alternative}
-use Rattle.vhdl_names_rules.specs.Rules.{each}
+use Rattle.vhdl_names_rules.specs.units.Statements.{Choice, Statements, alternative}
+use Rattle.vhdl_names_rules.specs.Rules.{◌>>=◌, each}
 use Rattle.vhdl_names_rules.specs.Visibility.{Sight, meaning}
 use Rattle.vhdl_names_rules.specs.Operators.{Typed}
 use Rattle.vhdl_names_rules.specs.Subtypes.{literal_values}
-use Rattle.vhdl_names_rules.specs.Expressions.{typed}
+use Rattle.vhdl_names_rules.specs.Expressions.{typed, typed_choice}
 use Rattle.vhdl_names_rules.specs.Choices as are
-use Rattle.vhdl_names_rules.specs.Choices.{literal_choice, named_choice, same_choice, are_distinct_choices, is_others, is_last_others, only_last_others, names_all, selector, arranged}
+use Rattle.vhdl_names_rules.specs.Choices.{literal_choice, named_choice, same_choice, are_distinct_choices, is_others, is_last_others, only_last_others, names_all, numbers_of, Selector, selector, last_by, arranged}
 use Rattle.vhdl_names_rules.specs.problems.Broken.{Broken, unless, lacking, where_given}
 use Rattle.vhdl_names_rules.specs.problems.Places.{start, choice_place}
 use Rattle.vhdl_names_rules.specs.problems.Subtypes.{literal}
@@ -34,13 +33,16 @@ use Rattle.vhdl_names_rules.proofs.kept.Covered as kept_choices
 use Rattle.vhdl_names_rules.proofs.kept.Covered.{choice_sym, given_next}
 use Rattle.vhdl_names_laws.proofs.given.Giving.{IsGiven, this, bound, bound_is, ruled_is, mapped_given, parts, holds, given, of_given, each_given}
 use Rattle.vhdl_names_laws.proofs.given.Expressions.{meaning_given, typed_given}
-use Rattle.vhdl_names_laws.proofs.given.Values.{values_given, no_state}
+use Rattle.vhdl_names_laws.proofs.given.Expressions as expressions
+use Rattle.vhdl_names_laws.proofs.given.Values.{values_given, no_literal}
 
 -- ---- one choice
 
 literal_given : (type : ObjectType) (e : Expr) → IsKept (literal type e) → IsGiven (literal_choice type e)
 literal_given (Elements k) e h = mapped_given units.values (literal_values k e) (values_given k e h)
-literal_given (Enumeration n count) e h = absurd (no_state n count e h)
+literal_given (Enumeration n count) e h = absurd (no_literal (Enumeration n count) e refl refl h)
+literal_given Integers e h = absurd (no_literal Integers e refl refl h)
+literal_given Booleans e h = absurd (no_literal Booleans e refl refl h)
 
 chosen_given : (sight : Sight) (type : ObjectType) (e : Expr) → IsKept (broken.chosen sight type e) → IsGiven (are.chosen sight type e)
 chosen_given sight type (t.named n t.plain None) h =
@@ -54,7 +56,17 @@ chosen_given sight type (t.named n s a) h =
     absurd cc
 chosen_given sight type e h = literal_given type e h
 
+-- integers
+integer_choice_given : (sight : Sight) (x : t.Choice) → IsKept (broken.integer_choice sight x) → IsGiven (typed_choice sight x >>= numbers_of)
+integer_choice_given sight x h =
+    let k = parts _ _ h in
+    let c = expressions.choice_given x sight k.0 in
+    bound (typed_choice sight x) numbers_of c.value c.is
+    (given LeftOut (choice_place x) (numbers_of c.value) (of_given (λ y. lacking LeftOut (choice_place x) (numbers_of y)) (typed_choice sight x) c.value c.is k.1))
+
 pub choice_given : (sight : Sight) (type : ObjectType) (x : t.Choice) → IsKept (broken.choice sight type x) → IsGiven (are.choice sight type x)
+choice_given sight Integers (t.otherwise at) h = absurd cc
+choice_given sight Integers x h = integer_choice_given sight x h
 choice_given sight type (t.chosen e) h = chosen_given sight type e h
 choice_given sight type (t.chosen_range d direction e) h = absurd cc
 choice_given sight type (t.otherwise at) h = absurd cc
@@ -181,7 +193,7 @@ same_empty (x ∷ xs) ys l e = refl
 
 long_arranged : (css : List (List Choice)) (bodies : List Statements) → length css ≡ length bodies → is_empty css ≡ false → IsGiven (arranged css bodies)
 long_arranged [] bodies l e = absurd cc
-long_arranged (cs ∷ []) (b ∷ []) l e = this (others b)
+long_arranged (cs ∷ []) (b ∷ []) l e = this (last_by cs b)
 long_arranged (cs ∷ ds ∷ css) (b ∷ bs) l e = mapped_given (alternative cs b) (arranged (ds ∷ css) bs) (long_arranged (ds ∷ css) bs (omega (arith, l)) refl)
 long_arranged _ _ l e = absurd (omega (arith, l))
 
@@ -196,8 +208,8 @@ arranged_given at xs css bodies k l m =
 pub record IsSelected (sight : Sight) (e : Expr) (f : ObjectType → Broken) : Type 0 where
   pub operand : Typed
   pub typed_is : typed sight e ≡ Some operand
-  pub by : ObjectType × Value
-  pub selected : selector operand ≡ Some by
+  pub by : ObjectType × Selector
+  pub selected : selector sight.language operand ≡ Some by
   pub rest : IsKept (f by.0)
 
 pub selected_given : (sight : Sight) (e : Expr) (f : ObjectType → Broken) → IsKept (by_selector sight e f) → IsSelected sight e f
@@ -205,13 +217,13 @@ selected_given sight e f h =
     let k = parts _ _ h in
     let l = parts _ _ k.0 in
     let x = typed_given e sight l.0 in
-    let by = given TypeMismatch (start e) (selector x.value) (of_given (λ x. lacking TypeMismatch (start e) (selector x)) (typed sight e) x.value x.is l.1) in
+    let by = given TypeMismatch (start e) (selector sight.language x.value) (of_given (λ x. lacking TypeMismatch (start e) (selector sight.language x)) (typed sight e) x.value x.is l.1) in
     record {
       operand = x.value;
       typed_is = x.is;
       by = by.value;
       selected = by.is;
       rest =
-          of_given (λ by. f by.0) (selector x.value) by.value by.is
-          (of_given (λ x. where_given (selector x) (λ by. f by.0)) (typed sight e) x.value x.is k.1);
+          of_given (λ by. f by.0) (selector sight.language x.value) by.value by.is
+          (of_given (λ x. where_given (selector sight.language x) (λ by. f by.0)) (typed sight e) x.value x.is k.1);
     }

@@ -5,14 +5,13 @@ use Rattle.std.proofs.lemmas.List.{length-map}
 use Rattle.vhdl_tree.specs.Tree as t
 use Rattle.vhdl_tree.specs.Tree.{Ident}
 use Rattle.vhdl_names_rules.specs.declared.kind.ObjectType.{ObjectType}
-use Rattle.vhdl_names_rules.specs.units.Statements as s
 use Rattle.vhdl_names_rules.specs.units.Units as u
 use Rattle.vhdl_names_rules.specs.Rules.{◌>>=◌, each}
 use Rattle.vhdl_names_rules.specs.Visibility.{Name, Sight, are_distinct, ends, label_ends, with_variables}
 use Rattle.vhdl_names_rules.specs.declared.fault.NameProblem.TheVariants.{NoSensitivity}
 use Rattle.vhdl_names_rules.specs.Edges.{waited_edge}
 use Rattle.vhdl_names_rules.specs.Expressions.{typed, static_range, condition, as_static_test}
-use Rattle.vhdl_names_rules.specs.Choices.{choices, covered, selector, arranged}
+use Rattle.vhdl_names_rules.specs.Choices.{choices, covered, selector, arranged, selecting}
 use Rattle.vhdl_names_rules.specs.Declarations.{in_order, process_declaration}
 use Rattle.vhdl_names_rules.specs.Interfaces.{EntityView, declared_names}
 use Rattle.vhdl_names_rules.specs.Instances.{instance}
@@ -80,11 +79,11 @@ selected_is sight label a h =
     (each_length (choices sight type) lists cs.value cs.is ∙ length-map a.waveforms (λ (w : t.Waveform). w.choices))
     (each_length (λ (w : t.Waveform). option_map alone (assignment sight x.value w.value)) a.waveforms bodies.value bodies.is) in
     bound (typed sight a.selector) _ c.operand c.typed_is
-    (bound (selector c.operand) _ c.by c.selected
+    (bound (selector sight.language c.operand) _ c.by c.selected
     (bound (signal_target sight a.target) _ x.value x.is
     (bound (covered sight type lists) _ cs.value (covered_is sight type a.at lists (any_of (broken.waveform sight type a.target) a.waveforms) cs.value cs.is l.0)
     (bound (each (λ (w : t.Waveform). option_map alone (assignment sight x.value w.value)) a.waveforms) _ bodies.value bodies.is
-    (bound (arranged cs.value bodies.value) (λ all. Some (assigning a.at label (s.case_of a.at c.by.1 all))) all.value all.is (this (assigning a.at label (s.case_of a.at c.by.1 all.value))))))))
+    (bound (arranged cs.value bodies.value) (λ all. Some (assigning a.at label (selecting a.at c.by.1 all))) all.value all.is (this (assigning a.at label (selecting a.at c.by.1 all.value))))))))
 
 -- ---- processes
 

@@ -14,11 +14,11 @@ use Rattle.vhdl_names_rules.specs.Packages as packages
 use Rattle.vhdl_names_rules.specs.Packages.{Context, is_ieee, is_library, is_logic, is_numbers}
 use Rattle.vhdl_names_rules.specs.Expressions.{static}
 use Rattle.vhdl_names_rules.specs.Subtypes as kinds
-use Rattle.vhdl_names_rules.specs.Subtypes.{Subtype, subtype, integer_subtype, form_range, TypeClass, class_of, fixed_value}
+use Rattle.vhdl_names_rules.specs.Subtypes.{Subtype, subtype, object_subtype, integer_subtype, form_range, TypeClass, class_of, fixed_value}
 use Rattle.vhdl_names_rules.specs.Declarations as are
-use Rattle.vhdl_names_rules.specs.Declarations.{within, within_variables, without_ports, as_kind, single_expression, static_test, generic_form, is_open}
+use Rattle.vhdl_names_rules.specs.Declarations.{within, within_variables, without_ports, as_kind, as_port_type, single_expression, static_test, generic_form, is_open}
 use Rattle.vhdl_names_rules.specs.Interfaces.{declared_names}
-use Rattle.vhdl_names_rules.specs.problems.Broken.{Broken, nothing, ◌▸◌, unless, any_of, of_any}
+use Rattle.vhdl_names_rules.specs.problems.Broken.{Broken, nothing, ◌▸◌, unless, lacking, any_of, of_any}
 use Rattle.vhdl_names_rules.specs.problems.Expressions as expressions
 use Rattle.vhdl_names_rules.specs.problems.Subtypes as subtypes
 use Rattle.vhdl_names_rules.specs.problems.Declarations as broken
@@ -28,7 +28,7 @@ use Rattle.vhdl_names_rules.proofs.kept.Twice.{once_distinct, names_append}
 use Rattle.vhdl_names_rules.proofs.kept.Named.{HasNames, of_generic, of_port, of_signals, of_variables, of_constants_in, of_subtype_in, of_enumeration}
 use Rattle.vhdl_names_laws.proofs.given.Giving.{IsGiven, this, bound, bound_is, ruled, mapped_given, parts, holds, given, of_given, if_any_given}
 use Rattle.vhdl_names_laws.proofs.given.Expressions.{declaration_given, static_given, static_condition_given}
-use Rattle.vhdl_names_laws.proofs.given.Values.{subtype_given, integer_subtype_given, fixed_value_given}
+use Rattle.vhdl_names_laws.proofs.given.Values.{subtype_given, integer_subtype_given, meant, object_subtype_given, fixed_value_given}
 
 -- ---- names
 
@@ -127,10 +127,6 @@ none_is : {A : Type 0} (o : Option A) → is_none o ≡ true → not (is_some o)
 none_is None h = refl
 none_is (Some x) h = absurd cc
 
--- a name that is declared has a meaning
-meant : (sight : Sight) (n : Ident) (d : Declared) → declaration sight n.text ≡ Some d → meaning sight n.text ≡ Some d.meaning
-meant sight n d e = ap (option_map (λ (d : Declared). d.meaning)) e
-
 value_given : (sight : Sight) (x : Subtype) (v : t.Value) → IsKept (broken.value_of sight x v) → IsGiven (fixed_value sight x.type (form_range x.form) v)
 value_given sight x v h = fixed_value_given sight x.type (form_range x.form) v h
 
@@ -189,12 +185,12 @@ unfolding are.port
 port_is sight p h =
     let inner : Sight = without_ports sight in
     let k = parts _ _ h in
-    let s = subtype_given inner p.subtype k.0 in
-    let l = parts _ _ (of_given (λ s. broken.nine_valued p.subtype.mark s ▸ of_any (broken.value_of inner s) p.default) (subtype inner p.subtype) s.value s.is k.1) in
-    let kind = given LeftOut p.subtype.mark.at (as_kind s.value.type) l.0 in
+    let s = object_subtype_given inner p.subtype k.0 in
+    let l = parts _ _ (of_given (λ s. lacking LeftOut p.subtype.mark.at (as_port_type s.type) ▸ of_any (broken.value_of inner s) p.default) (object_subtype inner p.subtype) s.value s.is k.1) in
+    let type = given LeftOut p.subtype.mark.at (as_port_type s.value.type) l.0 in
     let default = if_any_given (broken.value_of inner s.value) (fixed_value inner s.value.type (form_range s.value.form)) (value_given inner s.value) p.default l.1 in
-    bound (subtype inner p.subtype) _ s.value s.is
-    (bound (as_kind s.value.type) _ kind.value kind.is
+    bound (object_subtype inner p.subtype) _ s.value s.is
+    (bound (as_port_type s.value.type) _ type.value type.is
     (bound (if_any (fixed_value inner s.value.type (form_range s.value.form)) p.default) _ default.value default.is (this _)))
 
 pub port_given : (sight : Sight) (p : t.Port) → are_distinct (declared_names sight.region) ≡ true → IsKept (broken.port sight p) → IsApart sight.region (are.port sight p)
@@ -205,14 +201,14 @@ port_given sight p distinct h =
 -- ---- signals, constants and variables
 
 record ObjectGiven (inner : Sight) (s : t.Subtype) (v : Option t.Value) : Type 0 where
-  type : IsGiven (subtype inner s)
+  type : IsGiven (object_subtype inner s)
   default : IsGiven (if_any (fixed_value inner type.value.type (form_range type.value.form)) v)
 
 object_given : (inner : Sight) (s : t.Subtype) (v : Option t.Value) → IsKept (broken.object inner s v) → ObjectGiven inner s v
 object_given inner s v h =
     let k = parts _ _ h in
-    let x = subtype_given inner s k.0 in
-    let l = of_given (λ x. of_any (broken.value_of inner x) v) (subtype inner s) x.value x.is k.1 in
+    let x = object_subtype_given inner s k.0 in
+    let l = of_given (λ x. of_any (broken.value_of inner x) v) (object_subtype inner s) x.value x.is k.1 in
     record { type = x; default = if_any_given (broken.value_of inner x.value) (fixed_value inner x.value.type (form_range x.value.form)) (value_given inner x.value) v l }
 
 signals_are : (sight : Sight) (d : t.Signals) → IsKept (broken.object (within sight d.names) d.subtype d.default) → IsGiven (are.signals sight d)
@@ -220,7 +216,7 @@ unfolding are.signals
 signals_are sight d h =
     let inner : Sight = within sight d.names in
     let x = object_given inner d.subtype d.default h in
-    bound (subtype inner d.subtype) _ x.type.value x.type.is
+    bound (object_subtype inner d.subtype) _ x.type.value x.type.is
     (bound (if_any (fixed_value inner x.type.value.type (form_range x.type.value.form)) d.default) _ x.default.value x.default.is (this _))
 
 pub signals_given : (sight : Sight) (d : t.Signals) → are_distinct (declared_names sight.region) ≡ true → IsKept (broken.signals sight d)
@@ -234,7 +230,7 @@ unfolding are.variables
 variables_are sight d h =
     let inner : Sight = within_variables sight d.names in
     let x = object_given inner d.subtype d.default h in
-    bound (subtype inner d.subtype) _ x.type.value x.type.is
+    bound (object_subtype inner d.subtype) _ x.type.value x.type.is
     (bound (if_any (fixed_value inner x.type.value.type (form_range x.type.value.form)) d.default) _ x.default.value x.default.is (this _))
 
 variables_given : (sight : Sight) (d : t.Variables) → are_distinct (declared_names sight.variables) ≡ true → IsKept (broken.variables sight d)

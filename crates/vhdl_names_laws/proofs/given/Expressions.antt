@@ -1,6 +1,7 @@
 -- An expression that breaks no rule has a type (IEEE 1076-2008, clauses 8 and 9).
 use Rattle.std.proofs.Common.{◌≡◌, ℕ, Bool, true, false, cond, [], ◌∷◌, Option, Some, None, refl, ap, ◌∙◌}
 use Rattle.std.specs.Prelude.{◌&&◌}
+use Rattle.std.specs.Option.{option_or}
 use Rattle.vhdl_lexer.specs.declared.language.Language.{Language}
 use Rattle.vhdl_lexer.specs.declared.language.Language.TheVariants.{Profile, Wide}
 use Rattle.vhdl_tree.specs.declared.operator.Direction.{Direction}
@@ -9,7 +10,7 @@ use Rattle.vhdl_tree.specs.declared.operator.Sign.TheVariants.{Plus, Minus}
 use Rattle.vhdl_tree.specs.Tree as t
 use Rattle.vhdl_tree.specs.Tree.{Expr, Exprs, Ident, Attribute}
 use Rattle.vhdl_names_rules.specs.declared.kind.ObjectType.{ObjectType}
-use Rattle.vhdl_names_rules.specs.declared.kind.ObjectType.TheVariants.{Elements, Enumeration}
+use Rattle.vhdl_names_rules.specs.declared.kind.ObjectType.TheVariants.{Elements, Enumeration, Integers, Booleans}
 use Rattle.vhdl_names_rules.specs.declared.kind.ElementKind.TheVariants.{Element, OpenVector}
 use Rattle.vhdl_names_rules.specs.declared.operator.Arithmetic.TheVariants.{Power}
 use Rattle.vhdl_names_rules.specs.declared.fault.NameProblem.TheVariants.{TypeMismatch, LeftOut}
@@ -22,14 +23,14 @@ use Rattle.vhdl_names_rules.specs.Literals.{number_of, nine_of, values_of_string
 use Rattle.vhdl_names_rules.specs.Types as types
 use Rattle.vhdl_names_rules.specs.Types.{TypedElements}
 use Rattle.vhdl_names_rules.specs.Operators as o
-use Rattle.vhdl_names_rules.specs.Operators.{Typed, as_computed, inverse, raised, operated}
+use Rattle.vhdl_names_rules.specs.Operators.{Typed, as_computed, inverse, raised, truths_related, operated}
 use Rattle.vhdl_names_rules.specs.Aggregates.{aggregate}
 use Rattle.vhdl_names_rules.specs.Names as names
 use Rattle.vhdl_names_rules.specs.Names.{Suffix, denoted, attributed, edge_signal}
 use Rattle.vhdl_names_rules.specs.Ranges.{Ranged, ranged, declared_range, named_range, range_attribute, sized_by}
 use Rattle.vhdl_names_rules.specs.Local.{is_local}
 use Rattle.vhdl_names_rules.specs.Expressions as are
-use Rattle.vhdl_names_rules.specs.Expressions.{as_integer, enclosed, in_parentheses, beside, is_one_name, suffix_of, fits, as_index, as_range, as_test, as_static_test, as_value, as_filled}
+use Rattle.vhdl_names_rules.specs.Expressions.{valued, as_integer, enclosed, in_parentheses, beside, is_one_name, suffix_of, fits, as_index, as_range, as_test, as_static_test, as_value, as_filled, as_boolean}
 use Rattle.vhdl_names_rules.specs.problems.Broken.{nothing, ◌▸◌, unless, lacking, where_given, of_any}
 use Rattle.vhdl_names_rules.specs.problems.Places.{start}
 use Rattle.vhdl_names_rules.specs.problems.Missing.{problem_of}
@@ -37,7 +38,7 @@ use Rattle.vhdl_names_rules.specs.problems.Operators.{string_problem, operator_p
 use Rattle.vhdl_names_rules.specs.problems.Expressions as broken
 use Rattle.vhdl_names_rules.specs.problems.Expressions.{attribute_start, is_event, is_of_range, is_range, fits_kind, no_range, is_vector_type}
 use Rattle.vhdl_names_rules.proofs.Telling.{IsKept}
-use Rattle.vhdl_names_rules.proofs.laws.Ranged.{valued, named_by_range, named_alone, named_valued, range_alone}
+use Rattle.vhdl_names_rules.proofs.laws.Ranged.{named_by_range, named_alone, named_valued, range_alone}
 use Rattle.vhdl_names_laws.proofs.given.Giving.{IsGiven, this, bound, ruled, same_given, unmapped, some_of, that_given, mapped_given, parts, holds, fails, either_fails, given, of_given}
 use Rattle.vhdl_names_laws.proofs.given.Aggregates.{aggregate_given, composite_given}
 
@@ -191,14 +192,14 @@ mutual
       let l = parts _ _ k.1 in
       let x = typed_given d sight k.0 in
       let y = typed_given e sight l.0 in
-      let w = of_given (λ y. broken.operand op y x.value ▸ broken.operand op x.value y ▸ lacking (operator_problem op x.value (beside d y)) at (operated sight.numbers at op x.value (beside d y))) (are.typed sight e) y.value y.is
-      (of_given (λ x. where_given (are.typed sight e) (λ y. broken.operand op y x ▸ broken.operand op x y ▸ lacking (operator_problem op x (beside d y)) at (operated sight.numbers at op x (beside d y))))
+      let by : Typed → Typed → Option Typed = λ x y. option_or (operated sight.numbers at op x (beside d y)) (wider sight.language (truths_related op x y)) in
+      let w = of_given (λ y. broken.operand op y x.value ▸ broken.operand op x.value y ▸ lacking (operator_problem op x.value (beside d y)) at (by x.value y)) (are.typed sight e) y.value y.is
+      (of_given (λ x. where_given (are.typed sight e) (λ y. broken.operand op y x ▸ broken.operand op x y ▸ lacking (operator_problem op x (beside d y)) at (by x y)))
       (are.typed sight d) x.value x.is l.1) in
       let v = parts (broken.operand op y.value x.value) _ w in
       let z = parts (broken.operand op x.value y.value) _ v.1 in
-      bound (are.typed sight d) (λ x. are.typed sight e >>= λ y. operated sight.numbers at op x (beside d y)) x.value x.is
-      (bound (are.typed sight e) (λ y. operated sight.numbers at op x.value (beside d y)) y.value y.is
-      (given (operator_problem op x.value (beside d y.value)) at (operated sight.numbers at op x.value (beside d y.value)) z.1))
+      bound (are.typed sight d) (λ x. are.typed sight e >>= λ y. by x y) x.value x.is
+      (bound (are.typed sight e) (λ y. by x.value y) y.value y.is (given (operator_problem op x.value (beside d y.value)) at (by x.value y.value) z.1))
   typed_given (t.aggregate at es) sight h = mapped_given (types.composite at) (are.typed_elements sight es) (elements_given es sight h)
   typed_given (t.qualified n at es) sight h =
       let k = parts _ _ h in
@@ -253,7 +254,7 @@ mutual
       let xs = choices_given cs sight k.1 in
       bound (are.typed_choice sight c) _ x.value x.is (bound (are.typed_choices sight cs) (λ xs. Some (x.value ∷ xs)) xs.value xs.is (this (x.value ∷ xs.value)))
 
-  choice_given : (c : t.Choice) (sight : Sight) → IsKept (broken.typed_choice sight c) → IsGiven (are.typed_choice sight c)
+  pub choice_given : (c : t.Choice) (sight : Sight) → IsKept (broken.typed_choice sight c) → IsGiven (are.typed_choice sight c)
   choice_given (t.chosen e) sight h =
       let k = parts _ _ h in
       let x = typed_given e sight k.0 in
@@ -278,7 +279,7 @@ mutual
 
 -- ---- what is asked of an expression
 
-asked_given : {A : Type 0} (f : Typed → Option A) (sight : Sight) (e : Expr) → IsKept (broken.typed sight e ▸ where_given (are.typed sight e) (λ x. lacking TypeMismatch (start e) (f x)))
+pub asked_given : {A : Type 0} (f : Typed → Option A) (sight : Sight) (e : Expr) → IsKept (broken.typed sight e ▸ where_given (are.typed sight e) (λ x. lacking TypeMismatch (start e) (f x)))
     → IsGiven (are.typed sight e >>= f)
 asked_given f sight e h =
     let k = parts (broken.typed sight e) (where_given (are.typed sight e) (λ x. lacking TypeMismatch (start e) (f x))) h in
@@ -334,6 +335,8 @@ static_condition_given sight e h = asked_given as_static_test sight e h
 as_value_given : (type : ObjectType) (r : Option Range) (at : ℕ) (x : Typed) → IsKept (broken.given type r at x) → IsGiven (as_value type r x)
 as_value_given (Elements k) r at (types.composite p es) h = composite_given (Elements k) p r es h
 as_value_given (Enumeration e count) r at (types.composite p es) h = absurd cc
+as_value_given Integers r at (types.composite p es) h = absurd cc
+as_value_given Booleans r at (types.composite p es) h = absurd cc
 as_value_given type r at x h = given TypeMismatch at (as_value type r x) h
 
 pub value_given_given : (sight : Sight) (type : ObjectType) (r : Option Range) (v : t.Value) → IsKept (broken.value_given sight type r v) → IsGiven (are.value_given sight type r v)
@@ -347,3 +350,8 @@ value_given_given sight type r (t.others at e) h =
     let x = typed_given e sight k.0 in
     let l = parts _ _ (of_given (λ x. unless TypeMismatch at (is_vector_type type) ▸ lacking TypeMismatch (start e) (as_filled type x)) (are.typed sight e) x.value x.is k.1) in
     bound (are.typed sight e) (as_filled type) x.value x.is (given TypeMismatch (start e) (as_filled type x.value) l.1)
+
+pub value_assigned_given : (sight : Sight) (type : ObjectType) (r : Option Range) (v : t.Value) → IsKept (broken.value_assigned sight type r v) → IsGiven (are.value_assigned sight type r v)
+unfolding are.value_assigned
+value_assigned_given sight Booleans r (t.single e) h = asked_given as_boolean sight e h
+value_assigned_given sight type r v h = mapped_given are.given (are.value_given sight type r v) (value_given_given sight type r v h)

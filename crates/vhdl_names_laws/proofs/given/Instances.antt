@@ -17,7 +17,7 @@ use Rattle.vhdl_names_rules.specs.Declarations.{static_test}
 use Rattle.vhdl_names_rules.specs.Statements as statements
 use Rattle.vhdl_names_rules.specs.Interfaces.{EntityView, entity_named}
 use Rattle.vhdl_names_rules.specs.Instances as are
-use Rattle.vhdl_names_rules.specs.Instances.{Formal, as_name, is_kind, may_join, is_architecture, as_component, GenericKind, GenericFormal, generic_formal, port_formal, value_as_actual, expression_of, actual_of, generic_actuals, port_actuals}
+use Rattle.vhdl_names_rules.specs.Instances.{Formal, as_name, is_type, may_join, is_architecture, as_component, GenericKind, GenericFormal, generic_formal, port_formal, value_as_actual, expression_of, actual_of, generic_actuals, port_actuals}
 use Rattle.vhdl_names_rules.specs.problems.Broken.{Broken, ◌▸◌, refused, unless, lacking, where_given, any_of, of_any}
 use Rattle.vhdl_names_rules.specs.problems.Places.{start}
 use Rattle.vhdl_names_rules.specs.problems.Expressions as expressions
@@ -139,12 +139,12 @@ port_actual_given sight f e h =
     let n = given LeftOut (start e) (as_name e) k.0 in
     let at : ℕ = n.value.identifier.at in
     let l = parts _ _ (of_given (λ n. actual_signal sight n
-    ▸ where_given (statements.signal sight n) (λ x. unless TypeMismatch n.identifier.at (is_kind f.kind x.type) ▸ unless WriteOfIn n.identifier.at (may_join f.mode x.mode))) (as_name e) n.value n.is k.1) in
+    ▸ where_given (statements.signal sight n) (λ x. unless TypeMismatch n.identifier.at (is_type f.type x.type) ▸ unless WriteOfIn n.identifier.at (may_join f.mode x.mode))) (as_name e) n.value n.is k.1) in
     let s = signal_given sight n.value (signal_of_actual sight n.value l.0) in
-    let m = parts _ _ (of_given (λ x. unless TypeMismatch at (is_kind f.kind x.type) ▸ unless WriteOfIn at (may_join f.mode x.mode)) (statements.signal sight n.value) s.value s.is l.1) in
+    let m = parts _ _ (of_given (λ x. unless TypeMismatch at (is_type f.type x.type) ▸ unless WriteOfIn at (may_join f.mode x.mode)) (statements.signal sight n.value) s.value s.is l.1) in
     bound (as_name e) _ n.value n.is
     (bound (statements.signal sight n.value) _ s.value s.is
-    (ruled (is_kind f.kind s.value.type) _ (holds TypeMismatch at (is_kind f.kind s.value.type) m.0)
+    (ruled (is_type f.type s.value.type) _ (holds TypeMismatch at (is_type f.type s.value.type) m.0)
     (ruled (may_join f.mode s.value.mode) (Some s.value.place) (holds WriteOfIn at (may_join f.mode s.value.mode) m.1) (this s.value.place))))
 
 abbrev port_name : Formal → Name

@@ -10,8 +10,8 @@ use Rattle.vhdl_names_rules.specs.units.Statements as s
 use Rattle.vhdl_names_rules.specs.Rules.{◌>>=◌, ◌>>◌, met, each}
 use Rattle.vhdl_names_rules.specs.Visibility.{Meaning, Declared, Sight, declaration, label_ends, within_loop}
 use Rattle.vhdl_names_rules.specs.Names.{Suffix}
-use Rattle.vhdl_names_rules.specs.Expressions.{typed, typed_suffix, static_range, condition, value_given}
-use Rattle.vhdl_names_rules.specs.Choices.{choices, covered, selector, arranged}
+use Rattle.vhdl_names_rules.specs.Expressions.{typed, typed_suffix, static_range, condition, value_assigned}
+use Rattle.vhdl_names_rules.specs.Choices.{choices, covered, selector, arranged, selecting}
 use Rattle.vhdl_names_rules.specs.Statements as are
 use Rattle.vhdl_names_rules.specs.Statements.{as_signal, as_signal_target, as_variable_target, mode_of, is_input, Target, choice_lists}
 use Rattle.vhdl_names_rules.specs.problems.Broken.{◌▸◌, lacking, where_given, any_of, of_any}
@@ -23,7 +23,7 @@ use Rattle.vhdl_names_rules.proofs.laws.Rules.{comes, some_is}
 use Rattle.vhdl_names_rules.proofs.Telling.{IsKept}
 use Rattle.vhdl_names_rules.proofs.kept.Statements.{object_named}
 use Rattle.vhdl_names_laws.proofs.given.Giving.{IsGiven, this, bound, ruled, mapped_given, parts, holds, given, of_given}
-use Rattle.vhdl_names_laws.proofs.given.Expressions.{declaration_given, suffix_given, static_range_given, condition_given, value_given_given}
+use Rattle.vhdl_names_laws.proofs.given.Expressions.{declaration_given, suffix_given, static_range_given, condition_given, value_assigned_given}
 use Rattle.vhdl_names_laws.proofs.given.Choices.{choices_given, covered_is, of_alternatives, each_length, arranged_given, selected_given}
 
 -- ---- names of signals and variables
@@ -87,7 +87,7 @@ target_by_given sight true n h = variable_target_given sight n h
 
 assignment_given : (sight : Sight) (target : Option Target) (x : Target) (v : t.Value) → target ≡ Some x → IsKept (broken.given sight target v) → IsGiven (are.assignment sight x v)
 assignment_given sight target x v e h =
-    mapped_given x.assigned (value_given sight x.type x.range v) (value_given_given sight x.type x.range v (of_given (λ x. expressions.value_given sight x.type x.range v) target x e h))
+    mapped_given (are.assigned_to x) (value_assigned sight x.type x.range v) (value_assigned_given sight x.type x.range v (of_given (λ x. expressions.value_assigned sight x.type x.range v) target x e h))
 
 -- what is given to a signal, whose target this is
 pub assigned_given : (sight : Sight) (n : t.Name) (v : t.Value) (x : Target) → are.signal_target sight n ≡ Some x → IsKept (broken.assigned sight n v) → IsGiven (are.assignment sight x v)
@@ -177,11 +177,11 @@ mutual
       (alternatives_length alts sight all.bodies.value all.bodies.is) in
       ruled (label_ends label end) _ (end_label_given label end l.0)
       (bound (typed sight e) _ c.operand c.typed_is
-      (bound (selector c.operand) _ c.by c.selected
+      (bound (selector sight.language c.operand) _ c.by c.selected
       (bound (covered sight type (choice_lists alts)) _ all.chosen.value
       (covered_is sight type at (choice_lists alts) (broken.alternatives sight type alts) all.chosen.value all.chosen.is c.rest)
       (bound (are.alternatives sight alts) _ all.bodies.value all.bodies.is
-      (bound (arranged all.chosen.value all.bodies.value) (λ all. Some (s.case_of at c.by.1 all)) done.value done.is (this (s.case_of at c.by.1 done.value)))))))
+      (bound (arranged all.chosen.value all.bodies.value) (λ all. Some (selecting at c.by.1 all)) done.value done.is (this (selecting at c.by.1 done.value)))))))
   statement_given (t.for_of at n r body end) sight label h =
       let k = parts _ _ h in
       let l = parts _ _ k.1 in

@@ -1,6 +1,6 @@
 -- Subtypes, and values of constants and defaults, that break no rule are given (IEEE 1076-2008, 6.3 and 6.4.2).
 use Rattle.std.proofs.Common.{◌≡◌, ℕ, Bool, true, false, not, cond, List, [], ◌∷◌, Option, Some, None, refl, ap, ◌∙◌}
-use Rattle.std.specs.Prelude.{is_some, option_map}
+use Rattle.std.specs.Prelude.{is_some, is_none, option_map}
 use Rattle.std.specs.Option.{option_or}
 use Rattle.vhdl_lexer.specs.declared.language.Language.{Language}
 use Rattle.vhdl_lexer.specs.declared.language.Language.TheVariants.{Profile, Wide}
@@ -10,7 +10,7 @@ use Rattle.vhdl_tree.specs.Tree.{Expr, Ident}
 use Rattle.vhdl_names_rules.specs.declared.kind.ElementKind.{ElementKind}
 use Rattle.vhdl_names_rules.specs.declared.kind.ElementKind.TheVariants.{Element, LogicVector, Unsigned}
 use Rattle.vhdl_names_rules.specs.declared.kind.ObjectType.{ObjectType}
-use Rattle.vhdl_names_rules.specs.declared.kind.ObjectType.TheVariants.{Elements, Enumeration}
+use Rattle.vhdl_names_rules.specs.declared.kind.ObjectType.TheVariants.{Elements, Enumeration, Integers, Booleans}
 use Rattle.vhdl_names_rules.specs.declared.fault.NameProblem.TheVariants.{TypeMismatch, LeftOut}
 use Rattle.vhdl_names_rules.specs.units.Expressions as forms
 use Rattle.vhdl_names_rules.specs.units.Expressions.{Range}
@@ -27,17 +27,18 @@ use Rattle.vhdl_names_rules.specs.Ranges.{declared_range}
 use Rattle.vhdl_names_rules.specs.Expressions as are
 use Rattle.vhdl_names_rules.specs.Expressions.{is_one_name, suffix_of, typed_suffix, typed_each, static_range}
 use Rattle.vhdl_names_rules.specs.Subtypes as subtypes
-use Rattle.vhdl_names_rules.specs.Subtypes.{marked, one_range, index_range, is_range, value_range, integers_of, class_of, named_value, encoded_value, literal_value, literal_values, filled_value, plain_value, is_known_value, known_value}
+use Rattle.vhdl_names_rules.specs.Subtypes.{Subtype, TypeClass, class_of, integer_object, boolean_object, subtype_of_class, static_value, single_value, marked, one_range, index_range, is_range, value_range, integers_of, named_value, encoded_value, literal_value, literal_values, filled_value, plain_value, is_known_value, known_value}
 use Rattle.vhdl_names_rules.specs.problems.Broken.{Broken, nothing, ◌▸◌, unless, lacking, where_given, of_any}
 use Rattle.vhdl_names_rules.specs.problems.Places.{start, range_start}
 use Rattle.vhdl_names_rules.specs.problems.Operators.{string_problem}
 use Rattle.vhdl_names_rules.specs.problems.Expressions as expressions
+use Rattle.vhdl_names_rules.specs.problems.Expressions.{is_vector_type}
 use Rattle.vhdl_names_rules.specs.problems.Subtypes as broken
-use Rattle.vhdl_names_rules.specs.problems.Subtypes.{marked_by, is_marked, mark_problem, is_index_range, suffixed_problem, value_of, value_start}
+use Rattle.vhdl_names_rules.specs.problems.Subtypes.{is_element_type, marked_by, is_marked, mark_problem, is_index_range, suffixed_problem, value_of, value_start}
 use Rattle.vhdl_names_rules.proofs.laws.Rules.{comes, some_is}
 use Rattle.vhdl_names_rules.proofs.Telling.{IsKept}
-use Rattle.vhdl_names_laws.proofs.given.Giving.{IsGiven, this, bound, ruled, that_given, mapped_given, parts, fails, holds, given, of_given, if_any_given}
-use Rattle.vhdl_names_laws.proofs.given.Expressions.{meaning_given, declaration_given, suffix_given, each_typed_given, static_range_given, value_given_given}
+use Rattle.vhdl_names_laws.proofs.given.Giving.{IsGiven, this, bound, ruled, same_given, that_given, mapped_given, parts, fails, holds, given, of_given, if_any_given}
+use Rattle.vhdl_names_laws.proofs.given.Expressions.{meaning_given, declaration_given, suffix_given, each_typed_given, static_range_given, asked_given, value_given_given}
 
 -- ---- types of objects
 
@@ -93,6 +94,59 @@ integer_subtype_given sight s mark d class h =
     (bound (declaration sight s.mark.text) _ mark d
     (bound (integers_of mark) (λ base. Some (record { base = base; range = range.value })) base.value base.is (this (record { base = base.value; range = range.value }))))
 
+-- ---- signals, ports and variables, by the class of their type
+
+-- what is no integer and no boolean
+others_marked : (m : Meaning) (r : Option Range) (x : Subtype) → marked m r ≡ Some x → class_of m ≡ subtypes.others
+others_marked (visibility.element_type b) r x h = refl
+others_marked (visibility.vector_type k b) r x h = refl
+others_marked (visibility.enumeration_type e count) r x h = refl
+others_marked _ r x h = absurd cc
+
+record IsOfOthers (sight : Sight) (s : t.Subtype) : Type 0 where
+  mark : Declared
+  is : declaration sight s.mark.text ≡ Some mark
+  class : class_of mark.meaning ≡ subtypes.others
+
+of_others : (sight : Sight) (s : t.Subtype) (x : Subtype) → subtypes.subtype sight s ≡ Some x → IsOfOthers sight s
+unfolding subtypes.subtype
+of_others sight s x h =
+    let range = comes (if_any (index_range sight) s.constraint) _ x h in
+    let d = comes (declaration sight s.mark.text) _ x range.rest in
+    let only = comes (one_range d.value.range range.value) _ x d.rest in
+    record { mark = d.value; is = d.is; class = others_marked d.value.meaning only.value x only.rest }
+
+-- a name that is declared has a meaning
+pub meant : (sight : Sight) (n : Ident) (d : Declared) → declaration sight n.text ≡ Some d → meaning sight n.text ≡ Some d.meaning
+meant sight n d e = ap (option_map (λ (d : Declared). d.meaning)) e
+
+class_given : (sight : Sight) (s : t.Subtype) (mark : Declared) (c : TypeClass) → sight.language ≡ Wide → declaration sight s.mark.text ≡ Some mark → class_of mark.meaning ≡ c
+    → IsKept (broken.object_by sight s c) → IsGiven (subtype_of_class sight s c)
+class_given sight s mark subtypes.integers wide d class h =
+    let x = integer_subtype_given sight s mark d class h in
+    same_given _ (integer_object sight s) (ap (λ l. wider l (integer_object sight s)) wide) (bound (subtypes.integer_subtype sight s) _ x.value x.is (this _))
+class_given sight s mark subtypes.booleans wide d class h =
+    same_given _ (boolean_object s) (ap (λ l. wider l (boolean_object s)) wide) (ruled (is_none s.constraint) _ (holds LeftOut s.mark.at (is_none s.constraint) h) (this _))
+class_given sight s mark subtypes.others wide d class h = subtype_given sight s h
+
+pub object_subtype_given : (sight : Sight) (s : t.Subtype) → IsKept (broken.object_subtype sight s) → IsGiven (subtypes.object_subtype sight s)
+unfolding subtypes.object_subtype
+object_subtype_given sight s h = by sight.language refl h
+  where
+    by : (l : Language) → sight.language ≡ l → IsKept (broken.object_subtype_in l sight s) → IsGiven (subtypes.object_subtype sight s)
+    by Profile e h =
+        let x = subtype_given sight s h in
+        let o = of_others sight s x.value x.is in
+        bound (meaning sight s.mark.text) (λ m. subtype_of_class sight s (class_of m)) o.mark.meaning (meant sight s.mark o.mark o.is)
+        (same_given _ (subtypes.subtype sight s) (ap (subtype_of_class sight s) o.class) x)
+    by Wide e h =
+        let k = parts _ _ h in
+        let d = declaration_given sight s.mark k.0 in
+        let m = meant sight s.mark d.value d.is in
+        bound (meaning sight s.mark.text) (λ m. subtype_of_class sight s (class_of m)) d.value.meaning m
+        (class_given sight s d.value (class_of d.value.meaning) e d.is refl
+        (of_given (λ m. broken.object_by sight s (class_of m)) (meaning sight s.mark.text) d.value.meaning m k.1))
+
 -- ---- literals as they stand
 
 pub values_given : (k : ElementKind) (e : Expr) → IsKept (broken.literal (Elements k) e) → IsGiven (literal_values k e)
@@ -106,16 +160,18 @@ values_given _ (t.string at text) h = absurd (fails TypeMismatch at _ h)
 values_given _ (t.bits at text) h = absurd (fails TypeMismatch at _ h)
 values_given _ _ h = absurd cc
 
--- no literal of this kind is of an enumeration
-pub no_state : (n count : ℕ) (e : Expr) → IsKept (broken.literal (Enumeration n count) e) → ⊥
-no_state n count (t.character at c) h = fails TypeMismatch at _ h
-no_state n count (t.string at text) h = fails TypeMismatch at _ h
-no_state n count (t.bits at text) h = fails TypeMismatch at _ h
-no_state n count _ h = cc
+-- a literal is of the nine values
+pub no_literal : (type : ObjectType) (e : Expr) → is_element_type type ≡ false → is_vector_type type ≡ false → IsKept (broken.literal type e) → ⊥
+no_literal type (t.character at c) f v h = let k = holds TypeMismatch at (is_element_type type) (parts _ _ h).0 in cc
+no_literal type (t.string at text) f v h = let k = holds TypeMismatch at (is_vector_type type) (parts _ _ h).0 in cc
+no_literal type (t.bits at text) f v h = let k = holds TypeMismatch at (is_vector_type type) (parts _ _ h).0 in cc
+no_literal type _ f v h = cc
 
 literal_given : (type : ObjectType) (e : Expr) → IsKept (broken.literal type e) → IsGiven (literal_value type e)
 literal_given (Elements k) e h = mapped_given u.Fixed.literal (literal_values k e) (values_given k e h)
-literal_given (Enumeration n count) e h = absurd (no_state n count e h)
+literal_given (Enumeration n count) e h = absurd (no_literal (Enumeration n count) e refl refl h)
+literal_given Integers e h = absurd (no_literal Integers e refl refl h)
+literal_given Booleans e h = absurd (no_literal Booleans e refl refl h)
 
 -- ---- values
 
@@ -213,6 +269,13 @@ value_in_given : (language : Language) (sight : Sight) (type : ObjectType) (r : 
 value_in_given Profile sight type r v h = first_given (plain_value sight type v) None (plain_value_given sight type v h)
 value_in_given Wide sight type r v h = second_given (plain_value sight type v) (known_value sight type r v) (broken.known_value sight type r v) (known_value_given sight type r v) h
 
+-- an integer, and a boolean
+static_given : (sight : Sight) (type : ObjectType) (v : t.Value) → IsKept (broken.static_value sight type v) → IsGiven (single_value sight type v)
+static_given sight type (t.others at e) h = absurd cc
+static_given sight type (t.single e) h = asked_given (static_value type) sight e h
+
 pub fixed_value_given : (sight : Sight) (type : ObjectType) (r : Option Range) (v : t.Value) → IsKept (broken.fixed_value sight type r v) → IsGiven (subtypes.fixed_value sight type r v)
 unfolding subtypes.fixed_value
+fixed_value_given sight Integers r v h = static_given sight Integers v h
+fixed_value_given sight Booleans r v h = static_given sight Booleans v h
 fixed_value_given sight type r v h = value_in_given sight.language sight type r v h

@@ -3,7 +3,7 @@ use Rattle.std.proofs.Common.{ℕ, Bool, not, ◌||◌, List, [], ◌∷◌}
 use Rattle.std.specs.List.{AllByRecursion}
 use Rattle.vhdl_names_rules.specs.declared.kind.ElementKind.{ElementKind}
 use Rattle.vhdl_names_rules.specs.declared.kind.ObjectType.{ObjectType}
-use Rattle.vhdl_names_rules.specs.declared.kind.ObjectType.TheVariants.{Elements, Enumeration}
+use Rattle.vhdl_names_rules.specs.declared.kind.ObjectType.TheVariants.{Elements}
 use Rattle.vhdl_names_rules.specs.declared.fault.NameProblem.TheVariants.{WrongKind, TypeMismatch, LeftOut}
 use Rattle.vhdl_names_rules.specs.units.Expressions as u
 use Rattle.vhdl_names_rules.specs.Types as types
@@ -54,8 +54,8 @@ module _ (P : ℕ → Type 0) where
   aggregate_told k ranged es h = each_told ranged (is_named es) (is_only es) k es h
 
   pub composite_told : (type : ObjectType) (at : ℕ) (ranged : Bool) (es : TypedElements) → P at → ElementsHold P es → Told P (broken.composite type at ranged es)
-  composite_told (Enumeration e count) at ranged es h g = told_refused TypeMismatch at h
   composite_told (Elements k) at ranged (types.element (types.others p ∷ []) z x types.no_elements) h g =
       told_behind (told_unless TypeMismatch at (is_vector k) h) (told_lacking TypeMismatch z (as_filled (Elements k) x) g.3)
   composite_told (Elements k) at ranged es h g =
       told_behind (told_unless TypeMismatch at (is_vector k) h) (told_behind (told_unless LeftOut at (ranged || not (is_named es)) h) (aggregate_told k ranged es g))
+  composite_told _ at ranged es h g = told_refused TypeMismatch at h

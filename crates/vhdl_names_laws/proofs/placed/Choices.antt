@@ -6,12 +6,14 @@ use Rattle.vhdl_tree.specs.Tree as t
 use Rattle.vhdl_tree.specs.Tree.{Expr}
 use Rattle.vhdl_tree.specs.grammar.Expressions.{spell, spell_choice}
 use Rattle.vhdl_names_rules.specs.declared.kind.ObjectType.{ObjectType}
+use Rattle.vhdl_names_rules.specs.declared.kind.ObjectType.TheVariants.{Integers}
 use Rattle.vhdl_names_rules.specs.declared.fault.NameProblem.TheVariants.{WrongKind, NoOthers, ChoiceTwice, LeftOut}
 use Rattle.vhdl_names_rules.specs.Rules.{each}
 use Rattle.vhdl_names_rules.specs.Visibility as visibility
 use Rattle.vhdl_names_rules.specs.Visibility.{Sight}
+use Rattle.vhdl_names_rules.specs.Expressions.{typed_choice}
 use Rattle.vhdl_names_rules.specs.Choices as are
-use Rattle.vhdl_names_rules.specs.Choices.{named_choice, selector, is_last_others, names_all}
+use Rattle.vhdl_names_rules.specs.Choices.{named_choice, numbers_of, selector, is_last_others, names_all}
 use Rattle.vhdl_names_rules.specs.problems.Broken.{Broken, any_of, lacking, unless}
 use Rattle.vhdl_names_rules.specs.problems.Places.{start, choice_place}
 use Rattle.vhdl_names_rules.specs.problems.Choices as broken
@@ -19,6 +21,7 @@ use Rattle.vhdl_names_rules.specs.problems.Choices.{choice_problem}
 use Rattle.vhdl_names_rules.specs.problems.Covered.{stands, once, each_once, alternative_in_place, is_empty, in_place, covered, any_alternative}
 use Rattle.vhdl_names_laws.proofs.placed.Told.{Stand, EachStands, first, Told, told_nothing, told_refused, told_unless, told_lacking, told_given, told_behind, told_earlier, told_any}
 use Rattle.vhdl_names_laws.proofs.placed.Starts.{start_stands, choice_stands}
+use Rattle.vhdl_names_laws.proofs.placed.Expressions as expressions
 use Rattle.vhdl_names_laws.proofs.placed.Expressions.{meaning_told, asked_told}
 use Rattle.vhdl_names_laws.proofs.placed.Subtypes.{literal_told}
 
@@ -33,7 +36,15 @@ chosen_told P sight type (t.named n (t.arguments es) a) h = told_behind (meaning
 chosen_told P sight type (t.named n (t.sliced d direction e) a) h = told_behind (meaning_told P sight n h.0) (told_refused LeftOut n.at h.0)
 chosen_told P sight type e h = literal_told P type e h
 
+-- integers
+integer_choice_told : (P : ℕ → Type 0) (sight : Sight) (c : t.Choice) → Stand P (spell_choice c) → Told P (broken.integer_choice sight c)
+integer_choice_told P sight c h =
+    told_behind (expressions.choice_told c P sight h)
+    (told_given (typed_choice sight c) (λ x. lacking LeftOut (choice_place c) (numbers_of x)) (λ x. told_lacking LeftOut (choice_place c) (numbers_of x) (choice_stands P c h)))
+
 choice_told : (P : ℕ → Type 0) (sight : Sight) (type : ObjectType) (c : t.Choice) → Stand P (spell_choice c) → Told P (broken.choice sight type c)
+choice_told P sight Integers (t.otherwise at) h = told_refused WrongKind at h.0
+choice_told P sight Integers c h = integer_choice_told P sight c h
 choice_told P sight type (t.chosen e) h = chosen_told P sight type e h
 choice_told P sight type (t.chosen_range d direction e) h = told_refused LeftOut (start d) (start_stands P d (first P (spell d) _ h))
 choice_told P sight type (t.otherwise at) h = told_refused WrongKind at h.0
@@ -51,7 +62,7 @@ choices_told P sight type (t.chosen_range d direction e ∷ cs) h = any_choice_t
 choices_told _ sight type _ h = told_nothing
 
 pub selected_by_told : (P : ℕ → Type 0) (sight : Sight) (e : Expr) → Stand P (spell e) → Told P (broken.selected_by sight e)
-selected_by_told P sight e h = asked_told P selector sight e h
+selected_by_told P sight e h = asked_told P (selector sight.language) sight e h
 
 -- ---- the choices of a whole case
 

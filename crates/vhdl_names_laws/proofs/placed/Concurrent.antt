@@ -39,7 +39,7 @@ assignment_told P sight a h =
     let all = behind P (spell_option spell_label a.label) _ h in
     conditional_told P sight false a.target a.branches a.otherwise (first P (spell_name a.target) _ all) (first P (spell_waveforms a.branches a.otherwise) _ (behind P (spell_name a.target) _ all).1)
 
-waveform_choices : (P : ℕ → Type 0) (ws : List t.Waveform) → EachStands P spell_waveform ws → AllByRecursion (ChoicesStand P) (map (λ w. w.choices) ws)
+pub waveform_choices : (P : ℕ → Type 0) (ws : List t.Waveform) → EachStands P spell_waveform ws → AllByRecursion (ChoicesStand P) (map (λ w. w.choices) ws)
 waveform_choices P [] h = tt
 waveform_choices P (w ∷ ws) h = (list_stands P k.Bar spell_choice w.choices (behind P (spell_value w.value) _ h.0).1, waveform_choices P ws h.1)
 

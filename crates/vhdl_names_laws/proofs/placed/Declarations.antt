@@ -19,16 +19,16 @@ use Rattle.vhdl_names_rules.specs.Packages as packages
 use Rattle.vhdl_names_rules.specs.Packages.{Context, is_ieee, is_library, is_logic, is_numbers}
 use Rattle.vhdl_names_rules.specs.Subtypes as subtypes
 use Rattle.vhdl_names_rules.specs.Subtypes.{TypeClass, class_of, form_range}
-use Rattle.vhdl_names_rules.specs.Declarations.{within, within_variables, without_ports, as_kind, is_open}
+use Rattle.vhdl_names_rules.specs.Declarations.{within, within_variables, without_ports, as_kind, as_port_type, is_open}
 use Rattle.vhdl_names_rules.specs.Interfaces.{declared_names}
-use Rattle.vhdl_names_rules.specs.problems.Broken.{Broken, ◌▸◌, unless, any_of, of_any}
+use Rattle.vhdl_names_rules.specs.problems.Broken.{Broken, ◌▸◌, unless, lacking, any_of, of_any}
 use Rattle.vhdl_names_rules.specs.problems.Twice.{twice}
 use Rattle.vhdl_names_rules.specs.problems.Expressions.{static, static_condition}
 use Rattle.vhdl_names_rules.specs.problems.Declarations as broken
 use Rattle.vhdl_names_rules.specs.problems.Declarations.{library_named, package_used, generic_problem, value_of, constants_by}
 use Rattle.vhdl_names_laws.proofs.placed.Told.{Stand, EachStands, NamesStand, first, behind, Told, told_nothing, told_refused, told_unless, told_lacking, told_given, told_behind, told_if, told_any, option_told, list_stands}
 use Rattle.vhdl_names_laws.proofs.placed.Expressions.{meaning_told, static_told, static_condition_told}
-use Rattle.vhdl_names_laws.proofs.placed.Subtypes.{subtype_told, integer_subtype_told, boolean_subtype_told, fixed_value_told, default_told}
+use Rattle.vhdl_names_laws.proofs.placed.Subtypes.{subtype_told, integer_subtype_told, boolean_subtype_told, object_subtype_told, fixed_value_told, default_told}
 
 -- ---- names
 
@@ -123,9 +123,9 @@ generic_told P sight g h =
 
 typed_port_told : (P : ℕ → Type 0) (sight : Sight) (p : t.Port) → Stand P (spell_subtype p.subtype) → Stand P (spell_option spell_default p.default) → Told P (broken.typed_port sight p)
 typed_port_told P sight p s d =
-    told_behind (subtype_told P sight p.subtype s)
-    (told_given (subtypes.subtype sight p.subtype) (λ s. broken.nine_valued p.subtype.mark s ▸ of_any (value_of sight s) p.default)
-    (λ x. told_behind (nine_valued_told P p.subtype.mark x s.0) (option_told P spell_default (value_of sight x) (default_told P sight x.type (form_range x.form)) p.default d)))
+    told_behind (object_subtype_told P sight p.subtype s)
+    (told_given (subtypes.object_subtype sight p.subtype) (λ s. lacking LeftOut p.subtype.mark.at (as_port_type s.type) ▸ of_any (value_of sight s) p.default)
+    (λ x. told_behind (told_lacking LeftOut p.subtype.mark.at (as_port_type x.type) s.0) (option_told P spell_default (value_of sight x) (default_told P sight x.type (form_range x.form)) p.default d)))
 
 pub port_told : (P : ℕ → Type 0) (sight : Sight) (p : t.Port) → Stand P (spell_port p) → Told P (broken.port sight p)
 port_told P sight p h =
@@ -138,8 +138,8 @@ port_told P sight p h =
 
 object_told : (P : ℕ → Type 0) (inner : Sight) (s : t.Subtype) (v : Option t.Value) → Stand P (spell_subtype s) → Stand P (spell_option spell_default v) → Told P (broken.object inner s v)
 object_told P inner s v h g =
-    told_behind (subtype_told P inner s h)
-    (told_given (subtypes.subtype inner s) (λ x. of_any (value_of inner x) v) (λ x. option_told P spell_default (value_of inner x) (default_told P inner x.type (form_range x.form)) v g))
+    told_behind (object_subtype_told P inner s h)
+    (told_given (subtypes.object_subtype inner s) (λ x. of_any (value_of inner x) v) (λ x. option_told P spell_default (value_of inner x) (default_told P inner x.type (form_range x.form)) v g))
 
 pub signals_told : (P : ℕ → Type 0) (sight : Sight) (d : t.Signals) → Stand P (spell_signals d) → Told P (broken.signals sight d)
 signals_told P sight d h =

@@ -1,6 +1,6 @@
 -- What is told of an expression stands at a piece of it.
 use Rattle.std.proofs.Common.{ℕ, false, [], ◌++◌, Option, Some, None}
-use Rattle.std.specs.Option.{is_some}
+use Rattle.std.specs.Option.{is_some, option_or}
 use Rattle.vhdl_lexer.specs.declared.language.Language.{Language}
 use Rattle.vhdl_tree.specs.declared.operator.Operator.{Operator}
 use Rattle.vhdl_tree.specs.Tree as t
@@ -8,6 +8,7 @@ use Rattle.vhdl_tree.specs.Tree.{Expr, Exprs, Ident, Attribute}
 use Rattle.vhdl_tree.specs.Pieces.{spell_option}
 use Rattle.vhdl_tree.specs.grammar.Expressions.{spell, spell_suffix, spell_exprs, spell_more, spell_elements, spell_more_elements, spell_chosen, spell_more_chosen, spell_choice, spell_attribute, spell_discrete_range, spell_value}
 use Rattle.vhdl_names_rules.specs.declared.kind.ObjectType.{ObjectType}
+use Rattle.vhdl_names_rules.specs.declared.kind.ObjectType.TheVariants.{Booleans}
 use Rattle.vhdl_names_rules.specs.declared.fault.NameProblem.TheVariants.{TypeMismatch, LeftOut}
 use Rattle.vhdl_names_rules.specs.units.Expressions.{Range}
 use Rattle.vhdl_names_rules.specs.Rules.{wider}
@@ -15,13 +16,13 @@ use Rattle.vhdl_names_rules.specs.Visibility as visibility
 use Rattle.vhdl_names_rules.specs.Visibility.{Meaning, DeclaredRange, Declared, Sight, declaration}
 use Rattle.vhdl_names_rules.specs.Literals.{number_of, nine_of, values_of_string, values_of_bits}
 use Rattle.vhdl_names_rules.specs.Operators as o
-use Rattle.vhdl_names_rules.specs.Operators.{Typed, is_vector, as_computed, inverse, operated}
+use Rattle.vhdl_names_rules.specs.Operators.{Typed, is_vector, as_computed, inverse, truths_related, operated}
 use Rattle.vhdl_names_rules.specs.Types as types
 use Rattle.vhdl_names_rules.specs.Types.{TypedElements}
 use Rattle.vhdl_names_rules.specs.Names.{Suffix, plain, denoted, edge_signal}
 use Rattle.vhdl_names_rules.specs.Ranges.{Ranged, ranged, named_range, range_attribute, sized_by}
 use Rattle.vhdl_names_rules.specs.Expressions as are
-use Rattle.vhdl_names_rules.specs.Expressions.{as_integer, beside, in_parentheses, as_index, as_range, as_test, as_static_test, as_value, as_filled}
+use Rattle.vhdl_names_rules.specs.Expressions.{as_integer, beside, in_parentheses, as_index, as_range, as_test, as_static_test, as_value, as_filled, as_boolean}
 use Rattle.vhdl_names_rules.specs.problems.Broken.{◌▸◌, lacking, where_given}
 use Rattle.vhdl_names_rules.specs.problems.Missing.{problem_of}
 use Rattle.vhdl_names_rules.specs.problems.Places.{start}
@@ -132,13 +133,13 @@ mutual
   typed_told (t.signed sign at e) P sight h = told_behind (typed_told e P sight h.1) (computed_told P at (are.typed sight e) h.0)
   typed_told (t.binary begins op at d e) P sight h =
       let g = behind P (spell d) _ h in
+      let by : Typed → Typed → Option Typed = λ x y. option_or (operated sight.numbers at op x (beside d y)) (wider sight.language (truths_related op x y)) in
       told_behind (typed_told d P sight (first P (spell d) _ h))
       (told_behind (typed_told e P sight g.1)
-      (told_from (are.typed sight d) (λ x. where_given (are.typed sight e) (λ y. broken.operand op y x ▸ broken.operand op x y
-      ▸ lacking (operator_problem op x (beside d y)) at (operated sight.numbers at op x (beside d y))))
-      (λ x p. told_from (are.typed sight e) (λ y. broken.operand op y x ▸ broken.operand op x y ▸ lacking (operator_problem op x (beside d y)) at (operated sight.numbers at op x (beside d y)))
+      (told_from (are.typed sight d) (λ x. where_given (are.typed sight e) (λ y. broken.operand op y x ▸ broken.operand op x y ▸ lacking (operator_problem op x (beside d y)) at (by x y)))
+      (λ x p. told_from (are.typed sight e) (λ y. broken.operand op y x ▸ broken.operand op x y ▸ lacking (operator_problem op x (beside d y)) at (by x y))
       (λ y q. told_behind (operand_told P op y x (typed_holds d P sight x (first P (spell d) _ h) p))
-      (told_behind (operand_told P op x y (typed_holds e P sight y g.1 q)) (told_lacking (operator_problem op x (beside d y)) at (operated sight.numbers at op x (beside d y)) g.0))))))
+      (told_behind (operand_told P op x y (typed_holds e P sight y g.1 q)) (told_lacking (operator_problem op x (beside d y)) at (by x y) g.0))))))
   typed_told (t.aggregate at es) P sight h = elements_told es P sight (first P (spell_elements es) _ h.1)
   typed_told (t.qualified n at es) P sight h =
       let inner = first P (spell_elements es) _ h.1.1.1 in
@@ -190,7 +191,7 @@ mutual
   more_chosen_told (t.choice c cs) P sight h =
       told_behind (choice_told c P sight (first P (spell_choice c) (spell_more_chosen cs) h.1)) (more_chosen_told cs P sight (behind P (spell_choice c) (spell_more_chosen cs) h.1))
 
-  choice_told : (c : t.Choice) (P : ℕ → Type 0) (sight : Sight) → Stand P (spell_choice c) → Told P (broken.typed_choice sight c)
+  pub choice_told : (c : t.Choice) (P : ℕ → Type 0) (sight : Sight) → Stand P (spell_choice c) → Told P (broken.typed_choice sight c)
   choice_told (t.chosen e) P sight h =
       told_behind (typed_told e P sight h)
       (told_given (are.typed sight e) (λ x. lacking TypeMismatch (start e) (as_index (start e) x)) (λ x. told_lacking TypeMismatch (start e) (as_index (start e) x) (start_stands P e h)))
@@ -247,3 +248,7 @@ value_given_told P sight type r (t.others at e) h =
     let g = first P (spell e) _ h.1.1.1 in
     told_behind (typed_told e P sight g)
     (told_given (are.typed sight e) _ (λ x. told_behind (told_unless TypeMismatch at (is_vector_type type) h.0) (told_lacking TypeMismatch (start e) (as_filled type x) (start_stands P e g))))
+
+pub value_assigned_told : (P : ℕ → Type 0) (sight : Sight) (type : ObjectType) (r : Option Range) (v : t.Value) → Stand P (spell_value v) → Told P (broken.value_assigned sight type r v)
+value_assigned_told P sight Booleans r (t.single e) h = asked_told P as_boolean sight e h
+value_assigned_told P sight type r v h = value_given_told P sight type r v h

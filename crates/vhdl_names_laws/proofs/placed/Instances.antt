@@ -22,7 +22,7 @@ use Rattle.vhdl_names_rules.specs.Expressions.{as_value}
 use Rattle.vhdl_names_rules.specs.Interfaces.{EntityView, entity_named}
 use Rattle.vhdl_names_rules.specs.Statements as statements
 use Rattle.vhdl_names_rules.specs.Instances as are
-use Rattle.vhdl_names_rules.specs.Instances.{Formal, is_named, formal_of, expression_of, as_name, is_kind, may_join, is_architecture, as_component, GenericKind, GenericFormal, generic_formal, port_formal, value_as_actual}
+use Rattle.vhdl_names_rules.specs.Instances.{Formal, is_named, formal_of, expression_of, as_name, is_type, may_join, is_architecture, as_component, GenericKind, GenericFormal, generic_formal, port_formal, value_as_actual}
 use Rattle.vhdl_names_rules.specs.problems.Broken.{Broken, ◌▸◌, unless, lacking, where_given, of_any, any_of}
 use Rattle.vhdl_names_rules.specs.problems.Places.{start, association_place}
 use Rattle.vhdl_names_rules.specs.problems.Instances as broken
@@ -65,8 +65,8 @@ port_actual_told P sight f e h =
     told_behind (told_lacking LeftOut (start e) (as_name e) (start_stands P e h))
     (name_stands P e h _
     (λ n g. told_behind (actual_signal_told P sight n g)
-    (told_given (statements.signal sight n) (λ x. unless TypeMismatch n.identifier.at (is_kind f.kind x.type) ▸ unless WriteOfIn n.identifier.at (may_join f.mode x.mode))
-    (λ x. told_behind (told_unless TypeMismatch n.identifier.at (is_kind f.kind x.type) g.0) (told_unless WriteOfIn n.identifier.at (may_join f.mode x.mode) g.0)))))
+    (told_given (statements.signal sight n) (λ x. unless TypeMismatch n.identifier.at (is_type f.type x.type) ▸ unless WriteOfIn n.identifier.at (may_join f.mode x.mode))
+    (λ x. told_behind (told_unless TypeMismatch n.identifier.at (is_type f.type x.type) g.0) (told_unless WriteOfIn n.identifier.at (may_join f.mode x.mode) g.0)))))
 
 -- ---- maps
 

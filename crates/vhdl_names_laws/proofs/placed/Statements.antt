@@ -24,7 +24,7 @@ use Rattle.vhdl_names_rules.specs.problems.Statements as broken
 use Rattle.vhdl_names_rules.specs.problems.Statements.{signal_problem, variable_problem}
 use Rattle.vhdl_names_rules.specs.problems.Covered.{covered}
 use Rattle.vhdl_names_laws.proofs.placed.Told.{Stand, EachStands, first, behind, Told, told_nothing, told_unless, told_lacking, told_given, told_behind, told_any, option_told, list_stands}
-use Rattle.vhdl_names_laws.proofs.placed.Expressions.{meaning_told, no_attribute_told, typed_suffix_told, static_range_told, condition_told, value_given_told}
+use Rattle.vhdl_names_laws.proofs.placed.Expressions.{meaning_told, no_attribute_told, typed_suffix_told, static_range_told, condition_told, value_assigned_told}
 use Rattle.vhdl_names_laws.proofs.placed.Choices.{ChoicesStand, choices_told, selected_by_told, covered_told, any_alternative_told}
 
 -- ---- names of signals and variables
@@ -65,7 +65,7 @@ pub end_told : (P : ℕ → Type 0) (word : TokenKind) (label end : Option Ident
 end_told P word label end h = end_label_told P label end (first P (spell_option spell_ident end) _ h.1.1)
 
 given_told : (P : ℕ → Type 0) (sight : Sight) (x : Option Target) (v : t.Value) → Stand P (spell_value v) → Told P (broken.given sight x v)
-given_told P sight x v h = told_given x (λ x. expressions.value_given sight x.type x.range v) (λ x. value_given_told P sight x.type x.range v h)
+given_told P sight x v h = told_given x (λ x. expressions.value_assigned sight x.type x.range v) (λ x. value_assigned_told P sight x.type x.range v h)
 
 target_by_told : (P : ℕ → Type 0) (sight : Sight) (is_variable : Bool) (n : t.Name) → Stand P (spell_name n) → Told P (broken.target_by sight is_variable n)
 target_by_told P sight false n h = target_told P sight n h
@@ -114,9 +114,9 @@ pub by_selector_told : (P : ℕ → Type 0) (sight : Sight) (e : Expr) (b : Obje
     → Told P (broken.by_selector sight e b)
 by_selector_told P sight e b h one =
     told_behind (selected_by_told P sight e h)
-    (told_given (typed sight e) (λ x. where_given (selector x) (λ by. b by.0)) (λ x. told_given (selector x) (λ by. b by.0) (λ by. one by.0)))
+    (told_given (typed sight e) (λ x. where_given (selector sight.language x) (λ by. b by.0)) (λ x. told_given (selector sight.language x) (λ by. b by.0) (λ by. one by.0)))
 
-lists_stand : (P : ℕ → Type 0) (alts : t.Alternatives) → Stand P (spell_alternatives alts) → AllByRecursion (ChoicesStand P) (choice_lists alts)
+pub lists_stand : (P : ℕ → Type 0) (alts : t.Alternatives) → Stand P (spell_alternatives alts) → AllByRecursion (ChoicesStand P) (choice_lists alts)
 lists_stand P t.no_alternatives h = tt
 lists_stand P (t.alternative cs body more) h = (
   list_stands P k.Bar spell_choice cs (first P (spell_choices cs) _ (first P (spell_choices cs ++ (_ ∷ spell_statements body)) (spell_alternatives more) h.1)),

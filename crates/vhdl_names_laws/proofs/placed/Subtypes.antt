@@ -10,6 +10,7 @@ use Rattle.vhdl_tree.specs.Pieces.{spell_option}
 use Rattle.vhdl_tree.specs.grammar.Expressions.{spell, spell_suffix, spell_attribute, spell_discrete_range, spell_value}
 use Rattle.vhdl_tree.specs.grammar.Subtypes.{spell_constraint, spell_subtype, spell_default}
 use Rattle.vhdl_names_rules.specs.declared.kind.ObjectType.{ObjectType}
+use Rattle.vhdl_names_rules.specs.declared.kind.ObjectType.TheVariants.{Integers, Booleans}
 use Rattle.vhdl_names_rules.specs.declared.fault.NameProblem.TheVariants.{TypeMismatch, LeftOut}
 use Rattle.vhdl_names_rules.specs.units.Expressions.{Range}
 use Rattle.vhdl_names_rules.specs.Visibility as visibility
@@ -17,7 +18,7 @@ use Rattle.vhdl_names_rules.specs.Visibility.{Sight, declaration}
 use Rattle.vhdl_names_rules.specs.Literals.{nine_of, values_of_string, values_of_bits}
 use Rattle.vhdl_names_rules.specs.Expressions as are
 use Rattle.vhdl_names_rules.specs.Subtypes as subtypes
-use Rattle.vhdl_names_rules.specs.Subtypes.{filled_value, is_known_value, is_range}
+use Rattle.vhdl_names_rules.specs.Subtypes.{TypeClass, class_of, static_value, filled_value, is_known_value, is_range}
 use Rattle.vhdl_names_rules.specs.problems.Broken.{◌▸◌, unless, lacking, where_given}
 use Rattle.vhdl_names_rules.specs.problems.Places.{start, range_start}
 use Rattle.vhdl_names_rules.specs.problems.Operators.{string_problem}
@@ -26,7 +27,7 @@ use Rattle.vhdl_names_rules.specs.problems.Subtypes as broken
 use Rattle.vhdl_names_rules.specs.problems.Subtypes.{is_marked, mark_problem, is_index_range, is_element_type, suffixed_problem, value_of, is_character, value_start}
 use Rattle.vhdl_names_laws.proofs.placed.Told.{Stand, first, behind, Told, told_nothing, told_refused, told_unless, told_lacking, told_given, told_behind, told_if, option_told}
 use Rattle.vhdl_names_laws.proofs.placed.Starts.{start_stands, range_stands}
-use Rattle.vhdl_names_laws.proofs.placed.Expressions.{meaning_told, no_attribute_told, typed_suffix_told, static_range_told, value_given_told}
+use Rattle.vhdl_names_laws.proofs.placed.Expressions.{meaning_told, no_attribute_told, typed_suffix_told, static_range_told, asked_told, value_given_told}
 
 -- ---- types of objects
 
@@ -47,6 +48,20 @@ integer_subtype_told P sight s h =
 
 pub boolean_subtype_told : (P : ℕ → Type 0) (s : t.Subtype) → Stand P (spell_subtype s) → Told P (broken.boolean_subtype s)
 boolean_subtype_told P s h = told_unless LeftOut s.mark.at (is_none s.constraint) h.0
+
+object_by_told : (P : ℕ → Type 0) (sight : Sight) (s : t.Subtype) (c : TypeClass) → Stand P (spell_subtype s) → Told P (broken.object_by sight s c)
+object_by_told P sight s subtypes.integers h = integer_subtype_told P sight s h
+object_by_told P sight s subtypes.booleans h = boolean_subtype_told P s h
+object_by_told P sight s subtypes.others h = subtype_told P sight s h
+
+pub object_subtype_told : (P : ℕ → Type 0) (sight : Sight) (s : t.Subtype) → Stand P (spell_subtype s) → Told P (broken.object_subtype sight s)
+object_subtype_told P sight s h = by sight.language
+  where
+    by : (language : Language) → Told P (broken.object_subtype_in language sight s)
+    by Profile = subtype_told P sight s h
+    by Wide =
+        told_behind (meaning_told P sight s.mark h.0)
+        (told_given (visibility.meaning sight s.mark.text) (λ m. broken.object_by sight s (class_of m)) (λ m. object_by_told P sight s (class_of m) h))
 
 -- ---- literals as they stand
 
@@ -84,7 +99,14 @@ known_value_told P sight type r v h =
     told_behind (value_given_told P sight type r v h)
     (told_given (are.value_given sight type r v) (λ g. unless LeftOut (value_start v) (is_known_value g)) (λ g. told_unless LeftOut (value_start v) (is_known_value g) (value_stands P v h)))
 
+-- an integer, and a boolean
+static_value_told : (P : ℕ → Type 0) (sight : Sight) (type : ObjectType) (v : t.Value) → Stand P (spell_value v) → Told P (broken.static_value sight type v)
+static_value_told P sight type (t.others at e) h = told_refused TypeMismatch at h.0
+static_value_told P sight type (t.single e) h = asked_told P (static_value type) sight e h
+
 pub fixed_value_told : (P : ℕ → Type 0) (sight : Sight) (type : ObjectType) (r : Option Range) (v : t.Value) → Stand P (spell_value v) → Told P (broken.fixed_value sight type r v)
+fixed_value_told P sight Integers r v h = static_value_told P sight Integers v h
+fixed_value_told P sight Booleans r v h = static_value_told P sight Booleans v h
 fixed_value_told P sight type r v h = by sight.language
   where
     by : (language : Language) → Told P (broken.fixed_value_in language sight type r v)

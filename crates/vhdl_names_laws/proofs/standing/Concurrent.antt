@@ -14,10 +14,11 @@ use Rattle.vhdl_tree.specs.grammar.Concurrent.{spell_assignment, spell_scheme, s
 use Rattle.vhdl_names_rules.specs.units.Expressions.{SignalPart}
 use Rattle.vhdl_names_rules.specs.units.Statements as s
 use Rattle.vhdl_names_rules.specs.units.Units as u
-use Rattle.vhdl_names_rules.specs.units.Bytes.{range_bytes, static_test_bytes, place_bytes, value_bytes, statement_bytes, statements_bytes, alternatives_bytes, declaration_bytes, sensitivity_bytes, process_bytes, concurrent_bytes, concurrents_bytes}
+use Rattle.vhdl_names_rules.specs.units.Bytes.{range_bytes, static_test_bytes, place_bytes, statement_bytes, statements_bytes, declaration_bytes, sensitivity_bytes, process_bytes, concurrent_bytes, concurrents_bytes}
 use Rattle.vhdl_names_rules.specs.Rules.{◌>>=◌, each}
 use Rattle.vhdl_names_rules.specs.Visibility.{Name, Sight, with_variables, are_distinct, ends}
 use Rattle.vhdl_names_rules.specs.Expressions.{typed, static_range, condition, as_static_test}
+use Rattle.vhdl_names_rules.specs.Choices.{selecting}
 use Rattle.vhdl_names_rules.specs.Declarations.{process_declaration}
 use Rattle.vhdl_names_rules.specs.Interfaces.{EntityView}
 use Rattle.vhdl_names_rules.specs.Instances.{instance}
@@ -32,9 +33,11 @@ use Rattle.vhdl_names_rules.proofs.kept.Keeping.{mapped}
 use Rattle.vhdl_names_laws.proofs.Statics.{some_same}
 use Rattle.vhdl_names_laws.proofs.Words.{all_in_order}
 use Rattle.vhdl_names_laws.proofs.placed.Told.{Stand, EachStands, first, behind, each_stands, list_stands}
+use Rattle.vhdl_names_laws.proofs.placed.Concurrent.{waveform_choices}
 use Rattle.vhdl_names_laws.proofs.standing.Holding.{Hold, hold_both, hold_each}
 use Rattle.vhdl_names_laws.proofs.standing.Expressions.{typed_holds, static_range_holds, condition_holds, static_condition_holds}
-use Rattle.vhdl_names_laws.proofs.standing.Statements.{signal_holds, TargetHolds, target_holds, assignment_holds, alone_holds, conditional_holds, selector_holds, BodiesHold, arranged_holds, statements_hold}
+use Rattle.vhdl_names_laws.proofs.standing.Statements.{signal_holds, TargetHolds, target_holds, assignment_holds, alone_holds, conditional_holds, statements_hold}
+use Rattle.vhdl_names_laws.proofs.standing.Choices.{selector_holds, covered_holds, BodiesHold, arranged_holds, selecting_holds}
 use Rattle.vhdl_names_laws.proofs.standing.Declarations.{EachHolds, process_declaration_holds}
 use Rattle.vhdl_names_laws.proofs.standing.Instances.{instance_holds}
 
@@ -77,13 +80,12 @@ selected_holds P sight label a x h q =
     let ws = list_stands P k.Comma spell_waveform a.waveforms (first P (spell_list k.Comma spell_waveform a.waveforms) _ (behind P (spell_name a.target) _ all).1) in
     let p = selected_parts sight label a x q in
     subst (λ x. Hold P (concurrent_bytes x)) p.is
-    (assigning_holds P a.at label (s.case_of a.at p.chosen.by.value.1 p.chosen.all.value) h.0 (
-      h.0,
-      hold_both P (value_bytes p.chosen.by.value.1) (alternatives_bytes p.chosen.all.value)
-          (selector_holds P p.chosen.operand.value p.chosen.by.value (typed_holds a.selector P sight p.chosen.operand.value (first P (spell a.selector) _ h.1) p.chosen.operand.is) p.chosen.by.is)
-          (arranged_holds P p.chosen.choices.value p.chosen.bodies.value p.chosen.all.value
-          (waveforms_hold P sight p.to.value a.waveforms p.chosen.bodies.value (target_holds P sight false a.target p.to.value n p.to.is) ws p.chosen.bodies.is) p.chosen.all.is),
-    ))
+    (assigning_holds P a.at label (selecting a.at p.chosen.by.value.1 p.chosen.all.value) h.0
+    (selecting_holds P a.at p.chosen.by.value.1 p.chosen.all.value h.0
+    (selector_holds P sight.language p.chosen.operand.value p.chosen.by.value (typed_holds a.selector P sight p.chosen.operand.value (first P (spell a.selector) _ h.1) p.chosen.operand.is) p.chosen.by.is)
+    (arranged_holds P p.chosen.choices.value p.chosen.bodies.value p.chosen.all.value
+    (covered_holds P sight p.chosen.by.value.0 (map (λ (w : t.Waveform). w.choices) a.waveforms) p.chosen.choices.value (waveform_choices P a.waveforms ws) p.chosen.choices.is)
+    (waveforms_hold P sight p.to.value a.waveforms p.chosen.bodies.value (target_holds P sight false a.target p.to.value n p.to.is) ws p.chosen.bodies.is) p.chosen.all.is)))
 
 -- ---- processes
 

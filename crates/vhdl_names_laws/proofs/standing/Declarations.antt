@@ -19,8 +19,8 @@ use Rattle.vhdl_names_rules.specs.Visibility.{Declared, Sight, declared_here, de
 use Rattle.vhdl_names_rules.specs.Expressions.{static}
 use Rattle.vhdl_names_rules.specs.problems.Places.{start}
 use Rattle.vhdl_names_rules.specs.Subtypes as subtypes
-use Rattle.vhdl_names_rules.specs.Subtypes.{subtype, form_range, integer_subtype, numbers_direction, TypeClass, class_of, fixed_value, object}
-use Rattle.vhdl_names_rules.specs.Declarations.{GenericForm, static_test, generic_form, generic, as_kind, mode_of, without_ports, port, signals, variables, within, within_variables, single_expression, told_at, constants_by, constants_in, if_ranged, is_open, others_declared, as_it_was, subtype_by, subtype_in, enumeration_in, process_declaration}
+use Rattle.vhdl_names_rules.specs.Subtypes.{subtype, object_subtype, form_range, integer_subtype, numbers_direction, TypeClass, class_of, fixed_value, object}
+use Rattle.vhdl_names_rules.specs.Declarations.{GenericForm, static_test, generic_form, generic, as_kind, as_port_type, mode_of, without_ports, port, signals, variables, within, within_variables, single_expression, told_at, constants_by, constants_in, if_ranged, is_open, others_declared, as_it_was, subtype_by, subtype_in, enumeration_in, process_declaration}
 use Rattle.vhdl_names_rules.specs.Interfaces.{EntityView, component}
 use Rattle.vhdl_names_rules.specs.Files as files
 use Rattle.vhdl_names_rules.proofs.laws.Rules.{comes, kept}
@@ -31,7 +31,7 @@ use Rattle.vhdl_names_laws.proofs.placed.Told.{Stand, NamesStand, first, behind,
 use Rattle.vhdl_names_laws.proofs.placed.Starts.{start_stands}
 use Rattle.vhdl_names_laws.proofs.standing.Holding.{Hold, hold_both}
 use Rattle.vhdl_names_laws.proofs.standing.Expressions.{static_holds}
-use Rattle.vhdl_names_laws.proofs.standing.Values.{subtype_holds, form_range_holds, integer_subtype_holds, fixed_value_holds, default_holds, test_holds}
+use Rattle.vhdl_names_laws.proofs.standing.Values.{subtype_holds, object_subtype_holds, form_range_holds, integer_subtype_holds, fixed_value_holds, default_holds, test_holds}
 
 -- ---- the names of one declaration
 
@@ -105,10 +105,10 @@ port_holds P sight p x h q =
     let names = behind P (spell_word k.Signal p.signal_word) _ h in
     let type = behind P (spell_option spell_mode p.mode) _ (behind P (spell_idents p.names) _ names).1 in
     let inner = without_ports sight in
-    let a = comes (subtype inner p.subtype) _ x q in
-    let b = comes (as_kind a.value.type) _ x a.rest in
+    let a = comes (object_subtype inner p.subtype) _ x q in
+    let b = comes (as_port_type a.value.type) _ x a.rest in
     let c = comes (if_any (fixed_value inner a.value.type (form_range a.value.form)) p.default) _ x b.rest in
-    let f = subtype_holds P inner p.subtype a.value (first P (spell_subtype p.subtype) _ type) a.is in
+    let f = object_subtype_holds P inner p.subtype a.value (first P (spell_subtype p.subtype) _ type) a.is in
     let d = default_holds P inner a.value.type (form_range a.value.form) p.default c.value (form_range_holds P a.value.form f) (behind P (spell_subtype p.subtype) _ type) c.is in
     let make : Ident → u.Port = λ n. record { mode = mode_of p.mode; object = object a.value c.value n } in
     subst (λ (x : Declares u.Port). EachHolds P port_bytes x.analysed) (some_same _ x c.rest)
@@ -122,9 +122,9 @@ signals_hold : (P : ℕ → Type 0) (sight : Sight) (d : t.Signals) (x : Declare
 unfolding signals
 signals_hold P sight d x h q =
     let type = (behind P (spell_idents d.names) _ h.1).1 in
-    let a = comes (subtype (within sight d.names) d.subtype) _ x q in
+    let a = comes (object_subtype (within sight d.names) d.subtype) _ x q in
     let c = comes (if_any (fixed_value (within sight d.names) a.value.type (form_range a.value.form)) d.default) _ x a.rest in
-    let f = subtype_holds P (within sight d.names) d.subtype a.value (first P (spell_subtype d.subtype) _ type) a.is in
+    let f = object_subtype_holds P (within sight d.names) d.subtype a.value (first P (spell_subtype d.subtype) _ type) a.is in
     let v = default_holds P (within sight d.names) a.value.type (form_range a.value.form) d.default c.value (form_range_holds P a.value.form f) (first P (spell_option spell_default d.default) _ (behind P (spell_subtype d.subtype) _ type)) c.is in
     subst (λ (x : Declares u.Declaration). EachHolds P declaration_bytes x.analysed) (some_same _ x c.rest)
     (each_name P declaration_bytes (λ n. u.Declaration.signal (object a.value c.value n)) (λ n w. (w, hold_both P (form_bytes a.value.form) (if_any_bytes fixed_bytes c.value) f v)) d.names
@@ -135,9 +135,9 @@ variables_hold : (P : ℕ → Type 0) (sight : Sight) (d : t.Variables) (x : Dec
 unfolding variables
 variables_hold P sight d x h q =
     let type = (behind P (spell_idents d.names) _ h.1).1 in
-    let a = comes (subtype (within_variables sight d.names) d.subtype) _ x q in
+    let a = comes (object_subtype (within_variables sight d.names) d.subtype) _ x q in
     let c = comes (if_any (fixed_value (within_variables sight d.names) a.value.type (form_range a.value.form)) d.default) _ x a.rest in
-    let f = subtype_holds P (within_variables sight d.names) d.subtype a.value (first P (spell_subtype d.subtype) _ type) a.is in
+    let f = object_subtype_holds P (within_variables sight d.names) d.subtype a.value (first P (spell_subtype d.subtype) _ type) a.is in
     let v =
     default_holds P (within_variables sight d.names) a.value.type (form_range a.value.form) d.default c.value (form_range_holds P a.value.form f) (first P (spell_option spell_default d.default) _ (behind P (spell_subtype d.subtype) _ type)) c.is in
     subst (λ (x : Declares u.Declaration). EachHolds P declaration_bytes x.analysed) (some_same _ x c.rest)
@@ -209,9 +209,8 @@ module _ (P : ℕ → Type 0) (inner : Sight) (before : List Declared) where
   ranged_hold f (Some x) h = (h x refl, tt)
 
   form_some : (f : Form) (r : Range) → Hold P (form_bytes f) → form_range f ≡ Some r → Hold P (range_bytes r)
-  form_some u.element r h q = absurd cc
   form_some (u.vector x) r h q = subst (λ r. Hold P (range_bytes r)) (some_same x r q) h
-  form_some (u.enumeration count) r h q = absurd cc
+  form_some _ r h q = absurd cc
 
   subtype_by_holds : (d : t.SubtypeDeclaration) (mark : Declared) (class : TypeClass) (x : Declares u.Declaration) → P d.name.at → Stand P (spell_subtype d.subtype)
       → subtype_by inner before d mark class ≡ Some x → AllHold x

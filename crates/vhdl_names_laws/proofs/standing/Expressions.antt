@@ -12,7 +12,7 @@ use Rattle.vhdl_tree.specs.grammar.Expressions.{spell, spell_suffix, spell_exprs
 use Rattle.vhdl_names_rules.specs.declared.kind.ElementKind.{ElementKind}
 use Rattle.vhdl_names_rules.specs.declared.kind.ElementKind.TheVariants.{Element, OpenVector}
 use Rattle.vhdl_names_rules.specs.declared.kind.ObjectType.{ObjectType}
-use Rattle.vhdl_names_rules.specs.declared.kind.ObjectType.TheVariants.{Elements, Enumeration}
+use Rattle.vhdl_names_rules.specs.declared.kind.ObjectType.TheVariants.{Elements, Enumeration, Integers, Booleans}
 use Rattle.vhdl_names_rules.specs.units.Expressions as e
 use Rattle.vhdl_names_rules.specs.units.Expressions.{Static, Range, Index, StaticTest, Test}
 use Rattle.vhdl_names_rules.specs.units.Statements as s
@@ -32,7 +32,8 @@ use Rattle.vhdl_names_rules.specs.Ranges.{declared_range, sized_by}
 use Rattle.vhdl_names_rules.specs.Local.{is_local}
 use Rattle.vhdl_names_rules.specs.Aggregates.{is_named, aggregate}
 use Rattle.vhdl_names_rules.specs.problems.Places.{start}
-use Rattle.vhdl_names_rules.specs.Expressions.{as_integer, signed, absolute, sliced, enclosed, in_parentheses, beside, is_one_name, suffix_of, fits, qualified_by, as_index, typed, typed_suffix, typed_each, typed_elements, typed_choices, typed_choice, static, as_range, static_range, as_test, condition, as_static_test, as_aggregate, as_composite, as_value, as_filled, value_given}
+use Rattle.vhdl_names_rules.specs.Expressions as to
+use Rattle.vhdl_names_rules.specs.Expressions.{as_integer, signed, absolute, sliced, enclosed, in_parentheses, beside, is_one_name, suffix_of, fits, qualified_by, as_index, typed, typed_suffix, typed_each, typed_elements, typed_choices, typed_choice, static, as_range, static_range, as_test, condition, as_static_test, as_aggregate, as_composite, as_value, as_filled, value_given, Assigned, truth_of, as_boolean, value_assigned}
 use Rattle.vhdl_names_rules.proofs.laws.Rules.{comes, kept}
 use Rattle.vhdl_names_laws.proofs.Statics.{some_same}
 use Rattle.vhdl_names_laws.proofs.Shapes.{given}
@@ -41,7 +42,7 @@ use Rattle.vhdl_names_laws.proofs.placed.Told.{Stand, first, behind}
 use Rattle.vhdl_names_laws.proofs.placed.Starts.{start_stands}
 use Rattle.vhdl_names_laws.proofs.standing.Holding.{Hold, hold_both, ChoiceHolds, TypedHolds, ElementsHold, SuffixHolds}
 use Rattle.vhdl_names_laws.proofs.standing.Aggregates.{aggregate_holds}
-use Rattle.vhdl_names_laws.proofs.standing.Operators.{inverse_holds, as_computed_holds, raised_holds, operated_holds}
+use Rattle.vhdl_names_laws.proofs.standing.Operators.{inverse_holds, as_computed_holds, raised_holds, binary_holds}
 use Rattle.vhdl_names_laws.proofs.standing.Names.{sized_holds, named_holds}
 
 as_integer_holds : (P : ℕ → Type 0) (y : Typed) (s : Static) → TypedHolds P y → as_integer y ≡ Some s → Hold P (static_bytes s)
@@ -162,8 +163,8 @@ mutual
       let g = behind P (spell d) _ h in
       let a = comes (typed sight d) _ y q in
       let b = comes (typed sight f) _ y a.rest in
-      operated_holds P at g.0 sight.numbers op a.value (beside d b.value) y (typed_holds d P sight a.value (first P (spell d) _ h) a.is)
-      (beside_holds P d b.value (typed_holds f P sight b.value g.1 b.is)) b.rest
+      let right = typed_holds f P sight b.value g.1 b.is in
+      binary_holds P at g.0 sight.language sight.numbers op a.value b.value (beside d b.value) y (typed_holds d P sight a.value (first P (spell d) _ h) a.is) right (beside_holds P d b.value right) b.rest
   typed_holds (t.aggregate at es) P sight y h q =
       let a = mapped (o.composite at) (typed_elements sight es) y q in
       subst (TypedHolds P) a.is (h.0, elements_hold es P sight a.value (first P (spell_elements es) _ h.1) a.from)
@@ -243,7 +244,7 @@ mutual
       subst (AllByRecursion (ChoiceHolds P)) (some_same (a.value ∷ b.value) ys b.rest)
       (choice_holds c P sight a.value (first P (spell_choice c) (spell_more_chosen cs) h.1) a.is, more_chosen_hold cs P sight b.value (behind P (spell_choice c) (spell_more_chosen cs) h.1) b.is)
 
-  choice_holds : (c : t.Choice) (P : ℕ → Type 0) (sight : Sight) (y : TypedChoice) → Stand P (spell_choice c) → typed_choice sight c ≡ Some y → ChoiceHolds P y
+  pub choice_holds : (c : t.Choice) (P : ℕ → Type 0) (sight : Sight) (y : TypedChoice) → Stand P (spell_choice c) → typed_choice sight c ≡ Some y → ChoiceHolds P y
   choice_holds (t.chosen d) P sight y h q =
       let a = comes (typed sight d) _ y q in
       let b = comes (as_index (start d) a.value) _ y a.rest in
@@ -324,7 +325,7 @@ as_composite_holds : (P : ℕ → Type 0) (type : ObjectType) (at : ℕ) (r : Op
     → as_composite type at r es ≡ Some g → Hold P (given_bytes g)
 as_composite_holds P (Elements k) at r (types.element (types.others p ∷ []) z y types.no_elements) g h f w q = as_filled_holds P (Elements k) y g w.1 q
 as_composite_holds P (Elements k) at r es g h f w q = as_aggregate_holds P k at r es g h f w q
-as_composite_holds P (Enumeration n count) at r es g h f w q = absurd cc
+as_composite_holds _ _ at r es g h f w q = absurd cc
 
 pub as_value_holds : (P : ℕ → Type 0) (type : ObjectType) (r : Option Range) (y : Typed) (g : Given) → Hold P (if_any_bytes range_bytes r) → TypedHolds P y → as_value type r y ≡ Some g
     → Hold P (given_bytes g)
@@ -335,6 +336,9 @@ as_value_holds P (Enumeration d count) r (o.enumerated c size y) g f h q =
     let a = given _ (s.single y) g q in
     subst (λ g. Hold P (given_bytes g)) a.is h
 as_value_holds P type r (o.composite at es) g f h q = as_composite_holds P type at r es g h.0 f h.1 q
+as_value_holds P Integers r y g f h q =
+    let a = mapped (λ j. s.single (e.Value.computed j)) (as_computed y) g q in
+    subst (λ g. Hold P (given_bytes g)) a.is (as_computed_holds P y a.value h a.from)
 as_value_holds _ _ r _ g f h q = absurd cc
 
 pub value_given_holds : (P : ℕ → Type 0) (sight : Sight) (type : ObjectType) (r : Option Range) (w : t.Value) (g : Given) → Hold P (if_any_bytes range_bytes r) → Stand P (spell_value w)
@@ -346,3 +350,24 @@ value_given_holds P sight type r (t.single d) g f h q =
 value_given_holds P sight type r (t.others at d) g f h q =
     let a = comes (typed sight d) (as_filled type) g q in
     as_filled_holds P type a.value g (typed_holds d P sight a.value (first P (spell d) _ h.1.1.1) a.is) a.rest
+
+-- ---- what statements assign
+
+abbrev pub AssignedHolds : (ℕ → Type 0) → Assigned → Type 0
+AssignedHolds P (to.given g) = Hold P (given_bytes g)
+AssignedHolds P (truth_of t) = Hold P (test_bytes t)
+
+as_boolean_holds : (P : ℕ → Type 0) (y : Typed) (a : Assigned) → TypedHolds P y → as_boolean y ≡ Some a → AssignedHolds P a
+as_boolean_holds P (o.truth (e.Test.fixed t)) a h q = subst (AssignedHolds P) (some_same (to.given (s.single (e.static_truth t))) a q) h
+as_boolean_holds P (o.truth t) a h q = subst (AssignedHolds P) (some_same (truth_of t) a q) h
+as_boolean_holds P _ a h q = absurd cc
+
+pub value_assigned_holds : (P : ℕ → Type 0) (sight : Sight) (type : ObjectType) (r : Option Range) (w : t.Value) (a : Assigned) → Hold P (if_any_bytes range_bytes r) → Stand P (spell_value w)
+    → value_assigned sight type r w ≡ Some a → AssignedHolds P a
+unfolding value_assigned
+value_assigned_holds P sight Booleans r (t.single d) a f h q =
+    let b = comes (typed sight d) as_boolean a q in
+    as_boolean_holds P b.value a (typed_holds d P sight b.value h b.is) b.rest
+value_assigned_holds P sight type r w a f h q =
+    let m = mapped to.given (value_given sight type r w) a q in
+    subst (AssignedHolds P) m.is (value_given_holds P sight type r w m.value f h m.from)

@@ -16,6 +16,14 @@ Hold P = AllByRecursion P
 pub hold_both : (P : ℕ → Type 0) (xs ys : List ℕ) → Hold P xs → Hold P ys → Hold P (xs ++ ys)
 hold_both P xs ys h g = all_of_both P xs ys h g
 
+pub first_part : (P : ℕ → Type 0) (xs ys : List ℕ) → Hold P (xs ++ ys) → Hold P xs
+first_part P [] ys h = tt
+first_part P (x ∷ xs) ys h = (h.0, first_part P xs ys h.1)
+
+pub last_part : (P : ℕ → Type 0) (xs ys : List ℕ) → Hold P (xs ++ ys) → Hold P ys
+last_part P [] ys h = h
+last_part P (x ∷ xs) ys h = last_part P xs ys h.1
+
 pub hold_each : {A : Type 0} (P : ℕ → Type 0) (f : A → List ℕ) (xs : List A) → AllByRecursion (λ x. Hold P (f x)) xs → Hold P (flat_map f xs)
 hold_each P f [] h = tt
 hold_each P f (x ∷ xs) h = hold_both P (f x) (flat_map f xs) h.0 (hold_each P f xs h.1)

@@ -28,7 +28,7 @@ use Rattle.vhdl_names_rules.specs.Declarations.{static_test}
 use Rattle.vhdl_names_rules.specs.Statements.{signal}
 use Rattle.vhdl_names_rules.specs.Interfaces.{EntityView}
 use Rattle.vhdl_names_rules.specs.Instances as n
-use Rattle.vhdl_names_rules.specs.Instances.{Formal, GenericKind, GenericFormal, generic_formal, aggregate_actual, value_as_actual, generic_actual, generic_actuals, port_formal, positional_first, formals_of, expression_of, actual_of, associated, as_name, is_kind, may_join, port_actual, port_actuals, instance}
+use Rattle.vhdl_names_rules.specs.Instances.{Formal, GenericKind, GenericFormal, generic_formal, aggregate_actual, value_as_actual, generic_actual, generic_actuals, port_formal, positional_first, formals_of, expression_of, actual_of, associated, as_name, is_type, may_join, port_actual, port_actuals, instance}
 use Rattle.vhdl_names_rules.proofs.laws.Rules.{comes, kept}
 use Rattle.vhdl_names_rules.proofs.laws.Parts.{instance_parts}
 use Rattle.vhdl_names_laws.proofs.Statics.{some_same}
@@ -131,7 +131,7 @@ unfolding port_actual
 place_holds P sight f d z h q =
     let a = comes (as_name d) _ z q in
     let b = comes (signal sight a.value) _ z a.rest in
-    let c = kept (is_kind f.kind b.value.type) _ z b.rest in
+    let c = kept (is_type f.type b.value.type) _ z b.rest in
     let m = kept (may_join f.mode b.value.mode) _ z c.1 in
     subst (λ z. Hold P (place_bytes z)) (some_same b.value.place z m.1) (signal_holds P sight a.value b.value (name_stands P d a.value h a.is) b.is).place
 

@@ -1,6 +1,6 @@
 -- What a name denotes has the bytes of the name and of what follows it.
-use Rattle.std.proofs.Common.{◌≡◌, ℕ, Bool, true, false, not, List, [], ◌∷◌, ◌++◌, Option, Some, None, refl, sym, subst, cond}
-use Rattle.std.specs.Prelude.{codes, if◌then◌else◌}
+use Rattle.std.proofs.Common.{◌≡◌, ℕ, Bool, true, false, not, List, [], ◌∷◌, Option, Some, None, refl, sym, subst, cond}
+use Rattle.std.specs.Prelude.{codes}
 use Rattle.std.specs.Option.{option_map}
 use Rattle.std.specs.Str.{bytes_eq}
 use Rattle.vhdl_values.specs.declared.kinds.Counted.{Counted}
@@ -12,7 +12,7 @@ use Rattle.vhdl_tree.specs.Tree.{Attribute}
 use Rattle.vhdl_names_rules.specs.declared.kind.ElementKind.{ElementKind}
 use Rattle.vhdl_names_rules.specs.declared.kind.ElementKind.TheVariants.{Element, LogicVector, Unsigned, OpenVector}
 use Rattle.vhdl_names_rules.specs.declared.kind.ObjectType.{ObjectType}
-use Rattle.vhdl_names_rules.specs.declared.kind.ObjectType.TheVariants.{Elements, Enumeration}
+use Rattle.vhdl_names_rules.specs.declared.kind.ObjectType.TheVariants.{Elements, Enumeration, Integers, Booleans}
 use Rattle.vhdl_names_rules.specs.declared.kind.Function.{Function}
 use Rattle.vhdl_names_rules.specs.declared.kind.Function.TheVariants.{EdgeCall, ByCount, ToUnsigned, ToInteger}
 use Rattle.vhdl_names_rules.specs.declared.operator.Bound.{Bound}
@@ -29,7 +29,7 @@ use Rattle.vhdl_names_rules.specs.Operators as o
 use Rattle.vhdl_names_rules.specs.Operators.{Typed}
 use Rattle.vhdl_names_rules.specs.Known.{is_known}
 use Rattle.vhdl_names_rules.specs.Names as n
-use Rattle.vhdl_names_rules.specs.Names.{Suffix, AnyPart, part, part_of, chosen, any_part, any_part_of, if_plain, read_by, signal_part, variable_part, constant_part, converted, is_static_part, edge_signal, edge_of, counted, encoding, number_of, called, denoted, attributed}
+use Rattle.vhdl_names_rules.specs.Names.{Suffix, AnyPart, part, part_of, chosen, any_part, any_part_of, if_plain, read_by, signal_part, variable_part, constant_part, converted, is_static_part, edge_signal, edge_of, counted, encoding, number_of, called, read_object, read_variable, denoted, attributed}
 use Rattle.vhdl_names_rules.specs.Ranges as r
 use Rattle.vhdl_names_rules.specs.Ranges.{Ranged, whole, sliced, ranged, bound_of, least, type_bound, integers_bound, bound, bound_named, declared_range, reversed, range_of, is_reverse_range, named_range, range_attribute, sized_by}
 use Rattle.vhdl_names_rules.specs.Expressions.{named}
@@ -37,7 +37,7 @@ use Rattle.vhdl_names_rules.proofs.laws.Rules.{comes, kept}
 use Rattle.vhdl_names_laws.proofs.Statics.{some_same}
 use Rattle.vhdl_names_laws.proofs.Shapes.{given, of_either, wider_is}
 use Rattle.vhdl_names_rules.proofs.kept.Keeping.{mapped}
-use Rattle.vhdl_names_laws.proofs.standing.Holding.{Hold, hold_both, TypedHolds, SuffixHolds}
+use Rattle.vhdl_names_laws.proofs.standing.Holding.{Hold, hold_both, first_part, last_part, TypedHolds, SuffixHolds}
 
 module _ (P : ℕ → Type 0) where
   -- ---- parts of an object
@@ -61,7 +61,7 @@ module _ (P : ℕ → Type 0) where
   part_of_holds (Elements k) s p t g =
       let a = mapped (λ (q : Part × ElementKind). (q.0, Elements q.1)) (part k s) p g in
       subst (λ (q : Part × ObjectType). Hold P (part_bytes q.0)) a.is (part_holds k s a.value t a.from)
-  part_of_holds (Enumeration d count) n.plain p t g = subst (λ (q : Part × ObjectType). Hold P (part_bytes q.0)) (some_same (e.whole, Enumeration d count) p g) tt
+  part_of_holds type n.plain p t g = subst (λ (q : Part × ObjectType). Hold P (part_bytes q.0)) (some_same (e.whole, type) p g) tt
   part_of_holds _ _ p t g = absurd cc
 
   -- ---- parts of which a run chooses some
@@ -92,7 +92,7 @@ module _ (P : ℕ → Type 0) where
   any_part_of_holds (Elements k) s p t g =
       let a = mapped (λ (q : AnyPart × ElementKind). (q.0, Elements q.1)) (any_part k s) p g in
       subst (λ (q : AnyPart × ObjectType). Hold P (any_part_bytes q.0)) a.is (any_part_holds k s a.value t a.from)
-  any_part_of_holds (Enumeration d count) n.plain p t g = subst (λ (q : AnyPart × ObjectType). Hold P (any_part_bytes q.0)) (some_same (n.fixed e.whole, Enumeration d count) p g) tt
+  any_part_of_holds type n.plain p t g = subst (λ (q : AnyPart × ObjectType). Hold P (any_part_bytes q.0)) (some_same (n.fixed e.whole, type) p g) tt
   any_part_of_holds _ _ p t g = absurd cc
 
   -- ---- objects that are read
@@ -118,6 +118,19 @@ module _ (P : ℕ → Type 0) where
   plain_holds : (s : Suffix) (x y : Typed) → TypedHolds P x → if_plain s x ≡ Some y → TypedHolds P y
   plain_holds n.plain x y h g = subst (TypedHolds P) (some_same x y g) h
   plain_holds _ x y h g = absurd cc
+
+  -- a signal or port, and a variable, of any type
+  object_holds : (at : ℕ) → P at → (x : Signal) (type : ObjectType) (s : Suffix) (y : Typed) → SuffixHolds P s → read_object at x type s ≡ Some y → TypedHolds P y
+  object_holds at h x (Elements kind) s y t g = read_holds at (signal_part at x) (signal_part_bytes at x) h kind s y t g
+  object_holds at h x (Enumeration d count) s y t g = plain_holds s (o.enumerated d count (e.state_of x)) y tt g
+  object_holds at h x Integers s y t g = plain_holds s (o.computed (e.signal_number x)) y tt g
+  object_holds at h x Booleans s y t g = plain_holds s (n.is_true at (signal_part at x (n.fixed e.whole))) y (h, (h, tt)) g
+
+  variable_holds : (at : ℕ) → P at → (k : ℕ) (type : ObjectType) (s : Suffix) (y : Typed) → SuffixHolds P s → read_variable at k type s ≡ Some y → TypedHolds P y
+  variable_holds at h k (Elements kind) s y t g = read_holds at (variable_part at k) (variable_part_bytes at k) h kind s y t g
+  variable_holds at h k (Enumeration d count) s y t g = plain_holds s (o.enumerated d count (e.state_of_variable k)) y tt g
+  variable_holds at h k Integers s y t g = plain_holds s (o.computed (e.variable_number k)) y tt g
+  variable_holds at h k Booleans s y t g = plain_holds s (n.is_true at (variable_part at k (n.fixed e.whole))) y (h, (h, tt)) g
 
   -- ---- conversions and calls
 
@@ -175,12 +188,10 @@ module _ (P : ℕ → Type 0) where
   denoted_holds at h (visibility.loop_parameter k) s y t g = plain_holds s (o.integer (e.loop_parameter k)) y tt g
   denoted_holds at h (visibility.boolean_generic k) s y t g = plain_holds s (n.known at (e.generic k)) y (h, tt) g
   denoted_holds at h (visibility.boolean_constant k) s y t g = plain_holds s (n.known at (e.Static.constant k)) y (h, tt) g
-  denoted_holds at h (visibility.boolean_literal b) s y t g = plain_holds s (n.known at (e.number (if b then 1 else 0))) y (h, tt) g
-  denoted_holds at h (visibility.port k mode kind) s y t g = read_holds at (signal_part at (e.port k)) (signal_part_bytes at (e.port k)) h kind s y t g
-  denoted_holds at h (visibility.signal k (Elements kind)) s y t g = read_holds at (signal_part at (e.Signal.signal k)) (signal_part_bytes at (e.Signal.signal k)) h kind s y t g
-  denoted_holds at h (visibility.signal k (Enumeration d count)) s y t g = plain_holds s (o.enumerated d count (e.state_of (e.Signal.signal k))) y tt g
-  denoted_holds at h (visibility.variable k (Elements kind)) s y t g = read_holds at (variable_part at k) (variable_part_bytes at k) h kind s y t g
-  denoted_holds at h (visibility.variable k (Enumeration d count)) s y t g = plain_holds s (o.enumerated d count (e.state_of_variable k)) y tt g
+  denoted_holds at h (visibility.boolean_literal b) s y t g = plain_holds s (n.known at (e.number (n.position_of b))) y (h, tt) g
+  denoted_holds at h (visibility.port k mode type) s y t g = object_holds at h (e.port k) type s y t g
+  denoted_holds at h (visibility.signal k type) s y t g = object_holds at h (e.Signal.signal k) type s y t g
+  denoted_holds at h (visibility.variable k type) s y t g = variable_holds at h k type s y t g
   denoted_holds at h (visibility.constant k kind values) s y t g = read_holds at (constant_part at k) (constant_part_bytes at k) h kind s y t g
   denoted_holds at h (visibility.literal d count p) s y t g = plain_holds s (o.enumerated d count (e.Value.position p)) y tt g
   denoted_holds at h (visibility.vector_type k r) s y t g = converted_holds k s y t g
@@ -223,17 +234,17 @@ module _ (P : ℕ → Type 0) where
   same_static : (x y : Static) → Some x ≡ Some y → Hold P (static_bytes x) → Hold P (static_bytes y)
   same_static x y h f = subst (λ s. Hold P (static_bytes s)) (some_same x y h) f
 
-  least_holds : (at : ℕ) (w : IntegerType) → P at → Hold P (static_bytes (least at w))
-  least_holds at Integer h = (h, tt)
-  least_holds at Natural h = tt
-  least_holds at Positive h = tt
+  least_holds : (w : IntegerType) → Hold P (static_bytes (least w))
+  least_holds Integer = tt
+  least_holds Natural = tt
+  least_holds Positive = tt
 
-  type_bound_holds : (at : ℕ) (b : Bound) (w : IntegerType) (s : Static) → P at → type_bound at b w ≡ Some s → Hold P (static_bytes s)
-  type_bound_holds at Left w s h g = same_static (least at w) s g (least_holds at w h)
-  type_bound_holds at Low w s h g = same_static (least at w) s g (least_holds at w h)
-  type_bound_holds at Right w s h g = same_static _ s g tt
-  type_bound_holds at High w s h g = same_static _ s g tt
-  type_bound_holds at Length w s h g = absurd cc
+  type_bound_holds : (b : Bound) (w : IntegerType) (s : Static) → type_bound b w ≡ Some s → Hold P (static_bytes s)
+  type_bound_holds Left w s g = same_static (least w) s g (least_holds w)
+  type_bound_holds Low w s g = same_static (least w) s g (least_holds w)
+  type_bound_holds Right w s g = same_static _ s g tt
+  type_bound_holds High w s g = same_static _ s g tt
+  type_bound_holds Length w s g = absurd cc
 
   integers_bound_holds : (b : Bound) (d : DeclaredRange) (s : Static) → integers_bound b d ≡ Some s → Hold P (static_bytes s)
   integers_bound_holds Length d s g = absurd cc
@@ -243,7 +254,7 @@ module _ (P : ℕ → Type 0) where
   integers_bound_holds Low d s g = same_static (e.bound Low d.number) s g tt
 
   bound_holds : (at : ℕ) (b : Bound) (y : Ranged) (s : Static) → P at → RangedHolds y → bound at b y ≡ Some s → Hold P (static_bytes s)
-  bound_holds at b (r.of_type w) s h f g = type_bound_holds at b w s h g
+  bound_holds at b (r.of_type w) s h f g = type_bound_holds b w s g
   bound_holds at b (r.of_integers d) s h f g = integers_bound_holds b d s g
   bound_holds at b (r.of_vector d) s h f g = same_static (e.bound b d.number) s g tt
   bound_holds at b (r.of_slice d x) s h f g = same_static (e.slice_bound at b d.number x.left x.direction x.right) s g (h, f)
@@ -253,17 +264,9 @@ module _ (P : ℕ → Type 0) where
   range_of_holds (r.of_vector d) x g = subst (λ x. Hold P (range_bytes x)) (some_same (declared_range d) x g) tt
   range_of_holds _ x g = absurd cc
 
-  first_part : (xs ys : List ℕ) → Hold P (xs ++ ys) → Hold P xs
-  first_part [] ys h = tt
-  first_part (x ∷ xs) ys h = (h.0, first_part xs ys h.1)
-
-  last_part : (xs ys : List ℕ) → Hold P (xs ++ ys) → Hold P ys
-  last_part [] ys h = h
-  last_part (x ∷ xs) ys h = last_part xs ys h.1
-
   reversed_holds : (x : Range) → Hold P (range_bytes x) → Hold P (range_bytes (reversed x))
   reversed_holds x h =
-      hold_both P (static_bytes x.right) (static_bytes x.left) (last_part (static_bytes x.left) (static_bytes x.right) h) (first_part (static_bytes x.left) (static_bytes x.right) h)
+      hold_both P (static_bytes x.right) (static_bytes x.left) (last_part P (static_bytes x.left) (static_bytes x.right) h) (first_part P (static_bytes x.left) (static_bytes x.right) h)
 
   -- the range of a subtype of integers
   module _ (nm : Name) (b : Bool) (x : Range) where

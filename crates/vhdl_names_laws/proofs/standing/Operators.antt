@@ -1,6 +1,9 @@
 -- An operator makes of operands whose bytes stand a thing whose bytes stand, where it stands itself.
 use Rattle.std.proofs.Common.{◌≡◌, ℕ, Bool, true, false, ◌==◌, ◌∷◌, ◌++◌, Some, None, refl, sym, subst}
+use Rattle.std.specs.Option.{option_or}
+use Rattle.vhdl_lexer.specs.declared.language.Language.{Language}
 use Rattle.vhdl_values.specs.declared.kinds.Logic.{Logic}
+use Rattle.vhdl_values.specs.declared.kinds.Logic.TheVariants.{Xor, Xnor}
 use Rattle.vhdl_values.specs.declared.kinds.Cmp.{Cmp}
 use Rattle.vhdl_tree.specs.declared.operator.Operator.{Operator}
 use Rattle.vhdl_tree.specs.declared.operator.Operator.TheVariants as op
@@ -13,11 +16,11 @@ use Rattle.vhdl_names_rules.specs.declared.operator.VectorOperator.TheVariants a
 use Rattle.vhdl_names_rules.specs.units.Expressions as e
 use Rattle.vhdl_names_rules.specs.units.Expressions.{Computed, Vector, Value, Test}
 use Rattle.vhdl_names_rules.specs.units.Bytes.{static_bytes, static_test_bytes, computed_bytes, vector_bytes, value_bytes, test_bytes}
-use Rattle.vhdl_names_rules.specs.Rules.{◌>>=◌, met, then_some}
+use Rattle.vhdl_names_rules.specs.Rules.{◌>>=◌, met, then_some, wider}
 use Rattle.vhdl_names_rules.specs.Operators as o
-use Rattle.vhdl_names_rules.specs.Operators.{Typed, common_kind, joined_kind, is_number, are_numbers, binary, both, negated, logical, inverse, concatenated, as_computed, computes, raised, integral, arithmetic, integers_compared, compares, equal_by, equality, ordering, operated, beside_vector}
+use Rattle.vhdl_names_rules.specs.Operators.{Typed, common_kind, joined_kind, is_number, are_numbers, binary, both, negated, logical, inverse, concatenated, as_computed, computes, raised, integral, arithmetic, integers_compared, compares, equal_by, equality, ordering, truths_related, operated, beside_vector}
 use Rattle.vhdl_names_laws.proofs.Statics.{some_same}
-use Rattle.vhdl_names_laws.proofs.Shapes.{Given, given}
+use Rattle.vhdl_names_laws.proofs.Shapes.{Given, given, of_either, wider_is}
 use Rattle.vhdl_names_rules.proofs.kept.Keeping.{mapped}
 use Rattle.vhdl_names_laws.proofs.standing.Holding.{Hold, hold_both, TypedHolds, ElementsHold}
 use Rattle.vhdl_names_laws.proofs.standing.Aggregates.{aggregate_holds}
@@ -33,7 +36,7 @@ module _ (P : ℕ → Type 0) where
   both_hold op (e.Test.fixed s) t h k = hold_both P (static_test_bytes s) (test_bytes t) h k
   both_hold op s t h k = hold_both P (test_bytes s) (test_bytes t) h k
 
-  negated_hold : (t : Test) → Hold P (test_bytes t) → Hold P (test_bytes (negated t))
+  pub negated_hold : (t : Test) → Hold P (test_bytes t) → Hold P (test_bytes (negated t))
   negated_hold (e.Test.fixed t) h = h
   negated_hold _ h = h
 
@@ -179,7 +182,7 @@ module _ (P : ℕ → Type 0) where
         subst (TypedHolds P) c.is (stands, hold_both P (computed_bytes s) (vector_bytes y) h t)
     ordering_holds numbers op x y z h t g = compares_holds op x y z h t g
 
-    pub operated_holds : (numbers : Bool) (by : Operator) (x y z : Typed) → TypedHolds P x → TypedHolds P y → operated numbers at by x y ≡ Some z → TypedHolds P z
+    operated_holds : (numbers : Bool) (by : Operator) (x y z : Typed) → TypedHolds P x → TypedHolds P y → operated numbers at by x y ≡ Some z → TypedHolds P z
     operated_holds numbers op.Equal x y z h t g = equality_holds _ (e.alike at) (λ x y. refl) x y z h t g
     operated_holds numbers op.NotEqual x y z h t g = equality_holds _ (e.unlike at) (λ x y. refl) x y z h t g
     operated_holds numbers op.Less x y z h t g = ordering_holds numbers _ x y z h t g
@@ -194,3 +197,16 @@ module _ (P : ℕ → Type 0) where
     operated_holds numbers op.Modulo x y z h t g = integral_holds _ x y z h t g
     operated_holds numbers op.Remainder x y z h t g = integral_holds _ x y z h t g
     operated_holds numbers _ x y z h t g = logical_holds _ x y z h t g
+
+    -- = and /= of truths
+    related_holds : (by : Operator) (x y z : Typed) → TypedHolds P x → TypedHolds P y → truths_related by x y ≡ Some z → TypedHolds P z
+    related_holds op.Equal (o.truth s) (o.truth r) z h t g = known (o.truth (both Xnor s r)) z g (both_hold Xnor s r h t)
+    related_holds op.NotEqual (o.truth s) (o.truth r) z h t g = known (o.truth (both Xor s r)) z g (both_hold Xor s r h t)
+    related_holds by x y z h t g = absurd cc
+
+    -- an operator, with its right operand as it stands beside the left one, in either language
+    pub binary_holds : (language : Language) (numbers : Bool) (by : Operator) (x y w z : Typed) → TypedHolds P x → TypedHolds P y → TypedHolds P w
+        → option_or (operated numbers at by x w) (wider language (truths_related by x y)) ≡ Some z → TypedHolds P z
+    binary_holds language numbers by x y w z h t f g =
+        of_either (TypedHolds P) (operated numbers at by x w) (wider language (truths_related by x y)) z (λ z e. operated_holds numbers by x w z h f e)
+        (λ z e. related_holds by x y z h t (wider_is language (truths_related by x y) z e)) g

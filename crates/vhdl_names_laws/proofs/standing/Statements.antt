@@ -1,37 +1,36 @@
 -- The bytes of an analysed statement are those of pieces of the statement.
 use Rattle.std.proofs.Common.{◌≡◌, ℕ, Bool, true, false, not, List, [], ◌∷◌, ◌++◌, Option, Some, None, subst}
 use Rattle.std.specs.Option.{option_map}
-use Rattle.std.specs.List.{AllByRecursion}
+use Rattle.vhdl_values.specs.declared.scalar.Nine.{Nine}
+use Rattle.vhdl_values.specs.declared.scalar.Nine.TheVariants.{One, Zero}
 use Rattle.vhdl_tree.specs.Tree as t
 use Rattle.vhdl_tree.specs.Tree.{Ident}
 use Rattle.vhdl_tree.specs.Pieces.{spell_option}
 use Rattle.vhdl_tree.specs.grammar.Expressions.{spell, spell_suffix, spell_attribute, spell_name, spell_value, spell_discrete_range, spell_choices}
 use Rattle.vhdl_tree.specs.grammar.Waveforms.{spell_branch, spell_otherwise, spell_waveforms}
 use Rattle.vhdl_tree.specs.grammar.Sequential.{spell_label, spell_statement, spell_statements, spell_conditionals, spell_elsifs, spell_else, spell_alternatives}
-use Rattle.vhdl_names_rules.specs.declared.kind.ElementKind.TheVariants.{Element, LogicVector, Unsigned, OpenVector}
 use Rattle.vhdl_names_rules.specs.declared.kind.ObjectType.{ObjectType}
-use Rattle.vhdl_names_rules.specs.declared.kind.ObjectType.TheVariants.{Elements, Enumeration}
 use Rattle.vhdl_names_rules.specs.units.Expressions as e
-use Rattle.vhdl_names_rules.specs.units.Expressions.{Part, Value}
+use Rattle.vhdl_names_rules.specs.units.Expressions.{Part}
 use Rattle.vhdl_names_rules.specs.units.Statements as s
-use Rattle.vhdl_names_rules.specs.units.Bytes.{if_any_bytes, range_bytes, part_bytes, place_bytes, value_bytes, test_bytes, given_bytes, statement_bytes, statements_bytes, branches_bytes, alternatives_bytes}
+use Rattle.vhdl_names_rules.specs.units.Bytes.{if_any_bytes, range_bytes, part_bytes, place_bytes, test_bytes, given_bytes, statement_bytes, statements_bytes, branches_bytes}
 use Rattle.vhdl_names_rules.specs.Visibility as visibility
 use Rattle.vhdl_names_rules.specs.Visibility.{Name, Meaning, DeclaredRange, Sight, label_ends}
-use Rattle.vhdl_names_rules.specs.Operators as o
-use Rattle.vhdl_names_rules.specs.Operators.{Typed}
 use Rattle.vhdl_names_rules.specs.Names.{Suffix, AnyPart, fixed, free, part_of, any_part_of}
-use Rattle.vhdl_names_rules.specs.Expressions.{static_range, condition, value_given}
-use Rattle.vhdl_names_rules.specs.Choices.{selector, arranged}
-use Rattle.vhdl_names_rules.specs.Statements.{part_range, SignalName, named_part, as_signal, signal, is_input, mode_of, Target, any_part_range, part_target, assigned_signal, assigned_variable, as_signal_target, as_variable_target, target_by, assignment, alone, last_branch, branches, conditional, before, statement, statements, conditionals, otherwise, alternatives}
+use Rattle.vhdl_names_rules.specs.Expressions as to
+use Rattle.vhdl_names_rules.specs.Expressions.{static_range, condition, Assigned, truth_of, value_assigned}
+use Rattle.vhdl_names_rules.specs.Statements.{part_range, SignalName, named_part, as_signal, signal, is_input, mode_of, Target, any_part_range, part_target, assigned_signal, assigned_variable, as_signal_target, as_variable_target, target_by, alone, boolean_assigned, assigned_to, assignment, last_branch, branches, conditional, before, choice_lists, statement, statements, conditionals, otherwise, alternatives}
 use Rattle.vhdl_names_rules.proofs.laws.Rules.{comes, kept}
 use Rattle.vhdl_names_rules.proofs.laws.Parts.{case_parts}
 use Rattle.vhdl_names_laws.proofs.Parts.{signal_parts, signal_target_parts, variable_target_parts}
 use Rattle.vhdl_names_laws.proofs.Statics.{some_same}
 use Rattle.vhdl_names_rules.proofs.kept.Keeping.{mapped}
 use Rattle.vhdl_names_laws.proofs.placed.Told.{Stand, first, behind}
-use Rattle.vhdl_names_laws.proofs.standing.Holding.{Hold, hold_both, TypedHolds, SuffixHolds}
+use Rattle.vhdl_names_laws.proofs.placed.Statements.{lists_stand}
+use Rattle.vhdl_names_laws.proofs.standing.Holding.{Hold, hold_both, SuffixHolds}
 use Rattle.vhdl_names_laws.proofs.standing.Names.{part_of_holds, any_part_bytes, any_part_of_holds}
-use Rattle.vhdl_names_laws.proofs.standing.Expressions.{typed_holds, suffix_holds, static_range_holds, condition_holds, value_given_holds}
+use Rattle.vhdl_names_laws.proofs.standing.Expressions.{typed_holds, suffix_holds, static_range_holds, condition_holds, AssignedHolds, value_assigned_holds}
+use Rattle.vhdl_names_laws.proofs.standing.Choices.{selector_holds, covered_holds, BodiesHold, arranged_holds, selecting_holds}
 
 -- ---- names of signals and variables
 
@@ -47,9 +46,9 @@ pub record SignalHolds (P : ℕ → Type 0) (x : SignalName) : Type 0 where
 
 as_signal_holds : (P : ℕ → Type 0) (at : ℕ) (name : Name) (d : Meaning) (r : Option DeclaredRange) (b : Bool) (suffix : Suffix) (x : SignalName) → P at → SuffixHolds P suffix
     → as_signal at (record { name = name; meaning = d; range = r; is_global = b }) suffix ≡ Some x → SignalHolds P x
-as_signal_holds P at name (visibility.port k mode kind) r b suffix x h f q =
-    let a = mapped (named_part at (e.port k) (Some mode) r) (part_of (Elements kind) suffix) x q in
-    let p = part_of_holds P (Elements kind) suffix a.value f a.from in
+as_signal_holds P at name (visibility.port k mode type) r b suffix x h f q =
+    let a = mapped (named_part at (e.port k) (Some mode) r) (part_of type suffix) x q in
+    let p = part_of_holds P type suffix a.value f a.from in
     subst (SignalHolds P) a.is (record { place = (h, p); range = part_range_holds P r a.value.0 p })
 as_signal_holds P at name (visibility.signal k type) r b suffix x h f q =
     let a = mapped (named_part at (e.Signal.signal k) None r) (part_of type suffix) x q in
@@ -99,8 +98,8 @@ variable_bytes_hold P at k (free c) g h = h
 
 as_signal_target_holds : (P : ℕ → Type 0) (at : ℕ) (name : Name) (d : Meaning) (r : Option DeclaredRange) (b : Bool) (suffix : Suffix) (x : Target) → P at → SuffixHolds P suffix
     → as_signal_target at (record { name = name; meaning = d; range = r; is_global = b }) suffix ≡ Some x → TargetHolds P x
-as_signal_target_holds P at name (visibility.port k mode kind) r b suffix x h f q =
-    target_of_holds P at r (assigned_signal at (e.port k)) h (signal_bytes_hold P at (e.port k)) (Elements kind) suffix x f q
+as_signal_target_holds P at name (visibility.port k mode type) r b suffix x h f q =
+    target_of_holds P at r (assigned_signal at (e.port k)) h (signal_bytes_hold P at (e.port k)) type suffix x f q
 as_signal_target_holds P at name (visibility.signal k type) r b suffix x h f q =
     target_of_holds P at r (assigned_signal at (e.Signal.signal k)) h (signal_bytes_hold P at (e.Signal.signal k)) type suffix x f q
 as_signal_target_holds P at name _ r b suffix x h f q = absurd cc
@@ -127,13 +126,26 @@ target_holds P sight true n x h q =
     (suffix_holds n.suffix P sight p.suffix.value (first P (spell_suffix n.suffix) (spell_option spell_attribute n.attribute) h.1) p.suffix.is) p.is
 
 module _ (P : ℕ → Type 0) (sight : Sight) (x : Target) (f : TargetHolds P x) where
-  pub assignment_holds : (v : t.Value) (y : s.Statement) → Stand P (spell_value v) → assignment sight x v ≡ Some y → Hold P (statement_bytes y)
-  assignment_holds v y h q =
-      let a = mapped x.assigned (value_given sight x.type x.range v) y q in
-      subst (λ y. Hold P (statement_bytes y)) a.is (f.assigned a.value (value_given_holds P sight x.type x.range v a.value f.range h a.from))
-
   pub alone_holds : (y : s.Statement) → Hold P (statement_bytes y) → Hold P (statements_bytes (alone y))
   alone_holds y h = hold_both P (statement_bytes y) [] h tt
+
+  -- to a boolean '1' or '0'
+  boolean_holds : (v : Nine) → Hold P (statements_bytes (boolean_assigned x v))
+  boolean_holds v =
+      let g = s.single (e.Value.elements (e.enclosed_character v)) in
+      alone_holds (x.assigned g) (f.assigned g tt)
+
+  assigned_holds : (a : Assigned) → AssignedHolds P a → Hold P (statement_bytes (assigned_to x a))
+  assigned_holds (to.given g) k = f.assigned g k
+  assigned_holds (truth_of r) k =
+      let one = statements_bytes (boolean_assigned x One) in
+      let zero = statements_bytes (boolean_assigned x Zero) in
+      (f.at, hold_both P (test_bytes r) (one ++ zero) k (hold_both P one zero (boolean_holds One) (boolean_holds Zero)))
+
+  pub assignment_holds : (v : t.Value) (y : s.Statement) → Stand P (spell_value v) → assignment sight x v ≡ Some y → Hold P (statement_bytes y)
+  assignment_holds v y h q =
+      let a = mapped (assigned_to x) (value_assigned sight x.type x.range v) y q in
+      subst (λ y. Hold P (statement_bytes y)) a.is (assigned_holds a.value (value_assigned_holds P sight x.type x.range v a.value f.range h a.from))
 
   one_holds : (w : t.Branch) (ws : List t.Branch) (v : Option t.Value) (bs : s.Branches) → Stand P (spell_branch w)
       → ((bs : s.Branches) → branches sight x ws v ≡ Some bs → Hold P (branches_bytes bs)) → branches sight x (w ∷ ws) v ≡ Some bs → Hold P (branches_bytes bs)
@@ -180,28 +192,6 @@ before_holds P (t.asserted text) x xs h k = k
 before_holds P (t.reported text) x xs h k = k
 before_holds P _ x xs h k = hold_both P (statement_bytes x) (statements_bytes xs) h k
 
--- ---- selectors and alternatives
-
-pub selector_holds : (P : ℕ → Type 0) (y : Typed) (by : ObjectType × Value) → TypedHolds P y → selector y ≡ Some by → Hold P (value_bytes by.1)
-selector_holds P (o.elements OpenVector x) by h q = subst (λ (by : ObjectType × Value). Hold P (value_bytes by.1)) (some_same (Elements LogicVector, e.Value.elements x) by q) h
-selector_holds P (o.elements Element x) by h q = subst (λ (by : ObjectType × Value). Hold P (value_bytes by.1)) (some_same (Elements Element, e.Value.elements x) by q) h
-selector_holds P (o.elements LogicVector x) by h q = subst (λ (by : ObjectType × Value). Hold P (value_bytes by.1)) (some_same (Elements LogicVector, e.Value.elements x) by q) h
-selector_holds P (o.elements Unsigned x) by h q = subst (λ (by : ObjectType × Value). Hold P (value_bytes by.1)) (some_same (Elements Unsigned, e.Value.elements x) by q) h
-selector_holds P (o.enumerated d count x) by h q = subst (λ (by : ObjectType × Value). Hold P (value_bytes by.1)) (some_same (Enumeration d count, x) by q) h
-selector_holds _ _ by h q = absurd cc
-
-abbrev pub BodiesHold : (ℕ → Type 0) → List s.Statements → Type 0
-BodiesHold P = AllByRecursion (λ (b : s.Statements). Hold P (statements_bytes b))
-
-pub arranged_holds : (P : ℕ → Type 0) (css : List (List s.Choice)) (bodies : List s.Statements) (alts : s.Alternatives) → BodiesHold P bodies → arranged css bodies ≡ Some alts
-    → Hold P (alternatives_bytes alts)
-arranged_holds P (cs ∷ []) (b ∷ []) alts h q = subst (λ alts. Hold P (alternatives_bytes alts)) (some_same (s.others b) alts q) h.0
-arranged_holds P (cs ∷ ds ∷ css) (b ∷ bs) alts h q =
-    let a = mapped (s.alternative cs b) (arranged (ds ∷ css) bs) alts q in
-    subst (λ alts. Hold P (alternatives_bytes alts)) a.is
-    (hold_both P (statements_bytes b) (alternatives_bytes a.value) h.0 (arranged_holds P (ds ∷ css) bs a.value h.1 a.from))
-arranged_holds _ _ _ alts h q = absurd cc
-
 -- ---- statements
 
 mutual
@@ -231,12 +221,12 @@ mutual
   statement_holds (t.case_of at d alts end) P sight label x h q =
       let p = case_parts sight label at d alts end x q in
       let inner = first P (spell_alternatives alts) _ (behind P (spell d) _ h.1).1 in
-      subst (λ x. Hold P (statement_bytes x)) p.is (
-        h.0,
-        hold_both P (value_bytes p.chosen.by.value.1) (alternatives_bytes p.chosen.all.value)
-            (selector_holds P p.chosen.operand.value p.chosen.by.value (typed_holds d P sight p.chosen.operand.value (first P (spell d) _ h.1) p.chosen.operand.is) p.chosen.by.is)
-            (arranged_holds P p.chosen.choices.value p.chosen.bodies.value p.chosen.all.value (alternatives_hold alts P sight p.chosen.bodies.value inner p.chosen.bodies.is) p.chosen.all.is),
-      )
+      subst (λ x. Hold P (statement_bytes x)) p.is
+      (selecting_holds P at p.chosen.by.value.1 p.chosen.all.value h.0
+      (selector_holds P sight.language p.chosen.operand.value p.chosen.by.value (typed_holds d P sight p.chosen.operand.value (first P (spell d) _ h.1) p.chosen.operand.is) p.chosen.by.is)
+      (arranged_holds P p.chosen.choices.value p.chosen.bodies.value p.chosen.all.value
+      (covered_holds P sight p.chosen.by.value.0 (choice_lists alts) p.chosen.choices.value (lists_stand P alts inner) p.chosen.choices.is)
+      (alternatives_hold alts P sight p.chosen.bodies.value inner p.chosen.bodies.is) p.chosen.all.is))
   statement_holds (t.for_of at n r body end) P sight label x h q =
       let a = kept (label_ends label end) _ x q in
       let b = comes (static_range sight r) _ x a.1 in

@@ -1,5 +1,6 @@
 -- The bytes of types of objects, and of values that are fixed, are those of pieces of their text.
 use Rattle.std.proofs.Common.{◌≡◌, ℕ, ◌==◌, List, [], ◌∷◌, Option, Some, None, subst}
+use Rattle.std.specs.Prelude.{is_none}
 use Rattle.std.specs.List.{AllByRecursion}
 use Rattle.vhdl_tree.specs.Tree as t
 use Rattle.vhdl_tree.specs.Tree.{Expr}
@@ -8,8 +9,9 @@ use Rattle.vhdl_tree.specs.grammar.Expressions.{spell, spell_suffix, spell_exprs
 use Rattle.vhdl_tree.specs.grammar.Subtypes.{spell_constraint, spell_subtype, spell_default}
 use Rattle.vhdl_names_rules.specs.declared.kind.ElementKind.TheVariants.{Element, LogicVector, Unsigned}
 use Rattle.vhdl_names_rules.specs.declared.kind.ObjectType.{ObjectType}
-use Rattle.vhdl_names_rules.specs.declared.kind.ObjectType.TheVariants.{Elements, Enumeration}
+use Rattle.vhdl_names_rules.specs.declared.kind.ObjectType.TheVariants.{Elements, Enumeration, Integers, Booleans}
 use Rattle.vhdl_names_rules.specs.declared.kind.Function.TheVariants.{ToUnsigned}
+use Rattle.vhdl_names_rules.specs.units.Expressions as e
 use Rattle.vhdl_names_rules.specs.units.Expressions.{Range, StaticTest}
 use Rattle.vhdl_names_rules.specs.units.Statements.{Given}
 use Rattle.vhdl_names_rules.specs.declared.fault.NameProblem.TheVariants.{LeftOut}
@@ -26,7 +28,7 @@ use Rattle.vhdl_names_rules.specs.Ranges.{declared_range}
 use Rattle.vhdl_names_rules.specs.problems.Places.{range_start}
 use Rattle.vhdl_names_rules.specs.Declarations.{static_test}
 use Rattle.vhdl_names_rules.specs.Expressions.{typed, typed_each, static_range, as_static_test, value_given}
-use Rattle.vhdl_names_rules.specs.Subtypes.{Subtype, marked, index_range, one_range, subtype, form_range, integers_of, is_range, value_range, integer_subtype, literal_values, named_value, encoded_value, literal_value, fixed, filled_value, plain_value, is_known_value, known_value, fixed_value}
+use Rattle.vhdl_names_rules.specs.Subtypes.{Subtype, TypeClass, integers, booleans, others, class_of, integer_object, boolean_object, subtype_of_class, object_subtype, static_value, single_value, marked, index_range, one_range, subtype, form_range, integers_of, is_range, value_range, integer_subtype, literal_values, named_value, encoded_value, literal_value, fixed, filled_value, plain_value, is_known_value, known_value, fixed_value}
 use Rattle.vhdl_names_rules.proofs.laws.Rules.{comes, kept}
 use Rattle.vhdl_names_laws.proofs.Statics.{some_same}
 use Rattle.vhdl_names_laws.proofs.Shapes.{given, of_either, wider_is}
@@ -71,7 +73,7 @@ subtype_holds P sight d s h q =
 pub form_range_holds : (P : ℕ → Type 0) (f : Form) → Hold P (form_bytes f) → Hold P (if_any_bytes range_bytes (form_range f))
 form_range_holds P u.element h = tt
 form_range_holds P (u.vector r) h = h
-form_range_holds P (u.enumeration count) h = tt
+form_range_holds _ _ h = tt
 
 -- ---- subtypes of integers
 
@@ -97,6 +99,22 @@ integer_subtype_holds P sight d s h q =
     let b = comes (declaration sight d.mark.text) _ s a.rest in
     let c = comes (integers_of b.value) _ s b.rest in
     subst (λ s. Hold P (subtype_bytes s)) (some_same (record { base = c.value; range = a.value }) s c.rest) (any_value_range_holds P sight d.constraint a.value h.1 a.is)
+
+-- of a signal, port or variable
+class_holds : (P : ℕ → Type 0) (sight : Sight) (d : t.Subtype) (c : TypeClass) (s : Subtype) → Stand P (spell_subtype d) → subtype_of_class sight d c ≡ Some s → Hold P (form_bytes s.form)
+class_holds P sight d integers s h q =
+    let a = comes (integer_subtype sight d) _ s (wider_is sight.language (integer_object sight d) s q) in
+    subst (λ (s : Subtype). Hold P (form_bytes s.form)) (some_same _ s a.rest) (integer_subtype_holds P sight d a.value h a.is)
+class_holds P sight d booleans s h q =
+    let a = kept (is_none d.constraint) _ s (wider_is sight.language (boolean_object d) s q) in
+    subst (λ (s : Subtype). Hold P (form_bytes s.form)) (some_same _ s a.1) tt
+class_holds P sight d others s h q = subtype_holds P sight d s h q
+
+pub object_subtype_holds : (P : ℕ → Type 0) (sight : Sight) (d : t.Subtype) (s : Subtype) → Stand P (spell_subtype d) → object_subtype sight d ≡ Some s → Hold P (form_bytes s.form)
+unfolding object_subtype
+object_subtype_holds P sight d s h q =
+    let m = comes (meaning sight d.mark.text) _ s q in
+    class_holds P sight d (class_of m.value) s h m.rest
 
 -- ---- values that are fixed
 
@@ -125,7 +143,7 @@ literal_value_holds : (P : ℕ → Type 0) (type : ObjectType) (d : Expr) (v : F
 literal_value_holds P (Elements k) d v q =
     let a = mapped u.Fixed.literal (literal_values k d) v q in
     subst (λ v. Hold P (fixed_bytes v)) a.is tt
-literal_value_holds P (Enumeration e count) d v q = absurd cc
+literal_value_holds _ _ d v q = absurd cc
 
 fixed_holds : (P : ℕ → Type 0) (sight : Sight) (type : ObjectType) (d : Expr) (v : Fixed) → Stand P (spell d) → fixed sight type d ≡ Some v → Hold P (fixed_bytes v)
 fixed_holds P sight type (t.named a t.plain None) v h q =
@@ -152,9 +170,23 @@ plain_value_holds P sight type (t.others at d) v h q = filled_holds P type d v q
 pub known_holds : (P : ℕ → Type 0) (g : Given) (v : Fixed) → Hold P (given_bytes g) → given_that LeftOut (is_known_value g) (u.Fixed.given g) ≡ Some v → Hold P (fixed_bytes v)
 known_holds P g v h q = let a = given (is_known_value g) (u.Fixed.given g) v q in subst (λ v. Hold P (fixed_bytes v)) a.is h
 
+-- an integer, and a boolean
+static_value_holds : (P : ℕ → Type 0) (type : ObjectType) (y : Typed) (v : Fixed) → TypedHolds P y → static_value type y ≡ Some v → Hold P (fixed_bytes v)
+static_value_holds P Integers (o.integer n) v h q = subst (λ v. Hold P (fixed_bytes v)) (some_same (u.Fixed.integer n) v q) h
+static_value_holds P Booleans (o.truth (e.Test.fixed b)) v h q = subst (λ v. Hold P (fixed_bytes v)) (some_same (u.Fixed.truth b) v q) h
+static_value_holds _ _ _ v h q = absurd cc
+
+single_value_holds : (P : ℕ → Type 0) (sight : Sight) (type : ObjectType) (d : t.Value) (v : Fixed) → Stand P (spell_value d) → single_value sight type d ≡ Some v → Hold P (fixed_bytes v)
+single_value_holds P sight type (t.single d) v h q =
+    let a = comes (typed sight d) (static_value type) v q in
+    static_value_holds P type a.value v (typed_holds d P sight a.value h a.is) a.rest
+single_value_holds P sight type (t.others at d) v h q = absurd cc
+
 pub fixed_value_holds : (P : ℕ → Type 0) (sight : Sight) (type : ObjectType) (r : Option Range) (d : t.Value) (v : Fixed) → Hold P (if_any_bytes range_bytes r) → Stand P (spell_value d)
     → fixed_value sight type r d ≡ Some v → Hold P (fixed_bytes v)
 unfolding fixed_value
+fixed_value_holds P sight Integers r d v f h q = single_value_holds P sight Integers d v h q
+fixed_value_holds P sight Booleans r d v f h q = single_value_holds P sight Booleans d v h q
 fixed_value_holds P sight type r d v f h q =
     of_either (λ v. Hold P (fixed_bytes v)) (plain_value sight type d) (wider sight.language (known_value sight type r d)) v
     (λ z e. plain_value_holds P sight type d z h e)

@@ -10,7 +10,7 @@ use Rattle.vhdl_values.specs.Scalar.{code_of}
 use Rattle.vhdl_tree.specs.Tree as t
 use Rattle.vhdl_names_rules.specs.declared.kind.ObjectType.{ObjectType}
 use Rattle.vhdl_names_rules.specs.declared.fault.NameProblem.TheVariants.{WrongKind, NoOthers, ChoiceTwice}
-use Rattle.vhdl_names_rules.specs.units.Statements.{Choice, values, position, Statements, Alternatives}
+use Rattle.vhdl_names_rules.specs.units.Statements.{Choice, values, position, numbers, Statements, Alternatives}
 use Rattle.vhdl_names_rules.specs.Rules.{each}
 use Rattle.vhdl_names_rules.specs.Visibility.{Sight}
 use Rattle.vhdl_names_rules.specs.Choices as are
@@ -20,6 +20,7 @@ use Rattle.vhdl_names_rules.specs.problems.Places.{choice_place}
 use Rattle.vhdl_names_rules.specs.problems.Covered as broken
 use Rattle.vhdl_names_rules.specs.problems.Covered.{stands, is_empty, alternative_in_place, in_place, each_once, any_alternative}
 use Rattle.vhdl_names_rules.proofs.laws.Rules.{comes, kept, both, neither, not_true, some_is}
+use Rattle.vhdl_names_rules.proofs.laws.Choices.{others_none}
 use Rattle.vhdl_names_rules.proofs.Telling.{IsKept, both_kept, unless_kept, given_kept}
 use Rattle.vhdl_names_rules.proofs.kept.Keeping.{nothing_kept, among_kept}
 use Rattle.vhdl_names_rules.proofs.kept.Choices.{choice_kept}
@@ -46,6 +47,9 @@ choice_sym (position p) (position q) = number_sym p q (p == q) refl (q == p) ref
     number_sym p q false e false f = e ∙ sym f
     number_sym p q true e false f = absurd (eqb-false q p f (sym (eqb-true p q e)))
     number_sym p q false e true f = absurd (eqb-false p q e (sym (eqb-true q p f)))
+choice_sym (numbers i) (values ws) = refl
+choice_sym (numbers i) (position q) = refl
+choice_sym (numbers i) (numbers j) = refl
 choice_sym _ _ = refl
 
 none_at : {A : Type 0} (f : A → Bool) (xs : List A) (x : A) (rest : List A) → list_any f (xs ++ x ∷ rest) ≡ false → f x ≡ false
@@ -121,7 +125,7 @@ is_last at [] h = refl
 is_last at (ds ∷ rest) h = absurd cc
 
 pub choices_given : (sight : Sight) (type : ObjectType) (ds : List t.Choice) (ys : List Choice) → are.choices sight type ds ≡ Some ys → filter_map (are.choice sight type) ds ≡ ys
-choices_given sight type (t.otherwise at ∷ []) ys h = some_is [] ys h
+choices_given sight type (t.otherwise at ∷ []) ys h = ap (λ (o : Option Choice). cons_option o []) (others_none sight type at) ∙ some_is [] ys h
 choices_given sight type ds ys h = each_given (are.choice sight type) ds ys h
 
 pub alternative_kept : (sight : Sight) (type : ObjectType) (ds : List t.Choice) (rest : List (List t.Choice)) (before : List t.Choice) (cs ys : List Choice)

@@ -16,11 +16,11 @@ use Rattle.vhdl_names_rules.specs.Packages as packages
 use Rattle.vhdl_names_rules.specs.Packages.{Context, is_ieee, is_library, is_logic, is_numbers}
 use Rattle.vhdl_names_rules.specs.Expressions.{static}
 use Rattle.vhdl_names_rules.specs.Subtypes as given
-use Rattle.vhdl_names_rules.specs.Subtypes.{Subtype, TypeClass, class_of, subtype, integer_subtype, value_range, form_range, fixed_value}
+use Rattle.vhdl_names_rules.specs.Subtypes.{Subtype, TypeClass, class_of, subtype, object_subtype, integer_subtype, form_range, fixed_value}
 use Rattle.vhdl_names_rules.specs.Declarations as are
-use Rattle.vhdl_names_rules.specs.Declarations.{GenericForm, generic_form, static_test, within, within_variables, without_ports, as_kind, single_expression, is_open, as_it_was, others_declared}
+use Rattle.vhdl_names_rules.specs.Declarations.{GenericForm, generic_form, static_test, within, within_variables, without_ports, as_kind, as_port_type, single_expression, is_open, as_it_was, others_declared}
 use Rattle.vhdl_names_rules.specs.Interfaces.{declared_names}
-use Rattle.vhdl_names_rules.specs.problems.Broken.{Broken, nothing, ◌▸◌, any_of, of_any}
+use Rattle.vhdl_names_rules.specs.problems.Broken.{Broken, nothing, ◌▸◌, lacking, any_of, of_any}
 use Rattle.vhdl_names_rules.specs.problems.Expressions as expressions
 use Rattle.vhdl_names_rules.specs.problems.Subtypes as subtypes
 use Rattle.vhdl_names_rules.specs.problems.Declarations as broken
@@ -31,7 +31,7 @@ use Rattle.vhdl_names_rules.proofs.kept.Keeping.{nothing_kept, mapped, if_any_ke
 use Rattle.vhdl_names_rules.proofs.kept.Twice.{twice_kept, distinct_front, names_append}
 use Rattle.vhdl_names_rules.proofs.kept.Named.{HasNames, of_generic, of_port, of_signals, of_variables, of_constants, of_constants_in, of_subtype, of_subtype_in, of_enumeration}
 use Rattle.vhdl_names_rules.proofs.kept.Expressions.{meaning_kept, declared_kept, static_kept, static_condition_kept}
-use Rattle.vhdl_names_rules.proofs.kept.Values.{subtype_kept, integer_subtype_kept, fixed_value_kept}
+use Rattle.vhdl_names_rules.proofs.kept.Values.{subtype_kept, integers_kept, object_subtype_kept, fixed_value_kept}
 
 -- ---- names
 
@@ -121,10 +121,6 @@ in_region_kept declares b one ds sight x h distinct = in_order_kept with_declare
 
 -- ---- types
 
-integers_kept : (sight : Sight) (s : t.Subtype) (x : u.IntegerSubtype) → integer_subtype sight s ≡ Some x → IsKept (subtypes.integer_subtype sight s)
-unfolding integer_subtype
-integers_kept sight s x h = let r = comes (if_any (value_range sight) s.constraint) _ x h in integer_subtype_kept sight s r.value r.is
-
 none_is : {A : Type 0} (o : Option A) → not (is_some o) ≡ true → is_none o ≡ true
 none_is None h = refl
 none_is (Some x) h = absurd cc
@@ -190,27 +186,28 @@ pub port_kept : (sight : Sight) (p : t.Port) (x : Declares u.Port) → are.port 
 unfolding are.port
 port_kept sight p x h distinct =
     let inner : Sight = without_ports sight in
-    let s = comes (subtype inner p.subtype) _ x h in
-    let kind = comes (as_kind s.value.type) _ x s.rest in
-    let default = comes (if_any (fixed_value inner s.value.type (form_range s.value.form)) p.default) _ x kind.rest in
+    let s = comes (object_subtype inner p.subtype) _ x h in
+    let type = comes (as_port_type s.value.type) _ x s.rest in
+    let default = comes (if_any (fixed_value inner s.value.type (form_range s.value.form)) p.default) _ x type.rest in
     both_kept _ _ (standing_kept sight.region p.names x (of_port sight p x h) distinct)
-    (both_kept _ _ (subtype_kept inner p.subtype s.value s.is)
-    (given_kept (λ s. nine_valued p.subtype.mark s ▸ of_any (value_of inner s) p.default) (subtype inner p.subtype) s.value s.is
-    (both_kept _ _ (nine_valued_kept p.subtype.mark s.value kind.value kind.is) (values_kept inner s.value p.default default.value default.is))))
+    (both_kept _ _ (object_subtype_kept inner p.subtype s.value s.is)
+    (given_kept (λ s. lacking LeftOut p.subtype.mark.at (as_port_type s.type) ▸ of_any (value_of inner s) p.default) (object_subtype inner p.subtype) s.value s.is
+    (both_kept _ _ (lacking_kept LeftOut p.subtype.mark.at (as_port_type s.value.type) type.value type.is)
+    (values_kept inner s.value p.default default.value default.is))))
 
 -- ---- signals and variables
 
-pub object_kept : (inner : Sight) (s : t.Subtype) (v : Option t.Value) (x : Subtype) (default : Option Fixed) → subtype inner s ≡ Some x
+pub object_kept : (inner : Sight) (s : t.Subtype) (v : Option t.Value) (x : Subtype) (default : Option Fixed) → object_subtype inner s ≡ Some x
     → if_any (fixed_value inner x.type (form_range x.form)) v ≡ Some default → IsKept (broken.object inner s v)
 object_kept inner s v x default h g =
-    both_kept _ _ (subtype_kept inner s x h)
-    (given_kept (λ x. of_any (value_of inner x) v) (subtype inner s) x h (values_kept inner x v default g))
+    both_kept _ _ (object_subtype_kept inner s x h)
+    (given_kept (λ x. of_any (value_of inner x) v) (object_subtype inner s) x h (values_kept inner x v default g))
 
 pub signals_kept : (sight : Sight) (d : t.Signals) (x : Declares u.Declaration) → are.signals sight d ≡ Some x
     → are_distinct (declared_names (sight.region ++ x.declared)) ≡ true → IsKept (broken.signals sight d)
 unfolding are.signals
 signals_kept sight d x h distinct =
-    let s = comes (subtype (within sight d.names) d.subtype) _ x h in
+    let s = comes (object_subtype (within sight d.names) d.subtype) _ x h in
     let default = comes (if_any (fixed_value (within sight d.names) s.value.type (form_range s.value.form)) d.default) _ x s.rest in
     both_kept _ _ (standing_kept sight.region d.names x (of_signals sight d x h) distinct)
     (object_kept (within sight d.names) d.subtype d.default s.value default.value s.is default.is)
@@ -219,7 +216,7 @@ variables_kept : (sight : Sight) (d : t.Variables) (x : Declares u.Declaration) 
     → are_distinct (declared_names (sight.variables ++ x.declared)) ≡ true → IsKept (broken.variables sight d)
 unfolding are.variables
 variables_kept sight d x h distinct =
-    let s = comes (subtype (within_variables sight d.names) d.subtype) _ x h in
+    let s = comes (object_subtype (within_variables sight d.names) d.subtype) _ x h in
     let default = comes (if_any (fixed_value (within_variables sight d.names) s.value.type (form_range s.value.form)) d.default) _ x s.rest in
     both_kept _ _ (standing_kept sight.variables d.names x (of_variables sight d x h) distinct)
     (object_kept (within_variables sight d.names) d.subtype d.default s.value default.value s.is default.is)

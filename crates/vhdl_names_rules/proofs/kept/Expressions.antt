@@ -1,6 +1,7 @@
 -- An expression that has a type breaks no rule (IEEE 1076-2008, clauses 8 and 9).
 use Rattle.std.proofs.Common.{◌≡◌, ℕ, Bool, true, false, cond, List, [], Option, Some, None, refl, ap, sym, ◌∙◌}
 use Rattle.std.specs.Prelude.{option_map}
+use Rattle.std.specs.Option.{option_or}
 use Rattle.vhdl_lexer.specs.declared.language.Language.{Language}
 use Rattle.vhdl_tree.specs.declared.operator.Direction.{Direction}
 use Rattle.vhdl_tree.specs.declared.operator.Sign.{Sign}
@@ -9,7 +10,7 @@ use Rattle.vhdl_tree.specs.Tree as t
 use Rattle.vhdl_tree.specs.Tree.{Expr, Exprs, Ident, Attribute}
 use Rattle.vhdl_names_rules.specs.declared.kind.ElementKind.TheVariants.{Element, OpenVector}
 use Rattle.vhdl_names_rules.specs.declared.kind.ObjectType.{ObjectType}
-use Rattle.vhdl_names_rules.specs.declared.kind.ObjectType.TheVariants.{Elements, Enumeration}
+use Rattle.vhdl_names_rules.specs.declared.kind.ObjectType.TheVariants.{Elements, Enumeration, Integers, Booleans}
 use Rattle.vhdl_names_rules.specs.declared.fault.NameProblem.TheVariants.{TypeMismatch, LeftOut}
 use Rattle.vhdl_names_rules.specs.units.Expressions as u
 use Rattle.vhdl_names_rules.specs.units.Expressions.{Static, Computed, Test, Range}
@@ -21,12 +22,12 @@ use Rattle.vhdl_names_rules.specs.Literals.{number_of, nine_of, values_of_string
 use Rattle.vhdl_names_rules.specs.Types as types
 use Rattle.vhdl_names_rules.specs.Types.{TypedElements, TypedChoice}
 use Rattle.vhdl_names_rules.specs.Operators as o
-use Rattle.vhdl_names_rules.specs.Operators.{Typed, as_computed, inverse, raised, operated}
+use Rattle.vhdl_names_rules.specs.Operators.{Typed, as_computed, inverse, raised, truths_related, operated}
 use Rattle.vhdl_names_rules.specs.Aggregates.{aggregate}
 use Rattle.vhdl_names_rules.specs.Names.{Suffix, computed_range, denoted, attributed, edge_signal, plain}
 use Rattle.vhdl_names_rules.specs.Ranges.{Ranged, ranged, declared_range, named_range, range_attribute, sized_by}
 use Rattle.vhdl_names_rules.specs.Expressions as are
-use Rattle.vhdl_names_rules.specs.Expressions.{as_integer, in_parentheses, beside, is_one_name, suffix_of, fits, as_index, as_range, as_test, as_static_test, as_value, as_filled}
+use Rattle.vhdl_names_rules.specs.Expressions.{as_integer, in_parentheses, beside, is_one_name, suffix_of, fits, as_index, as_range, as_test, as_static_test, as_value, as_filled, Assigned, as_boolean}
 use Rattle.vhdl_names_rules.specs.problems.Broken.{nothing, ◌▸◌, unless, lacking, where_given, of_any}
 use Rattle.vhdl_names_rules.specs.problems.Missing.{problem_of}
 use Rattle.vhdl_names_rules.specs.problems.Places.{start}
@@ -209,14 +210,15 @@ mutual
   typed_kept (t.binary begins q at d e) sight x h =
       let a = comes (are.typed sight d) _ x h in
       let b = comes (are.typed sight e) _ x a.rest in
+      let by : Typed → Typed → Option Typed = λ x y. option_or (operated sight.numbers at q x (beside d y)) (wider sight.language (truths_related q x y)) in
       both_kept _ _ (typed_kept d sight a.value a.is)
       (both_kept _ _ (typed_kept e sight b.value b.is)
-      (given_kept (λ x. where_given (are.typed sight e) (λ y. operand q y x ▸ operand q x y ▸ lacking (operator_problem q x (beside d y)) at (operated sight.numbers at q x (beside d y))))
+      (given_kept (λ x. where_given (are.typed sight e) (λ y. operand q y x ▸ operand q x y ▸ lacking (operator_problem q x (beside d y)) at (by x y)))
       (are.typed sight d) a.value a.is
-      (given_kept (λ y. operand q y a.value ▸ operand q a.value y ▸ lacking (operator_problem q a.value (beside d y)) at (operated sight.numbers at q a.value (beside d y))) (are.typed sight e) b.value b.is
-      (both_kept _ _ (first_kept sight.numbers at q d a.value b.value x b.rest)
-      (both_kept _ _ (second_kept sight.numbers at q d a.value b.value x b.rest)
-      (lacking_kept (operator_problem q a.value (beside d b.value)) at (operated sight.numbers at q a.value (beside d b.value)) x b.rest))))))
+      (given_kept (λ y. operand q y a.value ▸ operand q a.value y ▸ lacking (operator_problem q a.value (beside d y)) at (by a.value y)) (are.typed sight e) b.value b.is
+      (both_kept _ _ (first_kept sight.language sight.numbers at q d a.value b.value x b.rest)
+      (both_kept _ _ (second_kept sight.language sight.numbers at q d a.value b.value x b.rest)
+      (lacking_kept (operator_problem q a.value (beside d b.value)) at (by a.value b.value) x b.rest))))))
   typed_kept (t.aggregate at es) sight x h =
       let a = mapped (types.composite at) (are.typed_elements sight es) x h in
       typed_elements_kept es sight a.value a.from
@@ -280,7 +282,7 @@ mutual
 
 -- ---- what is asked of an expression
 
-asked_kept : {A : Type 0} (f : Typed → Option A) (sight : Sight) (e : Expr) (x : A) → (are.typed sight e >>= f) ≡ Some x
+pub asked_kept : {A : Type 0} (f : Typed → Option A) (sight : Sight) (e : Expr) (x : A) → (are.typed sight e >>= f) ≡ Some x
     → IsKept (broken.typed sight e ▸ where_given (are.typed sight e) (λ x. lacking TypeMismatch (start e) (f x)))
 asked_kept f sight e x h =
     let a = comes (are.typed sight e) f x h in
@@ -333,6 +335,8 @@ static_condition_kept sight e x h = asked_kept as_static_test sight e x h
 pub as_value_kept : (type : ObjectType) (r : Option Range) (at : ℕ) (x : Typed) (g : Given) → as_value type r x ≡ Some g → IsKept (broken.given type r at x)
 as_value_kept (Elements k) r at (types.composite p es) g h = composite_kept k p r es g h
 as_value_kept (Enumeration e count) r at (types.composite p es) g h = absurd cc
+as_value_kept Integers r at (types.composite p es) g h = absurd cc
+as_value_kept Booleans r at (types.composite p es) g h = absurd cc
 as_value_kept type r at x g h = lacking_kept TypeMismatch at (as_value type r x) g h
 
 pub value_given_kept : (sight : Sight) (type : ObjectType) (r : Option Range) (v : t.Value) (x : Given) → are.value_given sight type r v ≡ Some x
@@ -348,3 +352,11 @@ value_given_kept sight type r (t.others at e) x h =
     (given_kept (λ x. unless TypeMismatch at (is_vector_type type) ▸ lacking TypeMismatch (start e) (as_filled type x)) (are.typed sight e) a.value a.is
     (both_kept _ _ (unless_kept TypeMismatch at (is_vector_type type) (filled_vector type a.value x a.rest))
     (lacking_kept TypeMismatch (start e) (as_filled type a.value) x a.rest)))
+
+pub value_assigned_kept : (sight : Sight) (type : ObjectType) (r : Option Range) (v : t.Value) (x : Assigned) → are.value_assigned sight type r v ≡ Some x
+    → IsKept (broken.value_assigned sight type r v)
+unfolding are.value_assigned
+value_assigned_kept sight Booleans r (t.single e) x h = asked_kept as_boolean sight e x h
+value_assigned_kept sight type r v x h =
+    let g = mapped are.given (are.value_given sight type r v) x h in
+    value_given_kept sight type r v g.value g.from

@@ -26,7 +26,7 @@ use Rattle.vhdl_names_rules.specs.Statements as statements
 use Rattle.vhdl_names_rules.specs.Statements.{SignalName, as_signal}
 use Rattle.vhdl_names_rules.specs.Interfaces.{EntityView, entity_named}
 use Rattle.vhdl_names_rules.specs.Instances as are
-use Rattle.vhdl_names_rules.specs.Instances.{Formal, as_name, is_kind, may_join, is_architecture, as_component, GenericKind, GenericFormal, generic_formal, port_formal, formals_of, expression_of, value_as_actual, generic_actuals, port_actuals}
+use Rattle.vhdl_names_rules.specs.Instances.{Formal, as_name, is_type, may_join, is_architecture, as_component, GenericKind, GenericFormal, generic_formal, port_formal, formals_of, expression_of, value_as_actual, generic_actuals, port_actuals}
 use Rattle.vhdl_names_rules.specs.problems.Broken.{Broken, ◌▸◌, refused, unless, lacking, where_given, any_of, of_any}
 use Rattle.vhdl_names_rules.specs.problems.Places.{start}
 use Rattle.vhdl_names_rules.specs.problems.Statements as sequential
@@ -173,14 +173,14 @@ unfolding are.port_actual
 port_actual_kept sight f e x h =
     let n = comes (as_name e) _ x h in
     let s = comes (statements.signal sight n.value) _ x n.rest in
-    let a = kept (is_kind f.kind s.value.type) _ x s.rest in
+    let a = kept (is_type f.type s.value.type) _ x s.rest in
     let b = kept (may_join f.mode s.value.mode) _ x a.1 in
     both_kept _ _ (lacking_kept LeftOut (start e) (as_name e) n.value n.is)
     (given_kept (λ n. actual_signal sight n
-    ▸ where_given (statements.signal sight n) (λ x. unless TypeMismatch n.identifier.at (is_kind f.kind x.type) ▸ unless WriteOfIn n.identifier.at (may_join f.mode x.mode))) (as_name e) n.value n.is
+    ▸ where_given (statements.signal sight n) (λ x. unless TypeMismatch n.identifier.at (is_type f.type x.type) ▸ unless WriteOfIn n.identifier.at (may_join f.mode x.mode))) (as_name e) n.value n.is
     (both_kept _ _ (actual_signal_kept sight n.value s.value s.is)
-    (given_kept (λ x. unless TypeMismatch n.value.identifier.at (is_kind f.kind x.type) ▸ unless WriteOfIn n.value.identifier.at (may_join f.mode x.mode)) (statements.signal sight n.value) s.value s.is
-    (both_kept _ _ (unless_kept TypeMismatch n.value.identifier.at (is_kind f.kind s.value.type) a.0) (unless_kept WriteOfIn n.value.identifier.at (may_join f.mode s.value.mode) b.0)))))
+    (given_kept (λ x. unless TypeMismatch n.value.identifier.at (is_type f.type x.type) ▸ unless WriteOfIn n.value.identifier.at (may_join f.mode x.mode)) (statements.signal sight n.value) s.value s.is
+    (both_kept _ _ (unless_kept TypeMismatch n.value.identifier.at (is_type f.type s.value.type) a.0) (unless_kept WriteOfIn n.value.identifier.at (may_join f.mode s.value.mode) b.0)))))
 
 -- the actual of each formal is given
 actual_given : (sight : Sight) (fs : List Formal) (es : List (Option Expr)) (ps : List (Option SignalPart)) (j : ℕ) (f : Formal) (e : Option Expr)

@@ -7,9 +7,9 @@ use Rattle.vhdl_names_rules.specs.units.Units as u
 use Rattle.vhdl_names_rules.specs.Rules.{if_any}
 use Rattle.vhdl_names_rules.specs.Visibility.{Name, Meaning, Declared, declare, names_of, numbered, ranged, global_if, Sight, meaning, declaration, Declares}
 use Rattle.vhdl_names_rules.specs.Subtypes as subtypes
-use Rattle.vhdl_names_rules.specs.Subtypes.{TypeClass, class_of, subtype, integer_subtype, form_range, form_direction, fixed_value}
+use Rattle.vhdl_names_rules.specs.Subtypes.{TypeClass, class_of, subtype, object_subtype, integer_subtype, form_range, form_direction, fixed_value}
 use Rattle.vhdl_names_rules.specs.Expressions.{static}
-use Rattle.vhdl_names_rules.specs.Declarations.{within, within_variables, without_ports, as_kind, single_expression, static_test, literals, generic_form, generic, port, signals, variables, constants_by, constants_in, constants, is_open, declared_subtype, as_it_was, others_declared, subtype_by, subtype_in, subtype_declaration, enumeration_in}
+use Rattle.vhdl_names_rules.specs.Declarations.{within, within_variables, without_ports, as_kind, as_port_type, single_expression, static_test, literals, generic_form, generic, port, signals, variables, constants_by, constants_in, constants, is_open, declared_subtype, as_it_was, others_declared, subtype_by, subtype_in, subtype_declaration, enumeration_in}
 use Rattle.vhdl_names_rules.specs.Interfaces.{EntityView, declared_names, component}
 use Rattle.vhdl_names_rules.proofs.laws.Rules.{comes, kept, some_is}
 use Rattle.vhdl_names_rules.proofs.laws.Parts.{component_parts}
@@ -56,22 +56,22 @@ of_generic sight g x e =
 pub of_port : (sight : Sight) (p : t.Port) (x : Declares u.Port) → port sight p ≡ Some x → HasNames x (names_of p.names)
 unfolding port
 of_port sight p x e =
-    let a = comes (subtype (without_ports sight) p.subtype) _ x e in
-    let b = comes (as_kind a.value.type) _ x a.rest in
+    let a = comes (object_subtype (without_ports sight) p.subtype) _ x e in
+    let b = comes (as_port_type a.value.type) _ x a.rest in
     let c = comes (if_any (fixed_value (without_ports sight) a.value.type (form_range a.value.form)) p.default) _ x b.rest in
     of_same _ x (names_of p.names) c.rest (names_with _ _ _ _ _ (names_of p.names))
 
 pub of_signals : (sight : Sight) (d : t.Signals) (x : Declares u.Declaration) → signals sight d ≡ Some x → HasNames x (names_of d.names)
 unfolding signals
 of_signals sight d x e =
-    let a = comes (subtype (within sight d.names) d.subtype) _ x e in
+    let a = comes (object_subtype (within sight d.names) d.subtype) _ x e in
     let b = comes (if_any (fixed_value (within sight d.names) a.value.type (form_range a.value.form)) d.default) _ x a.rest in
     of_same _ x (names_of d.names) b.rest (names_with _ _ _ _ _ (names_of d.names))
 
 pub of_variables : (sight : Sight) (d : t.Variables) (x : Declares u.Declaration) → variables sight d ≡ Some x → HasNames x (names_of d.names)
 unfolding variables
 of_variables sight d x e =
-    let a = comes (subtype (within_variables sight d.names) d.subtype) _ x e in
+    let a = comes (object_subtype (within_variables sight d.names) d.subtype) _ x e in
     let b = comes (if_any (fixed_value (within_variables sight d.names) a.value.type (form_range a.value.form)) d.default) _ x a.rest in
     of_same _ x (names_of d.names) b.rest (names_with _ _ _ _ _ (names_of d.names))
 

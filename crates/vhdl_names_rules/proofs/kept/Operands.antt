@@ -1,5 +1,8 @@
 -- Operands that an operator takes break no rule (IEEE 1076-2008, clause 9.2).
-use Rattle.std.proofs.Common.{◌≡◌, ℕ, Bool, Some, None, refl, ap, sym, subst, ◌∙◌}
+use Rattle.std.proofs.Common.{◌≡◌, ℕ, Bool, Option, Some, None, refl, ap, sym, subst, ◌∙◌}
+use Rattle.std.specs.Option.{option_or}
+use Rattle.vhdl_lexer.specs.declared.language.Language.{Language}
+use Rattle.vhdl_lexer.specs.declared.language.Language.TheVariants.{Profile, Wide}
 use Rattle.vhdl_values.specs.declared.kinds.Cmp.{Cmp}
 use Rattle.vhdl_values.specs.declared.kinds.Cmp.TheVariants.{Eq, Ne}
 use Rattle.vhdl_values.specs.declared.kinds.Logic.{Logic}
@@ -17,7 +20,8 @@ use Rattle.vhdl_names_rules.specs.units.Expressions.{Test, Value, Vector}
 use Rattle.vhdl_names_rules.specs.Types as types
 use Rattle.vhdl_names_rules.specs.Types.{TypedElements}
 use Rattle.vhdl_names_rules.specs.Operators as o
-use Rattle.vhdl_names_rules.specs.Operators.{Typed, is_vector, integral, operated, logical, concatenated, arithmetic, ordering, equality, beside_vector}
+use Rattle.vhdl_names_rules.specs.Rules.{wider}
+use Rattle.vhdl_names_rules.specs.Operators.{Typed, is_vector, integral, truths_related, operated, logical, concatenated, arithmetic, ordering, equality, beside_vector}
 use Rattle.vhdl_names_rules.specs.Expressions.{enclosed, beside}
 use Rattle.vhdl_names_rules.specs.problems.Broken.{◌▸◌, unless}
 use Rattle.vhdl_names_rules.specs.problems.Expressions.{is_equality, beside_operand, operand}
@@ -106,11 +110,39 @@ beside_composite (t.parens at e) p es = refl
 beside_composite (t.qualified n at xs) p es = refl
 beside_composite d p es = refl
 
-pub first_kept : (numbers : Bool) (at : ℕ) (q : Operator) (d : Expr) (x y z : Typed) → operated numbers at q x (beside d y) ≡ Some z → IsKept (operand q y x)
-first_kept numbers at q d (types.composite p es) y z h =
+first_operated : (numbers : Bool) (at : ℕ) (q : Operator) (d : Expr) (x y z : Typed) → operated numbers at q x (beside d y) ≡ Some z → IsKept (operand q y x)
+first_operated numbers at q d (types.composite p es) y z h =
     subst (λ b. IsKept (unless TypeMismatch p (is_equality q) ▸ b)) (beside_same p es d y) (left_kept numbers at q p es (beside d y) z h)
-first_kept numbers at q d x y z h = nothing_kept
+first_operated numbers at q d x y z h = nothing_kept
 
-pub second_kept : (numbers : Bool) (at : ℕ) (q : Operator) (d : Expr) (x y z : Typed) → operated numbers at q x (beside d y) ≡ Some z → IsKept (operand q x y)
-second_kept numbers at q d x (types.composite p es) z h = right_kept numbers at q x p es z (ap (operated numbers at q x) (sym (beside_composite d p es)) ∙ h)
-second_kept numbers at q d x y z h = nothing_kept
+second_operated : (numbers : Bool) (at : ℕ) (q : Operator) (d : Expr) (x y z : Typed) → operated numbers at q x (beside d y) ≡ Some z → IsKept (operand q x y)
+second_operated numbers at q d x (types.composite p es) z h = right_kept numbers at q x p es z (ap (operated numbers at q x) (sym (beside_composite d p es)) ∙ h)
+second_operated numbers at q d x y z h = nothing_kept
+
+-- nor is one an operand of a relation of truths
+record Operands (q : Operator) (x y : Typed) : Type 0 where
+  first : IsKept (operand q y x)
+  second : IsKept (operand q x y)
+
+related : (q : Operator) (x y z : Typed) → truths_related q x y ≡ Some z → Operands q x y
+related op.Equal (o.truth s) (o.truth t) z h = record { first = nothing_kept; second = nothing_kept }
+related op.NotEqual (o.truth s) (o.truth t) z h = record { first = nothing_kept; second = nothing_kept }
+related q x y z h = absurd cc
+
+operands_kept : (language : Language) (numbers : Bool) (at : ℕ) (q : Operator) (d : Expr) (x y z : Typed)
+    → option_or (operated numbers at q x (beside d y)) (wider language (truths_related q x y)) ≡ Some z → Operands q x y
+operands_kept language numbers at q d x y z h = by (operated numbers at q x (beside d y)) refl language h
+  where
+    by : (a : Option Typed) → operated numbers at q x (beside d y) ≡ a → (language : Language) → option_or a (wider language (truths_related q x y)) ≡ Some z
+        → Operands q x y
+    by (Some w) e language h = record { first = first_operated numbers at q d x y w e; second = second_operated numbers at q d x y w e }
+    by None e Wide h = related q x y z h
+    by None e Profile h = absurd cc
+
+pub first_kept : (language : Language) (numbers : Bool) (at : ℕ) (q : Operator) (d : Expr) (x y z : Typed)
+    → option_or (operated numbers at q x (beside d y)) (wider language (truths_related q x y)) ≡ Some z → IsKept (operand q y x)
+first_kept language numbers at q d x y z h = (operands_kept language numbers at q d x y z h).first
+
+pub second_kept : (language : Language) (numbers : Bool) (at : ℕ) (q : Operator) (d : Expr) (x y z : Typed)
+    → option_or (operated numbers at q x (beside d y)) (wider language (truths_related q x y)) ≡ Some z → IsKept (operand q x y)
+second_kept language numbers at q d x y z h = (operands_kept language numbers at q d x y z h).second

@@ -6,16 +6,15 @@ use Rattle.vhdl_tree.specs.Tree.{Ident, Attribute, Expr}
 use Rattle.vhdl_names_rules.specs.declared.kind.ObjectType.{ObjectType}
 use Rattle.vhdl_names_rules.specs.declared.fault.NameProblem.{NameProblem}
 use Rattle.vhdl_names_rules.specs.declared.fault.NameProblem.TheVariants.{WrongKind, WriteOfIn, LeftOut}
-use Rattle.vhdl_names_rules.specs.units.Expressions.{Value}
 use Rattle.vhdl_names_rules.specs.units.Statements as s
 use Rattle.vhdl_names_rules.specs.Rules.{◌>>=◌, ◌>>◌, rule, each}
 use Rattle.vhdl_names_rules.specs.Visibility.{Meaning, Declared, Sight, declaration, label_ends, within_loop}
 use Rattle.vhdl_names_rules.specs.Operators.{Typed}
 use Rattle.vhdl_names_rules.specs.Names.{Suffix}
-use Rattle.vhdl_names_rules.specs.Expressions.{typed, typed_suffix, static_range, condition, value_given}
-use Rattle.vhdl_names_rules.specs.Choices.{choices, selector}
+use Rattle.vhdl_names_rules.specs.Expressions.{typed, typed_suffix, static_range, condition, value_assigned}
+use Rattle.vhdl_names_rules.specs.Choices.{choices, Selector, selector}
 use Rattle.vhdl_names_rules.specs.Statements as are
-use Rattle.vhdl_names_rules.specs.Statements.{SignalName, Target, as_signal, as_signal_target, as_variable_target, mode_of, is_input, signal_target, variable_target, target_by, assignment, last_branch, branches, conditional, choice_lists}
+use Rattle.vhdl_names_rules.specs.Statements.{SignalName, Target, as_signal, as_signal_target, as_variable_target, mode_of, is_input, signal_target, variable_target, target_by, assigned_to, assignment, last_branch, branches, conditional, choice_lists}
 use Rattle.vhdl_names_rules.specs.problems.Broken.{Broken, ◌▸◌, lacking, where_given, any_of, of_any}
 use Rattle.vhdl_names_rules.specs.problems.Expressions as expressions
 use Rattle.vhdl_names_rules.specs.problems.Expressions.{no_attribute}
@@ -25,7 +24,7 @@ use Rattle.vhdl_names_rules.proofs.laws.Rules.{comes, kept}
 use Rattle.vhdl_names_rules.proofs.laws.Parts.{case_parts}
 use Rattle.vhdl_names_rules.proofs.Telling.{IsKept, both_kept, unless_kept, lacking_kept, given_kept}
 use Rattle.vhdl_names_rules.proofs.kept.Keeping.{nothing_kept, mapped}
-use Rattle.vhdl_names_rules.proofs.kept.Expressions.{declared_kept, typed_suffix_kept, static_range_kept, condition_kept, value_given_kept}
+use Rattle.vhdl_names_rules.proofs.kept.Expressions.{declared_kept, typed_suffix_kept, static_range_kept, condition_kept, value_assigned_kept}
 use Rattle.vhdl_names_rules.proofs.kept.Choices.{choices_kept, selected_by_kept}
 use Rattle.vhdl_names_rules.proofs.kept.Covered.{covered_kept, any_alternative_kept, choices_of_covered}
 
@@ -85,8 +84,8 @@ variable_target_kept sight n x h = object_kept variable_problem (as_variable_tar
 
 given_to_kept : (sight : Sight) (o : Option Target) (x : Target) (v : t.Value) (y : s.Statement) → o ≡ Some x → assignment sight x v ≡ Some y → IsKept (broken.given sight o v)
 given_to_kept sight o x v y h k =
-    let g = mapped x.assigned (value_given sight x.type x.range v) y k in
-    given_kept (λ x. expressions.value_given sight x.type x.range v) o x h (value_given_kept sight x.type x.range v g.value g.from)
+    let g = mapped (assigned_to x) (value_assigned sight x.type x.range v) y k in
+    given_kept (λ x. expressions.value_assigned sight x.type x.range v) o x h (value_assigned_kept sight x.type x.range v g.value g.from)
 
 pub assigned_kept : (sight : Sight) (n : t.Name) (v : t.Value) (x : Target) (y : s.Statement) → signal_target sight n ≡ Some x → assignment sight x v ≡ Some y
     → IsKept (broken.assigned sight n v)
@@ -131,11 +130,11 @@ pub end_label_kept : (label end : Option Ident) → label_ends label end ≡ tru
 end_label_kept label None h = nothing_kept
 end_label_kept label (Some e) h = unless_kept WrongKind e.at (label_ends label (Some e)) h
 
-pub by_selector_kept : (sight : Sight) (e : Expr) (f : ObjectType → Broken) (x : Typed) (by : ObjectType × Value) → typed sight e ≡ Some x → selector x ≡ Some by
+pub by_selector_kept : (sight : Sight) (e : Expr) (f : ObjectType → Broken) (x : Typed) (by : ObjectType × Selector) → typed sight e ≡ Some x → selector sight.language x ≡ Some by
     → IsKept (f by.0) → IsKept (by_selector sight e f)
 by_selector_kept sight e f x by typed_is selected h =
     both_kept _ _ (selected_by_kept sight e x by typed_is selected)
-    (given_kept (λ x. where_given (selector x) (λ by. f by.0)) (typed sight e) x typed_is (given_kept (λ by. f by.0) (selector x) by selected h))
+    (given_kept (λ x. where_given (selector sight.language x) (λ by. f by.0)) (typed sight e) x typed_is (given_kept (λ by. f by.0) (selector sight.language x) by selected h))
 
 mutual
   unfolding are.statement broken.statement

@@ -1,6 +1,6 @@
 -- Subtypes, and values of constants and defaults, that are given break no rule (IEEE 1076-2008, 6.3 and 6.4.2).
-use Rattle.std.proofs.Common.{◌≡◌, ℕ, Bool, true, cond, List, [], ◌∷◌, Option, Some, None, refl, ap}
-use Rattle.std.specs.Prelude.{not, is_some, option_map}
+use Rattle.std.proofs.Common.{◌≡◌, ℕ, Bool, true, cond, List, [], ◌∷◌, Option, Some, None, refl, ap, ◌∙◌}
+use Rattle.std.specs.Prelude.{not, is_some, is_none, option_map}
 use Rattle.std.specs.Option.{option_or}
 use Rattle.vhdl_lexer.specs.declared.language.Language.{Language}
 use Rattle.vhdl_lexer.specs.declared.language.Language.TheVariants.{Profile, Wide}
@@ -10,7 +10,7 @@ use Rattle.vhdl_tree.specs.Tree.{Expr, Ident, Attribute}
 use Rattle.vhdl_names_rules.specs.declared.kind.ElementKind.{ElementKind}
 use Rattle.vhdl_names_rules.specs.declared.kind.ElementKind.TheVariants.{Element, LogicVector, Unsigned}
 use Rattle.vhdl_names_rules.specs.declared.kind.ObjectType.{ObjectType}
-use Rattle.vhdl_names_rules.specs.declared.kind.ObjectType.TheVariants.{Elements, Enumeration}
+use Rattle.vhdl_names_rules.specs.declared.kind.ObjectType.TheVariants.{Elements, Integers, Booleans}
 use Rattle.vhdl_names_rules.specs.declared.kind.Function.TheVariants.{ToUnsigned}
 use Rattle.vhdl_names_rules.specs.declared.fault.NameProblem.TheVariants.{TypeMismatch, LeftOut}
 use Rattle.vhdl_names_rules.specs.units.Expressions.{Range}
@@ -27,7 +27,7 @@ use Rattle.vhdl_names_rules.specs.Operators.{Typed, is_vector}
 use Rattle.vhdl_names_rules.specs.Expressions as are
 use Rattle.vhdl_names_rules.specs.Expressions.{is_one_name, suffix_of, typed_suffix, typed_each, static_range, value_given}
 use Rattle.vhdl_names_rules.specs.Subtypes as subtypes
-use Rattle.vhdl_names_rules.specs.Subtypes.{Subtype, marked, one_range, index_range, is_range, value_range, named_value, encoded_value, literal_value, literal_values, filled_value, plain_value, known_value, is_known_value}
+use Rattle.vhdl_names_rules.specs.Subtypes.{Subtype, TypeClass, class_of, integer_subtype, marked, one_range, index_range, is_range, value_range, integer_object, boolean_object, subtype_of_class, static_value, single_value, named_value, encoded_value, literal_value, literal_values, filled_value, plain_value, known_value, is_known_value}
 use Rattle.vhdl_names_rules.specs.problems.Broken.{nothing, ◌▸◌, unless, lacking, where_given}
 use Rattle.vhdl_names_rules.specs.problems.Places.{start, range_start}
 use Rattle.vhdl_names_rules.specs.problems.Operators.{string_problem}
@@ -38,7 +38,7 @@ use Rattle.vhdl_names_rules.proofs.laws.Rules.{comes, kept}
 use Rattle.vhdl_names_rules.proofs.Telling.{IsKept, both_kept, unless_kept, lacking_kept, given_kept}
 use Rattle.vhdl_names_rules.proofs.kept.Keeping.{nothing_kept, mapped, if_any_kept}
 use Rattle.vhdl_names_rules.proofs.kept.Aggregates.{then_true}
-use Rattle.vhdl_names_rules.proofs.kept.Expressions.{meaning_kept, declared_kept, typed_suffix_kept, static_range_kept, value_given_kept}
+use Rattle.vhdl_names_rules.proofs.kept.Expressions.{meaning_kept, declared_kept, typed_suffix_kept, static_range_kept, asked_kept, value_given_kept}
 
 -- ---- types of objects
 
@@ -91,6 +91,45 @@ pub integer_subtype_kept : (sight : Sight) (s : t.Subtype) (range : Option (ℕ 
 integer_subtype_kept sight s range h =
     if_any_kept (λ c. unless LeftOut s.mark.at (not (is_index_range c)) ▸ broken.constraint sight c) (value_range sight) (value_range_kept sight s.mark.at) s.constraint range h
 
+pub integers_kept : (sight : Sight) (s : t.Subtype) (x : u.IntegerSubtype) → integer_subtype sight s ≡ Some x → IsKept (broken.integer_subtype sight s)
+unfolding integer_subtype
+integers_kept sight s x h = let r = comes (if_any (value_range sight) s.constraint) _ x h in integer_subtype_kept sight s r.value r.is
+
+-- ---- signals, ports and variables, by the class of their type
+
+wide_kept : (sight : Sight) (s : t.Subtype) (m : Meaning) (c : TypeClass) → meaning sight s.mark.text ≡ Some m → class_of m ≡ c → IsKept (broken.object_by sight s c)
+    → IsKept (broken.object_subtype_in Wide sight s)
+wide_kept sight s m c meant class k =
+    both_kept _ _ (meaning_kept sight s.mark m meant)
+    (given_kept (λ m. broken.object_by sight s (class_of m)) (meaning sight s.mark.text) m meant (ap (broken.object_by sight s) class ∙ k))
+
+-- what the wider language alone has
+in_wider : {A : Type 0} (language : Language) (o : Option A) (x : A) → wider language o ≡ Some x → (language ≡ Wide) × (o ≡ Some x)
+in_wider Profile o x h = absurd cc
+in_wider Wide o x h = (refl, h)
+
+by_class_kept : (sight : Sight) (s : t.Subtype) (m : Meaning) (c : TypeClass) (x : Subtype) → meaning sight s.mark.text ≡ Some m → class_of m ≡ c
+    → subtype_of_class sight s c ≡ Some x → IsKept (broken.object_subtype_in sight.language sight s)
+by_class_kept sight s m subtypes.integers x meant class h =
+    let w = in_wider sight.language (integer_object sight s) x h in
+    let y = comes (integer_subtype sight s) _ x w.1 in
+    ap (λ l. broken.object_subtype_in l sight s) w.0 ∙ wide_kept sight s m subtypes.integers meant class (integers_kept sight s y.value y.is)
+by_class_kept sight s m subtypes.booleans x meant class h =
+    let w = in_wider sight.language (boolean_object s) x h in
+    let y = kept (is_none s.constraint) _ x w.1 in
+    ap (λ l. broken.object_subtype_in l sight s) w.0 ∙ wide_kept sight s m subtypes.booleans meant class (unless_kept LeftOut s.mark.at (is_none s.constraint) y.0)
+by_class_kept sight s m subtypes.others x meant class h = in_any sight.language
+  where
+    in_any : (l : Language) → IsKept (broken.object_subtype_in l sight s)
+    in_any Profile = subtype_kept sight s x h
+    in_any Wide = wide_kept sight s m subtypes.others meant class (subtype_kept sight s x h)
+
+pub object_subtype_kept : (sight : Sight) (s : t.Subtype) (x : Subtype) → subtypes.object_subtype sight s ≡ Some x → IsKept (broken.object_subtype sight s)
+unfolding subtypes.object_subtype
+object_subtype_kept sight s x h =
+    let m = comes (meaning sight s.mark.text) _ x h in
+    by_class_kept sight s m.value (class_of m.value) x m.is refl m.rest
+
 -- ---- literals as they stand
 
 pub literal_kept : (k : ElementKind) (e : Expr) (vs : List Nine) → literal_values k e ≡ Some vs → IsKept (broken.literal (Elements k) e)
@@ -111,7 +150,7 @@ pub literal_value_kept : (type : ObjectType) (e : Expr) (x : Fixed) → literal_
 literal_value_kept (Elements k) e x h =
     let m = mapped u.Fixed.literal (literal_values k e) x h in
     literal_kept k e m.value m.from
-literal_value_kept (Enumeration e count) d x h = absurd cc
+literal_value_kept _ d x h = absurd cc
 
 -- a name is no literal
 pub no_literal : (k : ElementKind) (n : Ident) (s : t.Suffix) (a : Option Attribute) (vs : List Nine) → literal_values k (t.named n s a) ≡ Some vs → ⊥
@@ -122,7 +161,7 @@ no_literal_value : (type : ObjectType) (n : Ident) (s : t.Suffix) (a : Option At
 no_literal_value (Elements k) n s a x h =
     let m = mapped u.Fixed.literal (literal_values k (t.named n s a)) x h in
     no_literal k n s a m.value m.from
-no_literal_value (Enumeration e count) n s a x h = cc
+no_literal_value _ n s a x h = cc
 
 -- ---- values
 
@@ -188,7 +227,14 @@ fixed_value_kept_in Wide sight type r v x h = go (plain_value sight type v) h
     go None h = known_value_kept sight type r v x h
     go (Some y) h = nothing_kept
 
+-- an integer, and a boolean
+static_value_kept : (sight : Sight) (type : ObjectType) (v : t.Value) (x : Fixed) → single_value sight type v ≡ Some x → IsKept (broken.static_value sight type v)
+static_value_kept sight type (t.others at e) x h = absurd cc
+static_value_kept sight type (t.single e) x h = asked_kept (static_value type) sight e x h
+
 pub fixed_value_kept : (sight : Sight) (type : ObjectType) (r : Option Range) (v : t.Value) (x : Fixed) → subtypes.fixed_value sight type r v ≡ Some x
     → IsKept (broken.fixed_value sight type r v)
 unfolding subtypes.fixed_value
+fixed_value_kept sight Integers r v x h = static_value_kept sight Integers v x h
+fixed_value_kept sight Booleans r v x h = static_value_kept sight Booleans v x h
 fixed_value_kept sight type r v x h = fixed_value_kept_in sight.language sight type r v x h

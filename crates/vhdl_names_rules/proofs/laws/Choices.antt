@@ -3,9 +3,11 @@ use Rattle.std.proofs.Common.{◌≡◌, ℕ, zero, suc, ◌<◌, true, false, n
 use Rattle.std.specs.List.{slice_get, list_any, flat_map}
 use Rattle.vhdl_tree.specs.Tree as t
 use Rattle.vhdl_names_rules.specs.declared.kind.ObjectType.{ObjectType}
+use Rattle.vhdl_names_rules.specs.declared.kind.ObjectType.TheVariants.{Elements, Enumeration, Integers, Booleans}
 use Rattle.vhdl_names_rules.specs.units.Statements.{Choice}
 use Rattle.vhdl_names_rules.specs.Rules.{◌>>=◌, ◌>>◌, met, each}
 use Rattle.vhdl_names_rules.specs.Visibility.{Sight}
+use Rattle.vhdl_names_rules.specs.Expressions.{typed}
 use Rattle.vhdl_names_rules.specs.Choices.{same_choice, covered, choice, choices, are_distinct_choices, is_others, only_last_others, is_last_others, names_all}
 use Rattle.vhdl_names_rules.specs.laws.Choices.{ChoicesDiffer, OthersIsLast}
 use Rattle.vhdl_names_rules.proofs.laws.Rules.{comes, Comes, kept, both, not_true, none_passes, made}
@@ -51,11 +53,18 @@ pub choices_differ : ChoicesDiffer
 choices_differ sight type alternatives css e = differ (flat_map (λ cs. cs) css) (is_covered sight type alternatives css e).distinct
 
 -- others is no choice among others
+pub others_none : (sight : Sight) (type : ObjectType) (at : ℕ) → choice sight type (t.otherwise at) ≡ None
+unfolding typed
+others_none sight (Elements k) at = refl
+others_none sight (Enumeration e count) at = refl
+others_none sight Integers at = refl
+others_none sight Booleans at = refl
+
 no_choice : (sight : Sight) (type : ObjectType) (cs : List t.Choice) (ds : List Choice) (place at : ℕ)
     → each (choice sight type) cs ≡ Some ds → slice_get cs place ≡ Some (t.otherwise at) → ⊥
 no_choice sight type cs ds place at e p =
     let m = made (choice sight type) cs ds place (t.otherwise at) e p in
-    let h : None ≡ Some m.value = m.is in
+    let h : None ≡ Some m.value = sym (others_none sight type at) ∙ m.is in
     cc
 
 alone : (sight : Sight) (type : ObjectType) (cs : List t.Choice) (ds : List Choice) (place at : ℕ)

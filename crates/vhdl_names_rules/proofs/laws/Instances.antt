@@ -14,8 +14,8 @@ use Rattle.vhdl_names_rules.specs.Visibility as visibility
 use Rattle.vhdl_names_rules.specs.Visibility.{Name, Meaning, DeclaredRange, Declared, declare, all_declared, are_distinct, names_of, numbered, ranged, global_if, count_of, ranges_count, Sight, meaning, with_declared, Declares, followed_by}
 use Rattle.vhdl_names_rules.specs.Packages.{sight_of}
 use Rattle.vhdl_names_rules.specs.Subtypes as subtypes
-use Rattle.vhdl_names_rules.specs.Subtypes.{TypeClass, class_of, subtype, integer_subtype, form_range, form_direction, fixed_value}
-use Rattle.vhdl_names_rules.specs.Declarations.{in_order, is_global, GenericForm, generic_form, as_kind, mode_of, without_ports, generic, port}
+use Rattle.vhdl_names_rules.specs.Subtypes.{TypeClass, class_of, subtype, object_subtype, integer_subtype, form_range, form_direction, fixed_value}
+use Rattle.vhdl_names_rules.specs.Declarations.{in_order, is_global, GenericForm, generic_form, as_kind, as_port_type, mode_of, without_ports, generic, port}
 use Rattle.vhdl_names_rules.specs.Interfaces.{Interface, EntityView, declared_names, assertion_labels, with_labels, interface, entity}
 use Rattle.vhdl_names_rules.specs.Instances.{Formal, GenericFormal, generic_formal, generic_actual, generic_actuals, port_formal, port_actual, port_actuals}
 use Rattle.vhdl_names_rules.specs.Files.{entities_of, viewed, architecture, architecture_of, unit}
@@ -137,8 +137,8 @@ of_generic sight g x e =
 of_port : (sight : Sight) (p : t.Port) (x : Declares u.Port) → port sight p ≡ Some x → Kinds 0 (length x.analysed) x
 unfolding port
 of_port sight p x e =
-    let a = comes (subtype (without_ports sight) p.subtype) _ x e in
-    let b = comes (as_kind a.value.type) _ x a.rest in
+    let a = comes (object_subtype (without_ports sight) p.subtype) _ x e in
+    let b = comes (as_port_type a.value.type) _ x a.rest in
     let c = comes (if_any (fixed_value (without_ports sight) a.value.type (form_range a.value.form)) p.default) _ x b.rest in
     let means : ℕ → Meaning = λ k. visibility.port k (mode_of p.mode) b.value in
     let ds : List Declared = numbered means (count_of visibility.is_port sight.region) (names_of p.names) in

@@ -13,7 +13,7 @@ use Rattle.vhdl_names_rules.specs.Visibility as visibility
 use Rattle.vhdl_names_rules.specs.Visibility.{Name, Declared, declare, are_distinct, ends, label_ends, Sight, with_declared, with_variables, Declares}
 use Rattle.vhdl_names_rules.specs.Packages.{context, no_context, sight_of}
 use Rattle.vhdl_names_rules.specs.Expressions.{typed}
-use Rattle.vhdl_names_rules.specs.Choices.{covered, selector, arranged}
+use Rattle.vhdl_names_rules.specs.Choices.{covered, selector, arranged, selecting}
 use Rattle.vhdl_names_rules.specs.Statements.{signal_target, assignment, alone, statement, statements, statement_labels, alternatives, choice_lists}
 use Rattle.vhdl_names_rules.specs.Declarations.{in_order, process_declaration}
 use Rattle.vhdl_names_rules.specs.Interfaces.{EntityView, declared_names, assertion_labels, with_labels, interface, entity, entity_named, component}
@@ -36,7 +36,7 @@ given o f y c = record { value = c.value; is = c.is }
 -- what is chosen by an expression, of these choices and what is done for them
 pub record ChosenParts (sight : Sight) (e : Expr) (lists : List (List t.Choice)) (done : Option (List s.Statements)) : Type 0 where
   pub operand : Given (typed sight e)
-  pub by : Given (selector operand.value)
+  pub by : Given (selector sight.language operand.value)
   pub choices : Given (covered sight by.value.0 lists)
   pub bodies : Given done
   pub all : Given (arranged choices.value bodies.value)
@@ -44,7 +44,7 @@ pub record ChosenParts (sight : Sight) (e : Expr) (lists : List (List t.Choice))
 pub record CaseParts (sight : Sight) (label : Option Ident) (at : ℕ) (e : Expr) (alts : t.Alternatives) (end : Option Ident) (x : s.Statement) : Type 0 where
   pub ended : label_ends label end ≡ true
   pub chosen : ChosenParts sight e (choice_lists alts) (alternatives sight alts)
-  pub is : s.case_of at chosen.by.value.1 chosen.all.value ≡ x
+  pub is : selecting at chosen.by.value.1 chosen.all.value ≡ x
 
 pub case_parts : (sight : Sight) (label : Option Ident) (at : ℕ) (e : Expr) (alts : t.Alternatives) (end : Option Ident) (x : s.Statement)
     → statement sight label (t.case_of at e alts end) ≡ Some x → CaseParts sight label at e alts end x
@@ -52,7 +52,7 @@ unfolding statement
 case_parts sight label at e alts end x h =
     let a = kept (label_ends label end) _ x h in
     let b = comes (typed sight e) _ x a.1 in
-    let by = comes (selector b.value) _ x b.rest in
+    let by = comes (selector sight.language b.value) _ x b.rest in
     let c = comes (covered sight by.value.0 (choice_lists alts)) _ x by.rest in
     let d = comes (alternatives sight alts) _ x c.rest in
     let all = comes (arranged c.value d.value) _ x d.rest in
@@ -65,13 +65,13 @@ case_parts sight label at e alts end x h =
 pub record SelectedParts (sight : Sight) (label : Option Ident) (a : t.SelectedAssignment) (x : u.Concurrent) : Type 0 where
   pub to : Given (signal_target sight a.target)
   pub chosen : ChosenParts sight a.selector (map (λ (w : t.Waveform). w.choices) a.waveforms) (each (λ (w : t.Waveform). option_map alone (assignment sight to.value w.value)) a.waveforms)
-  pub is : assigning a.at label (s.case_of a.at chosen.by.value.1 chosen.all.value) ≡ x
+  pub is : assigning a.at label (selecting a.at chosen.by.value.1 chosen.all.value) ≡ x
 
 pub selected_parts : (sight : Sight) (label : Option Ident) (a : t.SelectedAssignment) (x : u.Concurrent) → selected sight label a ≡ Some x → SelectedParts sight label a x
 unfolding selected
 selected_parts sight label a x h =
     let b = comes (typed sight a.selector) _ x h in
-    let by = comes (selector b.value) _ x b.rest in
+    let by = comes (selector sight.language b.value) _ x b.rest in
     let to = comes (signal_target sight a.target) _ x by.rest in
     let c = comes (covered sight by.value.0 (map (λ (w : t.Waveform). w.choices) a.waveforms)) _ x to.rest in
     let d = comes (each (λ (w : t.Waveform). option_map alone (assignment sight to.value w.value)) a.waveforms) _ x c.rest in

@@ -11,24 +11,21 @@ use Rattle.vhdl_tree.specs.Tree as t
 use Rattle.vhdl_tree.specs.Tree.{Attribute}
 use Rattle.vhdl_names_rules.specs.declared.kind.ElementKind.{ElementKind}
 use Rattle.vhdl_names_rules.specs.declared.kind.ElementKind.TheVariants.{LogicVector, Unsigned, OpenVector}
-use Rattle.vhdl_names_rules.specs.declared.kind.ObjectType.TheVariants.{Elements, Enumeration}
+use Rattle.vhdl_names_rules.specs.declared.kind.ObjectType.{ObjectType}
+use Rattle.vhdl_names_rules.specs.declared.kind.ObjectType.TheVariants.{Elements, Enumeration, Integers, Booleans}
 use Rattle.vhdl_names_rules.specs.declared.kind.Function.TheVariants.{EdgeCall, ByCount, ToUnsigned, ToInteger}
 use Rattle.vhdl_names_rules.specs.units.Expressions as u
-use Rattle.vhdl_names_rules.specs.units.Expressions.{Range, SignalPart, Computed, Vector, Test}
+use Rattle.vhdl_names_rules.specs.units.Expressions.{Range, Signal, SignalPart, Computed, Vector, Test}
 use Rattle.vhdl_names_rules.specs.Rules.{◌>>=◌, ◌>>◌, met, then_some, wider}
 use Rattle.vhdl_names_rules.specs.Known.{is_known}
 use Rattle.vhdl_names_rules.specs.Visibility as visibility
 use Rattle.vhdl_names_rules.specs.Visibility.{Meaning, Declared, DeclaredRange}
-use Rattle.vhdl_names_rules.specs.Names.{Suffix, plain, arguments, range, AnyPart, any_part, signal_part, variable_part, constant_part, denoted, attributed, edge_signal, if_plain}
+use Rattle.vhdl_names_rules.specs.Names.{Suffix, plain, arguments, range, AnyPart, fixed, any_part, signal_part, variable_part, constant_part, known, position_of, is_true, read_object, read_variable, denoted, attributed, edge_signal, if_plain}
 use Rattle.vhdl_names_rules.specs.declared.operator.Bound.{Bound}
 use Rattle.vhdl_names_rules.specs.Ranges.{Ranged, ranged, range_of, reversed, bound_of, bound, bound_named, named_range, range_attribute, sized_by}
 use Rattle.vhdl_names_rules.specs.Operators.{Typed, integer, computed, elements, enumerated, truth, interval}
-use Rattle.vhdl_names_rules.specs.Expressions.{named, as_range, suffix_of}
+use Rattle.vhdl_names_rules.specs.Expressions.{valued, named, as_range, suffix_of}
 use Rattle.vhdl_names_rules.specs.problems.Expressions.{is_of_range, is_range}
-
--- what a name is as a value, with what follows it and an attribute
-abbrev pub valued : (at : ℕ) → Option Attribute → Meaning → Option DeclaredRange → Suffix → Option Typed
-valued at a m r s = denoted at m s >>= λ x. attributed a (sized_by at m r x)
 
 or_none : {A : Type 0} (o : Option A) → option_or o None ≡ o
 or_none None = refl
@@ -116,6 +113,18 @@ truth_is : (f : SignalPart → Test) (o : Option SignalPart) → as_value_range 
 truth_is f None = refl
 truth_is f (Some p) = refl
 
+object_is : (at : ℕ) (x : Signal) (type : ObjectType) (s : Suffix) → as_value_range (read_object at x type s) ≡ None
+object_is at x (Elements kind) s = part_is (signal_part at x) (any_part kind s)
+object_is at x (Enumeration e count) s = if_plain_is s (enumerated e count (u.state_of x)) refl
+object_is at x Integers s = if_plain_is s (computed (u.signal_number x)) refl
+object_is at x Booleans s = if_plain_is s (is_true at (signal_part at x (fixed u.whole))) refl
+
+variable_is : (at k : ℕ) (type : ObjectType) (s : Suffix) → as_value_range (read_variable at k type s) ≡ None
+variable_is at k (Elements kind) s = part_is (variable_part at k) (any_part kind s)
+variable_is at k (Enumeration e count) s = if_plain_is s (enumerated e count (u.state_of_variable k)) refl
+variable_is at k Integers s = if_plain_is s (computed (u.variable_number k)) refl
+variable_is at k Booleans s = if_plain_is s (is_true at (variable_part at k (fixed u.whole))) refl
+
 abbrev value_range : (at : ℕ) → Meaning → Option DeclaredRange → Suffix → Option Range
 value_range at m r s = valued at None m r s >>= as_range
 
@@ -137,15 +146,12 @@ no_range at (visibility.generic k) r s = if_plain_is s (integer (u.generic k)) r
 no_range at (visibility.integer_constant k) r s = if_plain_is s (integer (u.Static.constant k)) refl
 no_range at (visibility.generate_parameter k) r s = if_plain_is s (integer (u.generate_parameter k)) refl
 no_range at (visibility.loop_parameter k) r s = if_plain_is s (integer (u.loop_parameter k)) refl
-no_range at (visibility.boolean_generic k) r s = if_plain_is s (truth (u.fixed (u.known at (u.generic k)))) refl
-no_range at (visibility.boolean_constant k) r s = if_plain_is s (truth (u.fixed (u.known at (u.Static.constant k)))) refl
-no_range at (visibility.boolean_literal true) r s = if_plain_is s (truth (u.fixed (u.known at (u.number 1)))) refl
-no_range at (visibility.boolean_literal false) r s = if_plain_is s (truth (u.fixed (u.known at (u.number 0)))) refl
-no_range at (visibility.port k mode kind) r s = part_is (signal_part at (u.port k)) (any_part kind s)
-no_range at (visibility.signal k (Elements kind)) r s = part_is (signal_part at (u.Signal.signal k)) (any_part kind s)
-no_range at (visibility.signal k (Enumeration e count)) r s = if_plain_is s (enumerated e count (u.state_of (u.Signal.signal k))) refl
-no_range at (visibility.variable k (Elements kind)) r s = part_is (variable_part at k) (any_part kind s)
-no_range at (visibility.variable k (Enumeration e count)) r s = if_plain_is s (enumerated e count (u.state_of_variable k)) refl
+no_range at (visibility.boolean_generic k) r s = if_plain_is s (known at (u.generic k)) refl
+no_range at (visibility.boolean_constant k) r s = if_plain_is s (known at (u.Static.constant k)) refl
+no_range at (visibility.boolean_literal b) r s = if_plain_is s (known at (u.number (position_of b))) refl
+no_range at (visibility.port k mode type) r s = object_is at (u.port k) type s
+no_range at (visibility.signal k type) r s = object_is at (u.Signal.signal k) type s
+no_range at (visibility.variable k type) r s = variable_is at k type s
 no_range at (visibility.constant k kind values) r s = part_is (constant_part at k) (any_part kind s)
 no_range at (visibility.literal e count p) r s = if_plain_is s (enumerated e count (u.position p)) refl
 no_range at (visibility.vector_type k b) r s = converted_is at k b r s

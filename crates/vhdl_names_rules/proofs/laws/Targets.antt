@@ -6,7 +6,6 @@ use Rattle.vhdl_tree.specs.declared.declaration.Mode.{Mode}
 use Rattle.vhdl_tree.specs.declared.declaration.Mode.TheVariants.{In, Out}
 use Rattle.vhdl_tree.specs.Tree as t
 use Rattle.vhdl_names_rules.specs.declared.kind.ObjectType.{ObjectType}
-use Rattle.vhdl_names_rules.specs.declared.kind.ObjectType.TheVariants.{Elements}
 use Rattle.vhdl_names_rules.specs.units.Expressions as e
 use Rattle.vhdl_names_rules.specs.units.Expressions.{Signal, Part}
 use Rattle.vhdl_names_rules.specs.Visibility as visibility
@@ -15,7 +14,7 @@ use Rattle.vhdl_names_rules.specs.units.Statements.{Given}
 use Rattle.vhdl_names_rules.specs.Names.{Suffix, AnyPart, fixed, free, part_of, any_part_of}
 use Rattle.vhdl_names_rules.specs.Expressions.{typed_suffix}
 use Rattle.vhdl_names_rules.specs.Statements.{SignalName, named_part, as_signal, signal, is_input, Target, part_target, assigned_signal, as_signal_target, mode_of, signal_target}
-use Rattle.vhdl_names_rules.specs.Instances.{as_name, is_kind, may_join, port_actual}
+use Rattle.vhdl_names_rules.specs.Instances.{as_name, is_type, may_join, port_actual}
 use Rattle.vhdl_names_rules.specs.laws.Sound.{IsDriven, assigned_by, TargetsAreDriven, ActualsAreDriven}
 use Rattle.vhdl_names_rules.proofs.laws.Rules.{comes, kept, some_is, not_true}
 
@@ -29,11 +28,11 @@ driven_if at r (Some p) s mode x e =
 
 by_meaning : (at : ℕ) (n : Name) (d : Meaning) (r : Option DeclaredRange) (g : Bool) (suffix : Suffix) (x : SignalName)
     → as_signal at (record { name = n; meaning = d; range = r; is_global = g }) suffix ≡ Some x → is_input x.mode ≡ false → IsDriven (Some d) x.place.signal
-by_meaning at n (visibility.port k Out kind) r g suffix x h i =
-    let d = driven_if at r (part_of (Elements kind) suffix) (e.port k) (Some Out) x h in
-    inl (k, kind, refl, d.0)
-by_meaning at n (visibility.port k In kind) r g suffix x h i =
-    let d = driven_if at r (part_of (Elements kind) suffix) (e.port k) (Some In) x h in
+by_meaning at n (visibility.port k Out type) r g suffix x h i =
+    let d = driven_if at r (part_of type suffix) (e.port k) (Some Out) x h in
+    inl (k, type, refl, d.0)
+by_meaning at n (visibility.port k In type) r g suffix x h i =
+    let d = driven_if at r (part_of type suffix) (e.port k) (Some In) x h in
     let same : true ≡ is_input x.mode = ap is_input (sym d.1) in
     absurd (cc)
 by_meaning at n (visibility.signal k type) r g suffix x h i =
@@ -64,9 +63,9 @@ assigned_if at r x (Some p) y g e =
 target_by : (at : ℕ) (n : Name) (d : Meaning) (r : Option DeclaredRange) (global : Bool) (suffix : Suffix) (y : Target) (g : Given)
     → as_signal_target at (record { name = n; meaning = d; range = r; is_global = global }) suffix ≡ Some y → is_input (mode_of d) ≡ false
     → (x : Signal) × (assigned_by (y.assigned g) ≡ Some x) × IsDriven (Some d) x
-target_by at n (visibility.port k Out kind) r global suffix y g h i =
-    (e.port k, assigned_if at r (e.port k) (any_part_of (Elements kind) suffix) y g h, inl (k, kind, refl, refl))
-target_by at n (visibility.port k In kind) r global suffix y g h i = absurd (cc)
+target_by at n (visibility.port k Out type) r global suffix y g h i =
+    (e.port k, assigned_if at r (e.port k) (any_part_of type suffix) y g h, inl (k, type, refl, refl))
+target_by at n (visibility.port k In type) r global suffix y g h i = absurd (cc)
 target_by at n (visibility.signal k type) r global suffix y g h i =
     (e.Signal.signal k, assigned_if at r (e.Signal.signal k) (any_part_of type suffix) y g h, inr (k, type, refl, refl))
 target_by at n _ r global suffix y g h i = absurd (cc)
@@ -88,7 +87,7 @@ actuals_are_driven sight f n actual p out named h =
     let c = comes (as_name actual) _ p h in
     let same : c.value ≡ n = some_is c.value n (sym c.is ∙ named) in
     let s = comes (signal sight c.value) _ p c.rest in
-    let k = kept (is_kind f.kind s.value.type) _ p s.rest in
+    let k = kept (is_type f.type s.value.type) _ p s.rest in
     let j = kept (may_join f.mode s.value.mode) _ p k.1 in
     let g = some_is s.value.place p j.1 in
     let i : not (is_input s.value.mode) ≡ true = ap (λ mode. may_join mode s.value.mode) (sym out) ∙ j.0 in

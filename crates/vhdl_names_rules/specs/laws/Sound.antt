@@ -5,7 +5,6 @@ use Rattle.vhdl_lexer.specs.declared.language.Language.{Language}
 use Rattle.vhdl_tree.specs.declared.declaration.Mode.TheVariants.{Out}
 use Rattle.vhdl_tree.specs.Tree as t
 use Rattle.vhdl_tree.specs.Tree.{File, Ident, Expr}
-use Rattle.vhdl_names_rules.specs.declared.kind.ElementKind.{ElementKind}
 use Rattle.vhdl_names_rules.specs.declared.kind.ObjectType.{ObjectType}
 use Rattle.vhdl_names_rules.specs.units.Expressions as e
 use Rattle.vhdl_names_rules.specs.units.Expressions.{Signal, SignalPart}
@@ -24,7 +23,7 @@ use Rattle.vhdl_names_rules.specs.Files.{entities_of, viewed, units_of}
 -- a name of this meaning is an out port, or a signal, of this number
 abbrev pub IsDriven : Option Meaning → Signal → Type 0
 IsDriven o x =
-    ((k : ℕ) × (kind : ElementKind) × (o ≡ Some (visibility.port k Out kind)) × (x ≡ e.port k))
+    ((k : ℕ) × (type : ObjectType) × (o ≡ Some (visibility.port k Out type)) × (x ≡ e.port k))
     ⊎ ((k : ℕ) × (type : ObjectType) × (o ≡ Some (visibility.signal k type)) × (x ≡ e.Signal.signal k))
 
 -- the signal that an assignment gives a value, if it is one to a signal

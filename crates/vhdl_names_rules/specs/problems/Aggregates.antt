@@ -2,7 +2,7 @@
 use Rattle.std.specs.Prelude.{ℕ, Bool, true, false, not, ◌||◌, List, [], ◌∷◌, Option, Some, None}
 use Rattle.vhdl_names_rules.specs.declared.kind.ElementKind.{ElementKind}
 use Rattle.vhdl_names_rules.specs.declared.kind.ObjectType.{ObjectType}
-use Rattle.vhdl_names_rules.specs.declared.kind.ObjectType.TheVariants.{Elements, Enumeration}
+use Rattle.vhdl_names_rules.specs.declared.kind.ObjectType.TheVariants.{Elements}
 use Rattle.vhdl_names_rules.specs.declared.fault.NameProblem.{NameProblem}
 use Rattle.vhdl_names_rules.specs.declared.fault.NameProblem.TheVariants.{WrongKind, TypeMismatch, LeftOut}
 use Rattle.vhdl_names_rules.specs.units.Expressions as u
@@ -16,13 +16,9 @@ use Rattle.vhdl_names_rules.specs.problems.Broken.{Broken, nothing, refused, ◌
 
 -- ---- where choices and elements start
 
-abbrev pub index_start : u.Index → ℕ
-index_start (u.index at s) = at
-index_start (u.indexes at r) = at
-
 abbrev pub choice_start : TypedChoice → ℕ
 choice_start (types.others at) = at
-choice_start (place is_local i) = index_start i
+choice_start (place is_local i) = u.index_start i
 
 -- an element starts with its choices, else with its value
 abbrev pub element_start : List TypedChoice → (at : ℕ) → ℕ
@@ -87,9 +83,9 @@ value_start (element cs at x es) = at
 
 -- one that starts here: of vectors, by its elements, or by that of others alone; its choices need a range
 abbrev pub composite : ObjectType → (at : ℕ) → (is_ranged : Bool) → TypedElements → Broken
-composite (Enumeration e count) at is_ranged es = refused TypeMismatch at
 composite (Elements k) at is_ranged es = unless TypeMismatch at (is_vector k) ▸ by (filling es)
   where
     by : Option Typed → Broken
     by (Some x) = lacking TypeMismatch (value_start es) (as_filled (Elements k) x)
     by None = unless LeftOut at (is_ranged || not (is_named es)) ▸ aggregate k is_ranged es
+composite type at is_ranged es = refused TypeMismatch at

@@ -11,12 +11,12 @@ use Rattle.vhdl_names_rules.specs.Packages as packages
 use Rattle.vhdl_names_rules.specs.Packages.{Context, is_ieee, is_library, is_logic, is_numbers}
 use Rattle.vhdl_names_rules.specs.Subtypes as subtypes
 use Rattle.vhdl_names_rules.specs.Subtypes.{TypeClass, class_of, form_range}
-use Rattle.vhdl_names_rules.specs.Declarations.{within, within_variables, without_ports, as_kind, is_open}
+use Rattle.vhdl_names_rules.specs.Declarations.{within, within_variables, without_ports, as_kind, as_port_type, is_open}
 use Rattle.vhdl_names_rules.specs.Interfaces.{declared_names}
 use Rattle.vhdl_names_rules.specs.problems.Broken.{Broken, nothing, refused, ◌▸◌, unless, lacking, where_given, of_any, any_of}
 use Rattle.vhdl_names_rules.specs.problems.Twice.{twice}
 use Rattle.vhdl_names_rules.specs.problems.Expressions.{meaning, static, static_condition}
-use Rattle.vhdl_names_rules.specs.problems.Subtypes.{subtype, integer_subtype, boolean_subtype, fixed_value}
+use Rattle.vhdl_names_rules.specs.problems.Subtypes.{subtype, object_subtype, integer_subtype, boolean_subtype, fixed_value}
 
 -- ---- names
 
@@ -101,9 +101,9 @@ generic sight g = standing_twice sight.region g.names ▸ typed_generic sight g
 -- where the names of a list's ports mean nothing
 abbrev pub typed_port : Sight → t.Port → Broken
 typed_port sight p =
-    subtype sight p.subtype
-    ▸ where_given (subtypes.subtype sight p.subtype)
-    (λ s. nine_valued p.subtype.mark s ▸ of_any (value_of sight s) p.default)
+    object_subtype sight p.subtype
+    ▸ where_given (subtypes.object_subtype sight p.subtype)
+    (λ s. lacking LeftOut p.subtype.mark.at (as_port_type s.type) ▸ of_any (value_of sight s) p.default)
 
 abbrev pub port : Sight → t.Port → Broken
 port sight p = standing_twice sight.region p.names ▸ typed_port (without_ports sight) p
@@ -112,7 +112,8 @@ port sight p = standing_twice sight.region p.names ▸ typed_port (without_ports
 
 -- an object, whose name isn't declared yet in its own declaration
 abbrev pub object : Sight → t.Subtype → Option t.Value → Broken
-object inner s v = subtype inner s ▸ where_given (subtypes.subtype inner s) (λ x. of_any (value_of inner x) v)
+object inner s v =
+    object_subtype inner s ▸ where_given (subtypes.object_subtype inner s) (λ x. of_any (value_of inner x) v)
 
 abbrev pub signals : Sight → t.Signals → Broken
 signals sight d = standing_twice sight.region d.names ▸ object (within sight d.names) d.subtype d.default

@@ -10,7 +10,7 @@ use Rattle.vhdl_tree.specs.Tree.{Expr, Exprs, Ident, Attribute}
 use Rattle.vhdl_names_rules.specs.declared.kind.ElementKind.{ElementKind}
 use Rattle.vhdl_names_rules.specs.declared.kind.ElementKind.TheVariants.{Element}
 use Rattle.vhdl_names_rules.specs.declared.kind.ObjectType.{ObjectType}
-use Rattle.vhdl_names_rules.specs.declared.kind.ObjectType.TheVariants.{Elements, Enumeration}
+use Rattle.vhdl_names_rules.specs.declared.kind.ObjectType.TheVariants.{Elements, Booleans}
 use Rattle.vhdl_names_rules.specs.declared.fault.NameProblem.{NameProblem}
 use Rattle.vhdl_names_rules.specs.declared.fault.NameProblem.TheVariants.{Undeclared, WrongKind, TypeMismatch, LeftOut}
 use Rattle.vhdl_names_rules.specs.Rules.{wider}
@@ -18,13 +18,14 @@ use Rattle.vhdl_names_rules.specs.units.Expressions.{Range}
 use Rattle.vhdl_names_rules.specs.Visibility as visibility
 use Rattle.vhdl_names_rules.specs.Visibility.{Meaning, DeclaredRange, Declared, Sight, declaration}
 use Rattle.vhdl_names_rules.specs.Literals.{number_of, nine_of, values_of_string, values_of_bits}
-use Rattle.vhdl_names_rules.specs.Operators.{Typed, elements, composite, is_vector, inverse, as_computed, operated}
+use Rattle.std.specs.Option.{option_or}
+use Rattle.vhdl_names_rules.specs.Operators.{Typed, elements, composite, is_vector, inverse, as_computed, truths_related, operated}
 use Rattle.vhdl_names_rules.specs.Types as types
 use Rattle.vhdl_names_rules.specs.Types.{TypedElements}
 use Rattle.vhdl_names_rules.specs.Names.{Suffix, plain, denoted, edge_signal}
 use Rattle.vhdl_names_rules.specs.Ranges.{Ranged, ranged, bound_of, is_reverse_range, named_range, range_attribute, sized_by}
 use Rattle.vhdl_names_rules.specs.Expressions as are
-use Rattle.vhdl_names_rules.specs.Expressions.{as_integer, beside, in_parentheses, fits, as_index, as_range, as_test, as_static_test, as_value, as_filled}
+use Rattle.vhdl_names_rules.specs.Expressions.{as_integer, beside, in_parentheses, fits, as_index, as_range, as_test, as_static_test, as_value, as_filled, as_boolean}
 use Rattle.vhdl_names_rules.specs.problems.Broken.{Broken, nothing, refused, ◌▸◌, unless, lacking, where_given, of_any}
 use Rattle.vhdl_names_rules.specs.problems.Missing.{problem_of}
 use Rattle.vhdl_names_rules.specs.problems.Places.{start}
@@ -201,7 +202,8 @@ unfoldable mutual
       typed sight d ▸ typed sight e
       ▸ where_given (are.typed sight d) (λ x. where_given (are.typed sight e) (λ y.
       operand op y x ▸ operand op x y
-      ▸ lacking (operator_problem op x (beside d y)) at (operated sight.numbers at op x (beside d y))))
+      ▸ lacking (operator_problem op x (beside d y)) at
+      (option_or (operated sight.numbers at op x (beside d y)) (wider sight.language (truths_related op x y)))))
   typed sight (t.aggregate at es) = typed_elements sight es
   typed sight (t.qualified n at es) =
       meaning sight n ▸ typed_elements sight es
@@ -278,7 +280,7 @@ static_condition sight e =
 
 abbrev pub is_vector_type : ObjectType → Bool
 is_vector_type (Elements k) = is_vector k
-is_vector_type (Enumeration e count) = false
+is_vector_type _ = false
 
 -- what is given to a target of this type; (others => e) is told at its parenthesis where the target is no vector
 abbrev pub given : ObjectType → Option Range → (at : ℕ) → Typed → Broken
@@ -291,3 +293,9 @@ value_given sight type r (t.others at e) =
     typed sight e
     ▸ where_given (are.typed sight e)
     (λ x. unless TypeMismatch at (is_vector_type type) ▸ lacking TypeMismatch (start e) (as_filled type x))
+
+-- and what is assigned: to a boolean a truth
+abbrev pub value_assigned : Sight → ObjectType → Option Range → t.Value → Broken
+value_assigned sight Booleans r (t.single e) =
+    typed sight e ▸ where_given (are.typed sight e) (λ x. lacking TypeMismatch (start e) (as_boolean x))
+value_assigned sight type r v = value_given sight type r v

@@ -14,7 +14,7 @@ use Rattle.vhdl_names_rules.specs.Visibility.{Name, Meaning, Sight, is_among}
 use Rattle.vhdl_names_rules.specs.Interfaces.{EntityView, entity_named}
 use Rattle.vhdl_names_rules.specs.Statements as statements
 use Rattle.vhdl_names_rules.specs.Instances as are
-use Rattle.vhdl_names_rules.specs.Instances.{Formal, is_named, formal_of, expression_of, as_name, is_kind, may_join, is_architecture, as_component, GenericKind, GenericFormal, generic_formal, port_formal, value_as_actual}
+use Rattle.vhdl_names_rules.specs.Instances.{Formal, is_named, formal_of, expression_of, as_name, is_type, may_join, is_architecture, as_component, GenericKind, GenericFormal, generic_formal, port_formal, value_as_actual}
 use Rattle.vhdl_names_rules.specs.problems.Broken.{Broken, nothing, refused, ◌▸◌, unless, lacking, where_given, any_of, of_any}
 use Rattle.vhdl_names_rules.specs.problems.Places.{start, association_place}
 use Rattle.vhdl_names_rules.specs.problems.Expressions.{meaning, typed, static, static_condition}
@@ -66,7 +66,7 @@ actual_signal sight n =
 abbrev pub port_actual : Sight → Formal → Expr → Broken
 port_actual sight f e = lacking LeftOut (start e) (as_name e) ▸ where_given (as_name e) (λ n.
     actual_signal sight n
-    ▸ where_given (statements.signal sight n) (λ x. unless TypeMismatch n.identifier.at (is_kind f.kind x.type)
+    ▸ where_given (statements.signal sight n) (λ x. unless TypeMismatch n.identifier.at (is_type f.type x.type)
     ▸ unless WriteOfIn n.identifier.at (may_join f.mode x.mode)))
 
 -- the ports of a name

@@ -13,7 +13,7 @@ use Rattle.vhdl_names_rules.specs.Choices.{selector}
 use Rattle.vhdl_names_rules.specs.Statements as are
 use Rattle.vhdl_names_rules.specs.Statements.{as_signal, as_signal_target, as_variable_target, mode_of, is_input, Target, signal_target, variable_target, choice_lists}
 use Rattle.vhdl_names_rules.specs.problems.Broken.{Broken, nothing, ◌▸◌, unless, lacking, where_given, any_of, of_any}
-use Rattle.vhdl_names_rules.specs.problems.Expressions.{meaning, no_attribute, typed_suffix, static_range, condition, value_given}
+use Rattle.vhdl_names_rules.specs.problems.Expressions.{meaning, no_attribute, typed_suffix, static_range, condition, value_assigned}
 use Rattle.vhdl_names_rules.specs.problems.Choices.{choices, selected_by}
 use Rattle.vhdl_names_rules.specs.problems.Covered.{covered, any_alternative}
 
@@ -73,7 +73,7 @@ target_by sight false n = target sight n
 target_by sight true n = variable sight n
 
 abbrev pub given : Sight → Option Target → t.Value → Broken
-given sight target v = where_given target (λ x. value_given sight x.type x.range v)
+given sight target v = where_given target (λ x. value_assigned sight x.type x.range v)
 
 abbrev pub assigned : Sight → t.Name → t.Value → Broken
 assigned sight n v = target sight n ▸ given sight (signal_target sight n) v
@@ -94,7 +94,8 @@ conditional sight is_variable n bs o =
 -- what is chosen by a selector of this type
 abbrev pub by_selector : Sight → t.Expr → (ObjectType → Broken) → Broken
 by_selector sight e broken =
-    selected_by sight e ▸ where_given (expressions.typed sight e) (λ x. where_given (selector x) (λ by. broken by.0))
+    selected_by sight e
+    ▸ where_given (expressions.typed sight e) (λ x. where_given (selector sight.language x) (λ by. broken by.0))
 
 unfoldable mutual
   pub statement : Sight → Option Ident → t.Statement → Broken

@@ -7,7 +7,7 @@ use Rattle.vhdl_tree.specs.Tree as t
 use Rattle.vhdl_tree.specs.Tree.{Expr}
 use Rattle.vhdl_names_rules.specs.declared.kind.ElementKind.TheVariants.{Element, Unsigned}
 use Rattle.vhdl_names_rules.specs.declared.kind.ObjectType.{ObjectType}
-use Rattle.vhdl_names_rules.specs.declared.kind.ObjectType.TheVariants.{Elements}
+use Rattle.vhdl_names_rules.specs.declared.kind.ObjectType.TheVariants.{Elements, Integers, Booleans}
 use Rattle.vhdl_names_rules.specs.declared.kind.Function.TheVariants.{ToUnsigned}
 use Rattle.vhdl_names_rules.specs.declared.fault.NameProblem.{NameProblem}
 use Rattle.vhdl_names_rules.specs.declared.fault.NameProblem.TheVariants.{Undeclared, WrongKind, TypeMismatch, LeftOut}
@@ -20,11 +20,11 @@ use Rattle.vhdl_names_rules.specs.Names as names
 use Rattle.vhdl_names_rules.specs.Names.{Suffix}
 use Rattle.vhdl_names_rules.specs.Expressions as are
 use Rattle.vhdl_names_rules.specs.Subtypes as subtypes
-use Rattle.vhdl_names_rules.specs.Subtypes.{named_value, encoded_value, filled_value, is_known_value, is_range}
+use Rattle.vhdl_names_rules.specs.Subtypes.{TypeClass, class_of, named_value, encoded_value, filled_value, is_known_value, is_range}
 use Rattle.vhdl_names_rules.specs.problems.Broken.{Broken, nothing, refused, ◌▸◌, unless, lacking, where_given, of_any}
 use Rattle.vhdl_names_rules.specs.problems.Places.{start, range_start}
 use Rattle.vhdl_names_rules.specs.problems.Operators.{string_problem}
-use Rattle.vhdl_names_rules.specs.problems.Expressions.{meaning, no_attribute, is_vector_type, typed_suffix, static_range, value_given}
+use Rattle.vhdl_names_rules.specs.problems.Expressions.{meaning, no_attribute, is_vector_type, typed, typed_suffix, static_range, value_given}
 
 -- ---- types of objects
 
@@ -73,6 +73,20 @@ integer_subtype sight s =
 -- booleans take none
 abbrev pub boolean_subtype : t.Subtype → Broken
 boolean_subtype s = unless LeftOut s.mark.at (is_none s.constraint)
+
+-- of a signal, port or variable: in the wider language also an integer or a boolean
+abbrev pub object_by : Sight → t.Subtype → TypeClass → Broken
+object_by sight s subtypes.integers = integer_subtype sight s
+object_by sight s subtypes.booleans = boolean_subtype s
+object_by sight s subtypes.others = subtype sight s
+
+abbrev pub object_subtype_in : Language → Sight → t.Subtype → Broken
+object_subtype_in Profile sight s = subtype sight s
+object_subtype_in Wide sight s =
+    meaning sight s.mark ▸ where_given (visibility.meaning sight s.mark.text) (λ m. object_by sight s (class_of m))
+
+abbrev pub object_subtype : Sight → t.Subtype → Broken
+object_subtype sight s = object_subtype_in sight.language sight s
 
 -- ---- literals as they stand, which constants, defaults and choices ask for
 
@@ -152,5 +166,14 @@ fixed_value_in Profile sight type r v = plain_value sight type v
 fixed_value_in Wide sight type r v =
     if is_some (subtypes.plain_value sight type v) then nothing else known_value sight type r v
 
+-- an integer or a boolean, which is one expression
+abbrev pub static_value : Sight → ObjectType → t.Value → Broken
+static_value sight type (t.others at e) = refused TypeMismatch at
+static_value sight type (t.single e) =
+    typed sight e
+    ▸ where_given (are.typed sight e) (λ x. lacking TypeMismatch (start e) (subtypes.static_value type x))
+
 abbrev pub fixed_value : Sight → ObjectType → Option Range → t.Value → Broken
+fixed_value sight Integers r v = static_value sight Integers v
+fixed_value sight Booleans r v = static_value sight Booleans v
 fixed_value sight type r v = fixed_value_in sight.language sight type r v

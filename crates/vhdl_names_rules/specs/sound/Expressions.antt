@@ -1,13 +1,13 @@
 -- What elaboration may take for granted of expressions: numbers are in range, parameters stand inside their generates
 -- and loops, and one element stands where one is asked for.
-use Rattle.std.specs.Prelude.{ℕ, ◌==◌, nat_lt, Bool, true, false, not, ◌&&◌, List, map, slice_get, Option, Some, None}
+use Rattle.std.specs.Prelude.{ℕ, ◌==◌, nat_lt, Bool, true, false, ◌&&◌, List, map, slice_get, Option, Some, None}
 use Rattle.std.specs.List.{list_all}
 use Rattle.vhdl_names_rules.specs.declared.operator.VectorOperator.{VectorOperator}
 use Rattle.vhdl_names_rules.specs.declared.operator.VectorOperator.TheVariants as v
 use Rattle.vhdl_names_rules.specs.units.Expressions as e
 use Rattle.vhdl_names_rules.specs.units.Expressions.{Static, Range, StaticTest, Signal, Part, SignalPart, Computed, Chosen, Vector, Elements, Value, Test}
 use Rattle.vhdl_names_rules.specs.units.Units as u
-use Rattle.vhdl_names_rules.specs.units.Units.{Form, Fixed, Units}
+use Rattle.vhdl_names_rules.specs.units.Units.{Form}
 use Rattle.vhdl_names_rules.specs.Rules.{◌>>=◌, then_some}
 
 -- ---- what is declared where an expression stands
@@ -36,6 +36,7 @@ static_fits i (e.loop_parameter k) = nat_lt k i.loops
 static_fits i (e.Static.negated at x) = static_fits i x
 static_fits i (e.absolute at x) = static_fits i x
 static_fits i (e.bound b k) = nat_lt k i.ranges
+static_fits i e.least_integer = true
 static_fits i (e.slice_bound at b k l d r) = nat_lt k i.ranges && static_fits i l && static_fits i r
 static_fits i (e.Static.binary at op x y) = static_fits i x && static_fits i y
 
@@ -48,17 +49,20 @@ static_test_fits i (e.StaticTest.compared at op x y) = static_fits i x && static
 static_test_fits i (e.StaticTest.negated t) = static_test_fits i t
 static_test_fits i (e.StaticTest.both op t r) = static_test_fits i t && static_test_fits i r
 
--- ---- shapes: one element, a vector, or a value of an enumeration of so many literals
+-- ---- shapes: one element, as a boolean is, a vector, a value of an enumeration of so many literals, or an integer
 
 pub data Shape : Type 0 where
   one : Shape
   vector : Shape
   state : (count : ℕ) → Shape
+  number : Shape
 
 abbrev pub shape_of : Form → Shape
 shape_of u.element = one
 shape_of (u.vector r) = vector
 shape_of (u.enumeration count) = state count
+shape_of (u.Form.number s) = number
+shape_of u.boolean = one
 
 -- a part of an object: elements and slices are parts of vectors
 abbrev pub part_shape : Inside → Form → Part → Option Shape
@@ -84,6 +88,7 @@ abbrev pub same_shape : Shape → Shape → Bool
 same_shape one one = true
 same_shape vector vector = true
 same_shape (state m) (state n) = m == n
+same_shape number number = true
 same_shape _ _ = false
 
 abbrev pub is_vector : Shape → Bool
@@ -92,8 +97,9 @@ is_vector _ = false
 
 -- of the nine values
 abbrev pub is_elements : Shape → Bool
-is_elements (state count) = false
-is_elements _ = true
+is_elements one = true
+is_elements vector = true
+is_elements _ = false
 
 -- what an operator makes: logical operators of two alike, `&` of any two, arithmetic of two vectors
 abbrev pub operated_shape : VectorOperator → Shape → Shape → Option Shape
@@ -133,6 +139,10 @@ abbrev pub are_elements : Option Shape → Bool
 are_elements None = false
 are_elements (Some x) = is_elements x
 
+abbrev pub is_number : Option Form → Bool
+is_number (Some (u.Form.number s)) = true
+is_number _ = false
+
 abbrev pub is_vector_shape : Option Shape → Bool
 is_vector_shape None = false
 is_vector_shape (Some x) = is_vector x
@@ -141,6 +151,8 @@ abbrev mutual
   pub computed_fits : Inside → Computed → Bool
   computed_fits i (e.static s) = static_fits i s
   computed_fits i (e.number_of at x) = is_vector_shape (vector_shape i x)
+  computed_fits i (e.signal_number x) = is_number (signal_form i x)
+  computed_fits i (e.variable_number k) = is_number (slice_get i.variables k)
   computed_fits i (e.Computed.negated at x) = computed_fits i x
   computed_fits i (e.magnitude at x) = computed_fits i x
   computed_fits i (e.calculated at op x y) = computed_fits i x && computed_fits i y
@@ -203,7 +215,8 @@ abbrev mutual
 
 -- what is said to be of an enumeration is
 abbrev pub state_shape : Form → Option Shape
-state_shape f = then_some (not (is_elements (shape_of f))) (shape_of f)
+state_shape (u.enumeration count) = Some (state count)
+state_shape _ = None
 
 -- a literal of an enumeration has no shape of its own
 abbrev pub value_shape : Inside → Value → Option Shape
@@ -211,6 +224,8 @@ value_shape i (e.Value.elements x) = vector_shape i x
 value_shape i (e.Value.position p) = None
 value_shape i (e.state_of x) = signal_form i x >>= state_shape
 value_shape i (e.state_of_variable k) = slice_get i.variables k >>= state_shape
+value_shape i (e.Value.computed x) = then_some (computed_fits i x) number
+value_shape i (e.static_truth t) = then_some (static_test_fits i t) one
 
 abbrev pub position_fits : Shape → ℕ → Bool
 position_fits (state count) p = nat_lt p count

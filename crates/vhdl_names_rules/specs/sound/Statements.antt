@@ -4,12 +4,11 @@ use Rattle.std.specs.List.{list_all}
 use Rattle.vhdl_tree.specs.declared.declaration.Mode.{Mode}
 use Rattle.vhdl_tree.specs.declared.declaration.Mode.TheVariants.{In, Out}
 use Rattle.vhdl_names_rules.specs.units.Expressions as e
-use Rattle.vhdl_names_rules.specs.units.Expressions.{Static, Range, StaticTest, Signal, Part, SignalPart, Vector, Value, Test}
+use Rattle.vhdl_names_rules.specs.units.Expressions.{Signal, Value}
 use Rattle.vhdl_names_rules.specs.units.Statements as s
 use Rattle.vhdl_names_rules.specs.units.Units as u
-use Rattle.vhdl_names_rules.specs.units.Units.{Form, Fixed, Units}
 use Rattle.vhdl_names_rules.specs.Rules.{◌>>=◌}
-use Rattle.vhdl_names_rules.specs.sound.Expressions.{Inside, Shape, one, vector, state, range_fits, part_shape, place_shape, signal_form, is_vector, has_vector, chosen_shape, chosen_fits, vector_shape, value_shape, fits_shape, value_fits, test_fits}
+use Rattle.vhdl_names_rules.specs.sound.Expressions.{Inside, Shape, one, vector, state, number, index_fits, range_fits, part_shape, place_shape, signal_form, is_vector, has_vector, chosen_shape, chosen_fits, vector_shape, value_shape, fits_shape, value_fits, test_fits}
 
 -- ---- sequential statements
 
@@ -37,12 +36,13 @@ is_driven i (e.Signal.signal k) = true
 abbrev pub within_loop : Inside → Inside
 within_loop i = record i { loops = suc i.loops }
 
-abbrev pub choice_fits : Option Shape → s.Choice → Bool
-choice_fits (Some (state count)) (s.Choice.position p) = nat_lt p count
-choice_fits None (s.Choice.position p) = true
-choice_fits (Some one) (s.values (x ∷ [])) = true
-choice_fits (Some vector) (s.values (x ∷ xs)) = true
-choice_fits _ _ = false
+abbrev pub choice_fits : Inside → Option Shape → s.Choice → Bool
+choice_fits i (Some (state count)) (s.Choice.position p) = nat_lt p count
+choice_fits i None (s.Choice.position p) = true
+choice_fits i (Some one) (s.values (x ∷ [])) = true
+choice_fits i (Some vector) (s.values (x ∷ xs)) = true
+choice_fits i (Some number) (s.numbers k) = index_fits i k
+choice_fits _ _ _ = false
 
 -- a case is on something of a shape, or on an enumeration's literal
 abbrev pub selector_fits : Inside → Value → Bool
@@ -73,5 +73,6 @@ unfoldable mutual
 
   pub alternatives_fit : Inside → Option Shape → s.Alternatives → Bool
   alternatives_fit i x (s.others body) = statements_fit i body
+  alternatives_fit i x (s.complete cs body) = list_all (choice_fits i x) cs && statements_fit i body
   alternatives_fit i x (s.alternative cs body alts) =
-      list_all (choice_fits x) cs && statements_fit i body && alternatives_fit i x alts
+      list_all (choice_fits i x) cs && statements_fit i body && alternatives_fit i x alts

@@ -7,15 +7,28 @@ use Rattle.vhdl_tree.specs.declared.declaration.Mode.TheVariants.{In, Out}
 use Rattle.vhdl_names_rules.specs.units.Expressions.{Range, Signal, SignalPart}
 use Rattle.vhdl_names_rules.specs.units.Units as u
 use Rattle.vhdl_names_rules.specs.units.Units.{Form, Fixed, Units}
-use Rattle.vhdl_names_rules.specs.sound.Expressions.{Inside, Shape, one, vector, static_fits, range_fits, static_test_fits, shape_of, place_shape, is_elements, elements_fit, position_fits, fits_shape}
+use Rattle.vhdl_names_rules.specs.sound.Expressions.{Inside, Shape, one, vector, state, number, static_fits, range_fits, static_test_fits, shape_of, place_shape, is_elements, elements_fit, position_fits, fits_shape}
 use Rattle.vhdl_names_rules.specs.sound.Statements.{is_driven, given_fits, statements_fit}
 
 -- ---- declarations
+
+abbrev pub integers_fit : Inside → u.Integers → Bool
+integers_fit i (u.of_type w) = true
+integers_fit i (u.of_range k) = nat_lt k i.ranges
+
+abbrev pub subtype_range_fits : Inside → Option (ℕ × Range) → Bool
+subtype_range_fits i None = true
+subtype_range_fits i (Some r) = range_fits i r.1
+
+abbrev pub subtype_fits : Inside → u.IntegerSubtype → Bool
+subtype_fits i s = integers_fit i s.base && subtype_range_fits i s.range
 
 abbrev pub form_fits : Inside → Form → Bool
 form_fits i u.element = true
 form_fits i (u.vector r) = range_fits i r
 form_fits i (u.enumeration count) = nat_lt 0 count && nat_le count 256
+form_fits i (u.Form.number s) = subtype_fits i s
+form_fits i u.boolean = true
 
 abbrev pub without_objects : Inside → Inside
 without_objects i = record i { ports = []; signals = []; variables = [] }
@@ -30,38 +43,35 @@ fixed_fits i vector (u.Fixed.filled x) = true
 -- no signal and no variable is in it
 fixed_fits i x (u.Fixed.given g) = given_fits (without_objects i) x g
 fixed_fits i vector (u.Fixed.aggregate at es) = elements_fit (without_objects i) es
+fixed_fits i number (u.Fixed.integer n) = static_fits i n
+fixed_fits i one (u.Fixed.truth t) = static_test_fits i t
 fixed_fits i _ _ = false
 
 abbrev pub default_fits : Inside → Shape → Option Fixed → Bool
 default_fits i x None = true
 default_fits i x (Some f) = fixed_fits i x f
 
--- an enumeration is not resolved
+-- neither an enumeration nor an integer nor a boolean is resolved
 abbrev pub may_be_resolved : Form → Bool → Bool
 may_be_resolved (u.enumeration count) true = false
+may_be_resolved (u.Form.number s) true = false
+may_be_resolved u.boolean true = false
 may_be_resolved _ _ = true
 
 abbrev pub object_fits : Inside → u.Object → Bool
 object_fits i o =
     form_fits i o.form && may_be_resolved o.form o.is_resolved && default_fits i (shape_of o.form) o.default
 
--- a port is of the nine values
+-- a port is of no enumeration
+abbrev pub is_port_shape : Shape → Bool
+is_port_shape (state count) = false
+is_port_shape _ = true
+
 abbrev pub port_fits : u.Port → Bool
-port_fits p = is_elements (shape_of p.object.form)
+port_fits p = is_port_shape (shape_of p.object.form)
 
 abbrev pub objects_fit : Inside → List u.Object → Bool
 objects_fit i os = list_all (object_fits i) os
-
-abbrev pub integers_fit : Inside → u.Integers → Bool
-integers_fit i (u.of_type w) = true
-integers_fit i (u.of_range k) = nat_lt k i.ranges
-
-abbrev pub subtype_range_fits : Inside → Option (ℕ × Range) → Bool
-subtype_range_fits i None = true
-subtype_range_fits i (Some r) = range_fits i r.1
-
-abbrev pub subtype_fits : Inside → u.IntegerSubtype → Bool
-subtype_fits i s = integers_fit i s.base && subtype_range_fits i s.range
 
 -- a value of a generic's type
 abbrev pub generic_value_fits : Inside → u.GenericType → Fixed → Bool

@@ -45,6 +45,8 @@ abbrev mutual
   pub computed_bytes : Computed → List ℕ
   computed_bytes (e.static x) = static_bytes x
   computed_bytes (e.number_of at x) = at ∷ vector_bytes x
+  computed_bytes (e.signal_number x) = []
+  computed_bytes (e.variable_number k) = []
   computed_bytes (e.Computed.negated at x) = at ∷ computed_bytes x
   computed_bytes (e.magnitude at x) = at ∷ computed_bytes x
   computed_bytes (e.calculated at op x y) = at ∷ (computed_bytes x ++ computed_bytes y)
@@ -84,6 +86,8 @@ abbrev mutual
 
 abbrev pub value_bytes : Value → List ℕ
 value_bytes (e.Value.elements x) = vector_bytes x
+value_bytes (e.Value.computed x) = computed_bytes x
+value_bytes (e.static_truth t) = static_test_bytes t
 value_bytes _ = []
 
 abbrev pub test_bytes : Test → List ℕ
@@ -108,6 +112,10 @@ abbrev pub given_bytes : s.Given → List ℕ
 given_bytes (s.single x) = value_bytes x
 given_bytes (s.filled x) = vector_bytes x
 
+abbrev pub choice_bytes : s.Choice → List ℕ
+choice_bytes (s.numbers i) = index_bytes i
+choice_bytes _ = []
+
 abbrev mutual
   pub statement_bytes : s.Statement → List ℕ
   statement_bytes s.null_of = []
@@ -130,14 +138,21 @@ abbrev mutual
 
   pub alternatives_bytes : s.Alternatives → List ℕ
   alternatives_bytes (s.others body) = statements_bytes body
-  alternatives_bytes (s.alternative cs body alts) = statements_bytes body ++ alternatives_bytes alts
+  alternatives_bytes (s.complete cs body) = flat_map choice_bytes cs ++ statements_bytes body
+  alternatives_bytes (s.alternative cs body alts) =
+      flat_map choice_bytes cs ++ (statements_bytes body ++ alternatives_bytes alts)
 
 -- ---- declarations
+
+abbrev pub subtype_bytes : u.IntegerSubtype → List ℕ
+subtype_bytes s = if_any_bytes (λ (r : ℕ × Range). r.0 ∷ range_bytes r.1) s.range
 
 abbrev pub form_bytes : Form → List ℕ
 form_bytes u.element = []
 form_bytes (u.vector r) = range_bytes r
 form_bytes (u.enumeration count) = []
+form_bytes (u.Form.number s) = subtype_bytes s
+form_bytes u.boolean = []
 
 abbrev pub fixed_bytes : Fixed → List ℕ
 fixed_bytes (u.Fixed.encoded n size) = static_bytes n ++ static_bytes size
@@ -146,9 +161,6 @@ fixed_bytes (u.Fixed.aggregate at es) = at ∷ elements_bytes es
 fixed_bytes (u.Fixed.integer n) = static_bytes n
 fixed_bytes (u.Fixed.truth t) = static_test_bytes t
 fixed_bytes _ = []
-
-abbrev pub subtype_bytes : u.IntegerSubtype → List ℕ
-subtype_bytes s = if_any_bytes (λ (r : ℕ × Range). r.0 ∷ range_bytes r.1) s.range
 
 abbrev pub generic_type_bytes : u.GenericType → List ℕ
 generic_type_bytes (u.integers s) = subtype_bytes s

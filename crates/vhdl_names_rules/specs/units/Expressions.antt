@@ -34,6 +34,8 @@ pub data Static : Type 0 where
   -- whose name starts here
   bound : Bound → ℕ → Static
   slice_bound : (at : ℕ) → Bound → ℕ → (left : Static) → Direction → (right : Static) → Static
+  -- the left bound of INTEGER (5.2.3.2)
+  least_integer : Static
 
 pub record Range : Type 0 where
   pub left : Static
@@ -74,6 +76,10 @@ pub data Index : Type 0 where
   index : (at : ℕ) → Static → Index
   indexes : (at : ℕ) → Range → Index
 
+abbrev pub index_start : Index → ℕ
+index_start (index at s) = at
+index_start (indexes at r) = at
+
 mutual
   -- an integer that a run computes
   pub data Computed : Type 0 where
@@ -81,6 +87,9 @@ mutual
     static : Static → Computed
     -- to_integer, of a number
     number_of : (at : ℕ) → Vector → Computed
+    -- a signal, and the variable of this number, of an integer type
+    signal_number : Signal → Computed
+    variable_number : ℕ → Computed
     negated : (at : ℕ) → Computed → Computed
     magnitude : (at : ℕ) → Computed → Computed
     calculated : (at : ℕ) → Arithmetic → Computed → Computed → Computed
@@ -136,7 +145,7 @@ mutual
     -- and for each that is left
     others : Vector → Elements
 
--- what is assigned, compared or selected by: elements of the nine values, or a value of an enumeration
+-- what is assigned, compared or selected by: elements of the nine values, an integer, or a value of an enumeration
 pub data Value : Type 0 where
   elements : Vector → Value
   -- an enumeration's literal, by its position
@@ -144,6 +153,9 @@ pub data Value : Type 0 where
   -- a signal or variable of an enumeration
   state_of : Signal → Value
   state_of_variable : ℕ → Value
+  computed : Computed → Value
+  -- a boolean that is static: '1' where it is true, and '0' where it is false
+  static_truth : StaticTest → Value
 
 -- ---- truth
 

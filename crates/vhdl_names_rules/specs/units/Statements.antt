@@ -2,17 +2,18 @@
 -- starts, an if, a case and a loop with where they start themselves.
 use Rattle.std.specs.Prelude.{ℕ, List}
 use Rattle.vhdl_values.specs.declared.scalar.Nine.{Nine}
-use Rattle.vhdl_names_rules.specs.units.Expressions.{Range, Signal, Part, SignalPart, Chosen, Vector, Value, Test}
+use Rattle.vhdl_names_rules.specs.units.Expressions.{Index, Range, Signal, Part, SignalPart, Chosen, Vector, Value, Test}
 
 -- what is assigned: a value, or (others => e), one element for each of the target's
 pub data Given : Type 0 where
   single : Value → Given
   filled : Vector → Given
 
--- a choice of a case: the values of a literal, or an enumeration's literal by its position
+-- a choice of a case: the values of a literal, an enumeration's literal by its position, or integers (10.9)
 pub data Choice : Type 0 where
   values : List Nine → Choice
   position : ℕ → Choice
+  numbers : Index → Choice
 
 mutual
   pub data Statement : Type 0 where
@@ -41,4 +42,7 @@ mutual
   -- last alternative there.
   pub data Alternatives : Type 0 where
     others : Statements → Alternatives
+    -- the last one of a case on an integer that has no others: whether all are complete is known where they are
+    -- computed
+    complete : List Choice → Statements → Alternatives
     alternative : List Choice → Statements → Alternatives → Alternatives

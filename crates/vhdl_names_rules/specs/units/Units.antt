@@ -10,12 +10,6 @@ use Rattle.vhdl_names_rules.specs.units.Statements.{Given, Statements}
 
 -- ---- declarations
 
--- one element, a vector of this range, or an enumeration of so many literals
-pub data Form : Type 0 where
-  element : Form
-  vector : Range → Form
-  enumeration : (count : ℕ) → Form
-
 -- of which integers a subtype is: of a type's, or of those in the declared range of this number
 pub data Integers : Type 0 where
   of_type : IntegerType → Integers
@@ -25,6 +19,15 @@ pub data Integers : Type 0 where
 pub record IntegerSubtype : Type 0 where
   pub base : Integers
   pub range : Option (ℕ × Range)
+
+-- one element, a vector of this range, an enumeration of so many literals, an integer, or a boolean, which is one
+-- element: '1' where it is true, and '0' where it is false
+pub data Form : Type 0 where
+  element : Form
+  vector : Range → Form
+  enumeration : (count : ℕ) → Form
+  number : IntegerSubtype → Form
+  boolean : Form
 
 -- the value of a constant or generic, or a default
 pub data Fixed : Type 0 where

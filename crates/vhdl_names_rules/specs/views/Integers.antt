@@ -30,6 +30,7 @@ abbrev mutual
   static_view (s.Negated' at p x) = u.Static.negated at (static_view x)
   static_view (s.Absolute' at p x) = u.absolute at (static_view x)
   static_view (s.Bound b k) = u.bound b k
+  static_view s.LeastInteger = u.least_integer
   static_view (s.SliceBound' at b k p left direction q right) =
       u.slice_bound at b k (static_view left) direction (static_view right)
   static_view (s.Chain' p first operator at operand shape rest) =

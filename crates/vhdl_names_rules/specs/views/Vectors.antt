@@ -24,6 +24,7 @@ use Rattle.vhdl_names_rules.specs.declared.vector.Value.{Value}
 use Rattle.vhdl_names_rules.specs.declared.vector.Value.TheVariants as e
 use Rattle.vhdl_names_rules.specs.units.Expressions as u
 use Rattle.vhdl_names_rules.specs.views.Integers.{static_view, range_view, option_range_view, index_view}
+use Rattle.vhdl_names_rules.specs.views.StaticTests.{static_test_view}
 
 abbrev pub signal_view : Signal → u.Signal
 signal_view (g.Port k) = u.port k
@@ -41,6 +42,8 @@ abbrev mutual
   pub computed_view : Computed → u.Computed
   computed_view (m.Static s) = u.static (static_view s)
   computed_view (m.Number' at b x) = u.number_of at (vector_view x)
+  computed_view (m.SignalNumber x) = u.signal_number (signal_view x)
+  computed_view (m.VariableNumber k) = u.variable_number k
   computed_view (m.Negated' at b x) = u.Computed.negated at (computed_view x)
   computed_view (m.Magnitude' at b x) = u.magnitude at (computed_view x)
   computed_view (m.Chain' b first operator at operand shape rest) =
@@ -121,3 +124,5 @@ value_view (e.Elements x) = u.Value.elements (vector_view x)
 value_view (e.Position n) = u.Value.position n
 value_view (e.StateOf x) = u.state_of (signal_view x)
 value_view (e.StateOfVariable k) = u.state_of_variable k
+value_view (e.Computed x) = u.Value.computed (computed_view x)
+value_view (e.StaticTruth t) = u.static_truth (static_test_view t)

@@ -1,5 +1,5 @@
 -- The rules of case statements, in the order in which the code comes to their parts.
-use Rattle.std.proofs.Common.{◌≡◌, ℕ, suc, ◌+◌, ◌-◌, ◌<◌, arith, Bool, true, false, List, [], ◌∷◌, ◌++◌, map, Option, Some, None, refl, ap, sym, ◌∙◌}
+use Rattle.std.proofs.Common.{◌≡◌, ℕ, suc, ◌+◌, ◌-◌, ◌<◌, arith, Bool, true, false, List, [], ◌∷◌, ◌++◌, Option, Some, None, refl, ap, sym, ◌∙◌}
 use Rattle.std.specs.Prelude.{option_map, ◌&&◌, ◌||◌}
 use Rattle.std.proofs.lemmas.List.{map-append}
 use Rattle.std.specs.List.{flat_map, list_all, list_any, range_with_len}
@@ -11,22 +11,22 @@ use Rattle.vhdl_tree.specs.View as tree
 use Rattle.vhdl_tree.specs.declared.sequential.Case.{Case, out-Case, roll-out-Case}
 use Rattle.vhdl_tree.proofs.RowsStatements.{view_case}
 use Rattle.vhdl_names_rules.specs.declared.kind.ObjectType.{ObjectType}
-use Rattle.vhdl_names_rules.specs.declared.kind.ObjectType.TheVariants.{Elements, Enumeration}
-use Rattle.vhdl_names_rules.specs.units.Expressions.{Value}
+use Rattle.vhdl_names_rules.specs.declared.kind.ObjectType.TheVariants.{Elements, Enumeration, Integers, Booleans}
 use Rattle.vhdl_names_rules.specs.units.Statements as s
 use Rattle.vhdl_names_rules.specs.Rules.{◌>>=◌, ◌>>◌, met, each}
 use Rattle.vhdl_names_rules.specs.Visibility.{Sight, label_ends, is_among}
 use Rattle.vhdl_names_rules.specs.Expressions.{typed}
-use Rattle.vhdl_names_rules.specs.Choices.{choices, covered, selector, arranged, only_last_others, is_last_others, is_others, are_distinct_choices, names_all, same_choice}
+use Rattle.vhdl_names_rules.specs.Choices as rules
+use Rattle.vhdl_names_rules.specs.Choices.{Selector, choices, covered, selector, selecting, only_last_others, is_last_others, is_others, are_distinct_choices, are_named, names_all, same_choice}
 use Rattle.vhdl_names_rules.specs.Statements.{statement, statements, alternatives, choice_lists}
 use Rattle.vhdl_names_expressions.specs.Asked.{selected_by}
-use Rattle.vhdl_names_units.specs.views.Sequential.{Chosen, chosen_by, statements_of, alternatives_of}
-use Rattle.vhdl_names_units.specs.Once.{key_of}
+use Rattle.vhdl_names_units.specs.views.Sequential.{Chosen, chosen_by, statements_of, alternatives_of, last_alternative}
 use Rattle.vhdl_names_statements.specs.steps.Sequential.{all_labelled}
 use Rattle.vhdl_names_statements.specs.steps.Cases as steps
-use Rattle.vhdl_names_statements.specs.steps.Cases.{Divided, all_choices, choices_of, chosen, cover, covering, but_last, selection, has_all, choice_list, all_lists}
+use Rattle.vhdl_names_statements.specs.steps.Cases.{all_choices, choices_of, bodies_of, chosen, cover, covering, are_numbers, arranged, selection, has_positions, has_all, choice_list, all_lists}
+use Rattle.vhdl_names_statements.specs.steps.Keys.{keys_of}
 use Rattle.vhdl_names_units.proofs.Lists.{bound, inner}
-use Rattle.vhdl_names_units.proofs.Once.{among_keys, distinct_keys}
+use Rattle.vhdl_names_statements.proofs.steps.Keys.{among_keys, distinct_keys}
 use Rattle.vhdl_names_statements.proofs.steps.Sequential.{statements_each}
 
 -- ---- rules in another order
@@ -41,9 +41,6 @@ lost None = refl
 lost (Some x) = refl
 
 -- ---- choices and what alternatives do
-
-abbrev pub bodies_of : List Chosen → List s.Statements
-bodies_of all = map (λ (a : Chosen). statements_of a.statements) all
 
 pub lists_each : (alts : List t.Alternative) → choice_lists (t.alternatives_of alts) ≡ steps.choice_lists alts
 lists_each [] = refl
@@ -79,28 +76,13 @@ pairs sight type (a ∷ alts) =
     one_pair (choices sight type a.choices) (all_labelled sight a.statements) (statements sight (t.statements_of a.statements)) (statements_each sight a.statements)
     (each (choices sight type) (steps.choice_lists alts)) (alternatives sight (t.alternatives_of alts)) (each (chosen sight type) alts) (pairs sight type alts)
 
--- ---- the last alternative is done otherwise
-
-abbrev pub put_together : Divided → s.Alternatives
-put_together d = alternatives_of d.alternatives (statements_of d.last)
-
-arranged_by : (all : List Chosen) → arranged (choices_of all) (bodies_of all) ≡ option_map put_together (but_last all)
-arranged_by [] = refl
-arranged_by (a ∷ []) = refl
-arranged_by (a ∷ b ∷ more) = ap (option_map (s.alternative a.choices (statements_of a.statements))) (arranged_by (b ∷ more)) ∙ go (but_last (b ∷ more))
-  where
-    go : (o : Option Divided) → option_map (s.alternative a.choices (statements_of a.statements)) (option_map put_together o)
-        ≡ option_map put_together (o >>= λ d. Some (record { alternatives = a ∷ d.alternatives; last = d.last }))
-    go None = refl
-    go (Some d) = refl
-
 pub flat_each : (all : List Chosen) → flat_map (λ (cs : List s.Choice). cs) (choices_of all) ≡ all_choices all
 flat_each [] = refl
 flat_each (a ∷ all) = ap (λ cs. a.choices ++ cs) (flat_each all)
 
 -- ---- the whole
 
-module _ (sight : Sight) (at : ℕ) (type : ObjectType) (value : Value) (l : Bool) (lists : List (List t.Choice)) where
+module _ (sight : Sight) (at : ℕ) (type : ObjectType) (value : Selector) (l : Bool) (lists : List (List t.Choice)) where
   abbrev pub by_rules : Option (List (List s.Choice)) → Option (List s.Statements) → Option s.Statement
   by_rules f g = do
     cs ← (do
@@ -110,55 +92,46 @@ module _ (sight : Sight) (at : ℕ) (type : ObjectType) (value : Value) (l : Boo
       met (is_last_others lists || names_all type (flat_map (λ cs. cs) css))
       Some css)
     bodies ← g
-    all ← arranged cs bodies
-    Some (s.case_of at value all)
+    all ← rules.arranged cs bodies
+    Some (selecting at value all)
+
+  abbrev selected : Option s.Alternatives → Option s.Statement
+  selected u = u >>= λ all. Some (selecting at value all)
 
   abbrev pub by_steps : Option (List Chosen) → Option s.Statement
   by_steps h = do
     all ← h
     cover type lists (all_choices all)
     met l
-    d ← but_last all
-    Some (s.case_of at value (put_together d))
+    selected (arranged all)
 
-  -- the last alternative apart
-  apart : (h : Option (List Chosen)) → by_steps h
-      ≡ ((h >>= λ all. cover type lists (all_choices all) >>= λ _. met l >> but_last all) >>= λ d. Some (s.case_of at value (put_together d)))
+  -- the alternatives apart
+  apart : (h : Option (List Chosen)) → by_steps h ≡ selected (h >>= λ all. cover type lists (all_choices all) >>= λ _. met l >> arranged all)
   apart None = refl
-  apart (Some all) = go (cover type lists (all_choices all)) l (but_last all)
+  apart (Some all) = go (cover type lists (all_choices all)) l
     where
-      go : (c : Option (Unit {0})) (b : Bool) (u : Option Divided) → (c >>= λ _. met b >> (u >>= λ d. Some (s.case_of at value (put_together d))))
-          ≡ ((c >>= λ _. met b >> u) >>= λ d. Some (s.case_of at value (put_together d)))
-      go None b u = refl
-      go (Some _) true u = refl
-      go (Some _) false u = refl
+      go : (c : Option (Unit {0})) (b : Bool) → (c >>= λ _. met b >> selected (arranged all)) ≡ selected (c >>= λ _. met b >> arranged all)
+      go None b = refl
+      go (Some _) true = refl
+      go (Some _) false = refl
 
-  fits : (o d n : Bool) (css : List (List s.Choice)) (bs : List s.Statements) (u : Option Divided) → arranged css bs ≡ option_map put_together u
-      → (met l >> ((met o >> (met d >> (met n >> Some css))) >>= λ cs. arranged cs bs >>= λ all. Some (s.case_of at value all)))
-      ≡ ((met o >> (met d >> met n)) >>= λ _. met l >> (u >>= λ d. Some (s.case_of at value (put_together d))))
-  fits o d n css bs u e = go l o d n u e
-    where
-      done : (u : Option Divided) → (option_map put_together u >>= λ all. Some (s.case_of at value all)) ≡ (u >>= λ d. Some (s.case_of at value (put_together d)))
-      done None = refl
-      done (Some d) = refl
-
-      go : (l o d n : Bool) (u : Option Divided) → arranged css bs ≡ option_map put_together u
-          → (met l >> ((met o >> (met d >> (met n >> Some css))) >>= λ cs. arranged cs bs >>= λ all. Some (s.case_of at value all)))
-          ≡ ((met o >> (met d >> met n)) >>= λ _. met l >> (u >>= λ d. Some (s.case_of at value (put_together d))))
-      go true true true true u e = ap (λ o. o >>= λ all. Some (s.case_of at value all)) e ∙ done u
-      go false true true true u e = refl
-      go true false d n u e = refl
-      go false false d n u e = refl
-      go true true false n u e = refl
-      go false true false n u e = refl
-      go true true true false u e = refl
-      go false true true false u e = refl
+  fits : (l o d n : Bool) (css : List (List s.Choice)) (bs : List s.Statements)
+      → (met l >> ((met o >> (met d >> (met n >> Some css))) >>= λ cs. selected (rules.arranged cs bs)))
+      ≡ ((met o >> (met d >> met n)) >>= λ _. met l >> selected (rules.arranged css bs))
+  fits true true true true css bs = refl
+  fits false true true true css bs = refl
+  fits true false d n css bs = refl
+  fits false false d n css bs = refl
+  fits true true false n css bs = refl
+  fits false true false n css bs = refl
+  fits true true true false css bs = refl
+  fits false true true false css bs = refl
 
   pub same : (f : Option (List (List s.Choice))) (g : Option (List s.Statements)) (h : Option (List Chosen)) → Pairs f g h → (met l >> by_rules f g) ≡ by_steps h
   same f g h (no_choices p r) = ap (λ f. met l >> by_rules f g) p ∙ none l (only_last_others lists) ∙ ap by_steps (sym r)
     where
       none : (l o : Bool) → (met l >> ((met o >> (None >>= λ css. met (are_distinct_choices (flat_map (λ cs. cs) css)) >> (met (is_last_others lists || names_all type (flat_map (λ cs. cs) css)) >> Some css)))
-          >>= λ cs. g >>= λ bodies. arranged cs bodies >>= λ all. Some (s.case_of at value all))) ≡ None
+          >>= λ cs. g >>= λ bodies. selected (rules.arranged cs bodies))) ≡ None
       none true true = refl
       none true false = refl
       none false true = refl
@@ -170,21 +143,21 @@ module _ (sight : Sight) (at : ℕ) (type : ObjectType) (value : Value) (l : Boo
       none false = refl
   same f g h (all_there all p q r) =
       ap (λ f. met l >> by_rules f g) p ∙ ap (λ g. met l >> by_rules (Some (choices_of all)) g) q
-      ∙ fits (only_last_others lists) (are_distinct_choices (flat_map (λ cs. cs) (choices_of all)))
-      (is_last_others lists || names_all type (flat_map (λ cs. cs) (choices_of all))) (choices_of all) (bodies_of all) (but_last all) (arranged_by all)
+      ∙ fits l (only_last_others lists) (are_distinct_choices (flat_map (λ cs. cs) (choices_of all)))
+      (is_last_others lists || names_all type (flat_map (λ cs. cs) (choices_of all))) (choices_of all) (bodies_of all)
       ∙ ap (λ cs. (met (only_last_others lists) >> (met (are_distinct_choices cs) >> met (is_last_others lists || names_all type cs)))
-      >>= λ _. met l >> (but_last all >>= λ d. Some (s.case_of at value (put_together d)))) (flat_each all)
+      >>= λ _. met l >> selected (arranged all)) (flat_each all)
       ∙ ap (λ b. (met (only_last_others lists) >> (met b >> met (is_last_others lists || names_all type (all_choices all))))
-      >>= λ _. met l >> (but_last all >>= λ d. Some (s.case_of at value (put_together d)))) (sym (distinct_keys (all_choices all)))
+      >>= λ _. met l >> selected (arranged all)) (sym (distinct_keys (all_choices all)))
       ∙ ap by_steps (sym r)
 
 -- a case by the steps, where the alternatives are covered before the label is looked at
 covered_first : (type : ObjectType) (lists : List (List t.Choice)) (l : Bool) (h : Option (List Chosen))
-    → (h >>= λ all. cover type lists (all_choices all) >>= λ _. met l >> but_last all) ≡ (covering type lists h >>= λ all. met l >> but_last all)
+    → (h >>= λ all. cover type lists (all_choices all) >>= λ _. met l >> arranged all) ≡ (covering type lists h >>= λ all. met l >> arranged all)
 covered_first type lists l None = refl
 covered_first type lists l (Some all) = go (cover type lists (all_choices all))
   where
-    go : (c : Option (Unit {0})) → (c >>= λ _. met l >> but_last all) ≡ ((c >>= λ _. Some all) >>= λ all. met l >> but_last all)
+    go : (c : Option (Unit {0})) → (c >>= λ _. met l >> arranged all) ≡ ((c >>= λ _. Some all) >>= λ all. met l >> arranged all)
     go None = refl
     go (Some u) = refl
 
@@ -192,17 +165,17 @@ selection_by : (sight : Sight) (label : Option Ident) (at : ℕ) (e : t.Expr) (a
     → statement sight label (t.case_of at e (t.alternatives_of alts) end) ≡ selection sight label at e alts end
 unfolding statement
 selection_by sight label at e alts end =
-    ap (λ lists. met (label_ends label end) >> (typed sight e >>= λ x. selector x >>= λ by. covered sight by.0 lists >>= λ cs. alternatives sight (t.alternatives_of alts)
-    >>= λ bodies. arranged cs bodies >>= λ all. Some (s.case_of at by.1 all))) (lists_each alts)
-    ∙ ap (λ o. met (label_ends label end) >> o) (inner (typed sight e) selector body)
+    ap (λ lists. met (label_ends label end) >> (typed sight e >>= λ x. selector sight.language x >>= λ by. covered sight by.0 lists >>= λ cs. alternatives sight (t.alternatives_of alts)
+    >>= λ bodies. rules.arranged cs bodies >>= λ all. Some (selecting at by.1 all))) (lists_each alts)
+    ∙ ap (λ o. met (label_ends label end) >> o) (inner (typed sight e) (selector sight.language) body)
     ∙ late (label_ends label end) (selected_by sight e) body
     ∙ bound (selected_by sight e) (λ by. met (label_ends label end) >> body by)
-    (λ by. steps.parts sight by.0 label alts end >>= λ d. Some (s.case_of at by.1 (put_together d)))
+    (λ by. steps.parts sight by.0 label alts end >>= λ all. Some (selecting at by.1 all))
     (λ by. same sight at by.0 by.1 (label_ends label end) (steps.choice_lists alts) _ _ _ (pairs sight by.0 alts)
     ∙ apart sight at by.0 by.1 (label_ends label end) (steps.choice_lists alts) (each (chosen sight by.0) alts)
-    ∙ ap (λ o. o >>= λ d. Some (s.case_of at by.1 (put_together d))) (covered_first by.0 (steps.choice_lists alts) (label_ends label end) (each (chosen sight by.0) alts)))
+    ∙ ap (λ o. o >>= λ all. Some (selecting at by.1 all)) (covered_first by.0 (steps.choice_lists alts) (label_ends label end) (each (chosen sight by.0) alts)))
   where
-    body : ObjectType × Value → Option s.Statement
+    body : ObjectType × Selector → Option s.Statement
     body by = by_rules sight at by.0 by.1 (label_ends label end) (steps.choice_lists alts) (each (choices sight by.0) (steps.choice_lists alts)) (alternatives sight (t.alternatives_of alts))
 
 pub case_is : (c : Case) → tree.case_view c
@@ -217,15 +190,20 @@ case_gives sight label c =
 
 -- ---- tables of choices
 
-pub has_names : (type : ObjectType) (cs : List s.Choice) → has_all type (map key_of cs) ≡ names_all type cs
-has_names (Elements k) cs = refl
-has_names (Enumeration e count) cs = go (range_with_len 0 count)
+has_named : (cs : List s.Choice) (count : ℕ) → has_positions (keys_of cs) count ≡ are_named count cs
+has_named cs count = go (range_with_len 0 count)
   where
-    go : (ps : List ℕ) → list_all (λ p. is_among (9 ∷ p ∷ []) (map key_of cs)) ps ≡ list_all (λ p. list_any (same_choice (s.Choice.position p)) cs) ps
+    go : (ps : List ℕ) → list_all (λ p. is_among (9 ∷ p ∷ []) (keys_of cs)) ps ≡ list_all (λ p. list_any (same_choice (s.Choice.position p)) cs) ps
     go [] = refl
     go (p ∷ ps) =
-        ap (λ b. b && list_all (λ p. is_among (9 ∷ p ∷ []) (map key_of cs)) ps) (among_keys (s.Choice.position p) cs)
+        ap (λ b. b && list_all (λ p. is_among (9 ∷ p ∷ []) (keys_of cs)) ps) (among_keys (s.Choice.position p) cs)
         ∙ ap (λ b. list_any (same_choice (s.Choice.position p)) cs && b) (go ps)
+
+pub has_names : (type : ObjectType) (cs : List s.Choice) → has_all type (keys_of cs) ≡ names_all type cs
+has_names (Elements k) cs = refl
+has_names (Enumeration e count) cs = has_named cs count
+has_names Booleans cs = has_named cs 2
+has_names Integers cs = refl
 
 last_is : (lists : List (List t.Choice)) (last : List t.Choice) → is_last_others (lists ++ last ∷ []) ≡ is_others last
 last_is [] last = refl
@@ -248,7 +226,21 @@ next_true p i count lt e = next p i count lt ∙ ap (λ b. b && list_all p (rang
 pub next_false : (p : ℕ → Bool) (i count : ℕ) → i < count → p i ≡ false → list_all p (range_with_len i (count - i)) ≡ false
 next_false p i count lt e = next p i count lt ∙ ap (λ b. b && list_all p (range_with_len (i + 1) (count - (i + 1)))) e
 
-pub but_last-push : (all : List Chosen) (a : Chosen) → but_last (all ++ a ∷ []) ≡ Some (record { alternatives = all; last = a.statements })
-but_last-push [] a = refl
-but_last-push (b ∷ []) a = refl
-but_last-push (b ∷ c ∷ all) a = ap (λ o. o >>= λ d. Some (record { alternatives = b ∷ d.alternatives; last = d.last })) (but_last-push (c ∷ all) a)
+-- ---- the last alternative
+
+pub arranged-push : (all : List Chosen) (a : Chosen) → arranged (all ++ a ∷ []) ≡ Some (alternatives_of all (rules.last_by a.choices (statements_of a.statements)))
+arranged-push [] a = refl
+arranged-push (b ∷ []) a = refl
+arranged-push (b ∷ c ∷ all) a = ap (option_map (s.alternative b.choices (statements_of b.statements))) (arranged-push (c ∷ all) a)
+
+-- the choices that are kept
+pub numbers_last : (cs : List s.Choice) → are_numbers cs ≡ true → (xs : s.Statements) → last_alternative cs xs ≡ rules.last_by cs xs
+numbers_last (s.numbers i ∷ cs) h xs = refl
+numbers_last cs h xs = absurd cc
+
+pub others_last : (cs ds : List s.Choice) → ds ≡ [] → are_numbers cs ≡ false → (xs : s.Statements) → last_alternative ds xs ≡ rules.last_by cs xs
+others_last cs ds none h xs = ap (λ ds. last_alternative ds xs) none ∙ go cs h
+  where
+    go : (cs : List s.Choice) → are_numbers cs ≡ false → s.others xs ≡ rules.last_by cs xs
+    go (s.numbers i ∷ cs) h = absurd cc
+    go cs h = refl

@@ -5,7 +5,7 @@ use Rattle.std.specs.List.{flat_map, filter_map}
 use Rattle.std.specs.Borrow.{Bor}
 use Rattle.std.proofs.lemmas.Bool.{ne_eqb}
 use Rattle.std.proofs.Math.Dec.{eqb-suc-suc}
-use Rattle.std.proofs.lemmas.List.{append-nil, append_assoc, map-append}
+use Rattle.std.proofs.lemmas.List.{append-nil, append_assoc}
 use Rattle.std.proofs.lemmas.List.Elements.{filter_map-append}
 use Rattle.vhdl_tree.specs.declared.expression.Choice.{Choice}
 use Rattle.vhdl_tree.specs.Tree as t
@@ -16,9 +16,11 @@ use Rattle.vhdl_names_rules.specs.declared.fault.NameFault.TheVariants.{NoMemory
 use Rattle.vhdl_names_rules.specs.declared.fault.NameProblem.{NameProblem}
 use Rattle.vhdl_names_rules.specs.declared.fault.NameProblem.TheVariants.{ChoiceTwice}
 use Rattle.vhdl_names_rules.specs.units.Statements as s
-use Rattle.vhdl_names_rules.specs.Rules.{◌>>=◌, then_some}
+use Rattle.vhdl_names_rules.specs.Rules.{◌>>=◌}
 use Rattle.vhdl_names_rules.specs.Gives.{Gives}
-use Rattle.vhdl_names_rules.specs.Visibility.{Name, Sight, are_distinct, is_among}
+use Rattle.vhdl_names_rules.specs.Visibility.{Name, Sight, are_distinct}
+use Rattle.vhdl_names_rules.specs.declared.kind.ObjectType.TheVariants.{Integers}
+use Rattle.vhdl_names_rules.specs.Expressions.{typed_choice}
 use Rattle.vhdl_names_rules.specs.Choices as are
 use Rattle.vhdl_names_rules.specs.Choices.{is_others, only_last_others}
 use Rattle.vhdl_names_rules.specs.problems.Broken.{Broken, Tells, refused, ◌▸◌, unless, where_given}
@@ -29,24 +31,17 @@ use Rattle.vhdl_names_rules.specs.problems.Covered.{is_empty}
 use Rattle.vhdl_names_rules.proofs.Telling.{IsKept, both_kept, behind_kept, unless_kept, given_kept, told_same, told_left, told_right, told_given, told_unless, kept_left, kept_right}
 use Rattle.vhdl_names_rules.proofs.kept.Choices.{choice_kept}
 use Rattle.vhdl_names_units.specs.Lists.{in_turn}
-use Rattle.vhdl_names_units.specs.Once.{one_name, key_of}
+use Rattle.vhdl_names_units.specs.Once.{one_name}
 use Rattle.vhdl_names_units.proofs.Behind.{next}
-use Rattle.vhdl_names_units.proofs.Once.{among_keys}
 use Rattle.vhdl_names_units.proofs.Once as names
 use Rattle.vhdl_names_statements.specs.steps.Cases.{choice_list, all_lists}
+use Rattle.vhdl_names_statements.specs.steps.Keys as keyed
+use Rattle.vhdl_names_statements.specs.steps.Keys.{is_taken, one_choice}
 use Rattle.vhdl_names_statements.specs.steps.Told as told
 use Rattle.vhdl_names_statements.specs.steps.Told.{keys_of, with_choice, with_list, with_lists}
+use Rattle.vhdl_names_statements.proofs.steps.Keys.{among_keys, there, not_free, is_free, is_added, taken_in_turn}
 
 -- ---- keys that are taken
-
--- what is there isn't lacking
-there : {A : Type 0} (b : Bool) (x y : A) → then_some b x ≡ Some y → (b ≡ true) × (x ≡ y)
-there true x y e = (refl, cc)
-there false x y e = cc
-
-lacks : {A : Type 0} (b : Bool) (x : A) → then_some b x ≡ None → b ≡ false
-lacks true x e = cc
-lacks false x e = refl
 
 pub turned-append : (ks ms ns : List Name) → in_turn one_name ks (ms ++ ns) ≡ (in_turn one_name ks ms >>= λ z. in_turn one_name z ns)
 turned-append ks [] ns = refl
@@ -68,46 +63,46 @@ both_alike a b c d e f = ap (λ x. x ▸ c) e ∙ ap (λ x. b ▸ x) f
 module _ (sight : Sight) (type : ObjectType) where
   -- ---- one choice
 
-  given_key : (c : t.Choice) (x : s.Choice) → are.choice sight type c ≡ Some x → keys_of sight type (c ∷ []) ≡ key_of x ∷ []
+  given_key : (c : t.Choice) (x : s.Choice) → are.choice sight type c ≡ Some x → keys_of sight type (c ∷ []) ≡ keyed.keys_of (x ∷ [])
   given_key c x e = go (are.choice sight type c) refl
     where
-      go : (o : Option s.Choice) → are.choice sight type c ≡ o → keys_of sight type (c ∷ []) ≡ key_of x ∷ []
+      go : (o : Option s.Choice) → are.choice sight type c ≡ o → keys_of sight type (c ∷ []) ≡ keyed.keys_of (x ∷ [])
       go None h = let no : let n : Option s.Choice = None in n ≡ Some x = sym h ∙ e in cc
-      go (Some y) h = let same : y ≡ x = let k : Some y ≡ Some x = sym h ∙ e in cc in rw h (ap (λ z. key_of z ∷ []) same)
+      go (Some y) h = let same : y ≡ x = let k : Some y ≡ Some x = sym h ∙ e in cc in rw h (ap (λ z. keyed.keys_of (z ∷ [])) same)
 
   abbrev told_apart : List Name → t.Choice → s.Choice → Broken
-  told_apart keys c x = unless ChoiceTwice (choice_place c) (not (is_among (key_of x) keys))
+  told_apart keys c x = unless ChoiceTwice (choice_place c) (not (is_taken keys x))
 
   pub once_refused : (keys : List Name) (c : t.Choice) (f : NameFault) → Tells (choice sight type c) f → Tells (told.once sight type keys c) f
   once_refused keys c f h = told_left (choice sight type c) (where_given (are.choice sight type c) (told_apart keys c)) f h
 
   module _ (keys new : List Name) (c : t.Choice) (x : s.Choice) (is : are.choice sight type c ≡ Some x) where
-    pub once_twice : (f : NameFault) → (f ≢ NoMemory → one_name keys (key_of x) ≡ None) → Tells (refused ChoiceTwice (choice_place c)) f → Tells (told.once sight type keys c) f
+    pub once_twice : (f : NameFault) → (f ≢ NoMemory → one_choice keys x ≡ None) → Tells (refused ChoiceTwice (choice_place c)) f → Tells (told.once sight type keys c) f
     once_twice f none h =
         told_right (choice sight type c) (where_given (are.choice sight type c) (told_apart keys c)) f (choice_kept sight type c x is)
         (told_given (told_apart keys c) (are.choice sight type c) x f is
-        (told_unless ChoiceTwice (choice_place c) (not (is_among (key_of x) keys)) f (λ n. lacks (not (is_among (key_of x) keys)) (keys ++ key_of x ∷ []) (none n)) h))
+        (told_unless ChoiceTwice (choice_place c) (not (is_taken keys x)) f (λ n. not_free keys x (none n)) h))
 
-    once_kept : one_name keys (key_of x) ≡ Some new → IsKept (told.once sight type keys c)
+    once_kept : one_choice keys x ≡ Some new → IsKept (told.once sight type keys c)
     once_kept h =
         both_kept (choice sight type c) (where_given (are.choice sight type c) (told_apart keys c)) (choice_kept sight type c x is)
         (given_kept (told_apart keys c) (are.choice sight type c) x is
-        (unless_kept ChoiceTwice (choice_place c) (not (is_among (key_of x) keys)) (there (not (is_among (key_of x) keys)) (keys ++ key_of x ∷ []) new h).0))
+        (unless_kept ChoiceTwice (choice_place c) (not (is_taken keys x)) (is_free keys new x h)))
 
-    once_added : one_name keys (key_of x) ≡ Some new → new ≡ with_choice sight type keys c
-    once_added h = sym (there (not (is_among (key_of x) keys)) (keys ++ key_of x ∷ []) new h).1 ∙ ap (λ k. keys ++ k) (sym (given_key c x is))
+    once_added : one_choice keys x ≡ Some new → new ≡ with_choice sight type keys c
+    once_added h = sym (is_added keys new x h) ∙ ap (λ k. keys ++ k) (sym (given_key c x is))
 
     -- an answer of the table of keys
-    pub answer_told : {X : Type 0} (r : Result X NameFault) → Gives (λ _. new) (one_name keys (key_of x)) r
+    pub answer_told : {X : Type 0} (r : Result X NameFault) → Gives (λ _. new) (one_choice keys x) r
         → IfErr r (Tells (refused ChoiceTwice (choice_place c))) → IfErr r (Tells (told.once sight type keys c))
     answer_told (Ok y) g h = tt
     answer_told (Err f) g h = once_twice f g h
 
-    pub answer_kept : {X : Type 0} (r : Result X NameFault) → Gives (λ _. new) (one_name keys (key_of x)) r → IfOk r (λ _. IsKept (told.once sight type keys c))
+    pub answer_kept : {X : Type 0} (r : Result X NameFault) → Gives (λ _. new) (one_choice keys x) r → IfOk r (λ _. IsKept (told.once sight type keys c))
     answer_kept (Ok y) g = once_kept g
     answer_kept (Err f) g = tt
 
-    pub answer_added : {X : Type 0} (r : Result X NameFault) → Gives (λ _. new) (one_name keys (key_of x)) r → IfOk r (λ _. new ≡ with_choice sight type keys c)
+    pub answer_added : {X : Type 0} (r : Result X NameFault) → Gives (λ _. new) (one_choice keys x) r → IfOk r (λ _. new ≡ with_choice sight type keys c)
     answer_added (Ok y) g = once_added g
     answer_added (Err f) g = tt
 
@@ -181,8 +176,8 @@ module _ (sight : Sight) (type : ObjectType) where
 
   keys-append : (xs ys : List t.Choice) → keys_of sight type xs ++ keys_of sight type ys ≡ keys_of sight type (xs ++ ys)
   keys-append xs ys =
-      sym (map-append key_of (filter_map (are.choice sight type) xs) (filter_map (are.choice sight type) ys))
-      ∙ ap (map key_of) (sym (filter_map-append (are.choice sight type) xs ys))
+      sym (filter_map-append keyed.key_of (filter_map (are.choice sight type) xs) (filter_map (are.choice sight type) ys))
+      ∙ ap keyed.keys_of (sym (filter_map-append (are.choice sight type) xs ys))
 
   once_same : (before : List t.Choice) (c : t.Choice) → told.once sight type (keys_of sight type before) c ≡ broken.once sight type before c
   once_same before c =
@@ -256,9 +251,9 @@ module _ (sight : Sight) (type : ObjectType) where
           → in_turn one_name keys (keys_of sight type (c ∷ [])) ≡ Some (with_choice sight type keys c)
       go None e k = rw e (ap Some (sym (append-nil keys)))
       go (Some x) e k =
-          let free : not (is_among (key_of x) keys) ≡ true =
-          holds ChoiceTwice (choice_place c) (not (is_among (key_of x) keys)) (sym (ap (λ o. where_given o (told_apart keys c)) e) ∙ k) in
-          rw e (ap (λ b. then_some b (keys ++ key_of x ∷ []) >>= λ z. Some z) free)
+          let free : not (is_taken keys x) ≡ true =
+          holds ChoiceTwice (choice_place c) (not (is_taken keys x)) (sym (ap (λ o. where_given o (told_apart keys c)) e) ∙ k) in
+          rw e (taken_in_turn keys x free)
 
   each_taken : (keys : List Name) (cs : List t.Choice) → IsKept (told.each_once sight type keys cs) → in_turn one_name keys (keys_of sight type cs) ≡ Some (with_list sight type keys cs)
   each_taken keys [] h = refl
@@ -268,10 +263,16 @@ module _ (sight : Sight) (type : ObjectType) where
       ∙ ap (λ o. o >>= λ z. in_turn one_name z (keys_of sight type cs)) (one_taken keys c (kept_left _ _ h))
       ∙ each_taken (with_choice sight type keys c) cs (kept_right _ _ h)
 
+  -- others is no choice
+  others_none : (k : ObjectType) (at : ℕ) → are.choice sight k (t.otherwise at) ≡ None
+  unfolding typed_choice
+  others_none Integers at = refl
+  others_none k at = refl
+
   alternative_taken : (keys : List Name) (l : Bool) (cs : List t.Choice) → IsKept (told.alternative_in_place sight type keys l cs)
       → in_turn one_name keys (keys_of sight type cs) ≡ Some (with_list sight type keys cs)
   alternative_taken keys l [] h = refl
-  alternative_taken keys l (t.otherwise at ∷ []) h = ap Some (sym (append-nil keys))
+  alternative_taken keys l (t.otherwise at ∷ []) h = rw (others_none type at) (ap Some (sym (append-nil keys)))
   alternative_taken keys l (t.otherwise at ∷ d ∷ ds) h = each_taken keys (t.otherwise at ∷ d ∷ ds) h
   alternative_taken keys l (t.chosen x ∷ cs) h = each_taken keys (t.chosen x ∷ cs) h
   alternative_taken keys l (t.chosen_range x d y ∷ cs) h = each_taken keys (t.chosen_range x d y ∷ cs) h

@@ -1,5 +1,5 @@
 -- What is told of all the choices of a case and of its alternatives is told of what the case covers.
-use Rattle.std.proofs.Common.{◌≡◌, ◌≢◌, ℕ, Bool, true, false, ◌||◌, List, [], ◌∷◌, ◌++◌, map, Option, Some, None, Result, Vec, Ok, Err, IfOk, IfErr, refl, ap, sym, ◌∙◌}
+use Rattle.std.proofs.Common.{◌≡◌, ◌≢◌, ℕ, Bool, true, false, ◌||◌, List, [], ◌∷◌, ◌++◌, Option, Some, None, Result, Vec, Ok, Err, IfOk, IfErr, refl, ap, sym, ◌∙◌}
 use Rattle.std.specs.Global.{Global}
 use Rattle.std.specs.List.{flat_map, filter_map}
 use Rattle.std.proofs.lemmas.List.Elements.{filter_map-append}
@@ -23,12 +23,12 @@ use Rattle.vhdl_names_rules.proofs.kept.Keeping.{among_kept}
 use Rattle.vhdl_names_rules.proofs.kept.Covered.{choices_given, in_place_kept}
 use Rattle.vhdl_names_units.specs.declared.sequential.Alternative.{Alternative}
 use Rattle.vhdl_names_units.specs.views.Sequential.{Chosen, alternatives_view}
-use Rattle.vhdl_names_units.specs.Once.{key_of}
-use Rattle.vhdl_names_units.proofs.Once as names
 use Rattle.vhdl_names_statements.specs.steps.Cases.{all_choices, choices_of, cover, covering, has_all}
+use Rattle.vhdl_names_statements.specs.steps.Keys as keyed
 use Rattle.vhdl_names_statements.specs.steps.Told as told
 use Rattle.vhdl_names_statements.specs.steps.Told.{keys_of, with_lists, HasChoices}
 use Rattle.vhdl_names_statements.proofs.steps.Cases.{flat_each, has_names}
+use Rattle.vhdl_names_statements.proofs.steps.Keys as names
 use Rattle.vhdl_names_statements.proofs.steps.Choosing.{in_place_same, all_keys, only_last, distinct_keys}
 
 -- of three conditions the last isn't met
@@ -65,8 +65,8 @@ module _ (sight : Sight) (type : ObjectType) where
 
   -- alternatives that have the choices which stand there
   module _ (lists : List (List t.Choice)) (all : List Chosen) (have : each (are.choices sight type) lists ≡ Some (choices_of all)) where
-    keys_are : keys_of sight type (flat_map (λ cs. cs) lists) ≡ map key_of (all_choices all)
-    keys_are = ap (map key_of) (flat lists (choices_of all) have ∙ flat_each all)
+    keys_are : keys_of sight type (flat_map (λ cs. cs) lists) ≡ keyed.keys_of (all_choices all)
+    keys_are = ap keyed.keys_of (flat lists (choices_of all) have ∙ flat_each all)
 
     names_are : (keys : List Name) → keys ≡ with_lists sight type [] lists → has_all type keys ≡ names_all type (all_choices all)
     names_are keys h = ap (has_all type) (h ∙ all_keys sight type lists ∙ keys_are) ∙ has_names type (all_choices all)
@@ -77,15 +77,15 @@ module _ (sight : Sight) (type : ObjectType) where
 
     -- a choice is told
     not_covering : (p : NameProblem) (at : ℕ) → told.in_place sight type [] lists ≡ Some (p, at) → cover type lists (all_choices all) ≡ None
-    not_covering p at h = go (only_last_others lists) (are_distinct (map key_of (all_choices all))) refl refl
+    not_covering p at h = go (only_last_others lists) (are_distinct (keyed.keys_of (all_choices all))) refl refl
       where
         rest : Option (Unit {0})
         rest = met (is_last_others lists || names_all type (all_choices all))
 
-        go : (a b : Bool) → only_last_others lists ≡ a → are_distinct (map key_of (all_choices all)) ≡ b
-            → (met (only_last_others lists) >> (met (are_distinct (map key_of (all_choices all))) >> rest)) ≡ None
-        go false b e f = ap (λ x. met x >> (met (are_distinct (map key_of (all_choices all))) >> rest)) e
-        go true false e f = ap (λ x. met x >> (met (are_distinct (map key_of (all_choices all))) >> rest)) e ∙ ap (λ x. met x >> rest) f
+        go : (a b : Bool) → only_last_others lists ≡ a → are_distinct (keyed.keys_of (all_choices all)) ≡ b
+            → (met (only_last_others lists) >> (met (are_distinct (keyed.keys_of (all_choices all))) >> rest)) ≡ None
+        go false b e f = ap (λ x. met x >> (met (are_distinct (keyed.keys_of (all_choices all))) >> rest)) e
+        go true false e f = ap (λ x. met x >> (met (are_distinct (keyed.keys_of (all_choices all))) >> rest)) e ∙ ap (λ x. met x >> rest) f
         go true true e f =
             let kept : IsKept (told.in_place sight type [] lists) =
             in_place_same sight type lists
@@ -96,13 +96,13 @@ module _ (sight : Sight) (type : ObjectType) where
 
     -- something is missing
     not_complete : (keys : List Name) → keys ≡ with_lists sight type [] lists → met (is_last_others lists || has_all type keys) ≡ None → cover type lists (all_choices all) ≡ None
-    not_complete keys k h = last_none (only_last_others lists) (are_distinct (map key_of (all_choices all))) _ (complete_is keys k ∙ h)
+    not_complete keys k h = last_none (only_last_others lists) (are_distinct (keyed.keys_of (all_choices all))) _ (complete_is keys k ∙ h)
 
     covers : (keys : List Name) → keys ≡ with_lists sight type [] lists → IsKept (told.in_place sight type [] lists)
         → met (is_last_others lists || has_all type keys) ≡ Some tt → cover type lists (all_choices all) ≡ Some tt
     covers keys k h m =
         let rest = met (is_last_others lists || names_all type (all_choices all)) in
-        ap (λ x. met x >> (met (are_distinct (map key_of (all_choices all))) >> rest)) (only_last sight type [] lists h)
+        ap (λ x. met x >> (met (are_distinct (keyed.keys_of (all_choices all))) >> rest)) (only_last sight type [] lists h)
         ∙ ap (λ x. met x >> rest) (ap are_distinct (sym keys_are) ∙ distinct_keys sight type lists h)
         ∙ complete_is keys k ∙ m
 

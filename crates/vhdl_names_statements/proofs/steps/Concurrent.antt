@@ -4,24 +4,24 @@ use Rattle.std.specs.Prelude.{option_map}
 use Rattle.vhdl_tree.specs.Tree as t
 use Rattle.vhdl_tree.specs.Tree.{Ident}
 use Rattle.vhdl_names_rules.specs.declared.kind.ObjectType.{ObjectType}
-use Rattle.vhdl_names_rules.specs.units.Expressions.{Value}
 use Rattle.vhdl_names_rules.specs.units.Statements as s
 use Rattle.vhdl_names_rules.specs.units.Units as u
 use Rattle.vhdl_names_rules.specs.Rules.{◌>>=◌, ◌>>◌, met, each}
 use Rattle.vhdl_names_rules.specs.Visibility.{Sight}
 use Rattle.vhdl_names_rules.specs.Expressions.{typed}
-use Rattle.vhdl_names_rules.specs.Choices.{choices, covered, selector, arranged}
+use Rattle.vhdl_names_rules.specs.Choices as chosen
+use Rattle.vhdl_names_rules.specs.Choices.{Selector, choices, covered, selector, selecting}
 use Rattle.vhdl_names_rules.specs.Statements.{Target, signal_target, alone, conditional}
 use Rattle.vhdl_names_rules.specs.Statements.{assignment as one}
 use Rattle.vhdl_names_rules.specs.Concurrent as rules
 use Rattle.vhdl_names_rules.specs.Concurrent.{assigning}
 use Rattle.vhdl_names_expressions.specs.Asked.{selected_by}
 use Rattle.vhdl_names_units.specs.views.Sequential.{Chosen, chosen_by, statements_of}
-use Rattle.vhdl_names_statements.specs.steps.Cases.{Divided, all_choices, cover, covering, but_last}
+use Rattle.vhdl_names_statements.specs.steps.Cases.{all_choices, cover, covering, arranged}
 use Rattle.vhdl_names_statements.specs.steps.Sequential as sequential
 use Rattle.vhdl_names_statements.specs.steps.Concurrent as steps
 use Rattle.vhdl_names_statements.proofs.steps.Conditional.{assigned_by, conditional_gives}
-use Rattle.vhdl_names_statements.proofs.steps.Cases.{Pairs, all_there, one_pair, put_together, by_steps, same}
+use Rattle.vhdl_names_statements.proofs.steps.Cases.{Pairs, all_there, one_pair, by_steps, same}
 use Rattle.vhdl_names_units.proofs.Lists.{bound, inner}
 
 module _ (sight : Sight) (n : t.Name) (x : Target) (found : signal_target sight n ≡ Some x) where
@@ -63,68 +63,68 @@ assignment_gives sight a =
 pub selected_gives : (sight : Sight) (label : Option Ident) (a : t.SelectedAssignment) → rules.selected sight label a ≡ steps.selected sight label a
 unfolding rules.selected
 selected_gives sight label a =
-    inner (typed sight a.selector) selector rest
+    inner (typed sight a.selector) (selector sight.language) rest
     ∙ bound (selected_by sight a.selector) rest steps_rest (λ by. go by (signal_target sight a.target) refl)
     ∙ bound (selected_by sight a.selector) steps_rest by_parts (λ by. apart by (signal_target sight a.target) (each (steps.chosen sight by.0 a.target) a.waveforms))
   where
-    rest : ObjectType × Value → Option u.Concurrent
+    rest : ObjectType × Selector → Option u.Concurrent
     rest by = signal_target sight a.target >>= λ x. covered sight by.0 (steps.choice_lists a.waveforms)
         >>= λ cs. each (λ (w : t.Waveform). option_map alone (one sight x w.value)) a.waveforms
-        >>= λ bodies. arranged cs bodies >>= λ all. Some (assigning a.at label (s.case_of a.at by.1 all))
+        >>= λ bodies. chosen.arranged cs bodies >>= λ all. Some (assigning a.at label (selecting a.at by.1 all))
 
-    behind_target : ObjectType × Value → Option u.Concurrent
+    behind_target : ObjectType × Selector → Option u.Concurrent
     behind_target by = each (steps.chosen sight by.0 a.target) a.waveforms
-        >>= λ all. cover by.0 (steps.choice_lists a.waveforms) (all_choices all) >>= λ _. but_last all >>= λ d. Some (assigning a.at label (s.case_of a.at by.1 (put_together d)))
+        >>= λ all. cover by.0 (steps.choice_lists a.waveforms) (all_choices all) >>= λ _. arranged all >>= λ all. Some (assigning a.at label (selecting a.at by.1 all))
 
-    steps_rest : ObjectType × Value → Option u.Concurrent
+    steps_rest : ObjectType × Selector → Option u.Concurrent
     steps_rest by = signal_target sight a.target >>= λ _. behind_target by
 
-    by_parts : ObjectType × Value → Option u.Concurrent
-    by_parts by = steps.parts sight by.0 a >>= λ d. Some (assigning a.at label (s.case_of a.at by.1 (put_together d)))
+    by_parts : ObjectType × Selector → Option u.Concurrent
+    by_parts by = steps.parts sight by.0 a >>= λ all. Some (assigning a.at label (selecting a.at by.1 all))
 
-    apart : (by : ObjectType × Value) (o : Option Target) (h : Option (List Chosen))
-        → (o >>= λ _. h >>= λ all. cover by.0 (steps.choice_lists a.waveforms) (all_choices all) >>= λ _. but_last all >>= λ d. Some (assigning a.at label (s.case_of a.at by.1 (put_together d))))
-        ≡ ((o >>= λ _. covering by.0 (steps.choice_lists a.waveforms) h >>= λ all. but_last all) >>= λ d. Some (assigning a.at label (s.case_of a.at by.1 (put_together d))))
+    apart : (by : ObjectType × Selector) (o : Option Target) (h : Option (List Chosen))
+        → (o >>= λ _. h >>= λ all. cover by.0 (steps.choice_lists a.waveforms) (all_choices all) >>= λ _. arranged all >>= λ all. Some (assigning a.at label (selecting a.at by.1 all)))
+        ≡ ((o >>= λ _. covering by.0 (steps.choice_lists a.waveforms) h >>= λ all. arranged all) >>= λ all. Some (assigning a.at label (selecting a.at by.1 all)))
     apart by None h = refl
     apart by (Some x) None = refl
     apart by (Some x) (Some all) = end (cover by.0 (steps.choice_lists a.waveforms) (all_choices all))
       where
         end : (c : Option (Unit {0}))
-            → (c >>= λ _. but_last all >>= λ d. Some (assigning a.at label (s.case_of a.at by.1 (put_together d))))
-            ≡ (((c >>= λ _. Some all) >>= λ all. but_last all) >>= λ d. Some (assigning a.at label (s.case_of a.at by.1 (put_together d))))
+            → (c >>= λ _. arranged all >>= λ all. Some (assigning a.at label (selecting a.at by.1 all)))
+            ≡ (((c >>= λ _. Some all) >>= λ all. arranged all) >>= λ all. Some (assigning a.at label (selecting a.at by.1 all)))
         end None = refl
         end (Some u) = refl
 
-    outer_rules : (f : Option (List (List s.Choice))) (g : Option (List s.Statements)) (value : Value)
-        → (f >>= λ cs. g >>= λ bodies. arranged cs bodies >>= λ all. Some (assigning a.at label (s.case_of a.at value all)))
-        ≡ option_map (assigning a.at label) (f >>= λ cs. g >>= λ bodies. arranged cs bodies >>= λ all. Some (s.case_of a.at value all))
-    outer_rules None g value = refl
-    outer_rules (Some cs) None value = refl
-    outer_rules (Some cs) (Some bodies) value = last (arranged cs bodies)
+    outer_rules : (f : Option (List (List s.Choice))) (g : Option (List s.Statements)) (by : Selector)
+        → (f >>= λ cs. g >>= λ bodies. chosen.arranged cs bodies >>= λ all. Some (assigning a.at label (selecting a.at by all)))
+        ≡ option_map (assigning a.at label) (f >>= λ cs. g >>= λ bodies. chosen.arranged cs bodies >>= λ all. Some (selecting a.at by all))
+    outer_rules None g by = refl
+    outer_rules (Some cs) None by = refl
+    outer_rules (Some cs) (Some bodies) by = last (chosen.arranged cs bodies)
       where
-        last : (o : Option s.Alternatives) → (o >>= λ all. Some (assigning a.at label (s.case_of a.at value all))) ≡ option_map (assigning a.at label) (o >>= λ all. Some (s.case_of a.at value all))
+        last : (o : Option s.Alternatives) → (o >>= λ all. Some (assigning a.at label (selecting a.at by all))) ≡ option_map (assigning a.at label) (o >>= λ all. Some (selecting a.at by all))
         last None = refl
         last (Some all) = refl
 
-    outer_steps : (h : Option (List Chosen)) (by : ObjectType × Value)
+    outer_steps : (h : Option (List Chosen)) (by : ObjectType × Selector)
         → option_map (assigning a.at label) (by_steps sight a.at by.0 by.1 true (steps.choice_lists a.waveforms) h)
-        ≡ (h >>= λ all. cover by.0 (steps.choice_lists a.waveforms) (all_choices all) >>= λ _. but_last all >>= λ d. Some (assigning a.at label (s.case_of a.at by.1 (put_together d))))
+        ≡ (h >>= λ all. cover by.0 (steps.choice_lists a.waveforms) (all_choices all) >>= λ _. arranged all >>= λ all. Some (assigning a.at label (selecting a.at by.1 all)))
     outer_steps None by = refl
-    outer_steps (Some all) by = asked (cover by.0 (steps.choice_lists a.waveforms) (all_choices all)) (but_last all)
+    outer_steps (Some all) by = asked (cover by.0 (steps.choice_lists a.waveforms) (all_choices all)) (arranged all)
       where
-        asked : (c : Option (Unit {0})) (d : Option Divided)
-            → option_map (assigning a.at label) (c >>= λ _. met true >> (d >>= λ d. Some (s.case_of a.at by.1 (put_together d))))
-            ≡ (c >>= λ _. d >>= λ d. Some (assigning a.at label (s.case_of a.at by.1 (put_together d))))
+        asked : (c : Option (Unit {0})) (d : Option s.Alternatives)
+            → option_map (assigning a.at label) (c >>= λ _. met true >> (d >>= λ all. Some (selecting a.at by.1 all)))
+            ≡ (c >>= λ _. d >>= λ all. Some (assigning a.at label (selecting a.at by.1 all)))
         asked None d = refl
         asked (Some u) None = refl
         asked (Some u) (Some d) = refl
 
-    go : (by : ObjectType × Value) (o : Option Target) → signal_target sight a.target ≡ o
+    go : (by : ObjectType × Selector) (o : Option Target) → signal_target sight a.target ≡ o
         → (o >>= λ x. covered sight by.0 (steps.choice_lists a.waveforms)
         >>= λ cs. each (λ (w : t.Waveform). option_map alone (one sight x w.value)) a.waveforms
-        >>= λ bodies. arranged cs bodies >>= λ all. Some (assigning a.at label (s.case_of a.at by.1 all)))
+        >>= λ bodies. chosen.arranged cs bodies >>= λ all. Some (assigning a.at label (selecting a.at by.1 all)))
         ≡ (o >>= λ _. each (steps.chosen sight by.0 a.target) a.waveforms
-        >>= λ all. cover by.0 (steps.choice_lists a.waveforms) (all_choices all) >>= λ _. but_last all >>= λ d. Some (assigning a.at label (s.case_of a.at by.1 (put_together d))))
+        >>= λ all. cover by.0 (steps.choice_lists a.waveforms) (all_choices all) >>= λ _. arranged all >>= λ all. Some (assigning a.at label (selecting a.at by.1 all)))
     go by None e = refl
     go by (Some x) e =
         outer_rules (covered sight by.0 (steps.choice_lists a.waveforms)) (each (λ (w : t.Waveform). option_map alone (one sight x w.value)) a.waveforms) by.1

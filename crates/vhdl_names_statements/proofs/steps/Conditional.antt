@@ -3,7 +3,6 @@ use Rattle.std.proofs.Common.{◌≡◌, ℕ, Bool, true, false, List, [], ◌�
 use Rattle.std.specs.Prelude.{if◌then◌else◌, not, option_map, is_none}
 use Rattle.vhdl_tree.specs.Tree as t
 use Rattle.vhdl_names_rules.specs.declared.kind.ObjectType.{ObjectType}
-use Rattle.vhdl_names_rules.specs.declared.kind.ObjectType.TheVariants.{Elements}
 use Rattle.vhdl_names_rules.specs.units.Expressions as e
 use Rattle.vhdl_names_rules.specs.units.Expressions.{Test}
 use Rattle.vhdl_names_rules.specs.units.Statements as s
@@ -11,7 +10,7 @@ use Rattle.vhdl_names_rules.specs.Rules.{◌>>=◌, ◌>>◌, each, if_any}
 use Rattle.vhdl_names_rules.specs.Visibility as visibility
 use Rattle.vhdl_names_rules.specs.Visibility.{Name, Meaning, DeclaredRange, Sight, declaration}
 use Rattle.vhdl_names_rules.specs.Names.{Suffix, AnyPart, any_part_of}
-use Rattle.vhdl_names_rules.specs.Expressions.{typed_suffix, condition, value_given}
+use Rattle.vhdl_names_rules.specs.Expressions.{Assigned, typed_suffix, condition, value_assigned}
 use Rattle.vhdl_names_rules.specs.Statements as rules
 use Rattle.vhdl_names_rules.specs.Statements.{Target, part_target, assigned_signal, assigned_variable, as_signal_target, as_variable_target, mode_of, is_input, signal_target, variable_target, target_by}
 use Rattle.vhdl_names_rules.proofs.laws.Rules.{comes, kept, some_is}
@@ -27,7 +26,7 @@ part_at at r assigned (Some p) y h = ap (λ (y : Target). y.at) (sym (some_is (p
 
 signal_by : (at : ℕ) (n : Name) (m : Meaning) (r : Option DeclaredRange) (g : Bool) (suffix : Suffix) (y : Target)
     → as_signal_target at (record { name = n; meaning = m; range = r; is_global = g }) suffix ≡ Some y → y.at ≡ at
-signal_by at n (visibility.port k mode kind) r g suffix y h = part_at at r (assigned_signal at (e.port k)) (any_part_of (Elements kind) suffix) y h
+signal_by at n (visibility.port k mode type) r g suffix y h = part_at at r (assigned_signal at (e.port k)) (any_part_of type suffix) y h
 signal_by at n (visibility.signal k type) r g suffix y h = part_at at r (assigned_signal at (e.Signal.signal k)) (any_part_of type suffix) y h
 signal_by at n _ r g suffix y h = absurd cc
 
@@ -64,13 +63,13 @@ starts_at sight true n x h = variable_at sight n x h
 pub target_gives : (sight : Sight) (b : Bool) (n : t.Name) (v : t.Value) → (target_by sight b n >>= λ x. rules.assignment sight x v) ≡ steps.assigned sight b n v
 target_gives sight b n v = go (target_by sight b n)
   where
-    last : (x : Target) (o : Option s.Given) → option_map x.assigned o ≡ (o >>= λ g. Some (x.assigned g))
+    last : (x : Target) (o : Option Assigned) → option_map (rules.assigned_to x) o ≡ (o >>= λ g. Some (rules.assigned_to x g))
     last x None = refl
     last x (Some g) = refl
 
-    go : (o : Option Target) → (o >>= λ x. rules.assignment sight x v) ≡ (o >>= λ x. value_given sight x.type x.range v >>= λ g. Some (x.assigned g))
+    go : (o : Option Target) → (o >>= λ x. rules.assignment sight x v) ≡ (o >>= λ x. value_assigned sight x.type x.range v >>= λ g. Some (rules.assigned_to x g))
     go None = refl
-    go (Some x) = last x (value_given sight x.type x.range v)
+    go (Some x) = last x (value_assigned sight x.type x.range v)
 
 -- ---- values under conditions
 

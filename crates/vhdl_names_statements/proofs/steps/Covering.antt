@@ -32,14 +32,14 @@ use Rattle.vhdl_names_rules.proofs.kept.Covered.{covered_kept}
 use Rattle.vhdl_names_rules.proofs.Along.{gives_along}
 use Rattle.vhdl_names_units.specs.declared.sequential.Alternative.{Alternative}
 use Rattle.vhdl_names_units.specs.views.Sequential.{Chosen, alternatives_view}
-use Rattle.vhdl_names_units.specs.Once.{key_of}
-use Rattle.vhdl_names_units.proofs.Once.{distinct_keys}
 use Rattle.vhdl_names_statements.specs.steps.Cases as cases
 use Rattle.vhdl_names_statements.specs.steps.Cases.{all_choices, choices_of, cover, covering}
 use Rattle.vhdl_names_statements.specs.steps.Concurrent as steps
+use Rattle.vhdl_names_statements.specs.steps.Keys.{keys_of}
 use Rattle.vhdl_names_statements.specs.steps.Told as told
 use Rattle.vhdl_names_statements.proofs.steps.Cases.{Pairs, all_there, no_choices, no_bodies, flat_each}
 use Rattle.vhdl_names_statements.proofs.steps.Cases as by_cases
+use Rattle.vhdl_names_statements.proofs.steps.Keys.{distinct_keys}
 use Rattle.vhdl_names_statements.proofs.steps.Concurrent as by_waveforms
 use Rattle.vhdl_names_statements.proofs.steps.Told.{alternatives_kept, on_along}
 use Rattle.vhdl_names_statements.proofs.steps.Assigning.{waveforms_kept}
@@ -75,7 +75,7 @@ module _ (sight : Sight) (type : ObjectType) (lists : List (List t.Choice)) wher
       let css = choices_of all in
       let flat : flat_map (λ (cs : List s.Choice). cs) css ≡ all_choices all = flat_each all in
       let a = kept (only_last_others lists) _ tt h in
-      let b = kept (are_distinct (map key_of (all_choices all))) _ tt a.1 in
+      let b = kept (are_distinct (keys_of (all_choices all))) _ tt a.1 in
       let c = is_met (is_last_others lists || names_all type (all_choices all)) b.1 in
       ap (λ m. met m >> (each (are.choices sight type) lists >>= λ css. met (are_distinct_choices (flat_map (λ cs. cs) css))
       >> (met (is_last_others lists || names_all type (flat_map (λ cs. cs) css)) >> Some css))) a.0
@@ -117,8 +117,8 @@ module _ (sight : Sight) (type : ObjectType) (alts : List t.Alternative) where
 
   -- the parts, where the alternatives are covered or not
   pub case_by : (label end : Option Ident) (o : Option (List Chosen)) → covering type (cases.choice_lists alts) (each (cases.chosen sight type) alts) ≡ o
-      → cases.parts sight type label alts end ≡ (o >>= λ all. rule WrongKind (label_ends label end) >> cases.but_last all)
-  case_by label end o h = ap (λ (o : Option (List Chosen)). o >>= λ all. rule WrongKind (label_ends label end) >> cases.but_last all) h
+      → cases.parts sight type label alts end ≡ (o >>= λ all. rule WrongKind (label_ends label end) >> cases.arranged all)
+  case_by label end o h = ap (λ (o : Option (List Chosen)). o >>= λ all. rule WrongKind (label_ends label end) >> cases.arranged all) h
 
   module _ (label end : Option Ident) (at : ℕ) (f : NameFault) where
     abbrev case_covers : Broken
@@ -211,7 +211,7 @@ module _ (sight : Sight) (type : ObjectType) (label : Option Ident) (c : Case) (
   parts_uncovered h = case_by sight type stands label ends None (covers None h)
 
   module _ (all : List Chosen) (given : Covers (Some all)) where
-    pub parts_covered : cases.parts sight type label stands ends ≡ (rule WrongKind (label_ends label ends) >> cases.but_last all)
+    pub parts_covered : cases.parts sight type label stands ends ≡ (rule WrongKind (label_ends label ends) >> cases.arranged all)
     parts_covered = case_by sight type stands label ends (Some all) (covers (Some all) given)
 
     -- what is told behind them
@@ -246,10 +246,10 @@ module _ (sight : Sight) (type : ObjectType) (a : t.SelectedAssignment) (x : Tar
       (same, given, on_given alternatives_view (told.HasChoices sight type ls) given_waveforms r given (λ y e. ap (each (are.choices sight type)) same ∙ waveforms_there (alternatives_view y) e))
 
   -- the parts, where the waveforms are covered or not
-  pub selected_by : (o : Option (List Chosen)) → covering type lists given_waveforms ≡ o → steps.parts sight type a ≡ (o >>= λ all. cases.but_last all)
+  pub selected_by : (o : Option (List Chosen)) → covering type lists given_waveforms ≡ o → steps.parts sight type a ≡ (o >>= λ all. cases.arranged all)
   selected_by o h =
-      ap (λ (t : Option Target). t >>= λ _. covering type lists given_waveforms >>= λ all. cases.but_last all) found
-      ∙ ap (λ (o : Option (List Chosen)). o >>= λ all. cases.but_last all) h
+      ap (λ (t : Option Target). t >>= λ _. covering type lists given_waveforms >>= λ all. cases.arranged all) found
+      ∙ ap (λ (o : Option (List Chosen)). o >>= λ all. cases.arranged all) h
 
   any_waveform : (at : ℕ) (ws : List t.Waveform) (all : List Chosen) → each (steps.chosen sight type a.target) ws ≡ Some all → any_alternative at all ≡ any_alternative at ws
   any_waveform at [] all h = ap (any_alternative at) (sym (some_is [] all h))

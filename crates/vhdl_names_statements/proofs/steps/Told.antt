@@ -9,13 +9,13 @@ use Rattle.vhdl_tree.specs.declared.sequential.If.{If, out-If}
 use Rattle.vhdl_tree.specs.declared.sequential.For.{For, out-For}
 use Rattle.vhdl_names_rules.specs.declared.kind.ObjectType.{ObjectType}
 use Rattle.vhdl_names_rules.specs.declared.fault.NameFault.{NameFault}
-use Rattle.vhdl_names_rules.specs.units.Expressions.{Range, Value}
+use Rattle.vhdl_names_rules.specs.units.Expressions.{Range}
 use Rattle.vhdl_names_rules.specs.units.Statements as s
 use Rattle.vhdl_names_rules.specs.Rules.{◌>>=◌, each, if_any}
 use Rattle.vhdl_names_rules.specs.Visibility.{Sight, within_loop}
 use Rattle.vhdl_names_rules.specs.Operators.{Typed}
 use Rattle.vhdl_names_rules.specs.Expressions as are
-use Rattle.vhdl_names_rules.specs.Choices.{selector}
+use Rattle.vhdl_names_rules.specs.Choices.{Selector, selector}
 use Rattle.vhdl_names_rules.specs.Choices as chosen
 use Rattle.vhdl_names_rules.proofs.laws.Rules.{comes}
 use Rattle.vhdl_names_expressions.specs.Asked.{selected_by}
@@ -263,12 +263,12 @@ module _ (sight : Sight) (label : Option Ident) (l : For) (f : NameFault) where
 -- ---- what is selected by
 
 -- where the selector is given what is broken by its type is the whole
-pub selector_given : (sight : Sight) (e : t.Expr) (b : ObjectType → Broken) (by : ObjectType × Value) → selected_by sight e ≡ Some by → by_selector sight e b ≡ b by.0
+pub selector_given : (sight : Sight) (e : t.Expr) (b : ObjectType → Broken) (by : ObjectType × Selector) → selected_by sight e ≡ Some by → by_selector sight e b ≡ b by.0
 selector_given sight e b by is =
-    let x = comes (are.typed sight e) selector by is in
-    behind_kept (asked.selected_by sight e) (where_given (are.typed sight e) (λ x. where_given (selector x) (λ k. b k.0))) (selected_by_kept sight e x.value by x.is x.rest)
-    ∙ ap (λ (o : Option Typed). where_given o (λ x. where_given (selector x) (λ k. b k.0))) x.is
-    ∙ ap (λ (o : Option (ObjectType × Value)). where_given o (λ k. b k.0)) x.rest
+    let x = comes (are.typed sight e) (selector sight.language) by is in
+    behind_kept (asked.selected_by sight e) (where_given (are.typed sight e) (λ x. where_given (selector sight.language x) (λ k. b k.0))) (selected_by_kept sight e x.value by x.is x.rest)
+    ∙ ap (λ (o : Option Typed). where_given o (λ x. where_given (selector sight.language x) (λ k. b k.0))) x.is
+    ∙ ap (λ (o : Option (ObjectType × Selector)). where_given o (λ k. b k.0)) x.rest
 
 -- ---- case statements
 
@@ -300,7 +300,7 @@ module _ (sight : Sight) (label : Option Ident) (c : Case) (f : NameFault) where
       let e = tree.view (out-Case c).selector in
       case_told (told_left (by_selector sight e (case_covers lists)) (case_behind lists) f (told_left (asked.selected_by sight e) _ f h))
 
-  pub case_parts : (by : ObjectType × Value) → selected_by sight (tree.view (out-Case c).selector) ≡ Some by
+  pub case_parts : (by : ObjectType × Selector) → selected_by sight (tree.view (out-Case c).selector) ≡ Some by
       → Tells (told.parts sight by.0 label (out-Case c).at case_alternatives case_ends) f → Tells (broken.statement sight label (tree.case_view c)) f
   case_parts by is h =
       let lists = cases.choice_lists case_alternatives in

@@ -7,12 +7,12 @@ use Rattle.vhdl_names_rules.specs.units.Statements as s
 use Rattle.vhdl_names_rules.specs.units.Units as u
 use Rattle.vhdl_names_rules.specs.Rules.{◌>>=◌, ◌>>◌, each}
 use Rattle.vhdl_names_rules.specs.Visibility.{Sight}
-use Rattle.vhdl_names_rules.specs.Choices.{choices}
+use Rattle.vhdl_names_rules.specs.Choices.{choices, selecting}
 use Rattle.vhdl_names_rules.specs.Statements.{signal_target}
 use Rattle.vhdl_names_rules.specs.Concurrent.{assigning}
 use Rattle.vhdl_names_expressions.specs.Asked.{selected_by}
-use Rattle.vhdl_names_units.specs.views.Sequential.{Chosen, chosen_by, statements_of, alternatives_of}
-use Rattle.vhdl_names_statements.specs.steps.Cases.{Divided, covering, but_last}
+use Rattle.vhdl_names_units.specs.views.Sequential.{Chosen, chosen_by}
+use Rattle.vhdl_names_statements.specs.steps.Cases.{covering, arranged}
 use Rattle.vhdl_names_statements.specs.steps.Sequential.{alone, conditionally}
 
 abbrev pub assignment : Sight → t.Assignment → Option u.Concurrent
@@ -30,15 +30,15 @@ chosen sight type n w = do
 abbrev pub choice_lists : List t.Waveform → List (List t.Choice)
 choice_lists = map (λ w. w.choices)
 
--- what is done by a value of this type, the last alternative apart
-abbrev pub parts : Sight → ObjectType → t.SelectedAssignment → Option Divided
+-- what is done by a value of this type
+abbrev pub parts : Sight → ObjectType → t.SelectedAssignment → Option s.Alternatives
 parts sight type a = do
   signal_target sight a.target
   all ← covering type (choice_lists a.waveforms) (each (chosen sight type a.target) a.waveforms)
-  but_last all
+  arranged all
 
 abbrev pub selected : Sight → Option Ident → t.SelectedAssignment → Option u.Concurrent
 selected sight label a = do
   by ← selected_by sight a.selector
-  d ← parts sight by.0 a
-  Some (assigning a.at label (s.case_of a.at by.1 (alternatives_of d.alternatives (statements_of d.last))))
+  all ← parts sight by.0 a
+  Some (assigning a.at label (selecting a.at by.1 all))

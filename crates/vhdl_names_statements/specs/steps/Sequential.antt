@@ -6,8 +6,8 @@ use Rattle.vhdl_names_rules.specs.units.Statements as s
 use Rattle.vhdl_names_rules.specs.declared.fault.NameProblem.TheVariants.{WrongKind}
 use Rattle.vhdl_names_rules.specs.Rules.{◌>>=◌, ◌>>◌, rule, each, if_any}
 use Rattle.vhdl_names_rules.specs.Visibility.{Sight, Declared, label_ends, within_loop}
-use Rattle.vhdl_names_rules.specs.Expressions.{static_range, condition, value_given}
-use Rattle.vhdl_names_rules.specs.Statements.{statement, target_by}
+use Rattle.vhdl_names_rules.specs.Expressions.{static_range, condition, value_assigned}
+use Rattle.vhdl_names_rules.specs.Statements.{statement, assigned_to, target_by}
 use Rattle.vhdl_names_units.specs.views.Sequential.{Guarded, guarded_by, statements_of, branches_of, last_of}
 
 -- ---- assignments
@@ -15,8 +15,8 @@ use Rattle.vhdl_names_units.specs.views.Sequential.{Guarded, guarded_by, stateme
 abbrev pub assigned : Sight → (is_variable : Bool) → t.Name → t.Value → Option s.Statement
 assigned sight is_variable n v = do
   x ← target_by sight is_variable n
-  g ← value_given sight x.type x.range v
-  Some (x.assigned g)
+  g ← value_assigned sight x.type x.range v
+  Some (assigned_to x g)
 
 -- an assignment alone
 abbrev pub alone : Sight → (is_variable : Bool) → t.Name → t.Value → Option (List s.Statement)

@@ -1,12 +1,12 @@
 -- Which rules statements and assignments break, in the parts in which the code comes to them.
-use Rattle.std.specs.Prelude.{◌≡◌, ℕ, Bool, true, false, not, List, [], ◌∷◌, ◌++◌, map, filter_map, Option, Some, None, Vec}
+use Rattle.std.specs.Prelude.{◌≡◌, ℕ, Bool, true, false, not, List, [], ◌∷◌, ◌++◌, filter_map, Option, Some, None, Vec}
 use Rattle.std.specs.Global.{Global}
 use Rattle.vhdl_tree.specs.Tree as t
 use Rattle.vhdl_tree.specs.Tree.{Ident}
 use Rattle.vhdl_names_rules.specs.declared.kind.ObjectType.{ObjectType}
 use Rattle.vhdl_names_rules.specs.declared.fault.NameProblem.TheVariants.{WrongKind, ChoiceTwice}
 use Rattle.vhdl_names_rules.specs.Rules.{each}
-use Rattle.vhdl_names_rules.specs.Visibility.{Name, Sight, is_among}
+use Rattle.vhdl_names_rules.specs.Visibility.{Name, Sight}
 use Rattle.vhdl_names_rules.specs.Choices as are
 use Rattle.vhdl_names_rules.specs.problems.Broken.{Broken, nothing, ◌▸◌, unless, where_given, any_of, of_any}
 use Rattle.vhdl_names_rules.specs.problems.Places.{choice_place}
@@ -16,8 +16,9 @@ use Rattle.vhdl_names_rules.specs.problems.Covered.{is_empty, covered, any_alter
 use Rattle.vhdl_names_rules.specs.problems.Statements as broken
 use Rattle.vhdl_names_units.specs.declared.sequential.Alternative.{Alternative}
 use Rattle.vhdl_names_units.specs.views.Sequential.{alternatives_view}
-use Rattle.vhdl_names_units.specs.Once.{key_of}
 use Rattle.vhdl_names_statements.specs.steps.Cases as cases
+use Rattle.vhdl_names_statements.specs.steps.Keys as keyed
+use Rattle.vhdl_names_statements.specs.steps.Keys.{is_taken}
 
 -- ---- assignments
 
@@ -54,7 +55,7 @@ parts sight type label at alts end =
 
 -- the keys of those that are given
 abbrev pub keys_of : Sight → ObjectType → List t.Choice → List Name
-keys_of sight type cs = map key_of (filter_map (are.choice sight type) cs)
+keys_of sight type cs = keyed.keys_of (filter_map (are.choice sight type) cs)
 
 -- with those of choices, one after another
 abbrev pub with_choice : Sight → ObjectType → List Name → t.Choice → List Name
@@ -71,7 +72,7 @@ with_lists sight type keys (cs ∷ rest) = with_lists sight type (with_list sigh
 abbrev pub once : Sight → ObjectType → List Name → t.Choice → Broken
 once sight type keys c =
     choice sight type c
-    ▸ where_given (are.choice sight type c) (λ x. unless ChoiceTwice (choice_place c) (not (is_among (key_of x) keys)))
+    ▸ where_given (are.choice sight type c) (λ x. unless ChoiceTwice (choice_place c) (not (is_taken keys x)))
 
 abbrev pub each_once : Sight → ObjectType → List Name → List t.Choice → Broken
 each_once sight type keys [] = nothing

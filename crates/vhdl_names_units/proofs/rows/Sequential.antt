@@ -8,6 +8,7 @@ use Rattle.vhdl_names_rules.specs.views.Integers.{range_view}
 use Rattle.vhdl_names_rules.specs.views.Vectors.{value_view}
 use Rattle.vhdl_names_rules.specs.views.Tests.{test_view}
 use Rattle.vhdl_names_units.specs.views.Answers.{choices_view}
+use Rattle.vhdl_names_units.specs.declared.answers.Choice.{Choice}
 use Rattle.vhdl_names_units.specs.declared.sequential.Statement.{Statement}
 use Rattle.vhdl_names_units.specs.declared.sequential.Statement.TheVariants as t
 use Rattle.vhdl_names_units.specs.declared.sequential.If.{roll-If}
@@ -15,7 +16,7 @@ use Rattle.vhdl_names_units.specs.declared.sequential.Case.{roll-Case}
 use Rattle.vhdl_names_units.specs.declared.sequential.Branch.{Branch}
 use Rattle.vhdl_names_units.specs.declared.sequential.Alternative.{Alternative}
 use Rattle.vhdl_names_units.specs.declared.sequential.Statement.TheBlock.{Row_of-Statement, end_of-Statement, more_of-Statement, items-the_row-Statement, hidden-the_row-Statement-0, items_hidden-the_row-Statement-0, items_shown-the_row-Statement-0, Row_of-Branch, end_of-Branch, more_of-Branch, items-the_row-Branch, hidden-the_row-Branch-2, items_hidden-the_row-Branch-2, Row_of-Alternative, end_of-Alternative, more_of-Alternative, items-the_row-Alternative, hidden-the_row-Alternative-1, items_hidden-the_row-Alternative-1}
-use Rattle.vhdl_names_units.specs.views.Sequential.{statement_view, statements_row, branches_row, alternatives_row, statements_of, statements_view, option_statements_view, branches_of, last_of, branch_view, branches_view, alternatives_of, alternative_view, alternatives_view}
+use Rattle.vhdl_names_units.specs.views.Sequential.{last_alternative, statement_view, statements_row, branches_row, alternatives_row, statements_of, statements_view, option_statements_view, branches_of, last_of, branch_view, branches_view, alternatives_of, alternative_view, alternatives_view}
 
 statements_rows : (n : Count) (row : Row_of-Statement n) → statements_row row ≡ statements_of (map statement_view (items-the_row-Statement n row))
 statements_rows n end_of-Statement = refl
@@ -37,7 +38,7 @@ branches_rows n (more_of-Branch condition shape statements rest) last =
 branches_hidden : (v : Vec Branch Global) (last : s.Branches) → branches_row (hidden-the_row-Branch-2 v) last ≡ branches_of (branches_view v) last
 branches_hidden v last = branches_rows _ (hidden-the_row-Branch-2 v) last ∙ ap (λ bs. branches_of (map branch_view bs) last) (items_hidden-the_row-Branch-2 v)
 
-alternatives_rows : (n : Count) (row : Row_of-Alternative n) (last : s.Statements) →
+alternatives_rows : (n : Count) (row : Row_of-Alternative n) (last : s.Alternatives) →
     alternatives_row row last ≡ alternatives_of (map alternative_view (items-the_row-Alternative n row)) last
 alternatives_rows n end_of-Alternative last = refl
 alternatives_rows n (more_of-Alternative choices shape statements rest) last =
@@ -45,7 +46,7 @@ alternatives_rows n (more_of-Alternative choices shape statements rest) last =
     (statements_rows _ statements ∙ sym (ap (λ xs. statements_of (map statement_view xs)) (items_shown-the_row-Statement-0 shape statements)))
     (alternatives_rows _ rest last)
 
-alternatives_hidden : (v : Vec Alternative Global) (last : s.Statements) → alternatives_row (hidden-the_row-Alternative-1 v) last ≡ alternatives_of (alternatives_view v) last
+alternatives_hidden : (v : Vec Alternative Global) (last : s.Alternatives) → alternatives_row (hidden-the_row-Alternative-1 v) last ≡ alternatives_of (alternatives_view v) last
 alternatives_hidden v last = alternatives_rows _ (hidden-the_row-Alternative-1 v) last ∙ ap (λ xs. alternatives_of (map alternative_view xs) last) (items_hidden-the_row-Alternative-1 v)
 
 pub view_loop : (at : ℕ) (range : StaticRange) (statements : Vec Statement Global) →
@@ -61,10 +62,10 @@ view_if at branches (Some xs) =
     ap (s.if_of at) (branches_hidden branches (s.otherwise (statements_row (hidden-the_row-Statement-0 xs))))
     ∙ ap (λ ys. s.if_of at (branches_of (branches_view branches) (s.otherwise ys))) (statements_hidden xs)
 
-pub view_case : (at : ℕ) (selector : Value) (alternatives : Vec Alternative Global) (others : Vec Statement Global) →
-    statement_view (t.Case (roll-Case (record { at = at; selector = selector; alternatives = alternatives; others = others })))
-    ≡ s.case_of at (value_view selector) (alternatives_of (alternatives_view alternatives) (statements_of (statements_view others)))
+pub view_case : (at : ℕ) (selector : Value) (alternatives : Vec Alternative Global) (last : Vec Choice Global) (others : Vec Statement Global) →
+    statement_view (t.Case (roll-Case (record { at = at; selector = selector; alternatives = alternatives; last = last; others = others })))
+    ≡ s.case_of at (value_view selector) (alternatives_of (alternatives_view alternatives) (last_alternative (choices_view last) (statements_of (statements_view others))))
 unfolding roll-Case denote.Hole.Carrier.roll
-view_case at selector alternatives others =
-    ap (s.case_of at (value_view selector)) (alternatives_hidden alternatives (statements_row (hidden-the_row-Statement-0 others)))
-    ∙ ap (λ ys. s.case_of at (value_view selector) (alternatives_of (alternatives_view alternatives) ys)) (statements_hidden others)
+view_case at selector alternatives last others =
+    ap (s.case_of at (value_view selector)) (alternatives_hidden alternatives (last_alternative (choices_view last) (statements_row (hidden-the_row-Statement-0 others))))
+    ∙ ap (λ ys. s.case_of at (value_view selector) (alternatives_of (alternatives_view alternatives) (last_alternative (choices_view last) ys))) (statements_hidden others)

@@ -15,6 +15,11 @@ use Rattle.vhdl_names_units.specs.declared.sequential.Case.{Case, Case'}
 use Rattle.vhdl_names_units.specs.declared.sequential.Branch.{Branch}
 use Rattle.vhdl_names_units.specs.declared.sequential.Alternative.{Alternative}
 
+-- what is done otherwise: by the last alternative, whose choices are kept where they are integers
+abbrev pub last_alternative : List s.Choice → s.Statements → s.Alternatives
+last_alternative [] statements = s.others statements
+last_alternative (c ∷ cs) statements = s.complete (c ∷ cs) statements
+
 abbrev mutual
   pub statement_view : Statement → s.Statement
   statement_view t.Null = s.null_of
@@ -30,8 +35,9 @@ abbrev mutual
   if_view (If' at shape branches otherwise) = s.if_of at (branches_row branches (last_row otherwise))
 
   pub case_view : Case → s.Statement
-  case_view (Case' at selector shape alternatives shape' others) =
-      s.case_of at (value_view selector) (alternatives_row alternatives (statements_row others))
+  case_view (Case' at selector shape alternatives last shape' others) =
+      s.case_of at (value_view selector)
+      (alternatives_row alternatives (last_alternative (choices_view last) (statements_row others)))
 
   pub statements_row : {m : _} → Row_of-Statement m → s.Statements
   statements_row end_of-Statement = s.done
@@ -42,8 +48,8 @@ abbrev mutual
   branches_row (more_of-Branch condition shape statements rest) last =
       s.branch (test_view condition) (statements_row statements) (branches_row rest last)
 
-  pub alternatives_row : {m : _} → Row_of-Alternative m → s.Statements → s.Alternatives
-  alternatives_row end_of-Alternative last = s.others last
+  pub alternatives_row : {m : _} → Row_of-Alternative m → s.Alternatives → s.Alternatives
+  alternatives_row end_of-Alternative last = last
   alternatives_row (more_of-Alternative choices shape statements rest) last =
       s.alternative (choices_view choices) (statements_row statements) (alternatives_row rest last)
 
@@ -80,9 +86,9 @@ abbrev pub last_of : Option (List s.Statement) → s.Branches
 last_of None = s.no_else
 last_of (Some xs) = s.otherwise (statements_of xs)
 
--- alternatives, and what is done otherwise
-abbrev pub alternatives_of : List Chosen → s.Statements → s.Alternatives
-alternatives_of [] last = s.others last
+-- alternatives, and the last one
+abbrev pub alternatives_of : List Chosen → s.Alternatives → s.Alternatives
+alternatives_of [] last = last
 alternatives_of (a ∷ more) last = s.alternative a.choices (statements_of a.statements) (alternatives_of more last)
 
 abbrev pub statements_view : Vec Statement Global → List s.Statement

@@ -11,7 +11,7 @@ use Rattle.vhdl_names_rules.specs.problems.Expressions as expressions_broken
 use Rattle.vhdl_names_rules.specs.problems.Subtypes as subtypes_broken
 use Rattle.vhdl_names_rules.proofs.Passing.{told_second}
 use Rattle.vhdl_names_rules.proofs.Telling.{told_same, told_left}
-use Rattle.vhdl_names_declarations.proofs.Constancy.{constrained, unconstrained, of_single_is, no_single_told}
+use Rattle.vhdl_names_declarations.proofs.Constancy.{constrained, unconstrained, of_single_is}
 use Rattle.vhdl_names_declarations.proofs.Counting.{some_seen}
 use Rattle.vhdl_names_declarations.proofs.constants.boolean.Goals as goal
 
@@ -30,7 +30,7 @@ returns-in_err-e-clause-told c =
     let gone : is_some c.args.declaration.now.subtype.constraint ≡ false = grind (arith, common_steps) in
     told_second (subtypes_broken.boolean_subtype d.subtype) (of_single (expressions_broken.static_condition s) d.value) c.in_err-e.field-0.0 _ c.from_residual.result c.from_residual.ensures.1 (λ e p. p)
     (unconstrained d.subtype (sym (some_seen tree.constraint_view c.args.declaration.now.subtype.constraint) ∙ gone))
-    (no_single_told (expressions_broken.static_condition s) d.value c.in_err-e.field-0.0 c.in_err-e.ensures.told)
+    (c.in_err-e.ensures.told (expressions_broken.static_condition s))
 
 pub returns-in_err-value-clause-told : goal.returns-in_err-value-clause-told
 returns-in_err-value-clause-told c =

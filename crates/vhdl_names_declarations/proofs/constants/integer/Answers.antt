@@ -5,7 +5,7 @@ use Rattle.vhdl_names_rules.specs.problems.Subtypes as subtypes_broken
 use Rattle.vhdl_names_rules.specs.views.Integers.{base_view, subtype_view}
 use Rattle.vhdl_names_rules.proofs.Passing.{told_first, told_second}
 use Rattle.vhdl_names_rules.proofs.Telling.{told_same}
-use Rattle.vhdl_names_declarations.proofs.Constancy.{integers_kept, of_single_is, no_single_told}
+use Rattle.vhdl_names_declarations.proofs.Constancy.{integers_kept, of_single_is}
 use Rattle.vhdl_names_declarations.proofs.constants.integer.Goals as goal
 
 pub returns-in_err-subtype-clause-told : goal.returns-in_err-subtype-clause-told
@@ -17,7 +17,7 @@ returns-in_err-e-clause-told c =
     let d = tree.constants_view c.args.declaration.now in
     told_second (subtypes_broken.integer_subtype s d.subtype) (of_single (expressions_broken.static s) d.value) c.in_err-e.field-0.0 _ c.from_residual-in_err-e.result c.from_residual-in_err-e.ensures.1 (λ e p. p)
     (integers_kept s d.subtype (base_view c.args.base) (subtype_view c.in_ok-subtype.subtype) c.in_ok-subtype.ensures.given)
-    (no_single_told (expressions_broken.static s) d.value c.in_err-e.field-0.0 c.in_err-e.ensures.told)
+    (c.in_err-e.ensures.told (expressions_broken.static s))
 
 pub returns-in_err-value-clause-told : goal.returns-in_err-value-clause-told
 returns-in_err-value-clause-told c =

@@ -16,7 +16,7 @@ use Rattle.vhdl_names_sight.specs.Views.{entry_of}
 use Rattle.vhdl_names_declarations.specs.declared.generics.TypedGeneric.{TypedGeneric}
 use Rattle.vhdl_names_declarations.specs.Typed as typed
 use Rattle.vhdl_names_declarations.proofs.Generality.{narrow_alone, narrow_told, where_wide, told_where_wide}
-use Rattle.vhdl_names_declarations.proofs.Marks.{of_integers_class, of_others_class, given_by_class, given_integers, told_by_meaning}
+use Rattle.vhdl_names_values.proofs.Classed.{of_integers_class, of_others_class, given_by_class, given_integers, told_by_meaning}
 use Rattle.vhdl_names_declarations.proofs.generics.typed_generic.Goals as goal
 
 pub returns-in_err-mark-clause-told : goal.returns-in_err-mark-clause-told

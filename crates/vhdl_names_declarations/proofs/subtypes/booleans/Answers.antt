@@ -10,7 +10,7 @@ use Rattle.vhdl_names_sight.specs.Views.{entry_of}
 use Rattle.vhdl_names_declarations.specs.Subtyping as typed
 use Rattle.vhdl_names_declarations.proofs.Constancy.{constrained}
 use Rattle.vhdl_names_declarations.proofs.Counting.{some_seen}
-use Rattle.vhdl_names_declarations.proofs.Marks.{memory_only}
+use Rattle.vhdl_names_declarations.proofs.Breaking.{memory_only}
 use Rattle.vhdl_names_declarations.proofs.subtypes.booleans.Goals as goal
 
 pub returns-then-is_some-clause-told : goal.returns-then-is_some-clause-told

@@ -9,7 +9,7 @@ use Rattle.vhdl_names_rules.specs.problems.Declarations as broken
 use Rattle.vhdl_names_rules.proofs.Passing.{told_first}
 use Rattle.vhdl_names_sight.specs.Views.{entry_of}
 use Rattle.vhdl_names_declarations.specs.Subtyping as typed
-use Rattle.vhdl_names_declarations.proofs.Marks.{of_integers_class, of_others_class, given_by_class, given_integers, told_by_mark}
+use Rattle.vhdl_names_values.proofs.Classed.{of_integers_class, of_others_class, given_by_class, given_integers, told_by_mark}
 use Rattle.vhdl_names_declarations.proofs.subtypes.typed_subtype.Goals as goal
 
 pub returns-in_err-mark-clause-told : goal.returns-in_err-mark-clause-told

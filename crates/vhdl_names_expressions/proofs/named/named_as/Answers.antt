@@ -7,10 +7,9 @@ use Rattle.vhdl_names_sight.specs.Views.{meaning_view, entry_of}
 use Rattle.vhdl_names_rules.specs.Rules.{wider}
 use Rattle.vhdl_names_rules.specs.Types.{interval}
 use Rattle.vhdl_names_rules.specs.Ranges.{named_range}
-use Rattle.vhdl_names_rules.specs.Expressions.{named}
+use Rattle.vhdl_names_rules.specs.Expressions.{valued, named}
 use Rattle.vhdl_names_rules.specs.problems.Expressions.{is_of_range, with_suffix, by_declaration}
 use Rattle.vhdl_names_rules.proofs.Along.{gives_along}
-use Rattle.vhdl_names_expressions.specs.Steps.{valued}
 use Rattle.vhdl_names_expressions.proofs.Breaking.{told_as}
 use Rattle.vhdl_names_expressions.proofs.Namings.{by_range, by_range_breaks, by_value, by_value_breaks, alone_ranged, alone_valued, alone_breaks}
 use Rattle.vhdl_names_expressions.proofs.named.named_as.Goals as goal

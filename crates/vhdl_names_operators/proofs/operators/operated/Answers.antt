@@ -15,7 +15,7 @@ returns-in_err-first-clause-given c =
     let y = typed_view c.args.right in
     let told = told_same _ _ f (ap (λ k. operand_breaks c.args.operator k x) c.kind_of-other.ensures) c.in_err-first.ensures.told in
     passed_on typed_view _ f _ c.from_residual.result c.from_residual.ensures.1 (λ e p. p)
-    (λ n. gives_none (operand_breaks c.args.operator (kind_of y) x) f _ (left_kept c.args.numbers c.args.at c.args.operator x y) told n)
+    (λ n. gives_none (operand_breaks c.args.operator (kind_of y) x) f _ (left_kept c.args.language c.args.numbers c.args.at c.args.operator x y) told n)
 
 pub returns-in_err-first-clause-told : goal.returns-in_err-first-clause-told
 returns-in_err-first-clause-told c =
@@ -30,7 +30,7 @@ returns-in_err-second-clause-given c =
     let y = typed_view c.args.right in
     let told = told_same _ _ f (ap (λ k. operand_breaks c.args.operator k y) c.kind_of-own.ensures) c.in_err-second.ensures.told in
     passed_on typed_view _ f _ c.from_residual-in_err-second.result c.from_residual-in_err-second.ensures.1 (λ e p. p)
-    (λ n. gives_none (operand_breaks c.args.operator (kind_of x) y) f _ (right_kept c.args.numbers c.args.at c.args.operator x y) told n)
+    (λ n. gives_none (operand_breaks c.args.operator (kind_of x) y) f _ (right_kept c.args.language c.args.numbers c.args.at c.args.operator x y) told n)
 
 pub returns-in_err-second-clause-told : goal.returns-in_err-second-clause-told
 returns-in_err-second-clause-told c =
@@ -49,12 +49,12 @@ returns c =
     let y = typed_view c.args.right in
     let first : resolved c.args.operator (kind_of y) x ≡ Some (typed_view c.in_ok-first.first) = ap (λ k. resolved c.args.operator k x) (sym c.kind_of-other.ensures) ∙ c.in_ok-first.ensures.given in
     let second : resolved c.args.operator (kind_of x) y ≡ Some (typed_view c.in_ok-second.second) = ap (λ k. resolved c.args.operator k y) (sym c.kind_of-own.ensures) ∙ c.in_ok-second.ensures.given in
-    let same = both_resolved c.args.numbers c.args.at q x y (typed_view c.in_ok-first.first) (typed_view c.in_ok-second.second) first second in
+    let same = both_resolved c.args.language c.args.numbers c.args.at q x y (typed_view c.in_ok-first.first) (typed_view c.in_ok-second.second) first second in
     record {
-      given = gives_along typed_view _ _ _ same.operated c.applied.ensures.given;
+      given = gives_along typed_view _ _ _ same.result c.applied.ensures.given;
       told =
           told_on _ _ c.applied.result
           (λ f t. told_right _ _ f (resolved_kept q (kind_of y) x _ first) (told_right _ _ f (resolved_kept q (kind_of x) y _ second)
-          (told_same _ _ f (same_lacking c.args.numbers c.args.at q x y (typed_view c.in_ok-first.first) (typed_view c.in_ok-second.second) same) t)))
+          (told_same _ _ f (same_lacking c.args.language c.args.numbers c.args.at q x y (typed_view c.in_ok-first.first) (typed_view c.in_ok-second.second) same) t)))
           c.applied.ensures.told;
     }

@@ -19,13 +19,13 @@ pub returns-in-LoopParameter : goal.returns-in-LoopParameter
 returns-in-LoopParameter c = rw c.in-LoopParameter.is (record { given = c.if_plain-in-LoopParameter.ensures.given; told = told_of typed_view _ c.args.at _ _ c.if_plain-in-LoopParameter.ensures.given c.if_plain-in-LoopParameter.ensures.told })
 
 pub returns-in-Port : goal.returns-in-Port
-returns-in-Port c = rw c.in-Port.is (record { given = c.read_signal.ensures.given; told = told_of typed_view _ c.args.at _ _ c.read_signal.ensures.given c.read_signal.ensures.told })
+returns-in-Port c = rw c.in-Port.is (record { given = c.read_object.ensures.given; told = told_of typed_view _ c.args.at _ _ c.read_object.ensures.given c.read_object.ensures.told })
 
 pub returns-in-Signal : goal.returns-in-Signal
-returns-in-Signal c = rw c.in-Signal.is (record { given = c.signal_of.ensures.given; told = told_of typed_view _ c.args.at _ _ c.signal_of.ensures.given c.signal_of.ensures.told })
+returns-in-Signal c = rw c.in-Signal.is (record { given = c.read_object-in-Signal.ensures.given; told = told_of typed_view _ c.args.at _ _ c.read_object-in-Signal.ensures.given c.read_object-in-Signal.ensures.told })
 
 pub returns-in-Variable : goal.returns-in-Variable
-returns-in-Variable c = rw c.in-Variable.is (record { given = c.variable_of.ensures.given; told = told_of typed_view _ c.args.at _ _ c.variable_of.ensures.given c.variable_of.ensures.told })
+returns-in-Variable c = rw c.in-Variable.is (record { given = c.read_variable.ensures.given; told = told_of typed_view _ c.args.at _ _ c.read_variable.ensures.given c.read_variable.ensures.told })
 
 pub returns-in-Constant : goal.returns-in-Constant
 returns-in-Constant c = rw c.in-Constant.is (record { given = c.read_constant.ensures.given; told = told_of typed_view _ c.args.at _ _ c.read_constant.ensures.given c.read_constant.ensures.told })

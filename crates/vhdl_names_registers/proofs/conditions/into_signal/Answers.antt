@@ -12,5 +12,5 @@ returns-in-Elements c =
     ap (option_map place_view) c.ok.ensures.value
     ∙ (signal_if_any c.in-Elements.vector i.result i.ensures.place i.ensures.other ∙ sym (ap (λ (x : Value). signal_in (value_view x)) c.in-Elements.is))
 
-pub returns-in_default : goal.returns-in_default
-returns-in_default c = sym (no_elements_signal c.args.value c.in_default.not-Elements)
+pub returns : goal.returns
+returns c = sym (no_elements_signal c.args.value c.in_default.not-Elements)

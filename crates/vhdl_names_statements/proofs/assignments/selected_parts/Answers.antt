@@ -50,8 +50,8 @@ returns c =
     let covers = ap (λ l. cases.covering c.args.by l (each (steps.chosen c.args.sight.now c.args.by a.target) a.waveforms)) (sym read.0) ∙ c.in_ok-all.ensures.given (each (steps.chosen c.args.sight.now c.args.by a.target) a.waveforms) read.1 read.2 in
     record {
       given =
-          gives_along _ _ _ _ (selected_by c.args.sight.now c.args.by a _ c.in_ok-target.ensures.given (Some (views.alternatives_view c.in_ok-all.all)) covers) c.but_last.ensures.given;
+          gives_along _ _ _ _ (selected_by c.args.sight.now c.args.by a _ c.in_ok-target.ensures.given (Some (views.alternatives_view c.in_ok-all.all)) covers) c.arranged.ensures.given;
       told =
           told_on _ (problems.waveforms c.args.sight.now c.args.by a) _
-          (λ f h. selected_none c.args.sight.now c.args.by a _ c.in_ok-target.ensures.given f (views.alternatives_view c.in_ok-all.all) covers h) c.but_last.ensures.told;
+          (λ f h. selected_none c.args.sight.now c.args.by a _ c.in_ok-target.ensures.given f (views.alternatives_view c.in_ok-all.all) covers h) c.arranged.ensures.told;
     }

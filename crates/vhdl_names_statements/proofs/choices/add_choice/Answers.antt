@@ -1,14 +1,20 @@
-use Rattle.std.proofs.Common.{ap, sym, ◌∙◌}
-use Rattle.vhdl_names_units.specs.Once.{one_name, names_view}
-use Rattle.vhdl_names_units.proofs.Once.{inserted, refused}
+use Rattle.std.proofs.Common.{ℕ, Vec, Global, List, ap, sym, ◌∙◌}
+use Rattle.std.specs.Prelude.{option_map}
+use Rattle.vhdl_names_rules.proofs.Along.{gives_along}
+use Rattle.vhdl_names_units.specs.views.Answers.{choice_view}
+use Rattle.vhdl_names_units.specs.Once.{names_view}
+use Rattle.vhdl_names_statements.proofs.steps.Keys.{no_key, with_key}
 use Rattle.vhdl_names_statements.proofs.choices.add_choice.Goals as goal
 
-pub returns-then-branch-clause-given : goal.returns-then-branch-clause-given
-returns-then-branch-clause-given c =
-    ap (one_name (names_view c.args.keys.now)) (sym c.in_ok-key.ensures)
-    ∙ inserted c.in_ok-key.key c.args.keys.now.keys c.insert.new.self.keys c.in_ok-insert.field-0 c.in_ok-insert.ensures.added c.in_ok-insert.ensures.keys c.if-branch.true
+abbrev items : Vec ℕ Global → List ℕ
+items v = v.items
 
-pub returns-else-branch-clause-given : goal.returns-else-branch-clause-given
-returns-else-branch-clause-given c = λ n.
-    ap (one_name (names_view c.args.keys.now)) (sym c.in_ok-key.ensures)
-    ∙ refused c.in_ok-key.key c.args.keys.now.keys c.in_ok-insert.field-0 c.in_ok-insert.ensures.added c.if-branch.false
+pub returns-in-Some-clause-given : goal.returns-in-Some-clause-given
+returns-in-Some-clause-given c =
+    gives_along _ _ _ _
+    (with_key (names_view c.args.keys.now) (choice_view c.args.choice.now) c.in-Some.key.items (sym (ap (option_map items) c.in-Some.is) ∙ c.in_ok-key.ensures))
+    c.add_key.ensures.given
+
+pub returns-in-None-clause-given : goal.returns-in-None-clause-given
+returns-in-None-clause-given c =
+    no_key (names_view c.args.keys.now) (choice_view c.args.choice.now) (sym (ap (option_map items) c.in-None.is) ∙ c.in_ok-key.ensures)

@@ -32,6 +32,6 @@ returns-clause-kept c =
 pub returns-clause-told : goal.returns-clause-told
 returns-clause-told c =
     let twice : IfErr c.add_choice.result (Tells (refused ChoiceTwice (choice_place (tree.choice_view c.args.written.now)))) =
-    rw (sym c.place.ensures) c.add_choice.ensures.told in
+    rw (sym c.choice_start.ensures) c.add_choice.ensures.told in
     answer_told c.args.sight.now c.args.selected (names_view c.args.keys.now) (names_view c.add_choice.new.keys) (tree.choice_view c.args.written.now)
     (choice_view c.in_ok-analysed.analysed) c.in_ok-analysed.ensures.given c.add_choice.result c.add_choice.ensures.given twice

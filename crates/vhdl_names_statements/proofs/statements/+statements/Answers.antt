@@ -260,11 +260,11 @@ case_statement-returns-in_err-selected-clause-told m c =
     told_by _ c.in_err-selected.field-0.0 _ c.from_residual.result c.from_residual.ensures.1 (λ e p. p)
     (by.case_selector s l c.args.case.now c.in_err-selected.field-0.0 c.in_err-selected.ensures.told)
 
-pub case_statement-returns-in_err-alternatives-clause-told : goal.case_statement-returns-in_err-alternatives-clause-told
-case_statement-returns-in_err-alternatives-clause-told m c =
+pub case_statement-returns-in_err-all-clause-told : goal.case_statement-returns-in_err-all-clause-told
+case_statement-returns-in_err-all-clause-told m c =
     let s = c.args.sight.now in let l = tree.option_ident_view c.args.label.now in
-    told_by _ c.in_err-alternatives.field-0.0 _ c.from_residual-in_err-alternatives.result c.from_residual-in_err-alternatives.ensures.1 (λ e p. p)
-    (by.case_parts s l c.args.case.now c.in_err-alternatives.field-0.0 _ c.in_ok-selected.ensures.given c.in_err-alternatives.ensures.told)
+    told_by _ c.in_err-all.field-0.0 _ c.from_residual-in_err-all.result c.from_residual-in_err-all.ensures.1 (λ e p. p)
+    (by.case_parts s l c.args.case.now c.in_err-all.field-0.0 _ c.in_ok-selected.ensures.given c.in_err-all.ensures.told)
 
 pub for_loop-returns-in_err-range-clause-told : goal.for_loop-returns-in_err-range-clause-told
 for_loop-returns-in_err-range-clause-told m c =
@@ -348,7 +348,7 @@ case_parts-returns-in_err-all-2-clause-given m c =
     c.in_ok-lists.ensures c.alternatives-all.ensures.kept c.alternatives-all.ensures.given in
     passed_on _ _ c.in_err-all-2.field-0.0 _ c.from_residual-in_err-all-2.result c.from_residual-in_err-all-2.ensures.1 (λ e p. p)
     (λ n. part.parts_covered c.args.sight.now c.args.selected (tree.option_ident_view c.args.label.now) c.args.case.now c.alternatives-all.new.sight (cases.all_lists c.deref-3.result.now) c.alternatives-all.result read (alternatives_view c.in_ok-all.all) c.in_ok-all.ensures.given
-    ∙ ap (λ o. o >> cases.but_last (alternatives_view c.in_ok-all.all)) (c.in_err-all-2.ensures.asked n))
+    ∙ ap (λ o. o >> cases.arranged (alternatives_view c.in_ok-all.all)) (c.in_err-all-2.ensures.asked n))
 
 pub case_parts-returns-in_err-all-2-clause-told : goal.case_parts-returns-in_err-all-2-clause-told
 case_parts-returns-in_err-all-2-clause-told m c =
@@ -363,8 +363,8 @@ case_parts-returns-clause-given m c =
     c.in_ok-lists.ensures c.alternatives-all.ensures.kept c.alternatives-all.ensures.given in
     gives_along _ _ _ _
     (part.parts_covered c.args.sight.now c.args.selected (tree.option_ident_view c.args.label.now) c.args.case.now c.alternatives-all.new.sight (cases.all_lists c.deref-3.result.now) c.alternatives-all.result read (alternatives_view c.in_ok-all.all) c.in_ok-all.ensures.given
-    ∙ ap (λ o. o >> cases.but_last (alternatives_view c.in_ok-all.all)) c.in_ok-all-2.ensures.asked ∙ ap (λ v. cases.but_last (alternatives_view v)) (sym c.in_ok-all-2.ensures.same))
-    c.but_last.ensures.given
+    ∙ ap (λ o. o >> cases.arranged (alternatives_view c.in_ok-all.all)) c.in_ok-all-2.ensures.asked ∙ ap (λ v. cases.arranged (alternatives_view v)) (sym c.in_ok-all-2.ensures.same))
+    c.arranged.ensures.given
 
 pub case_parts-returns-clause-told : goal.case_parts-returns-clause-told
 case_parts-returns-clause-told m c =
@@ -373,7 +373,7 @@ case_parts-returns-clause-told m c =
     told_on _ _ _
     (λ f h. part.told_none c.args.sight.now c.args.selected (tree.option_ident_view c.args.label.now) c.args.case.now c.alternatives-all.new.sight (cases.all_lists c.deref-3.result.now) c.alternatives-all.result read (alternatives_view c.in_ok-all.all) c.in_ok-all.ensures.given f c.in_ok-all-2.ensures.asked
     (told_same _ _ f (ap (λ v. any_alternative (out-Case c.args.case.now).at (alternatives_view v)) c.in_ok-all-2.ensures.same) h))
-    c.but_last.ensures.told
+    c.arranged.ensures.told
 
 pub statements-loop-item-init : goal.statements-loop-item-init
 statements-loop-item-init m c =
