@@ -20,5 +20,10 @@ pub fn signal_kind(kind: ObjectKind) -> SignalKind
         ObjectKind::Enumeration(count) => SignalKind::Enumeration {
             count: count as u32,
         },
+        ObjectKind::Integer(range) => SignalKind::Integer {
+            least: range.lower(),
+            greatest: range.upper(),
+        },
+        ObjectKind::Boolean => SignalKind::Boolean,
     }
 }

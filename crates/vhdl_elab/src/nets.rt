@@ -31,6 +31,8 @@ fn net_kind(kind: ObjectKind) -> NetKind
     match kind {
         ObjectKind::One => NetKind::Nine,
         ObjectKind::Vector(_) => NetKind::Nine,
+        ObjectKind::Integer(_) => NetKind::Nine,
+        ObjectKind::Boolean => NetKind::Nine,
         ObjectKind::Enumeration(count) => NetKind::Enumeration {
             count: count as u32,
         },

@@ -47,7 +47,7 @@ parts = record {
   followed = followed-dotted;
   split = λ at x rest s. let both = split_named x rest s.0 in ((both.0, s.1), (both.1, s.1));
   of_process = λ at p q s h. (process-dotted at p q s.1 h, tt);
-  in_for = λ at pos label r body j s. (for_named pos label r body s.0, dotted-more at.prefix _ (some-turn label _));
+  in_for = λ at pos label r body j turn s. (for_named pos label r body s.0, dotted-more at.prefix _ (some-turn label _));
   in_if = λ at pos label r body s. let both = if_named pos label r body s.0 in (both.1, dotted-more at.prefix label both.0);
 }
 

@@ -6,10 +6,8 @@ use Rattle.std.proofs.lemmas.Bool.{false_from_ne_true, eqb-true}
 use Rattle.std.proofs.lemmas.List.Elements.{All-nil, All-head, All-tail, All-weaker, All-append, All-contains, filter-append}
 use Rattle.rtl_model.proofs.basics.Lists.{in_contains, contains_in, Contains-first}
 use Rattle.rtl_net.specs.Nets.{SignalView}
-use Rattle.vhdl_expand_rules.specs.Kinds.{size}
-use Rattle.vhdl_expand_rules.specs.Kinds as kinds
 use Rattle.vhdl_expand_rules.specs.Tree.{Role, input, output, internal, Object}
-use Rattle.vhdl_expand_rules.specs.laws.Trees.{IsKind}
+use Rattle.vhdl_expand_rules.proofs.laws.Kinds.{width_of_kind}
 use Rattle.vhdl_elab_rules.specs.Numbering.{object_nets, own_size, own_sizes, Placed}
 use Rattle.vhdl_elab_rules.specs.Wiring.{is_input}
 use Rattle.vhdl_elab_rules.specs.Names.{is_port_role}
@@ -30,10 +28,6 @@ input_signals above first [] = []
 input_signals above first (o ∷ os) =
     cond (is_input o.role) (object_signal 0 (object_nets above first o) o ∷ input_signals above (first + own_size o) os) (input_signals above (first + own_size o) os)
 
-some-size : (k : kinds.ObjectKind) → IsKind k → 1 ≤ size k
-some-size (kinds.vector b) h = h.0
-some-size _ h = omega arith
-
 first-of-run : (first n : ℕ) → 1 ≤ n → slice_index (range_with_len first n) 0 ≡ first
 first-of-run first zero h = absurd (omega (arith, h))
 first-of-run first (suc n) h = refl
@@ -50,7 +44,7 @@ tested o above first left later alone kind low high = by o.role
     mine = object_nets above first o
 
     some : 1 ≤ own_size o
-    some = subst (λ n. 1 ≤ n) (sym (own-is_size o alone)) (some-size o.kind kind)
+    some = subst (λ n. 1 ≤ n) (sym (own-is_size o alone)) (width_of_kind o.kind kind).0
 
     run : mine ≡ range_with_len first (own_size o)
     run = own-run above first o alone

@@ -67,7 +67,7 @@ abbrev mutual
   alternatives_count (others s) = statements_count s
   alternatives_count (alternative choices s alts) = statements_count s + alternatives_count alts
 
--- the turns of all generates and loops
+-- the turns of all generates and loops, with the numbers of cases on integers
 abbrev pub turns_count : Numbered → ℕ
 turns_count d =
     sum (map (λ (p : Placed). p.turns) d.instances) + sum (map (λ (x : Located). x.process.turns) d.processes)

@@ -6,7 +6,7 @@ use Rattle.std.specs.Prelude.{None, is_none}
 use Rattle.std.specs.List.{range_with_len, enumerate_from}
 use Rattle.vhdl_tree.specs.declared.operator.Direction.{Direction}
 use Rattle.vhdl_tree.specs.declared.operator.Direction.TheVariants.{To, Downto}
-use Rattle.vhdl_expand_rules.specs.Kinds.{ObjectKind, one, vector, enumeration, Bounds, size}
+use Rattle.vhdl_expand_rules.specs.Kinds.{ObjectKind, one, vector, enumeration, integer, boolean, Bounds, number_size, size}
 use Rattle.vhdl_expand_rules.specs.Tree.{Role, input, output, internal, Object, Variable}
 use Rattle.vhdl_elab_rules.specs.Numbering.{Placed, Located, Numbered}
 
@@ -96,6 +96,9 @@ abbrev pub element_text : ObjectKind → (place : ℕ) → List ℕ
 element_text (vector b) place = index_text b place
 element_text one place = []
 element_text (enumeration count) place = []
+element_text boolean place = []
+-- a digit of an integer, by its weight
+element_text (integer r) place = codes "[" ++ (decimal (number_size r - 1 - place) ++ codes "]")
 
 -- a net has the name of the declaration that it is the own net of: `path.name`, or `path.name(i)`
 abbrev pub object_names : (path : List ℕ) → Object → List (List ℕ)

@@ -2,10 +2,10 @@
 use Rattle.std.proofs.Common.{◌≡◌, ◌⊎◌, inl, inr, ℕ, zero, suc, ◌<◌, List, [], ◌∷◌, ◌++◌, length, map, get_or, Option, Some, Vec, Global, Result, Ok, Err, All, subst, sym, arith}
 use Rattle.std.specs.Prelude.{Contains, flat_map}
 use Rattle.std.proofs.lemmas.List.Elements.{Contains-append_left, Contains-append_right, Contains-append_cases, All-weaker, All-contains, All-contains_itself}
-use Rattle.vhdl_names_rules.specs.units.Bytes.{test_bytes, statement_bytes, statements_bytes, branches_bytes, alternatives_bytes}
+use Rattle.vhdl_names_rules.specs.units.Bytes.{test_bytes, choice_bytes, statement_bytes, statements_bytes, branches_bytes, alternatives_bytes}
 use Rattle.vhdl_names_rules.specs.units.Statements as u
 use Rattle.vhdl_names_units.specs.declared.sequential.Statement.{Statement}
-use Rattle.vhdl_names_units.specs.views.Sequential.{Guarded, Chosen, statement_view, statements_of, branches_of, last_of, alternatives_of, option_statements_view}
+use Rattle.vhdl_names_units.specs.views.Sequential.{Guarded, Chosen, statement_view, statements_of, branches_of, last_of, last_alternative, alternatives_of, option_statements_view}
 use Rattle.vhdl_expand_rules.specs.declared.fault.ElabFault.{ElabFault}
 use Rattle.vhdl_expand_rules.specs.Elab.{Elab}
 use Rattle.vhdl_expand_operands.specs.Results.{Charges}
@@ -93,16 +93,23 @@ some_among gs o list some zs same at c =
     (subst (λ (y : Option (Vec Statement Global)). Contains (branches_bytes (last_of (option_statements_view y))) at) (sym some)
     (subst (λ (ys : List Statement). Contains (statements_bytes (statements_of (map statement_view ys))) at) same c))
 
-pub alternatives_among : (gs : List Chosen) (last : u.Statements) → Among (flat_map chosen_bytes gs) (alternatives_bytes (alternatives_of gs last))
+pub alternatives_among : (gs : List Chosen) (last : u.Alternatives) → Among (flat_map chosen_bytes gs) (alternatives_bytes (alternatives_of gs last))
 alternatives_among [] last at (k, l, is) = absurd (omega (arith, l))
 alternatives_among (g ∷ gs) last at c =
     let own : List ℕ = chosen_bytes g in
     let more : List ℕ = alternatives_bytes (alternatives_of gs last) in
-    both-among own (flat_map chosen_bytes gs) (own ++ more) (among_left own more) (λ b k. among_right own more b (alternatives_among gs last b k)) at c
+    let choices : List ℕ = flat_map choice_bytes g.choices in
+    both-among own (flat_map chosen_bytes gs) (choices ++ (own ++ more)) (λ b k. among_right choices (own ++ more) b (among_left own more b k))
+    (λ b k. among_right choices (own ++ more) b (among_right own more b (alternatives_among gs last b k))) at c
 
-pub others_among : (gs : List Chosen) (last : u.Statements) → Among (statements_bytes last) (alternatives_bytes (alternatives_of gs last))
-others_among [] last at c = c
-others_among (g ∷ gs) last at c = among_right (chosen_bytes g) (alternatives_bytes (alternatives_of gs last)) at (others_among gs last at c)
+-- what is done otherwise
+pub others_among : (gs : List Chosen) (cs : List u.Choice) (body : u.Statements) → Among (statements_bytes body) (alternatives_bytes (alternatives_of gs (last_alternative cs body)))
+others_among [] [] body at k = k
+others_among [] (c ∷ cs) body at k = among_right (flat_map choice_bytes (c ∷ cs)) (statements_bytes body) at k
+others_among (g ∷ gs) cs body at k =
+    let own : List ℕ = chosen_bytes g in
+    let more : List ℕ = alternatives_bytes (alternatives_of gs (last_alternative cs body)) in
+    among_right (flat_map choice_bytes g.choices) (own ++ more) at (among_right own more at (others_among gs cs body at k))
 
 -- what is charged for a part is charged for the whole
 pub charges_among : {X Y : Type 0} (bytes more : List ℕ) (view : X → Y) (given : Elab Y) (r : Result X ElabFault) → Among bytes more → Charges bytes view given r → Charges more view given r

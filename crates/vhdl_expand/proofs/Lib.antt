@@ -6,6 +6,7 @@ pub mod Stopping
 pub mod Spending
 pub mod Paying
 pub mod Sums
+pub mod Spreads
 pub mod Measured
 pub mod Made
 pub mod Counted

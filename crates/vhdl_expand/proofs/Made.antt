@@ -92,7 +92,7 @@ record Does (n : Counts) (here : Site) (p : u.Process) : Type 0 where
   on : t.Sensitivity
   resumed : sensitivity here p.sensitivity p.body ≡ Ok on
   turned : ℕ × Counts
-  counted : turns_paid n (statements_costs here.integers p.body) ≡ Ok turned
+  counted : turns_paid n (statements_costs here p.body) ≡ Ok turned
   body : bodies.Stmts
   expanded : statements here p.body ≡ Ok body
 
@@ -104,14 +104,14 @@ module _ (n : Counts) (here : Site) (p : u.Process) where
   doing-from x =
       then_ok (drives_of here p.body) _ x.ds (done x) x.driven
       (then_ok (sensitivity here p.sensitivity p.body) _ x.on (done x) x.resumed
-      (then_ok (turns_paid n (statements_costs here.integers p.body)) _ x.turned (done x) x.counted
+      (then_ok (turns_paid n (statements_costs here p.body)) _ x.turned (done x) x.counted
       (then_ok (statements here p.body) _ x.body (done x) x.expanded refl)))
 
   doing-of : (y : Doing × Counts) → doing_steps n here p ≡ Ok y → (x : Does n here p) × (done x ≡ y)
   doing-of y h =
       let ds = bound (drives_of here p.body) _ y h in
       let on = bound (sensitivity here p.sensitivity p.body) _ y ds.then_gave in
-      let turned = bound (turns_paid n (statements_costs here.integers p.body)) _ y on.then_gave in
+      let turned = bound (turns_paid n (statements_costs here p.body)) _ y on.then_gave in
       let body = bound (statements here p.body) _ y turned.then_gave in
       let x : Does n here p = record {
         ds = ds.x;
@@ -188,9 +188,9 @@ module _ (n : Counts) (at : Site) (prefix : List ℕ) (p : u.Process) where
       let vs = x.d.variables in
       let y = made x in
       let q = y.0 in
-      let m = statements-measured here here refl p.body w.body w.expanded in
+      let m = statements-measured here p.body w.body w.expanded in
       let c = body_costs m.n (statements_count w.body) in
-      let paid = paid-turns x.unbodied (statements_costs here.integers p.body) c w.turned m.costs_are w.counted in
+      let paid = paid-turns x.unbodied (statements_costs here p.body) c w.turned m.costs_are w.counted in
       let es = bound (prefixes_elements here (targets p.body)) _ w.ds w.driven in
       let order = drawn x.d es.x x.declared ∙ ok (in_order (elements_count here.ports + elements_count here.signals) es.x) w.ds es.then_gave in
       let is : process (record { site = at; prefix = prefix }) p ≡ Ok q =
@@ -230,7 +230,7 @@ module _ (n : Counts) (at : Site) (prefix : List ℕ) (p : u.Process) where
         body = body.x;
         turns = k.x;
       } in
-      let m = statements-measured here here refl p.body body.x body.gave in
+      let m = statements-measured here p.body body.x body.gave in
       let same = ok m.n k.x (sym m.turns_are ∙ k.gave) in
       let s = bound (spent 0 n (process_costs q.x)) _ y q.then_gave in
       let rest = plus (variables_costs vs) (body_costs m.n (statements_count body.x)) in
@@ -254,7 +254,7 @@ module _ (n : Counts) (at : Site) (prefix : List ℕ) (p : u.Process) where
           on = on.x;
           resumed = on.gave;
           turned = turned;
-          counted = then_ok (statements_costs here.integers p.body) _ (body_costs m.n (statements_count body.x)) turned m.costs_are
+          counted = then_ok (statements_costs here p.body) _ (body_costs m.n (statements_count body.x)) turned m.costs_are
               (then_ok (spent 0 held.x (body_costs m.n (statements_count body.x))) _ s.x turned held.then_gave refl);
           body = body.x;
           expanded = body.gave;
@@ -270,7 +270,7 @@ module _ (n : Counts) (at : Site) (prefix : List ℕ) (p : u.Process) where
       skip p.at unstarted (variables_costs d.variables) _ _ unspent b (λ unbodied e.
       along (prefixes_elements d.site (targets p.body)) _ _ (sym (bind-assoc (prefixes_elements d.site (targets p.body)) _ _) ∙ alone (doing_steps unbodied d.site p) _ e) (λ es f.
       along (sensitivity d.site p.sensitivity p.body) _ _ f (λ on g.
-      turns-along (statements_costs d.site.integers p.body) (statements_turns d.site p.body) (statements-turned d.site p.body) unbodied _ _ unspent g (λ turned k.
+      turns-along (statements_costs d.site p.body) (statements_turns d.site p.body) (statements-turned d.site p.body) unbodied _ _ unspent g (λ turned k.
       along (statements d.site p.body) _ _ k (λ body l. absurd cc)))))))
 
   pub process_alike : Alike (charged n process_costs (process (record { site = at; prefix = prefix }) p)) (process_steps n (record { site = at; prefix = prefix }) p)
@@ -303,16 +303,16 @@ module _ (n : Counts) (here : Site) (p : u.Process) where
     not_resumed h = tells_next (drives_of here p.body) _ ds driven (tells_first (sensitivity here p.sensitivity p.body) _ h)
 
     module _ (on : t.Sensitivity) (resumed : sensitivity here p.sensitivity p.body ≡ Ok on) where
-      pub not_counted : {bytes : List ℕ} {told : Told} → MayTell bytes (turns_paid n (statements_costs here.integers p.body)) told → MayTell bytes (doing_steps n here p) told
+      pub not_counted : {bytes : List ℕ} {told : Told} → MayTell bytes (turns_paid n (statements_costs here p.body)) told → MayTell bytes (doing_steps n here p) told
       not_counted h =
           tells_next (drives_of here p.body) _ ds driven (tells_next (sensitivity here p.sensitivity p.body) _ on resumed
-          (tells_first (turns_paid n (statements_costs here.integers p.body)) _ h))
+          (tells_first (turns_paid n (statements_costs here p.body)) _ h))
 
-      pub not_expanded : {bytes : List ℕ} {told : Told} (turned : ℕ × Counts) → turns_paid n (statements_costs here.integers p.body) ≡ Ok turned
+      pub not_expanded : {bytes : List ℕ} {told : Told} (turned : ℕ × Counts) → turns_paid n (statements_costs here p.body) ≡ Ok turned
           → MayTell bytes (statements here p.body) told → MayTell bytes (doing_steps n here p) told
       not_expanded turned counted h =
           tells_next (drives_of here p.body) _ ds driven (tells_next (sensitivity here p.sensitivity p.body) _ on resumed
-          (tells_next (turns_paid n (statements_costs here.integers p.body)) _ turned counted (tells_first (statements here p.body) _ h)))
+          (tells_next (turns_paid n (statements_costs here p.body)) _ turned counted (tells_first (statements here p.body) _ h)))
 
 module _ (n : Counts) (at : Site) (prefix : List ℕ) (p : u.Process) where
   abbrev whole_steps : Elab (t.Process × Counts)

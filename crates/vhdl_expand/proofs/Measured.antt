@@ -1,6 +1,6 @@
 -- What is counted of a body before it is unrolled is what the unrolled body has.
 use Rattle.std.proofs.Common.{◌≡◌, ℕ, ◌+◌, List, [], ◌∷◌, length, Ok, Err, refl, sym, ap, ◌∙◌, subst, arith}
-use Rattle.std.specs.Prelude.{ℤ, sum}
+use Rattle.std.specs.Prelude.{ℤ, slice_get, sum}
 use Rattle.std.proofs.lemmas.List.Sums.{sum_by-cons}
 use Rattle.vhdl_names_rules.specs.units.Expressions as expressions
 use Rattle.vhdl_names_rules.specs.units.Statements as u
@@ -8,15 +8,16 @@ use Rattle.rtl_model.specs.bodies.Body as bodies
 use Rattle.rtl_model.specs.bodies.Fits.{value_width}
 use Rattle.vhdl_expand_rules.specs.Elab.{Elab, ◌>>=◌, each}
 use Rattle.vhdl_expand_rules.specs.Integers.{turns}
-use Rattle.vhdl_expand_rules.specs.Site.{Site, in_loop, place_elements, signal_elements, variable_elements, signal_bounds, variable_bounds}
-use Rattle.vhdl_expand_rules.specs.Expressions.{value, test, chosen_row}
+use Rattle.vhdl_expand_rules.specs.Site.{Site, in_loop, signal_kind, place_elements, signal_elements, variable_elements, signal_bounds, variable_bounds}
+use Rattle.vhdl_expand_rules.specs.Expressions.{computed, value, test, chosen_row}
 use Rattle.vhdl_expand_rules.specs.Statements as d
 use Rattle.vhdl_expand_rules.specs.Statements.{joined_bodies, choice, one, statement, statements, branches, alternatives, statement_turns, statements_turns, branches_turns, alternatives_turns}
 use Rattle.vhdl_expand_rules.proofs.Steps.{given, ok, bound}
 use Rattle.vhdl_elab_rules.specs.Limits.{Counts, stmt_count, statements_count, branches_count, alternatives_count}
 use Rattle.vhdl_expand_tree.specs.Costs as costs
 use Rattle.vhdl_expand_tree.specs.Costs.{no_costs, a_statement, plus}
-use Rattle.vhdl_expand.specs.Unrolled.{both, together, in_turn, statement_costs, statements_costs, branches_costs, alternatives_costs}
+use Rattle.vhdl_expand.specs.Unrolled.{both, together, statement_costs, statements_costs, branches_costs, alternatives_costs}
+use Rattle.vhdl_expand.proofs.Sums.{both-none}
 
 -- what a body with so many turns and statements costs
 abbrev pub body_costs : (turns statements : ℕ) → Counts
@@ -30,6 +31,10 @@ pub record Measured (cost : Elab Counts) (turned : Elab ℕ) (count : ℕ) : Typ
 
 recount : (p : Elab Counts) (m : Elab ℕ) (j k : ℕ) → j ≡ k → Measured p m j → Measured p m k
 recount p m j k h x = subst (λ (i : ℕ). Measured p m i) h x
+
+-- numbers alone, that a case spreads
+spread : (n : ℕ) → Measured (given (costs.turns n)) (given n) 0
+spread n = record { n = n; turns_are = refl; costs_are = refl }
 
 simple : Measured (given a_statement) (given 0) 1
 simple = record { n = 0; turns_are = refl; costs_are = refl }
@@ -61,6 +66,13 @@ inside p m k x = recount _ m (1 + k) (1 + k + 0) (behind-one k) (record {
   costs_are = ap (both (given a_statement)) x.costs_are ∙ ap (λ (n : ℕ). given (body_costs n (1 + k))) (none-before x.n);
 })
 
+-- a case that spreads so many numbers, and one that spreads none
+spreading : (n : ℕ) (p : Elab Counts) (m : Elab ℕ) (k : ℕ) → Measured p m k → Measured (both (given (costs.turns n)) p) (d.added (given n) m) k
+spreading n p m k x = recount _ _ (0 + k) k (none-before k) (add _ _ _ _ _ _ (spread n) x)
+
+unspread : (p : Elab Counts) (m : Elab ℕ) (k : ℕ) → Measured p m k → Measured (both (given no_costs) p) m k
+unspread p m k x = subst (λ (q : Elab Counts). Measured q m k) (sym (both-none p)) x
+
 followed-count : (x y : bodies.Stmts) → statements_count (bodies.followed_by x y) ≡ statements_count x + statements_count y
 followed-count bodies.done y = sym (none-before (statements_count y))
 followed-count (bodies.step s x) y = ap (λ n. stmt_count s + n) (followed-count x y) ∙ assoc (stmt_count s) (statements_count x) (statements_count y)
@@ -90,13 +102,13 @@ module _ (f : ℤ → Elab bodies.Stmts) (g : ℤ → Elab ℕ) (h : ℤ → Ela
             ∙ ap (λ (n : ℕ). given (body_costs n (statements_count (joined_bodies (x.x ∷ xs.x))))) (sym (sum_by-cons (λ n. n) first.n rest.ns));
       })
 
-  loop-measured : (p q : Elab (List ℤ)) (is : List ℤ) (ss : List bodies.Stmts) → p ≡ Ok is → q ≡ Ok is → each f is ≡ Ok ss
-      → Measured (p >>= λ js. both (given (costs.turns (length js))) (together h js)) (q >>= λ js. each g js >>= λ ns. given (length js + sum ns)) (statements_count (joined_bodies ss))
-  loop-measured p q is ss hp hq e =
+  loop-measured : (p : Elab (List ℤ)) (is : List ℤ) (ss : List bodies.Stmts) → p ≡ Ok is → each f is ≡ Ok ss
+      → Measured (p >>= λ js. both (given (costs.turns (length js))) (together h js)) (p >>= λ js. each g js >>= λ ns. given (length js + sum ns)) (statements_count (joined_bodies ss))
+  loop-measured p is ss hp e =
       let all = each-turn is ss e in
       record {
         n = length is + sum all.ns;
-        turns_are = ap (λ r. r >>= λ js. each g js >>= λ ns. given (length js + sum ns)) hq ∙ ap (λ r. r >>= λ ns. given (length is + sum ns)) all.turns_are;
+        turns_are = ap (λ r. r >>= λ js. each g js >>= λ ns. given (length js + sum ns)) hp ∙ ap (λ r. r >>= λ ns. given (length is + sum ns)) all.turns_are;
         costs_are = ap (λ r. r >>= λ js. both (given (costs.turns (length js))) (together h js)) hp
             ∙ ap (both (given (costs.turns (length is)))) all.costs_are ∙ ap (λ (n : ℕ). given (body_costs (length is + sum all.ns) n)) (none-before (statements_count (joined_bodies ss)));
       }
@@ -106,77 +118,87 @@ module _ (f : ℤ → Elab bodies.Stmts) (g : ℤ → Elab ℕ) (h : ℤ → Ela
 mutual
   unfolding statement statements branches alternatives statement_turns statements_turns branches_turns alternatives_turns statement_costs statements_costs branches_costs alternatives_costs
 
-  statement-measured : (here by : Site) → by.integers ≡ here.integers → (s : u.Statement) (x : bodies.Stmts) → statement here s ≡ Ok x
-      → Measured (statement_costs here.integers s) (statement_turns by s) (statements_count x)
-  statement-measured here by same u.null_of x h = recount _ _ 1 _ (ap statements_count (ok (one bodies.null_of) x h)) simple
-  statement-measured here by same (u.assign p g) x h =
+  statement-measured : (here : Site) (s : u.Statement) (x : bodies.Stmts) → statement here s ≡ Ok x
+      → Measured (statement_costs here s) (statement_turns here s) (statements_count x)
+  statement-measured here u.null_of x h = recount _ _ 1 _ (ap statements_count (ok (one bodies.null_of) x h)) simple
+  statement-measured here (u.assign p g) x h =
       let es = bound (place_elements here p) _ x h in
-      let v = bound (d.value_given here p.at (length es.x) g) _ x es.then_gave in
+      let v = bound (d.given_to here p.at (signal_kind here p.signal) (length es.x) g) _ x es.then_gave in
       recount _ _ 1 _ (ap statements_count (ok (one (bodies.assign es.x v.x)) x v.then_gave)) simple
-  statement-measured here by same (u.set at k part g) x h =
+  statement-measured here (u.set at k part g) x h =
       let es = bound (variable_elements here at k part) _ x h in
-      let v = bound (d.value_given here at (length es.x) g) _ x es.then_gave in
+      let v = bound (d.given_to here at (slice_get here.variables k) (length es.x) g) _ x es.then_gave in
       recount _ _ 1 _ (ap statements_count (ok (one (bodies.set es.x v.x)) x v.then_gave)) simple
-  statement-measured here by same (u.assign_in at n c g) x h =
+  statement-measured here (u.assign_in at n c g) x h =
       let es = bound (signal_elements here at n expressions.whole) _ x h in
       let b = bound (signal_bounds here at n) _ x es.then_gave in
       let r = bound (chosen_row here at b.x c) _ x b.then_gave in
       let v = bound (d.elements_given here at r.x.spacing.len g) _ x r.then_gave in
       recount _ _ 1 _ (ap statements_count (ok (one (bodies.assign_at r.x.index r.x.spacing es.x v.x)) x v.then_gave)) simple
-  statement-measured here by same (u.set_in at k c g) x h =
+  statement-measured here (u.set_in at k c g) x h =
       let es = bound (variable_elements here at k expressions.whole) _ x h in
       let b = bound (variable_bounds here at k) _ x es.then_gave in
       let r = bound (chosen_row here at b.x c) _ x b.then_gave in
       let v = bound (d.elements_given here at r.x.spacing.len g) _ x r.then_gave in
       recount _ _ 1 _ (ap statements_count (ok (one (bodies.set_at r.x.index r.x.spacing es.x v.x)) x v.then_gave)) simple
-  statement-measured here by same (u.if_of at bs) x h =
+  statement-measured here (u.if_of at bs) x h =
       let cs = bound (branches here bs) _ x h in
-      recount _ _ _ _ (ap statements_count (ok (one (bodies.if_of cs.x)) x cs.then_gave)) (inside _ _ _ (branches-measured here by same bs cs.x cs.gave))
-  statement-measured here by same (u.case_of at v alts) x h =
+      recount _ _ _ _ (ap statements_count (ok (one (bodies.if_of cs.x)) x cs.then_gave)) (inside _ _ _ (branches-measured here bs cs.x cs.gave))
+  statement-measured here (u.case_of at (expressions.Value.computed c) alts) x h =
+      let n = bound (computed here at c) _ x h in
+      let serve = bound (d.choices_serve here.integers at (d.may_choose c n.x) n.x alts) _ x n.then_gave in
+      let codes = d.spread here.integers (d.may_choose c n.x) n.x in
+      let cs = bound (alternatives here codes alts) _ x serve.then_gave in
+      recount _ _ _ _ (ap statements_count (ok (one (bodies.case_of (bodies.elements n.x.digits) cs.x)) x cs.then_gave))
+      (inside _ _ _ (spreading (d.or_none (d.spread_count here at c alts)) _ _ _ (alternatives-measured here codes alts cs.x cs.gave)))
+  statement-measured here (u.case_of at v alts) x h =
       let e = bound (value here at v) _ x h in
-      let cs = bound (alternatives here at (value_width e.x) alts) _ x e.then_gave in
-      recount _ _ _ _ (ap statements_count (ok (one (bodies.case_of e.x cs.x)) x cs.then_gave)) (inside _ _ _ (alternatives-measured here by same at (value_width e.x) alts cs.x cs.gave))
-  statement-measured here by same (u.for_of at r body) x h =
+      let codes = each (choice at (value_width e.x)) in
+      let cs = bound (alternatives here codes alts) _ x e.then_gave in
+      recount _ _ _ _ (ap statements_count (ok (one (bodies.case_of e.x cs.x)) x cs.then_gave)) (inside _ _ _ (unspread _ _ _ (alternatives-measured here codes alts cs.x cs.gave)))
+  statement-measured here (u.for_of at r body) x h =
       let is = bound (turns here.integers at r) _ x h in
       let ss = bound (each (λ i. statements (in_loop here i) body) is.x) _ x is.then_gave in
       recount _ _ _ _ (ap statements_count (ok (joined_bodies ss.x) x ss.then_gave))
-      (loop-measured (λ i. statements (in_loop here i) body) (λ i. statements_turns (in_loop by i) body) (λ i. statements_costs (in_turn here.integers i) body)
-      (λ i y e. statements-measured (in_loop here i) (in_loop by i) (ap (λ j. in_turn j i) same) body y e)
-      (turns here.integers at r) (turns by.integers at r) is.x ss.x is.gave (ap (λ j. turns j at r) same ∙ is.gave) ss.gave)
+      (loop-measured (λ i. statements (in_loop here i) body) (λ i. statements_turns (in_loop here i) body) (λ i. statements_costs (in_loop here i) body)
+      (λ i y e. statements-measured (in_loop here i) body y e) (turns here.integers at r) is.x ss.x is.gave ss.gave)
 
-  pub statements-measured : (here by : Site) → by.integers ≡ here.integers → (s : u.Statements) (x : bodies.Stmts) → statements here s ≡ Ok x
-      → Measured (statements_costs here.integers s) (statements_turns by s) (statements_count x)
-  statements-measured here by same u.done x h = recount _ _ 0 _ (ap statements_count (ok bodies.done x h)) nothing
-  statements-measured here by same (u.step s rest) x h =
+  pub statements-measured : (here : Site) (s : u.Statements) (x : bodies.Stmts) → statements here s ≡ Ok x
+      → Measured (statements_costs here s) (statements_turns here s) (statements_count x)
+  statements-measured here u.done x h = recount _ _ 0 _ (ap statements_count (ok bodies.done x h)) nothing
+  statements-measured here (u.step s rest) x h =
       let first = bound (statement here s) _ x h in
       let more = bound (statements here rest) _ x first.then_gave in
       recount _ _ _ _ (sym (followed-count first.x more.x) ∙ ap statements_count (ok (bodies.followed_by first.x more.x) x more.then_gave))
-      (add _ _ _ _ _ _ (statement-measured here by same s first.x first.gave) (statements-measured here by same rest more.x more.gave))
+      (add _ _ _ _ _ _ (statement-measured here s first.x first.gave) (statements-measured here rest more.x more.gave))
 
-  branches-measured : (here by : Site) → by.integers ≡ here.integers → (s : u.Branches) (x : bodies.Branches) → branches here s ≡ Ok x
-      → Measured (branches_costs here.integers s) (branches_turns by s) (branches_count x)
-  branches-measured here by same u.no_else x h = recount _ _ 0 _ (ap branches_count (ok bodies.no_else x h)) nothing
-  branches-measured here by same (u.otherwise s) x h =
+  branches-measured : (here : Site) (s : u.Branches) (x : bodies.Branches) → branches here s ≡ Ok x
+      → Measured (branches_costs here s) (branches_turns here s) (branches_count x)
+  branches-measured here u.no_else x h = recount _ _ 0 _ (ap branches_count (ok bodies.no_else x h)) nothing
+  branches-measured here (u.otherwise s) x h =
       let y = bound (statements here s) _ x h in
-      recount _ _ _ _ (ap branches_count (ok (bodies.otherwise y.x) x y.then_gave)) (statements-measured here by same s y.x y.gave)
-  branches-measured here by same (u.branch t s bs) x h =
+      recount _ _ _ _ (ap branches_count (ok (bodies.otherwise y.x) x y.then_gave)) (statements-measured here s y.x y.gave)
+  branches-measured here (u.branch t s bs) x h =
       let c = bound (test here t) _ x h in
       let y = bound (statements here s) _ x c.then_gave in
       let z = bound (branches here bs) _ x y.then_gave in
       recount _ _ _ _ (ap branches_count (ok (bodies.branch c.x y.x z.x) x z.then_gave))
-      (add _ _ _ _ _ _ (statements-measured here by same s y.x y.gave) (branches-measured here by same bs z.x z.gave))
+      (add _ _ _ _ _ _ (statements-measured here s y.x y.gave) (branches-measured here bs z.x z.gave))
 
-  alternatives-measured : (here by : Site) → by.integers ≡ here.integers → (at len : ℕ) (s : u.Alternatives) (x : bodies.Alternatives) → alternatives here at len s ≡ Ok x
-      → Measured (alternatives_costs here.integers s) (alternatives_turns by s) (alternatives_count x)
-  alternatives-measured here by same at len (u.others s) x h =
+  alternatives-measured : (here : Site) (codes_of : List u.Choice → Elab (List (List ℕ))) (s : u.Alternatives) (x : bodies.Alternatives) → alternatives here codes_of s ≡ Ok x
+      → Measured (alternatives_costs here s) (alternatives_turns here s) (alternatives_count x)
+  alternatives-measured here codes_of (u.others s) x h =
       let y = bound (statements here s) _ x h in
-      recount _ _ _ _ (ap alternatives_count (ok (bodies.others y.x) x y.then_gave)) (statements-measured here by same s y.x y.gave)
-  alternatives-measured here by same at len (u.alternative choices s alts) x h =
-      let cs = bound (each (choice at len) choices) _ x h in
+      recount _ _ _ _ (ap alternatives_count (ok (bodies.others y.x) x y.then_gave)) (statements-measured here s y.x y.gave)
+  alternatives-measured here codes_of (u.complete cs s) x h =
+      let y = bound (statements here s) _ x h in
+      recount _ _ _ _ (ap alternatives_count (ok (bodies.others y.x) x y.then_gave)) (statements-measured here s y.x y.gave)
+  alternatives-measured here codes_of (u.alternative choices s alts) x h =
+      let cs = bound (codes_of choices) _ x h in
       let y = bound (statements here s) _ x cs.then_gave in
-      let z = bound (alternatives here at len alts) _ x y.then_gave in
+      let z = bound (alternatives here codes_of alts) _ x y.then_gave in
       recount _ _ _ _ (ap alternatives_count (ok (bodies.alternative cs.x y.x z.x) x z.then_gave))
-      (add _ _ _ _ _ _ (statements-measured here by same s y.x y.gave) (alternatives-measured here by same at len alts z.x z.gave))
+      (add _ _ _ _ _ _ (statements-measured here s y.x y.gave) (alternatives-measured here codes_of alts z.x z.gave))
 
 -- ---- the turns are those of the costs, given or refused
 
@@ -218,25 +240,31 @@ module _ (g : ℤ → Elab ℕ) (h : ℤ → Elab Counts) (same : (i : ℤ) → 
 mutual
   unfolding statement_turns statements_turns branches_turns alternatives_turns statement_costs statements_costs branches_costs alternatives_costs
 
-  statement-turned : (here : Site) (s : u.Statement) → statement_turns here s ≡ turns_of (statement_costs here.integers s)
-  statement-turned here (u.if_of at bs) = branches-turned here bs ∙ inside-turned (branches_costs here.integers bs)
-  statement-turned here (u.case_of at v alts) = alternatives-turned here alts ∙ inside-turned (alternatives_costs here.integers alts)
+  statement-turned : (here : Site) (s : u.Statement) → statement_turns here s ≡ turns_of (statement_costs here s)
+  statement-turned here (u.if_of at bs) = branches-turned here bs ∙ inside-turned (branches_costs here bs)
+  statement-turned here (u.case_of at (expressions.Value.computed c) alts) =
+      let n : ℕ = d.or_none (d.spread_count here at c alts) in
+      ap (d.added (given n)) (alternatives-turned here alts) ∙ add-turned (given (costs.turns n)) (alternatives_costs here alts)
+      ∙ inside-turned (both (given (costs.turns n)) (alternatives_costs here alts))
+  statement-turned here (u.case_of at v alts) =
+      alternatives-turned here alts ∙ ap turns_of (sym (both-none (alternatives_costs here alts))) ∙ inside-turned (both (given no_costs) (alternatives_costs here alts))
   statement-turned here (u.for_of at r body) =
-      loop-turned (λ i. statements_turns (in_loop here i) body) (λ i. statements_costs (in_turn here.integers i) body) (λ i. statements-turned (in_loop here i) body) (turns here.integers at r)
+      loop-turned (λ i. statements_turns (in_loop here i) body) (λ i. statements_costs (in_loop here i) body) (λ i. statements-turned (in_loop here i) body) (turns here.integers at r)
   statement-turned here _ = refl
 
-  pub statements-turned : (here : Site) (s : u.Statements) → statements_turns here s ≡ turns_of (statements_costs here.integers s)
+  pub statements-turned : (here : Site) (s : u.Statements) → statements_turns here s ≡ turns_of (statements_costs here s)
   statements-turned here u.done = refl
   statements-turned here (u.step s rest) =
-      (λ i. statement-turned here s i >>= λ m. statements-turned here rest i >>= λ n. given (m + n)) ∙ add-turned (statement_costs here.integers s) (statements_costs here.integers rest)
+      (λ i. statement-turned here s i >>= λ m. statements-turned here rest i >>= λ n. given (m + n)) ∙ add-turned (statement_costs here s) (statements_costs here rest)
 
-  branches-turned : (here : Site) (s : u.Branches) → branches_turns here s ≡ turns_of (branches_costs here.integers s)
+  branches-turned : (here : Site) (s : u.Branches) → branches_turns here s ≡ turns_of (branches_costs here s)
   branches-turned here u.no_else = refl
   branches-turned here (u.otherwise s) = statements-turned here s
   branches-turned here (u.branch t s bs) =
-      (λ i. statements-turned here s i >>= λ m. branches-turned here bs i >>= λ n. given (m + n)) ∙ add-turned (statements_costs here.integers s) (branches_costs here.integers bs)
+      (λ i. statements-turned here s i >>= λ m. branches-turned here bs i >>= λ n. given (m + n)) ∙ add-turned (statements_costs here s) (branches_costs here bs)
 
-  alternatives-turned : (here : Site) (s : u.Alternatives) → alternatives_turns here s ≡ turns_of (alternatives_costs here.integers s)
+  alternatives-turned : (here : Site) (s : u.Alternatives) → alternatives_turns here s ≡ turns_of (alternatives_costs here s)
   alternatives-turned here (u.others s) = statements-turned here s
+  alternatives-turned here (u.complete cs s) = statements-turned here s
   alternatives-turned here (u.alternative choices s alts) =
-      (λ i. statements-turned here s i >>= λ m. alternatives-turned here alts i >>= λ n. given (m + n)) ∙ add-turned (statements_costs here.integers s) (alternatives_costs here.integers alts)
+      (λ i. statements-turned here s i >>= λ m. alternatives-turned here alts i >>= λ n. given (m + n)) ∙ add-turned (statements_costs here s) (alternatives_costs here alts)

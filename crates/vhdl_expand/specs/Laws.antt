@@ -13,4 +13,4 @@ use Rattle.vhdl_expand.specs.Unrolled.{statements_costs}
 abbrev pub CountedAsUnrolled : Type 0
 CountedAsUnrolled = (at : Site) (body : u.Statements) (x : bodies.Stmts) → statements at body ≡ Ok x
     → (n : ℕ) × ((statements_turns at body ≡ Ok n)
-    × (statements_costs at.integers body ≡ Ok (record no_costs { turns = n; statements = statements_count x })))
+    × (statements_costs at body ≡ Ok (record no_costs { turns = n; statements = statements_count x })))

@@ -33,7 +33,7 @@ abbrev pub doing_steps : (budget : Counts) → Site → u.Process → Elab (Doin
 doing_steps budget here p = do
   ds ← drives_of here p.body
   on ← sensitivity here p.sensitivity p.body
-  turned ← turns_paid budget (statements_costs here.integers p.body)
+  turned ← turns_paid budget (statements_costs here p.body)
   body ← statements here p.body
   Ok (record { drives = ds; sensitivity = on; turns = turned.0; body = body }, turned.1)
 

@@ -3,7 +3,6 @@
 ghost use Rattle.std.specs.Prelude.{◌≡◌, ◌∷◌, map, option_map, IfOk};
 ghost use Rattle.vhdl_names_rules.specs.units.Bytes.{statements_bytes, process_bytes};
 ghost use Rattle.vhdl_expand_rules.specs.Expansion as definition;
-ghost use Rattle.vhdl_expand_rules.specs.views.Integers.{integers_view};
 ghost use Rattle.vhdl_expand_operands.specs.Results.{Expands, Charges};
 ghost use Rattle.vhdl_expand_bodies.specs.Sites.{IsSite, site_view};
 ghost use Rattle.vhdl_names_units.specs.views.Concurrent as analysed;
@@ -23,7 +22,7 @@ use std::alloc::{AllocError, Global};
 use vhdl_expand_bodies::Site;
 use vhdl_expand_declarations::{InstanceObjects, process_declarations};
 use vhdl_expand_processes::{drives, listed, read_elements};
-use vhdl_expand_rules::{ElabFault, Integers};
+use vhdl_expand_rules::ElabFault;
 use vhdl_expand_tree::{Budget, Process, Sensitivity, Variable};
 use vhdl_names_units as analysed;
 use vhdl_tree::Identifier;
@@ -64,22 +63,24 @@ fn sensitivity(
 }
 
 /// How many turns the loops of a body have together, when what it costs is taken from the budget; a
-/// fault is StaticError or TooMany. It takes the memory of the loops' parameters.
+/// fault is StaticError or TooMany. It takes the memory of the loops' parameters, and for a while
+/// that of an integer and of its choices.
 fn charge_turns(
     alloc: Global,
-    integers: &Integers,
+    site: &Site,
     list: &[analysed::Statement],
     at: usize,
     budget: &mut Budget,
 ) -> Result<u32, ElabFault>
+    requires { IsSite site.now }
     ensures { Charges (at ∷ statements_bytes (statements.statements_of (map statements.statement_view list.now)))
         (λ turns. (turns, budget_view budget.new))
         (turns_paid (budget_view budget.old)
-        (statements_costs (integers_view integers.now)
+        (statements_costs (site_view site.now)
         (statements.statements_of (map statements.statement_view list.now)))) result }
 {
     let before = budget.turns;
-    charge_body(alloc, integers, list, at, budget)?;
+    charge_body(alloc, site, list, at, budget)?;
     Ok(before.saturating_sub(budget.turns))
 }
 
@@ -92,8 +93,8 @@ struct BodyDoing {
     body: Vec<Statement>,
 }
 
-/// What the body of a process does where this is known; a fault is StaticError, Length, Index,
-/// TooWide or TooMany.
+/// What the body of a process does where this is known; a fault is GenericRange, StaticError,
+/// Length, Index, TooWide or TooMany.
 fn doing(
     alloc: Global,
     site: &Site,
@@ -107,13 +108,7 @@ fn doing(
 {
     let drives = drives(alloc, site, &process.statements)?;
     let sensitivity = sensitivity(alloc, site, process)?;
-    let turns = charge_turns(
-        alloc,
-        &site.integers,
-        &process.statements,
-        process.at,
-        budget,
-    )?;
+    let turns = charge_turns(alloc, site, &process.statements, process.at, budget)?;
     let body = site.body(alloc, &process.statements)?;
     Ok(BodyDoing {
         drives,

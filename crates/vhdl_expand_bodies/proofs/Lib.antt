@@ -7,3 +7,5 @@ pub mod Sequences
 pub mod Parts
 pub mod Placing
 pub mod Elements
+pub mod Whole
+pub mod Selecting

@@ -1,6 +1,6 @@
 -- Statements by their parts, in the order in which the code comes to them.
-use Rattle.std.proofs.Common.{◌≡◌, ℕ, List, [], ◌∷◌, length, map, Option, Vec, Global, Result, Ok, Err, refl, sym, ap, ◌∙◌, subst}
-use Rattle.std.specs.Prelude.{ℤ}
+use Rattle.std.proofs.Common.{◌≡◌, ℕ, Bool, ◌||◌, ◌==◌, List, [], ◌∷◌, ◌++◌, length, map, Option, Vec, Global, Result, Ok, Err, refl, sym, ap, ◌∙◌, subst}
+use Rattle.std.specs.Prelude.{ℤ, slice_get}
 use Rattle.vhdl_names_rules.specs.units.Expressions as expressions
 use Rattle.vhdl_names_rules.specs.units.Expressions.{Signal, Part, SignalPart, Range}
 use Rattle.vhdl_names_rules.specs.units.Statements as u
@@ -25,10 +25,14 @@ use Rattle.vhdl_names_units.specs.views.Sequential as units
 use Rattle.vhdl_names_units.specs.views.Sequential.{Guarded, Chosen}
 use Rattle.vhdl_names_units.proofs.rows.Sequential as rows
 use Rattle.vhdl_expand_rules.specs.declared.fault.ElabFault.{ElabFault}
-use Rattle.vhdl_expand_rules.specs.Elab.{Elab, ◌>>=◌, each, fault_told, Told}
-use Rattle.vhdl_expand_rules.specs.Integers.{turns}
-use Rattle.vhdl_expand_rules.specs.Site.{Site, in_loop, place_elements, signal_elements, variable_elements, signal_bounds, variable_bounds}
-use Rattle.vhdl_expand_rules.specs.Expressions.{value, test, chosen_row}
+use Rattle.vhdl_tree.specs.declared.operator.Direction.TheVariants.{To}
+use Rattle.vhdl_names_units.specs.views.Answers.{choices_view}
+use Rattle.vhdl_expand_rules.specs.declared.fault.ElabProblem.TheVariants.{StaticError}
+use Rattle.vhdl_expand_rules.specs.Elab.{Elab, ◌>>=◌, ◌>>◌, each, unless, fault_told, Told}
+use Rattle.vhdl_expand_rules.specs.Integers.{turns, extent}
+use Rattle.vhdl_expand_rules.specs.Site.{Site, in_loop, signal_kind, place_elements, signal_elements, variable_elements, signal_bounds, variable_bounds}
+use Rattle.vhdl_expand_rules.specs.Expressions.{computed, value, test, chosen_row}
+use Rattle.vhdl_expand_rules.specs.Computed.{Number, Span}
 use Rattle.vhdl_expand_rules.specs.Statements as definition
 use Rattle.vhdl_expand_rules.specs.Statements.{choice, one}
 use Rattle.vhdl_expand_rules.proofs.Steps.{given}
@@ -37,7 +41,8 @@ use Rattle.vhdl_expand_operands.specs.Results.{Expands, Adds}
 use Rattle.vhdl_expand_bodies.specs.Statements.{branch_view, branches_view, alternative_view, alternatives_view, otherwise_view}
 use Rattle.vhdl_expand_bodies.specs.steps.Assignments.{assign, set, assign_in, set_in}
 use Rattle.vhdl_expand_bodies.specs.steps.Statements as steps
-use Rattle.vhdl_expand_bodies.specs.steps.Statements.{after}
+use Rattle.vhdl_expand_bodies.specs.steps.Statements.{after, Codes}
+use Rattle.vhdl_expand_choices.specs.Views.{all_choices, is_empty, served}
 use Rattle.vhdl_expand_bodies.proofs.Sequences.{statements_push}
 
 pub after_stops : {told : Told} (now : bodies.Stmts) (r : Elab bodies.Stmts) → r ≡ Err told → (after now r) ≡ Err told
@@ -66,11 +71,24 @@ alternative_made c x = record { choices = c; statements = x }
 abbrev pub alternative_of : List (List ℕ) → bodies.Stmts → Elab steps.Alternative
 alternative_of c x = Ok (alternative_made c x)
 
+abbrev chosen_by : bodies.Value → Codes → Elab (bodies.Value × Codes)
+chosen_by e codes = Ok (e, codes)
+
 case_of_each : (w : bodies.Value) (n : Elab (List steps.Alternative)) (l : Elab bodies.Stmts) → ((n >>= λ bs. l >>= λ y. given (steps.alternatives_before y bs)) >>= λ cs. given (one (bodies.case_of w cs)))
     ≡ ((n >>= λ bs. l >>= λ y. given (bodies.case_of w (steps.alternatives_before y bs))) >>= λ y. given (one y))
 case_of_each w (Ok bs) (Ok y) = refl
 case_of_each w (Ok bs) (Err p) = refl
 case_of_each w (Err p) l = refl
+
+-- alternatives, and the last one, whose choices are known where it has any
+abbrev pub cased : List Chosen → List u.Choice → u.Statements → u.Alternatives
+cased gs ds last = units.alternatives_of gs (units.last_alternative ds last)
+
+-- the choices of all alternatives but the last
+pub spread_known : (gs : List Chosen) (ds : List u.Choice) (last : u.Statements) → definition.spread_choices (cased gs ds last) ≡ all_choices gs
+spread_known [] [] last = refl
+spread_known [] (d ∷ ds) last = refl
+spread_known (g ∷ gs) ds last = ap (λ cs. g.choices ++ cs) (spread_known gs ds last)
 
 -- an assignment is one statement
 as_one : {A B : Type 0} (r : Elab A) (f : A → Elab B) (g : A → B → bodies.Stmt) → (r >>= λ x. f x >>= λ y. given (one (g x y))) ≡ ((r >>= λ x. f x >>= λ y. given (g x y)) >>= λ s. given (one s))
@@ -97,11 +115,11 @@ module _ (here : Site) where
 
   pub assign_by : (p : SignalPart) (g : Given) → definition.statement here (u.assign p g) ≡ (assign here p g >>= λ s. given (one s))
   unfolding definition.statement
-  assign_by p g = as_one (place_elements here p) (λ es. definition.value_given here p.at (length es) g) bodies.assign
+  assign_by p g = as_one (place_elements here p) (λ es. definition.given_to here p.at (signal_kind here p.signal) (length es) g) bodies.assign
 
   pub set_by : (at k : ℕ) (part : Part) (g : Given) → definition.statement here (u.set at k part g) ≡ (set here at k part g >>= λ s. given (one s))
   unfolding definition.statement
-  set_by at k part g = as_one (variable_elements here at k part) (λ es. definition.value_given here at (length es) g) bodies.set
+  set_by at k part g = as_one (variable_elements here at k part) (λ es. definition.given_to here at (slice_get here.variables k) (length es) g) bodies.set
 
   pub assign_in_by : (at : ℕ) (x : Signal) (c : expressions.Chosen) (g : Given) → definition.statement here (u.assign_in at x c g) ≡ (assign_in here at x c g >>= λ s. given (one s))
   unfolding definition.statement
@@ -159,35 +177,119 @@ module _ (here : Site) where
 
   -- ---- case
 
-  alternatives-each : (at len : ℕ) (gs : List Chosen) (last : u.Statements)
-      → definition.alternatives here at len (units.alternatives_of gs last) ≡ (each (steps.alternative here at len) gs >>= λ bs. definition.statements here last >>= λ y. given (steps.alternatives_before y bs))
+  -- the last one does the same, whatever choices it has
+  last-done : (codes : Codes) (ds : List u.Choice) (last : u.Statements)
+      → definition.alternatives here codes (units.last_alternative ds last) ≡ (definition.statements here last >>= λ y. given (bodies.others y))
   unfolding definition.alternatives
-  alternatives-each at len [] last = refl
-  alternatives-each at len (g ∷ gs) last =
-      one-before bodies.alternative alternative_made steps.alternatives_before (λ c x y bs. refl) (each (choice at len) g.choices) (definition.statements here (units.statements_of g.statements)) (definition.alternatives here at len (units.alternatives_of gs last))
-      (each (steps.alternative here at len) gs) (definition.statements here last) (alternatives-each at len gs last)
+  last-done codes [] last = refl
+  last-done codes (d ∷ ds) last = refl
+
+  alternatives-each : (codes : Codes) (gs : List Chosen) (ds : List u.Choice) (last : u.Statements)
+      → definition.alternatives here codes (cased gs ds last)
+      ≡ (each (steps.alternative here codes) gs >>= λ bs. definition.statements here last >>= λ y. given (steps.alternatives_before y bs))
+  unfolding definition.alternatives
+  alternatives-each codes [] ds last = last-done codes ds last
+  alternatives-each codes (g ∷ gs) ds last =
+      one-before bodies.alternative alternative_made steps.alternatives_before (λ c x y bs. refl) (codes g.choices) (definition.statements here (units.statements_of g.statements))
+      (definition.alternatives here codes (cased gs ds last))
+      (each (steps.alternative here codes) gs) (definition.statements here last) (alternatives-each codes gs ds last)
+
+  -- what a case is on, and then its parts
+  selected-as-one : (w : bodies.Value) (codes : Codes) (gs : List Chosen) (ds : List u.Choice) (last : u.Statements)
+      → (definition.alternatives here codes (cased gs ds last) >>= λ cs. given (one (bodies.case_of w cs)))
+      ≡ ((each (steps.alternative here codes) gs >>= λ bs. definition.statements here last >>= λ y. given (bodies.case_of w (steps.alternatives_before y bs))) >>= λ y. given (one y))
+  selected-as-one w codes gs ds last =
+      ap (λ r. r >>= λ cs. given (one (bodies.case_of w cs))) (alternatives-each codes gs ds last)
+      ∙ case_of_each w (each (steps.alternative here codes) gs) (definition.statements here last)
+
+  -- ---- a case on an integer
+
+  others-known : (gs : List Chosen) (ds : List u.Choice) (last : u.Statements) → definition.has_others (cased gs ds last) ≡ is_empty ds
+  others-known [] [] last = refl
+  others-known [] (d ∷ ds) last = refl
+  others-known (g ∷ gs) ds last = others-known gs ds last
+
+  last-known : (gs : List Chosen) (ds : List u.Choice) (last : u.Statements) → definition.last_choices (cased gs ds last) ≡ ds
+  last-known [] [] last = refl
+  last-known [] (d ∷ ds) last = refl
+  last-known (g ∷ gs) ds last = last-known gs ds last
+
+  abbrev serving : (at : ℕ) (among : Span) (n : Number) (cs ds : List u.Choice) (others : Bool) → Elab (Unit {0})
+  serving at among n cs ds others =
+      definition.choices_spans here.integers among cs >>= λ ss. definition.choices_spans here.integers among ds >>= λ ts.
+      definition.are_apart [] (ss ++ ts) >> (unless StaticError at (others || definition.numbers_count n.span (ss ++ ts) == extent To n.span.least n.span.greatest)
+      >> definition.may_be_spread at n.span ss)
+
+  serve-known : (at : ℕ) (among : Span) (n : Number) (gs : List Chosen) (ds : List u.Choice) (last : u.Statements)
+      → definition.choices_serve here.integers at among n (cased gs ds last) ≡ served here.integers at among n.span (all_choices gs) ds
+  serve-known at among n gs ds last =
+      ap (λ cs. serving at among n cs (definition.last_choices (cased gs ds last)) (definition.has_others (cased gs ds last))) (spread_known gs ds last)
+      ∙ ap (λ cs. serving at among n (all_choices gs) cs (definition.has_others (cased gs ds last))) (last-known gs ds last)
+      ∙ ap (serving at among n (all_choices gs) ds) (others-known gs ds last)
+
+  abbrev codes_of : expressions.Computed → Number → Codes
+  codes_of x n = definition.spread here.integers (definition.may_choose x n) n
+
+  abbrev parted : List Chosen → u.Statements → bodies.Value × Codes → Elab bodies.Stmt
+  parted gs last e = each (steps.alternative here e.1) gs >>= λ bs. definition.statements here last >>= λ y. given (bodies.case_of e.0 (steps.alternatives_before y bs))
+
+  number-by : (at : ℕ) (x : expressions.Computed) (gs : List Chosen) (ds : List u.Choice) (last : u.Statements)
+      → definition.statement here (u.case_of at (expressions.Value.computed x) (cased gs ds last))
+      ≡ (steps.selection here at (expressions.Value.computed x) gs ds last >>= λ y. given (one y))
+  unfolding definition.statement
+  number-by at x gs ds last =
+      go (computed here at x) (λ n. definition.choices_serve here.integers at (definition.may_choose x n) n (cased gs ds last))
+      (λ n. served here.integers at (definition.may_choose x n) n.span (all_choices gs) ds) (λ n. serve-known at (definition.may_choose x n) n gs ds last)
+    where
+      inner : (n : Number) (q : Elab (Unit {0}))
+          → (q >> (definition.alternatives here (codes_of x n) (cased gs ds last) >>= λ cs. given (one (bodies.case_of (bodies.elements n.digits) cs))))
+          ≡ (((q >> chosen_by (bodies.elements n.digits) (codes_of x n)) >>= parted gs last) >>= λ y. given (one y))
+      inner n (Err p) = refl
+      inner n (Ok u) = selected-as-one (bodies.elements n.digits) (codes_of x n) gs ds last
+
+      go : (r : Elab Number) (s t : Number → Elab (Unit {0})) → ((n : Number) → s n ≡ t n)
+          → (r >>= λ n. s n >> (definition.alternatives here (codes_of x n) (cased gs ds last) >>= λ cs. given (one (bodies.case_of (bodies.elements n.digits) cs))))
+          ≡ (((r >>= λ n. t n >> chosen_by (bodies.elements n.digits) (codes_of x n)) >>= parted gs last) >>= λ y. given (one y))
+      go (Err p) s t h = refl
+      go (Ok n) s t h = ap (λ q. q >> (definition.alternatives here (codes_of x n) (cased gs ds last) >>= λ cs. given (one (bodies.case_of (bodies.elements n.digits) cs)))) (h n) ∙ inner n (t n)
+
+  -- ---- one on any other value
+
+  value-by : (at : ℕ) (r : Elab bodies.Value) (gs : List Chosen) (ds : List u.Choice) (last : u.Statements)
+      → (r >>= λ e. definition.alternatives here (each (choice at (value_width e))) (cased gs ds last) >>= λ cs. given (one (bodies.case_of e cs)))
+      ≡ (((r >>= λ e. chosen_by e (each (choice at (value_width e)))) >>= parted gs last) >>= λ y. given (one y))
+  value-by at (Err p) gs ds last = refl
+  value-by at (Ok e) gs ds last = selected-as-one e (each (choice at (value_width e))) gs ds last
+
+  selection-by : (at : ℕ) (v : expressions.Value) (gs : List Chosen) (ds : List u.Choice) (last : u.Statements)
+      → definition.statement here (u.case_of at v (cased gs ds last)) ≡ (steps.selection here at v gs ds last >>= λ y. given (one y))
+  unfolding definition.statement
+  selection-by at (expressions.Value.computed x) gs ds last = number-by at x gs ds last
+  selection-by at (expressions.Value.elements x) gs ds last = value-by at (value here at (expressions.Value.elements x)) gs ds last
+  selection-by at (expressions.Value.position n) gs ds last = value-by at (value here at (expressions.Value.position n)) gs ds last
+  selection-by at (expressions.Value.state_of x) gs ds last = value-by at (value here at (expressions.Value.state_of x)) gs ds last
+  selection-by at (expressions.Value.state_of_variable k) gs ds last = value-by at (value here at (expressions.Value.state_of_variable k)) gs ds last
+  selection-by at (expressions.Value.static_truth t) gs ds last = value-by at (value here at (expressions.Value.static_truth t)) gs ds last
+
+  -- ---- case
 
   case-is : (x : Case) → units.statement_view (t.Case x)
-      ≡ u.case_of (out-Case x).at (analysed.value_view (out-Case x).selector) (units.alternatives_of (units.alternatives_view (out-Case x).alternatives) (units.statements_of (units.statements_view (out-Case x).others)))
-  case-is x = ap (λ y. units.statement_view (t.Case y)) (sym (roll-out-Case x)) ∙ rows.view_case (out-Case x).at (out-Case x).selector (out-Case x).alternatives (out-Case x).others
+      ≡ u.case_of (out-Case x).at (analysed.value_view (out-Case x).selector)
+      (units.alternatives_of (units.alternatives_view (out-Case x).alternatives) (units.last_alternative (choices_view (out-Case x).last) (units.statements_of (units.statements_view (out-Case x).others))))
+  case-is x =
+      ap (λ y. units.statement_view (t.Case y)) (sym (roll-out-Case x))
+      ∙ rows.view_case (out-Case x).at (out-Case x).selector (out-Case x).alternatives (out-Case x).last (out-Case x).others
 
   abbrev selected : Case → Elab bodies.Stmt
-  selected x = steps.selection here (out-Case x).at (analysed.value_view (out-Case x).selector) (units.alternatives_view (out-Case x).alternatives) (units.statements_of (units.statements_view (out-Case x).others))
+  selected x =
+      steps.selection here (out-Case x).at (analysed.value_view (out-Case x).selector) (units.alternatives_view (out-Case x).alternatives) (choices_view (out-Case x).last)
+      (units.statements_of (units.statements_view (out-Case x).others))
 
   pub case_by : (x : Case) → definition.statement here (units.statement_view (t.Case x)) ≡ (selected x >>= λ y. given (one y))
-  unfolding definition.statement
   case_by x =
-      let gs = units.alternatives_view (out-Case x).alternatives in
-      let last = units.statements_of (units.statements_view (out-Case x).others) in
       ap (definition.statement here) (case-is x)
-      ∙ go (value here (out-Case x).at (analysed.value_view (out-Case x).selector)) (λ len. definition.alternatives here (out-Case x).at len (units.alternatives_of gs last)) (λ len. each (steps.alternative here (out-Case x).at len) gs)
-      (definition.statements here last) (λ len. alternatives-each (out-Case x).at len gs last)
-    where
-      go : (v : Elab bodies.Value) (q : ℕ → Elab bodies.Alternatives) (m : ℕ → Elab (List steps.Alternative)) (l : Elab bodies.Stmts) → ((len : ℕ) → q len ≡ (m len >>= λ bs. l >>= λ y. given (steps.alternatives_before y bs)))
-          → (v >>= λ w. q (value_width w) >>= λ cs. given (one (bodies.case_of w cs)))
-          ≡ ((v >>= λ w. m (value_width w) >>= λ bs. l >>= λ y. given (bodies.case_of w (steps.alternatives_before y bs))) >>= λ y. given (one y))
-      go (Err p) q m l h = refl
-      go (Ok w) q m l h = ap (λ r. r >>= λ cs. given (one (bodies.case_of w cs))) (h (value_width w)) ∙ case_of_each w (m (value_width w)) l
+      ∙ selection-by (out-Case x).at (analysed.value_view (out-Case x).selector) (units.alternatives_view (out-Case x).alternatives) (choices_view (out-Case x).last)
+      (units.statements_of (units.statements_view (out-Case x).others))
 
   -- ---- loop
 

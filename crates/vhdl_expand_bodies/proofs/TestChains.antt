@@ -1,24 +1,17 @@
--- Conditions: what a chain of operators is not, levels, and chains of logical operators.
-use Rattle.std.proofs.Common.{◌≡◌, ℕ, suc, ◌≤◌, Bool, List, [], ◌∷◌, ◌++◌, replicate, Option, None, Box, Vec, Global, Ok, refl, sym, ap, ◌∙◌, arith}
+-- Conditions: levels, and chains of logical operators.
+use Rattle.std.proofs.Common.{◌≡◌, ℕ, suc, ◌≤◌, Bool, List, [], ◌∷◌, ◌++◌, replicate, Box, Vec, Global, Ok, refl, sym, ap, ◌∙◌, arith}
 use Rattle.std.specs.List.{range_with_len}
 use Rattle.vhdl_values.specs.declared.scalar.Nine.{Nine}
 use Rattle.rtl_model.specs.bodies.Body as bodies
 use Rattle.rtl_net.specs.declared.body.TestLink as m
 use Rattle.rtl_net.specs.Bodies as net
 use Rattle.rtl_net.specs.Bodies.{test_links_of}
-use Rattle.vhdl_names_rules.specs.declared.vector.Vector.TheVariants as v
-use Rattle.vhdl_names_rules.specs.declared.vector.VectorLink.{VectorLink}
-use Rattle.vhdl_names_rules.specs.declared.vector.VectorLink.TheVariants as l
-use Rattle.vhdl_names_rules.specs.declared.vector.VectorStart.{VectorStart}
 use Rattle.vhdl_names_rules.specs.declared.test.Test.{Test}
 use Rattle.vhdl_names_rules.specs.declared.test.Test.TheVariants as t
 use Rattle.vhdl_names_rules.specs.declared.test.TestLink.{TestLink}
 use Rattle.vhdl_names_rules.specs.declared.test.TestStart.{TestStart}
-use Rattle.vhdl_names_rules.specs.views.Vectors.{vector_view, linked, vector_chained}
-use Rattle.vhdl_names_rules.specs.views.Vectors as vectors
 use Rattle.vhdl_names_rules.specs.views.Tests.{test_view, test_chained}
 use Rattle.vhdl_names_rules.specs.units.Expressions as u
-use Rattle.vhdl_names_rules.proofs.rows.Vectors as rows
 use Rattle.vhdl_names_rules.proofs.rows.Tests.{view_chain}
 use Rattle.vhdl_expand_rules.specs.Elab.{Elab, ◌>>=◌}
 use Rattle.vhdl_expand_rules.specs.Site.{Site, signal_elements, the_element}
@@ -27,34 +20,6 @@ use Rattle.vhdl_expand_rules.proofs.Steps.{given, ok}
 use Rattle.vhdl_expand_bodies.specs.steps.Chains.{chained}
 use Rattle.vhdl_expand_bodies.specs.steps.Tests as steps
 use Rattle.vhdl_expand_bodies.proofs.Chained.{chain_of}
-use Rattle.vhdl_expand_bodies.specs.steps.Tests.{name_in, character_in}
-
--- ---- a chain is no name and no literal
-
--- what is nothing of one link is nothing of a chain
-chain-none : {A : Type 0} (in' : u.Vector → Option A) → ((x : u.Vector) (k : VectorLink) → in' (linked x k) ≡ None) → (start : Box VectorStart Global) (links : Vec VectorLink Global)
-    → in' (vector_view (v.Chain start links)) ≡ None
-chain-none {A} in' one start links = ap in' (rows.view_chain start links) ∙ links-none (vectors.start_view start.value) links.items (one (vector_view start.value.first) start.value.link)
-  where
-    links-none : (x : u.Vector) (ks : List VectorLink) → in' x ≡ None → in' (vector_chained x ks) ≡ None
-    links-none x [] h = h
-    links-none x (k ∷ ks) h = links-none (linked x k) ks (one x k)
-
-linked-no_name : (x : u.Vector) (k : VectorLink) → name_in (linked x k) ≡ None
-linked-no_name x (l.Vector op pos y) = refl
-linked-no_name x (l.Integer op pos s) = refl
-linked-no_name x (l.Computed op pos y) = refl
-
-pub chain_is_no_name : (start : Box VectorStart Global) (links : Vec VectorLink Global) → name_in (vector_view (v.Chain start links)) ≡ None
-chain_is_no_name start links = chain-none name_in linked-no_name start links
-
-linked-no_character : (x : u.Vector) (k : VectorLink) → character_in (linked x k) ≡ None
-linked-no_character x (l.Vector op pos y) = refl
-linked-no_character x (l.Integer op pos s) = refl
-linked-no_character x (l.Computed op pos y) = refl
-
-pub chain_is_no_character : (start : Box VectorStart Global) (links : Vec VectorLink Global) → character_in (vector_view (v.Chain start links)) ≡ None
-chain_is_no_character start links = chain-none character_in linked-no_character start links
 
 -- ---- levels
 

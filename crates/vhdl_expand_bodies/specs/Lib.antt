@@ -1,4 +1,4 @@
 pub mod Sites
-pub mod Characters
+pub mod Conditions
 pub mod steps
 pub mod Statements

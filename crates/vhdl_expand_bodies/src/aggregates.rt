@@ -1,16 +1,13 @@
 //! Aggregates, expanded (IEEE 1076-2008, 9.3.3), and what is as long as its type wants it (9.3.5,
 //! 9.3.6).
 
-ghost use Rattle.std.specs.Prelude.{◌≡◌, [], ◌++◌, map, option_map, IfOk};
+ghost use Rattle.std.specs.Prelude.{[], map, option_map};
 ghost use Rattle.vhdl_names_rules.specs.units.Expressions as units;
-ghost use Rattle.vhdl_names_rules.specs.views.Integers.{index_view, range_view};
+ghost use Rattle.vhdl_names_rules.specs.views.Integers.{range_view};
 ghost use Rattle.vhdl_names_rules.specs.views.Vectors.{elements_view, vector_view};
-ghost use Rattle.vhdl_expand_rules.specs.Aggregates as indexes;
 ghost use Rattle.vhdl_expand_rules.specs.Declarations.{known_values};
 ghost use Rattle.vhdl_expand_rules.specs.Expressions as definition;
 ghost use Rattle.vhdl_expand_rules.specs.Kinds.{written_range};
-ghost use Rattle.vhdl_expand_rules.specs.views.Integers as computed;
-ghost use Rattle.vhdl_expand_rules.specs.views.Integers.{Makes};
 ghost use Rattle.vhdl_expand_rules.specs.views.Kinds.{kind_view};
 ghost use Rattle.vhdl_expand_operands.specs.Operands.{operand_view};
 ghost use Rattle.vhdl_expand_operands.specs.Placings.{indexes_view, placed_view};
@@ -20,99 +17,11 @@ ghost use Rattle.vhdl_expand_bodies.specs.steps.Vectors as steps;
 
 use crate::site::Site;
 use std::alloc::Global;
-use vhdl_expand_operands::{
-    Element, Indexes, Operand, Placed, are_free, both, composed, range_serves, serve,
-};
-use vhdl_expand_rules::{ElabFault, ElabProblem, IntegerRange, Integers, ObjectKind};
-use vhdl_names_rules::{Index, StaticRange, Vector, VectorElement};
+use vhdl_expand_choices::{chosen_indexes, given_indexes};
+use vhdl_expand_operands::{Element, Indexes, Operand, Placed, both, composed};
+use vhdl_expand_rules::{ElabFault, ElabProblem, ObjectKind};
+use vhdl_names_rules::{StaticRange, Vector, VectorElement};
 use vhdl_values::Vec9;
-
-/// Where a choice starts.
-fn place_of(choice: &Index) -> usize
-    ensures { result ≡ indexes.choice_at (index_view choice.now) }
-{
-    match choice {
-        Index::Single(at, _) => *at,
-        Index::Range(at, _) => *at,
-    }
-}
-
-/// The range from one bound to another; a fault is StaticError.
-fn range_of(integers: &Integers, range: &StaticRange, at: usize) -> Result<IntegerRange, ElabFault>
-    ensures { Makes computed.range_view
-        (indexes.computed_range (computed.integers_view integers.now) at (range_view range.now)) result }
-{
-    let left = integers.integer(&range.left, at)?;
-    let right = integers.integer(&range.right, at)?;
-    Ok(IntegerRange::new(left, range.direction, right))
-}
-
-/// The indexes of what an aggregate is given to, if it has a range; a fault is StaticError or
-/// TooWide. It takes the memory of a list.
-fn given_indexes(
-    alloc: Global,
-    integers: &Integers,
-    range: Option<&StaticRange>,
-    at: usize,
-) -> Result<Option<Indexes>, ElabFault>
-    ensures { Expands (option_map indexes_view) (indexes.given_indexes (computed.integers_view integers.now) at
-        (option_map (λ r. range_view r.now) range.entry)) result }
-{
-    let Some(range) = range else {
-        return Ok(None);
-    };
-    let range = range_of(integers, range, at)?;
-    let given = Indexes::of_range(alloc, range, at)?;
-    Ok(Some(given))
-}
-
-/// The indexes of a choice; a fault is StaticError, Index or TooWide. It takes the memory of a
-/// list.
-fn choice_indexes(
-    alloc: Global,
-    integers: &Integers,
-    all: &Option<Indexes>,
-    choice: &Index,
-) -> Result<Indexes, ElabFault>
-    ensures { Expands indexes_view (indexes.choice_indexes (computed.integers_view integers.now)
-        (option_map indexes_view all.now) (index_view choice.now)) result }
-{
-    match choice {
-        Index::Single(at, index) => {
-            let index = integers.integer(index, *at)?;
-            serve(all, index, *at)?;
-            Indexes::one(alloc, index)
-        }
-        Index::Range(at, range) => {
-            let range = range_of(integers, range, *at)?;
-            range_serves(all, range, *at)?;
-            Indexes::of_range(alloc, range, *at)
-        }
-    }
-}
-
-/// The indexes of some choices, which are put behind those that are taken; a fault is StaticError,
-/// Index or TooWide. It takes the memory of lists.
-fn chosen_indexes(
-    alloc: Global,
-    integers: &Integers,
-    all: &Option<Indexes>,
-    choices: &[Index],
-    taken: &mut Vec<i32>,
-) -> Result<Vec<i32>, ElabFault>
-    ensures given { Expands (λ v. v.items) (indexes.chosen_indexes (computed.integers_view integers.now)
-        (option_map indexes_view all.now) taken.old.items (map index_view choices.now)) result }
-    ensures taken { IfOk result (λ v. taken.new.items ≡ taken.old.items ++ v.items) }
-{
-    let mut found = Vec::new(alloc);
-    for choice in choices {
-        let next = choice_indexes(alloc, integers, all, choice)?;
-        are_free(taken, &next.numbers, place_of(choice))?;
-        taken.extend_from_slice(&next.numbers)?;
-        found.extend_from_slice(&next.numbers)?;
-    }
-    Ok(found)
-}
 
 impl Site<'_> {
     /// A vector of one element, expanded; a fault is StaticError, Length, Index or TooWide.

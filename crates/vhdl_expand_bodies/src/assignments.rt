@@ -1,10 +1,13 @@
-//! Assignments and choices, expanded (IEEE 1076-2008, 10.5, 10.6, 10.9). Lengths agree, whether a
-//! statement is run or not.
+//! Assignments, expanded (IEEE 1076-2008, 10.5, 10.6). Lengths agree, whether a statement is run or
+//! not.
 
-ghost use Rattle.std.specs.Prelude.{length};
-ghost use Rattle.rtl_net.specs.Bodies.{choice_view, expr_view, statement_view};
-ghost use Rattle.vhdl_names_rules.specs.views.Vectors.{chosen_view, part_view, place_view, signal_view};
+ghost use Rattle.std.specs.Prelude.{option_map, Some};
+ghost use Rattle.rtl_net.specs.Bodies.{expr_view, statement_view};
+ghost use Rattle.vhdl_names_rules.specs.views.Vectors.{chosen_view, computed_view, part_view, place_view, signal_view};
+ghost use Rattle.vhdl_expand_rules.specs.Kinds.{integer};
 ghost use Rattle.vhdl_expand_rules.specs.Statements as definition;
+ghost use Rattle.vhdl_expand_rules.specs.views.Integers.{range_view};
+ghost use Rattle.vhdl_expand_rules.specs.views.Kinds.{kind_view};
 ghost use Rattle.vhdl_expand_operands.specs.Results.{Expands};
 ghost use Rattle.vhdl_expand_operands.specs.Selecteds.{selected_view};
 ghost use Rattle.vhdl_expand_bodies.specs.Sites.{IsSite, site_view};
@@ -12,33 +15,15 @@ ghost use Rattle.vhdl_expand_bodies.specs.steps.Assignments as steps;
 ghost use Rattle.vhdl_names_units.specs.views.Answers as analysed;
 
 use crate::site::{Site, elements};
-use rtl_net::{Choice, Expr, Statement, Value};
+use crate::values::elements_of;
+use rtl_net::{Expr, Statement, Value};
 use std::alloc::Global;
-use vhdl_expand_operands::{Selected, Width, both};
-use vhdl_expand_rules::{ElabFault, ElabProblem, byte};
+use vhdl_expand_operands::{Operand, Selected, Width, both};
+use vhdl_expand_rules::{ElabFault, ElabProblem, IntegerRange, Numbers, ObjectKind, byte};
 use vhdl_names_rules as names;
-use vhdl_names_rules::{Chosen, Part, Signal, SignalPart};
-use vhdl_names_units as analysed;
+use vhdl_names_rules::{Chosen, Computed, Part, Signal, SignalPart};
 use vhdl_names_units::Given;
-use vhdl_values::Vec9;
-
-/// A choice of a case whose selector has so many elements; a fault is Length.
-#[tactic(auto, unfolding(vhdl_expand_rules::specs::Statements::choice))]
-pub(crate) fn choice(len: Width, choice: &analysed::Choice, at: usize) -> Result<Choice, ElabFault>
-    ensures { Expands choice_view (definition.choice at len.len (analysed.choice_view choice.now)) result }
-{
-    match choice {
-        analysed::Choice::Values(values) => {
-            let found = values.len();
-            let needed = len.len;
-            if found != needed {
-                return Err(ElabProblem::Length { found, needed }.at(at));
-            }
-            Ok(Choice::Elements(Vec9::of(values)))
-        }
-        analysed::Choice::Position(position) => Ok(Choice::Position(*position)),
-    }
-}
+use vhdl_numbers::digits_of;
 
 impl Site<'_> {
     /// What is given to so many elements; a fault is StaticError, Length, Index or TooWide.
@@ -76,8 +61,92 @@ impl Site<'_> {
         }
     }
 
-    /// An assignment to a signal, by its elements; a fault is StaticError, Length, Index or
-    /// TooWide.
+    /// What is given to an integer of a range: a static one lies within it, and a computed one
+    /// outside is X. A fault is GenericRange, StaticError, Length, Index or TooWide.
+    #[tactic(auto, using(crate::proofs::Selecting::chain_is_kept))]
+    fn number_given(
+        &self,
+        alloc: Global,
+        range: IntegerRange,
+        integer: &Computed,
+        at: usize,
+    ) -> Result<Selected, ElabFault>
+        requires { IsSite self.now }
+        ensures { Expands selected_view
+            (definition.number_given (site_view self.now) at (range_view range) (computed_view integer.now)) result }
+    {
+        match integer {
+            Computed::Static(integer) => {
+                let numbers = Numbers::Range(range);
+                let number = self.integers.integer_among(numbers, integer, at)?;
+                let digits = digits_of(number, range.size());
+                Ok(elements_of(Operand::constant(digits)))
+            }
+            Computed::Number(_, _)
+            | Computed::SignalNumber(_)
+            | Computed::VariableNumber(_)
+            | Computed::Negated(_, _)
+            | Computed::Magnitude(_, _)
+            | Computed::Chain(_, _) => {
+                let number = self.computed(alloc, integer, at)?;
+                let kept = number.kept_in(alloc, range)?;
+                Ok(elements_of(kept))
+            }
+        }
+    }
+
+    /// What is given to so many elements of an integer of a range.
+    fn given_in(
+        &self,
+        alloc: Global,
+        range: IntegerRange,
+        width: Width,
+        given: &Given,
+        at: usize,
+    ) -> Result<Selected, ElabFault>
+        requires { IsSite self.now }
+        ensures { Expands selected_view (definition.given_to (site_view self.now) at
+            (Some (integer (range_view range))) width.len (analysed.given_view given.now)) result }
+    {
+        match given {
+            Given::Single(value) => match &**value {
+                names::Value::Computed(integer) => self.number_given(alloc, range, integer, at),
+                names::Value::Elements(_)
+                | names::Value::Position(_)
+                | names::Value::StateOf(_)
+                | names::Value::StateOfVariable(_)
+                | names::Value::StaticTruth(_) => self.given(alloc, width, given, at),
+            },
+            Given::Filled(_) => self.given(alloc, width, given, at),
+        }
+    }
+
+    /// What is given to so many elements of an object of this kind; a fault is GenericRange,
+    /// StaticError, Length, Index or TooWide.
+    fn given_to(
+        &self,
+        alloc: Global,
+        kind: Option<ObjectKind>,
+        width: Width,
+        given: &Given,
+        at: usize,
+    ) -> Result<Selected, ElabFault>
+        requires { IsSite self.now }
+        ensures { Expands selected_view (definition.given_to (site_view self.now) at (option_map kind_view kind)
+            width.len (analysed.given_view given.now)) result }
+    {
+        match kind {
+            Some(ObjectKind::Integer(range)) => self.given_in(alloc, range, width, given, at),
+            Some(ObjectKind::One)
+            | Some(ObjectKind::Vector(_))
+            | Some(ObjectKind::Enumeration(_))
+            | Some(ObjectKind::Boolean)
+            | None => self.given(alloc, width, given, at),
+        }
+    }
+
+    /// An assignment to a signal, by its elements; a fault is GenericRange, StaticError, Length,
+    /// Index or TooWide.
     pub(crate) fn assign(
         &self,
         alloc: Global,
@@ -89,7 +158,9 @@ impl Site<'_> {
             (steps.assign (site_view self.now) (place_view target.now) (analysed.given_view value.now)) result }
     {
         let run = self.signal_elements(target.signal, &target.part, target.at)?;
-        let selected = self.given(alloc, Width { len: run.len }, value, target.at)?;
+        let kind = self.signal_kind(target.signal);
+        let width = Width { len: run.len };
+        let selected = self.given_to(alloc, kind, width, value, target.at)?;
         let places = elements(run);
         Ok(Statement::Assign {
             places,
@@ -125,7 +196,9 @@ impl Site<'_> {
                 }
                 names::Value::Position(_)
                 | names::Value::StateOf(_)
-                | names::Value::StateOfVariable(_) => {
+                | names::Value::StateOfVariable(_)
+                | names::Value::Computed(_)
+                | names::Value::StaticTruth(_) => {
                     Err(ElabProblem::Length { found: 1, needed }.at(at))
                 }
             },
@@ -194,7 +267,7 @@ impl Site<'_> {
         })
     }
 
-    /// An assignment to a variable; a fault is StaticError, Length, Index or TooWide.
+    /// An assignment to a variable; a fault is GenericRange, StaticError, Length, Index or TooWide.
     pub(crate) fn set(
         &self,
         alloc: Global,
@@ -208,7 +281,9 @@ impl Site<'_> {
             (steps.set (site_view self.now) at variable (part_view part.now) (analysed.given_view value.now)) result }
     {
         let run = self.variable_elements(variable, part, at)?;
-        let selected = self.given(alloc, Width { len: run.len }, value, at)?;
+        let kind = self.variable_kind(variable);
+        let width = Width { len: run.len };
+        let selected = self.given_to(alloc, kind, width, value, at)?;
         let elements = elements(run);
         Ok(Statement::Set {
             elements,

@@ -35,6 +35,8 @@ impl Site<'_> {
         match integer {
             Computed::Static(integer) => Ok(Number::known(self.integers.integer(integer, at)?)),
             Computed::Number(at, number) => Number::read(self.expanded(alloc, number)?, alloc, *at),
+            Computed::SignalNumber(signal) => self.signal_number(alloc, *signal, at),
+            Computed::VariableNumber(number) => self.variable_number(alloc, *number, at),
             Computed::Negated(at, operand) => {
                 let operand = self.computed(alloc, operand, *at)?;
                 Ok(operand.negative(alloc)?)
@@ -108,6 +110,14 @@ impl Site<'_> {
             }
             Computed::Number(at, number) => {
                 let number = Number::read(self.expanded(alloc, number)?, alloc, *at)?;
+                Ok(Measured::term(number))
+            }
+            Computed::SignalNumber(signal) => {
+                let number = self.signal_number(alloc, *signal, at)?;
+                Ok(Measured::term(number))
+            }
+            Computed::VariableNumber(number) => {
+                let number = self.variable_number(alloc, *number, at)?;
                 Ok(Measured::term(number))
             }
             Computed::Magnitude(at, operand) => {

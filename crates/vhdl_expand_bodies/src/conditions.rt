@@ -1,7 +1,7 @@
 //! Conditions, expanded (IEEE 1076-2008, 9.2.2, 9.2.3, 9.2.9, 16.2.4; numeric_std).
 #![tactic(auto, unfolding(vhdl_expand_rules::specs::Expressions::test))]
 
-ghost use Rattle.std.specs.Prelude.{◌≡◌, true, option_map};
+ghost use Rattle.std.specs.Prelude.{◌≡◌};
 ghost use Rattle.rtl_net.specs.Bodies.{test_view, test_links_of};
 ghost use Rattle.vhdl_names_rules.specs.views.Integers.{static_view};
 ghost use Rattle.vhdl_names_rules.specs.views.Tests as analysed;
@@ -9,14 +9,14 @@ ghost use Rattle.vhdl_names_rules.specs.views.Vectors.{place_view, value_view, v
 ghost use Rattle.vhdl_expand_rules.specs.Expressions as definition;
 ghost use Rattle.vhdl_expand_operands.specs.Results.{Expands};
 ghost use Rattle.vhdl_expand_bodies.specs.Sites.{IsSite, site_view};
-ghost use Rattle.vhdl_expand_bodies.specs.Characters.{named_view, character_view, chain_view};
+ghost use Rattle.vhdl_expand_bodies.specs.Conditions.{chain_view};
 ghost use Rattle.vhdl_expand_bodies.specs.steps.Chains.{chained};
 ghost use Rattle.vhdl_expand_bodies.specs.steps.Tests as steps;
 
-use crate::edges::edge_test;
 use crate::site::{Site, element, elements};
 use rtl_net::{Expr, Test, TestLink};
 use std::alloc::Global;
+use vhdl_expand_choices::{character_of, edge_test, name_of, turned};
 use vhdl_expand_numbers::{compared_to, compared_with, relation};
 use vhdl_expand_operands::both;
 use vhdl_expand_rules::ElabFault;
@@ -24,114 +24,11 @@ use vhdl_names_rules as analysed;
 use vhdl_names_rules::{SignalPart, Static, TestStart, Value, Vector};
 use vhdl_values::{Cmp, Nine, Vec9};
 
-/// A character literal, and whether it stands with no parentheses.
-#[derive(Clone, Copy)]
-pub(crate) struct Character {
-    pub is_plain: bool,
-    pub literal: Nine,
-}
-
 /// A first operand, and the logical operators after it so far.
 #[derive(Drop)]
 pub(crate) struct TestChain {
     pub first: Box<Test>,
     pub rest: Vec<TestLink>,
-}
-
-/// The signal's name that a vector is.
-#[tactic(auto, using(crate::proofs::TestChains::chain_is_no_name))]
-fn name_in(vector: &Vector) -> Option<&SignalPart>
-    ensures { option_map named_view result ≡ steps.name_in (vector_view vector.now) }
-{
-    match vector {
-        Vector::Signal(place) => Some(place),
-        Vector::Variable(_, _, _)
-        | Vector::Constant(_, _, _)
-        | Vector::InSignal(_, _, _)
-        | Vector::InVariable(_, _, _)
-        | Vector::InConstant(_, _, _)
-        | Vector::Character(_, _)
-        | Vector::EnclosedCharacter(_, _)
-        | Vector::Literal(_, _)
-        | Vector::Not(_, _)
-        | Vector::Chain(_, _)
-        | Vector::IntegerWith(_, _, _, _)
-        | Vector::ComputedWith(_, _, _, _)
-        | Vector::Encoded(_, _, _)
-        | Vector::ComputedEncoded(_, _, _)
-        | Vector::Counted(_, _, _, _)
-        | Vector::Shifted(_, _, _, _)
-        | Vector::Aggregate(_, _, _)
-        | Vector::Sized(_, _, _) => None,
-    }
-}
-
-/// The signal's name that a value is.
-fn name_of(value: &Value) -> Option<&SignalPart>
-    ensures { option_map named_view result ≡ steps.name_of (value_view value.now) }
-{
-    match value {
-        Value::Elements(vector) => name_in(vector),
-        Value::Position(_) | Value::StateOf(_) | Value::StateOfVariable(_) => None,
-    }
-}
-
-/// The character literal that a vector is.
-#[tactic(auto, using(crate::proofs::TestChains::chain_is_no_character))]
-fn character_in(vector: &Vector) -> Option<Character>
-    ensures { option_map character_view result ≡ steps.character_in (vector_view vector.now) }
-{
-    match vector {
-        Vector::Character(_, literal) => Some(Character {
-            is_plain: true,
-            literal: *literal,
-        }),
-        Vector::EnclosedCharacter(_, literal) => Some(Character {
-            is_plain: false,
-            literal: *literal,
-        }),
-        Vector::Signal(_)
-        | Vector::Variable(_, _, _)
-        | Vector::Constant(_, _, _)
-        | Vector::InSignal(_, _, _)
-        | Vector::InVariable(_, _, _)
-        | Vector::InConstant(_, _, _)
-        | Vector::Literal(_, _)
-        | Vector::Not(_, _)
-        | Vector::Chain(_, _)
-        | Vector::IntegerWith(_, _, _, _)
-        | Vector::ComputedWith(_, _, _, _)
-        | Vector::Encoded(_, _, _)
-        | Vector::ComputedEncoded(_, _, _)
-        | Vector::Counted(_, _, _, _)
-        | Vector::Shifted(_, _, _, _)
-        | Vector::Aggregate(_, _, _)
-        | Vector::Sized(_, _, _) => None,
-    }
-}
-
-/// The character literal that a value is.
-fn character_of(value: &Value) -> Option<Character>
-    ensures { option_map character_view result ≡ steps.character_of (value_view value.now) }
-{
-    match value {
-        Value::Elements(vector) => character_in(vector),
-        Value::Position(_) | Value::StateOf(_) | Value::StateOfVariable(_) => None,
-    }
-}
-
-/// `n relation x` as a relation of `x` and `n`.
-fn turned(relation: Cmp) -> Cmp
-    ensures { result ≡ definition.converse_of relation }
-{
-    match relation {
-        Cmp::Eq => Cmp::Eq,
-        Cmp::Ne => Cmp::Ne,
-        Cmp::Lt => Cmp::Gt,
-        Cmp::Le => Cmp::Ge,
-        Cmp::Gt => Cmp::Lt,
-        Cmp::Ge => Cmp::Le,
-    }
 }
 
 impl TestChain {

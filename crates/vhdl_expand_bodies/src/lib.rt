@@ -8,11 +8,12 @@
 
 mod aggregates;
 mod assignments;
+mod cases;
 mod computed;
 mod conditions;
 mod constant;
-mod edges;
 mod layout;
+mod numbers;
 mod site;
 mod statements;
 mod values;

@@ -68,7 +68,20 @@ fn vector_bounds(kind: ObjectKind, at: usize) -> Result<Bounds, ElabFault>
 {
     match kind {
         ObjectKind::Vector(bounds) => Ok(bounds),
-        ObjectKind::One | ObjectKind::Enumeration(_) => Err(ElabProblem::Index.at(at)),
+        ObjectKind::One
+        | ObjectKind::Enumeration(_)
+        | ObjectKind::Integer(_)
+        | ObjectKind::Boolean => Err(ElabProblem::Index.at(at)),
+    }
+}
+
+/// What the thing of this number is.
+fn kind_of(things: &[Placed], number: usize) -> Option<ObjectKind>
+    ensures { option_map kind_view result ≡ slice_get (map placed_kind things.now) number }
+{
+    match things.get(number) {
+        Some(thing) => Some(thing.kind),
+        None => None,
     }
 }
 
@@ -174,6 +187,23 @@ impl Site<'_> {
         Ok(constant.values.slice(places.first, places.len))
     }
 
+    /// What a signal or port is.
+    pub fn signal_kind(&self, signal: Signal) -> Option<ObjectKind>
+        ensures { option_map kind_view result ≡ definition.signal_kind (site_view self.now) (signal_view signal) }
+    {
+        match signal {
+            Signal::Port(number) => kind_of(self.ports, number),
+            Signal::Signal(number) => kind_of(self.signals, number),
+        }
+    }
+
+    /// What a variable is.
+    pub(crate) fn variable_kind(&self, number: usize) -> Option<ObjectKind>
+        ensures { option_map kind_view result ≡ slice_get (site_view self.now).variables number }
+    {
+        kind_of(self.variables, number)
+    }
+
     /// The bounds of a signal or port that is a vector; a fault is Index.
     #[tactic(auto, unfolding(vhdl_expand_rules::specs::Site::signal_bounds))]
     pub(crate) fn signal_bounds(&self, signal: Signal, at: usize) -> Result<Bounds, ElabFault>
@@ -209,7 +239,7 @@ impl Site<'_> {
     }
 
     /// This within loops whose parameters have these values.
-    pub(crate) fn within<'b>(&'b self, loops: &'b [i32]) -> Site<'b>
+    pub fn within<'b>(&'b self, loops: &'b [i32]) -> Site<'b>
         requires { IsSite self.now }
         ensures site { IsSite result }
         ensures loops { site_view result ≡ with_loops (site_view self.now) loops.now }

@@ -2,47 +2,31 @@
 
 ghost use Rattle.std.specs.Prelude.{◌≡◌, ◌≢◌, map, option_map, Ok};
 ghost use Rattle.rtl_model.specs.bodies.Body as bodies;
-ghost use Rattle.rtl_net.specs.Bodies.{statement_view, statements_of, choice_view};
+ghost use Rattle.rtl_net.specs.Bodies.{statement_view, statements_of};
 ghost use Rattle.vhdl_names_rules.specs.units.Statements as units;
 ghost use Rattle.vhdl_expand_rules.specs.Elab.{each};
 ghost use Rattle.vhdl_expand_rules.specs.Site.{in_loop};
 ghost use Rattle.vhdl_expand_rules.specs.Statements as definition;
 ghost use Rattle.vhdl_expand_operands.specs.Results.{Expands};
+ghost use Rattle.vhdl_expand_choices.specs.Views.{codes_by};
 ghost use Rattle.vhdl_expand_bodies.specs.Sites.{IsSite, site_view};
 ghost use Rattle.vhdl_expand_bodies.specs.Statements.{branch_view, branches_view, alternative_view, alternatives_view, otherwise_view};
 ghost use Rattle.vhdl_expand_bodies.specs.steps.Statements as steps;
 ghost use Rattle.vhdl_names_units.specs.declared.sequential.Case.{out-Case};
 ghost use Rattle.vhdl_names_units.specs.declared.sequential.If.{out-If};
-ghost use Rattle.vhdl_names_units.specs.views.Answers as answers;
+ghost use Rattle.vhdl_names_units.specs.views.Answers.{choices_view};
 ghost use Rattle.vhdl_names_units.specs.views.Sequential as analysed;
 ghost use Rattle.vhdl_names_rules.specs.views.Integers.{range_view};
 ghost use Rattle.vhdl_names_rules.specs.views.Vectors.{value_view};
 
-use crate::assignments::choice;
 use crate::site::Site;
-use rtl_net::{Alternative, Branch, Choice, Statement};
+use rtl_net::{Alternative, Branch, Statement};
 use std::alloc::Global;
-use vhdl_expand_operands::{Width, add, both};
+use vhdl_expand_choices::Coding;
+use vhdl_expand_operands::{add, both};
 use vhdl_expand_rules::{ElabFault, byte};
 use vhdl_names_units as analysed;
 use vhdl_names_units::{Case, If, Loop};
-
-/// The choices of an alternative whose selector has so many elements; a fault is Length.
-fn choices(
-    alloc: Global,
-    width: Width,
-    list: &[analysed::Choice],
-    at: usize,
-) -> Result<Vec<Choice>, ElabFault>
-    ensures { Expands (λ v. map choice_view v.items)
-        (each (definition.choice at width.len) (map answers.choice_view list.now)) result }
-{
-    let mut choices = Vec::new(alloc);
-    for item in list {
-        add(&mut choices, choice(width, item, at))?;
-    }
-    Ok(choices)
-}
 
 impl Site<'_> {
     /// A body, expanded: its statements in order, in which names and targets are elements; a fault
@@ -202,12 +186,12 @@ impl Site<'_> {
             (steps.selection (site_view self.now) (out-Case selection.now).at
             (value_view (out-Case selection.now).selector)
             (analysed.alternatives_view (out-Case selection.now).alternatives)
+            (choices_view (out-Case selection.now).last)
             (analysed.statements_of (analysed.statements_view (out-Case selection.now).others))) result }
     {
         let at = selection.at;
-        let selector = self.expanded_value(alloc, &selection.selector, at)?;
-        let width = selector.width;
-        let alternatives = self.alternatives(alloc, &selection.alternatives, width, at);
+        let (selector, coding) = self.selector(alloc, selection)?;
+        let alternatives = self.alternatives(alloc, &selection.alternatives, coding, at);
         let (selector, alternatives) = both(selector, alternatives)?;
         let others = both(alternatives, self.body(alloc, &selection.others));
         let (selector, (alternatives, others)) = both(selector, others)?;
@@ -225,17 +209,17 @@ impl Site<'_> {
         &self,
         alloc: Global,
         list: &[analysed::Alternative],
-        width: Width,
+        coding: Coding,
         at: usize,
     ) -> Result<Vec<Alternative>, ElabFault>
         requires { IsSite self.now }
         ensures { Expands alternatives_view
-            (each (steps.alternative (site_view self.now) at width.len) (map analysed.alternative_view list.now))
-            result }
+            (each (steps.alternative (site_view self.now) (codes_by (site_view self.now).integers at coding))
+            (map analysed.alternative_view list.now)) result }
     {
         let mut alternatives = Vec::new(alloc);
         for item in list {
-            add(&mut alternatives, self.alternative(alloc, item, width, at))?;
+            add(&mut alternatives, self.alternative(alloc, item, coding, at))?;
         }
         Ok(alternatives)
     }
@@ -246,14 +230,15 @@ impl Site<'_> {
         &self,
         alloc: Global,
         alternative: &analysed::Alternative,
-        width: Width,
+        coding: Coding,
         at: usize,
     ) -> Result<Alternative, ElabFault>
         requires { IsSite self.now }
         ensures { Expands alternative_view
-            (steps.alternative (site_view self.now) at width.len (analysed.alternative_view alternative.now)) result }
+            (steps.alternative (site_view self.now) (codes_by (site_view self.now).integers at coding)
+            (analysed.alternative_view alternative.now)) result }
     {
-        let choices = choices(alloc, width, &alternative.choices, at)?;
+        let choices = coding.codes(alloc, &self.integers, &alternative.choices, at)?;
         let statements = self.body(alloc, &alternative.statements);
         let (choices, statements) = both(choices, statements)?;
         Ok(Alternative {

@@ -6,15 +6,27 @@ ghost use Rattle.vhdl_names_rules.specs.views.Vectors as analysed;
 ghost use Rattle.vhdl_names_rules.specs.views.Vectors.{part_view, signal_view};
 ghost use Rattle.vhdl_expand_rules.specs.Expressions as definition;
 ghost use Rattle.vhdl_expand_rules.specs.Site.{signal_elements, the_element};
+ghost use Rattle.vhdl_expand_operands.specs.Operands.{operand_view};
 ghost use Rattle.vhdl_expand_operands.specs.Results.{Expands};
 ghost use Rattle.vhdl_expand_operands.specs.Selecteds.{selected_view};
 ghost use Rattle.vhdl_expand_bodies.specs.Sites.{IsSite, site_view};
 
 use crate::site::{Site, element};
 use std::alloc::Global;
-use vhdl_expand_operands::{Selected, Width};
+use vhdl_expand_operands::{Operand, Selected, Width};
 use vhdl_expand_rules::ElabFault;
 use vhdl_names_rules::{Part, Signal, Value};
+use vhdl_values::{Nine, Vec9};
+
+/// A value of elements.
+pub(crate) fn elements_of(operand: Operand) -> Selected
+    ensures { selected_view result ≡ bodies.elements (operand_view operand) }
+{
+    Selected {
+        width: operand.width,
+        value: rtl_net::Value::Elements(operand.expr),
+    }
+}
 
 /// A value that an enumeration's literal is, by its position.
 fn position(number: u8) -> Selected
@@ -57,10 +69,7 @@ impl Site<'_> {
         match value {
             Value::Elements(vector) => {
                 let operand = self.expanded(alloc, vector)?;
-                Ok(Selected {
-                    width: operand.width,
-                    value: rtl_net::Value::Elements(operand.expr),
-                })
+                Ok(elements_of(operand))
             }
             Value::Position(number) => Ok(position(*number)),
             Value::StateOf(signal) => {
@@ -77,6 +86,15 @@ impl Site<'_> {
                     value: rtl_net::Value::PositionIn(element),
                     width: Width { len: 1 },
                 })
+            }
+            Value::Computed(integer) => {
+                let number = self.computed(alloc, integer, at)?;
+                Ok(elements_of(number.operand))
+            }
+            Value::StaticTruth(test) => {
+                let holds = self.integers.decision(test)?;
+                let truth = Vec9::fill(Nine::of_truth(holds), 1);
+                Ok(elements_of(Operand::constant(truth)))
             }
         }
     }

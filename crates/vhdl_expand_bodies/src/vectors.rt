@@ -3,7 +3,7 @@
 ghost use Rattle.std.specs.Prelude.{◌≡◌, option_map};
 ghost use Rattle.vhdl_names_rules.specs.views.Integers.{option_range_view, range_view, static_view};
 ghost use Rattle.vhdl_names_rules.specs.units.Expressions as units;
-ghost use Rattle.vhdl_names_rules.specs.views.Vectors.{part_view, signal_view, place_view, chosen_view, vector_view};
+ghost use Rattle.vhdl_names_rules.specs.views.Vectors.{part_view, signal_view, chosen_view, vector_view};
 ghost use Rattle.vhdl_expand_rules.specs.Expressions as definition;
 ghost use Rattle.vhdl_expand_operands.specs.Results.{Expands};
 ghost use Rattle.vhdl_expand_numbers.specs.Views.{number_view};
@@ -19,7 +19,7 @@ use vhdl_expand_numbers::{Number, listed};
 use vhdl_expand_operands::{Chain, Operand, Width, both, numeric, operator};
 use vhdl_expand_rules::{ElabFault, ElabProblem};
 use vhdl_names_rules::{
-    Chosen, Numeric, Part, Signal, SignalPart, Static, StaticRange, Vector, VectorLink, VectorStart,
+    Chosen, Numeric, Part, Signal, Static, StaticRange, Vector, VectorLink, VectorStart,
 };
 use vhdl_values::{Counted, Nine, Vec9};
 
@@ -55,7 +55,7 @@ impl Site<'_> {
         ensures { Expands operand_view (definition.vector (site_view self.now) (vector_view vector.now)) result }
     {
         match vector {
-            Vector::Signal(place) => self.signal(place),
+            Vector::Signal(place) => self.signal(place.signal, &place.part, place.at),
             Vector::Variable(at, number, part) => self.variable(*number, part, *at),
             Vector::Constant(at, number, part) => {
                 let values = self.constant_values(*number, part, *at)?;
@@ -106,11 +106,17 @@ impl Site<'_> {
     }
 
     /// A signal, port or part of one, by its elements.
-    fn signal(&self, place: &SignalPart) -> Result<Operand, ElabFault>
+    pub(crate) fn signal(
+        &self,
+        signal: Signal,
+        part: &Part,
+        at: usize,
+    ) -> Result<Operand, ElabFault>
         requires { IsSite self.now }
-        ensures { Expands operand_view (steps.signal (site_view self.now) (place_view place.now)) result }
+        ensures { Expands operand_view (steps.signal (site_view self.now) at (signal_view signal) (part_view part.now))
+            result }
     {
-        let run = self.signal_elements(place.signal, &place.part, place.at)?;
+        let run = self.signal_elements(signal, part, at)?;
         let elements = elements(run);
         Ok(Operand {
             expr: Expr::Signal(elements),
@@ -119,7 +125,12 @@ impl Site<'_> {
     }
 
     /// A variable or part of one, by its elements.
-    fn variable(&self, number: usize, part: &Part, at: usize) -> Result<Operand, ElabFault>
+    pub(crate) fn variable(
+        &self,
+        number: usize,
+        part: &Part,
+        at: usize,
+    ) -> Result<Operand, ElabFault>
         requires { IsSite self.now }
         ensures { Expands operand_view (steps.variable (site_view self.now) at number (part_view part.now)) result }
     {

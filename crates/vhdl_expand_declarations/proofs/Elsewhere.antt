@@ -6,18 +6,21 @@ use Rattle.vhdl_values.specs.declared.scalar.Nine.{Nine}
 use Rattle.vhdl_values.specs.Scalar.{code_of}
 use Rattle.vhdl_values.specs.Numbers.{digits_of}
 use Rattle.vhdl_names_rules.specs.units.Expressions as u
-use Rattle.vhdl_names_rules.specs.units.Expressions.{Static, Range, Signal, Value}
+use Rattle.vhdl_names_rules.specs.units.Expressions.{Static, Range, Signal, Computed, Value}
 use Rattle.vhdl_names_rules.specs.units.Statements as s
 use Rattle.vhdl_names_rules.specs.units.Units as units
 use Rattle.vhdl_names_rules.specs.units.Units.{Fixed, Form, IntegerSubtype}
 use Rattle.rtl_model.specs.bodies.Body as bodies
 use Rattle.rtl_model.specs.bodies.Fits.{width, value_width}
+use Rattle.vhdl_names_rules.specs.declared.operator.Bound.{Bound}
+use Rattle.vhdl_names_rules.specs.declared.operator.Bound.TheVariants as bounds
 use Rattle.vhdl_expand_rules.specs.declared.fault.ElabProblem.{ElabProblem}
 use Rattle.vhdl_expand_rules.specs.declared.fault.ElabProblem.TheVariants.{StaticError, GenericRange, Index, TooWide, Length}
 use Rattle.vhdl_expand_rules.specs.Elab.{Elab, ◌>>=◌, refused, unless, item_or, same_length}
-use Rattle.vhdl_expand_rules.specs.Integers.{Integers, checked_integer, bound_of, integer, as_natural, natural, known_range, have, base_numbers, numbers_within, numbers_of, integer_of, is_null, extent}
-use Rattle.vhdl_expand_rules.specs.Kinds.{ObjectKind, one, vector, enumeration, size, places, declared_bounds, kind_of, as_size, size_of}
-use Rattle.vhdl_expand_rules.specs.Site.{Site, Constant, signal_elements, variable_elements, the_element}
+use Rattle.vhdl_expand_rules.specs.Integers.{Integers, checked_integer, bound_of, bound_checked, integer, as_natural, natural, IntegerRange, known_range, have, Numbers, base_numbers, numbers_within, numbers_of, of_range, integer_among, integer_of, is_null, extent}
+use Rattle.vhdl_expand_rules.specs.Kinds.{ObjectKind, vector, enumeration, boolean, size, places, declared_bounds, range_of, not_null, kind_of, as_size, size_of}
+use Rattle.vhdl_expand_rules.specs.Kinds as kinds
+use Rattle.vhdl_expand_rules.specs.Site.{Site, Constant, signal_elements, variable_elements, signal_kind, integer_range, the_element}
 use Rattle.vhdl_expand_rules.specs.Expressions as x
 use Rattle.vhdl_expand_rules.specs.Statements.{value_given}
 use Rattle.vhdl_expand_rules.specs.Declarations.{as_long_as, elements_of_value, position_of_value, fixed_values, given_starts, starts}
@@ -42,6 +45,10 @@ module _ (at at' : ℕ) where
       by true = stays_same (given x)
       by false = λ y h. absurd cc
 
+  bound-gives : (b : Bound) (r : IntegerRange) → Stays (bound_checked at b r) (bound_checked at' b r)
+  bound-gives bounds.Length r = checked-gives (bound_of bounds.Length r)
+  bound-gives _ r = λ y h. h
+
   integer-gives : (here : Integers) (t : Static) → Stays (integer here at t) (integer here at' t)
   unfolding integer
   integer-gives here (u.number n) = checked-gives (pos n)
@@ -50,7 +57,7 @@ module _ (at at' : ℕ) where
   integer-gives here (u.generate_parameter k) = gives-item StaticError at at' (slice_get here.generates k)
   integer-gives here (u.loop_parameter k) = gives-item StaticError at at' (slice_get here.loops k)
   integer-gives here (u.bound b k) =
-      stays_then (known_range at here.ranges k) (known_range at' here.ranges k) _ _ (gives-item StaticError at at' (slice_get here.ranges k)) (λ r. checked-gives (bound_of b r))
+      stays_then (known_range at here.ranges k) (known_range at' here.ranges k) _ _ (gives-item StaticError at at' (slice_get here.ranges k)) (λ r. bound-gives b r)
   integer-gives here _ = λ x h. h
 
   natural-as-gives : (x : ℤ) → Stays (as_natural at x) (as_natural at' x)
@@ -70,12 +77,15 @@ module _ (at at' : ℕ) where
   unfolding numbers_of
   numbers-gives here type = stays_then (base_numbers here at type.base) (base_numbers here at' type.base) _ _ (base-gives here type.base) (λ base. stays_same (numbers_within here base type.range))
 
+  among-gives : (here : Integers) (numbers : Numbers) (t : Static) → Stays (integer_among here at numbers t) (integer_among here at' numbers t)
+  among-gives here numbers t =
+      stays_then (integer here at t) (integer here at' t) _ _ (integer-gives here t) (λ y.
+      stays_then (unless GenericRange at (have numbers y)) (unless GenericRange at' (have numbers y)) _ _ (gives-unless GenericRange at at' (have numbers y)) (λ kept. stays_same _))
+
   integer_of-gives : (type : IntegerSubtype) (here : Integers) (t : Static) → Stays (integer_of type here at t) (integer_of type here at' t)
   unfolding integer_of
   integer_of-gives type here t =
-      stays_then (numbers_of here at type) (numbers_of here at' type) _ _ (numbers-gives here type) (λ numbers.
-      stays_then (integer here at t) (integer here at' t) _ _ (integer-gives here t) (λ y.
-      stays_then (unless GenericRange at (have numbers y)) (unless GenericRange at' (have numbers y)) _ _ (gives-unless GenericRange at at' (have numbers y)) (λ kept. stays_same _)))
+      stays_then (numbers_of here at type) (numbers_of here at' type) _ _ (numbers-gives here type) (λ numbers. among-gives here numbers t)
 
   bounds-gives : (here : Integers) (r : Range) → Stays (declared_bounds here at r) (declared_bounds here at' r)
   unfolding declared_bounds
@@ -88,9 +98,17 @@ module _ (at at' : ℕ) where
       stays_then (unless TooWide at (nat_le (extent r.direction x y) 64)) (unless TooWide at' (nat_le (extent r.direction x y) 64)) _ _ (gives-unless TooWide at at' (nat_le (extent r.direction x y) 64)) (λ most.
       stays_same _))))))
 
+  null-gives : (r : IntegerRange) → Stays (not_null at r) (not_null at' r)
+  null-gives r =
+      let some : Bool = not (is_null r.direction r.left r.right) in
+      stays_then (unless GenericRange at some) (unless GenericRange at' some) _ _ (gives-unless GenericRange at at' some) (λ kept. stays_same _)
+
   kind-gives : (here : Integers) (f : Form) → Stays (kind_of here at f) (kind_of here at' f)
   unfolding kind_of
   kind-gives here (units.vector r) = stays_then (declared_bounds here at r) (declared_bounds here at' r) _ _ (bounds-gives here r) (λ b. stays_same _)
+  kind-gives here (units.Form.number t) =
+      stays_then (numbers_of here at t) (numbers_of here at' t) _ _ (numbers-gives here t) (λ numbers.
+      stays_then (not_null at (range_of numbers)) (not_null at' (range_of numbers)) _ _ (null-gives (range_of numbers)) (λ r. stays_same _))
   kind-gives here _ = λ x h. h
 
   size-gives : (n : ℕ) → Stays (as_size at n) (as_size at' n)
@@ -110,9 +128,7 @@ module _ (at at' : ℕ) where
 
   whole-gives : (here : Integers) (kind : ObjectKind) → Stays (places here at kind u.whole) (places here at' kind u.whole)
   unfolding places
-  whole-gives here one = stays_same _
-  whole-gives here (vector b) = stays_same _
-  whole-gives here (enumeration n) = stays_same _
+  whole-gives here kind = stays_same _
 
   signal-gives : (here : Site) (n : Signal) → Stays (signal_elements here at n u.whole) (signal_elements here at' n u.whole)
   unfolding signal_elements
@@ -132,10 +148,27 @@ module _ (at at' : ℕ) where
   the-element-gives : (r q : Elab (List ℕ)) → Stays r q → Stays (the_element at r) (the_element at' q)
   the-element-gives r q g = stays_then r q _ _ g (λ es. gives-item Index at at' (slice_get es 0))
 
+  range-gives : (kind : Option ObjectKind) → Stays (integer_range at kind) (integer_range at' kind)
+  range-gives (Some (kinds.integer r)) = stays_same _
+  range-gives _ = λ y h. absurd cc
+
+  computed-gives : (here : Site) (c : Computed) → Stays (x.computed here at c) (x.computed here at' c)
+  unfolding x.vector x.signal_number x.variable_number
+  computed-gives here (u.static t) = stays_then (integer here.integers at t) (integer here.integers at' t) _ _ (integer-gives here.integers t) (λ n. stays_same _)
+  computed-gives here (u.signal_number n) =
+      stays_then (signal_elements here at n u.whole) (signal_elements here at' n u.whole) _ _ (signal-gives here n) (λ es.
+      stays_then (integer_range at (signal_kind here n)) (integer_range at' (signal_kind here n)) _ _ (range-gives (signal_kind here n)) (λ r. stays_same _))
+  computed-gives here (u.variable_number k) =
+      stays_then (variable_elements here at k u.whole) (variable_elements here at' k u.whole) _ _ (variable-gives here k) (λ es.
+      stays_then (integer_range at (slice_get here.variables k)) (integer_range at' (slice_get here.variables k)) _ _ (range-gives (slice_get here.variables k)) (λ r. stays_same _))
+  computed-gives here _ = stays_same _
+
   value-gives : (here : Site) (v : Value) → Stays (x.value here at v) (x.value here at' v)
   unfolding x.value
   value-gives here (u.Value.elements v) = stays_same _
   value-gives here (u.Value.position n) = stays_same _
+  value-gives here (u.Value.computed c) = stays_then (x.computed here at c) (x.computed here at' c) _ _ (computed-gives here c) (λ n. stays_same _)
+  value-gives here (u.static_truth t) = stays_same _
   value-gives here (u.state_of n) =
       stays_then (the_element at (signal_elements here at n u.whole)) (the_element at' (signal_elements here at' n u.whole)) _ _
       (the-element-gives (signal_elements here at n u.whole) (signal_elements here at' n u.whole) (signal-gives here n)) (λ e. stays_same _)
@@ -184,10 +217,14 @@ module _ (at at' : ℕ) where
   values-gives here (enumeration count) (units.Fixed.position n) = λ x h. h
   values-gives here (enumeration count) (units.Fixed.given g) =
       stays_then (value_given here at 1 g) (value_given here at' 1 g) _ _ (given-gives here 1 g) (λ v. position-gives v)
+  values-gives here boolean (units.Fixed.truth t) = stays_same _
+  values-gives here (kinds.integer r) (units.Fixed.integer t) =
+      stays_then (integer_among here.integers at (of_range r) t) (integer_among here.integers at' (of_range r) t) _ _ (among-gives here.integers (of_range r) t) (λ n. stays_same _)
   values-gives here kind f = coded-gives here (size kind) f
 
   starts-gives : (here : Site) (kind : ObjectKind) (d : Option Fixed) → Stays (starts here at kind d) (starts here at' kind d)
   unfolding starts
+  starts-gives here (kinds.integer r) None = λ x h. h
   starts-gives here kind None = λ x h. h
   starts-gives here kind (Some f) = values-gives here kind f
 

@@ -11,16 +11,17 @@ use Rattle.vhdl_values.specs.declared.kinds.Counted.TheVariants.{Resize, ResizeS
 use Rattle.vhdl_expand_rules.specs.declared.fault.ElabProblem.{ElabProblem}
 use Rattle.vhdl_expand_rules.specs.declared.fault.ElabProblem.TheVariants as problem
 use Rattle.vhdl_expand_rules.specs.Elab.{Elab, ◌>>=◌, item_or}
-use Rattle.vhdl_expand_rules.specs.Integers.{Integers, Numbers, checked_integer, known_range, integer, natural, base_numbers, numbers_within, numbers_of, integer_of, decision}
-use Rattle.vhdl_expand_rules.specs.Kinds.{Bounds, ObjectKind, one, vector, enumeration, size, declared_bounds, kind_of, size_of, count_of, places}
+use Rattle.vhdl_expand_rules.specs.Integers.{Integers, Numbers, checked_integer, known_range, integer, natural, base_numbers, numbers_within, numbers_of, of_range, integer_among, integer_of, decision}
+use Rattle.vhdl_expand_rules.specs.Kinds.{Bounds, ObjectKind, one, vector, enumeration, boolean, size, declared_bounds, kind_of, size_of, count_of, places}
+use Rattle.vhdl_expand_rules.specs.Kinds as kinds
 use Rattle.vhdl_expand_rules.specs.Aggregates.{computed_range, given_indexes, choice_indexes, chosen_indexes}
 use Rattle.vhdl_expand_rules.specs.Site as site
-use Rattle.vhdl_expand_rules.specs.Site.{Site, part_elements, signal_elements, place_elements, variable_elements, constant_values, bounds_of, constant_bounds, the_element}
+use Rattle.vhdl_expand_rules.specs.Site.{Site, part_elements, signal_elements, place_elements, variable_elements, constant_values, signal_kind, bounds_of, constant_bounds, integer_range, the_element}
 use Rattle.vhdl_expand_rules.specs.Expressions as x
 use Rattle.vhdl_expand_rules.specs.Statements.{value_given}
 use Rattle.vhdl_expand_rules.specs.Declarations.{fixed_values, given_starts, starts}
 use Rattle.vhdl_expand_rules.proofs.laws.Names.{was_found}
-use Rattle.vhdl_expand_rules.proofs.laws.Chosen.{bounds_found}
+use Rattle.vhdl_expand_rules.proofs.laws.Chosen.{bounds_found, range_found}
 
 -- what the first computes, the second computes
 abbrev pub Stays : {A : Type 0} → Elab A → Elab A → Type 0
@@ -77,6 +78,7 @@ module _ (here more : Integers) (m : More here more) where
       stays_then (integer here sign t) (integer more sign t) _ _ (integer-stays sign t) (λ y.
       stays_before (integer here sign r) (integer more sign r) _ (integer-stays sign r))
   integer-stays at (u.bound b k) = stays_before (known_range at here.ranges k) (known_range at more.ranges k) _ (found_stays problem.StaticError at k here.ranges more.ranges m.ranges)
+  integer-stays at u.least_integer = stays_same _
   integer-stays at (u.slice_bound own b k t d r) =
       stays_then (known_range own here.ranges k) (known_range own more.ranges k) _ _ (found_stays problem.StaticError own k here.ranges more.ranges m.ranges) (λ w.
       stays_then (integer here own t) (integer more own t) _ _ (integer-stays own t) (λ y.
@@ -102,32 +104,6 @@ module _ (here more : Integers) (m : More here more) where
       stays_then (integer here at r.left) (integer more at r.left) _ _ (integer-stays at r.left) (λ y.
       stays_before (integer here at r.right) (integer more at r.right) _ (integer-stays at r.right))
 
-  pub kind_stays : (at : ℕ) (f : Form) → Stays (kind_of here at f) (kind_of more at f)
-  unfolding kind_of
-  kind_stays at units.element = stays_same (Ok one)
-  kind_stays at (units.vector r) = stays_before (declared_bounds here at r) (declared_bounds more at r) _ (bounds-stay at r)
-  kind_stays at (units.enumeration count) = stays_same (Ok (enumeration count))
-
-  pub places_stay : (at : ℕ) (kind : ObjectKind) (part : Part) → Stays (places here at kind part) (places more at kind part)
-  unfolding places
-  places_stay at kind u.whole = stays_same _
-  places_stay at (vector b) (u.Part.element t) = stays_before (integer here at t) (integer more at t) _ (integer-stays at t)
-  places_stay at (vector b) (u.slice r) =
-      stays_then (integer here at r.left) (integer more at r.left) _ _ (integer-stays at r.left) (λ y.
-      stays_before (integer here at r.right) (integer more at r.right) _ (integer-stays at r.right))
-  places_stay at one (u.Part.element t) = stays_same _
-  places_stay at one (u.slice r) = stays_same _
-  places_stay at (enumeration n) (u.Part.element t) = stays_same _
-  places_stay at (enumeration n) (u.slice r) = stays_same _
-
-  -- of the same things
-  pub part_stays : (at from : ℕ) (kinds : List ObjectKind) (k : ℕ) (part : Part) → Stays (part_elements here at from kinds k part) (part_elements more at from kinds k part)
-  part_stays at from kinds k part =
-      stays_then (item_or problem.Index at (slice_get kinds k)) (item_or problem.Index at (slice_get kinds k)) _ _ (stays_same (item_or problem.Index at (slice_get kinds k))) (λ kind.
-      stays_before (places here at kind part) (places more at kind part) _ (places_stay at kind part))
-
-  -- ---- integer subtypes and truths
-
   base-stays : (at : ℕ) (b : units.Integers) → Stays (base_numbers here at b) (base_numbers more at b)
   base-stays at (units.of_type w) = stays_same _
   base-stays at (units.of_range k) = stays_before (known_range at here.ranges k) (known_range at more.ranges k) _ (found_stays problem.StaticError at k here.ranges more.ranges m.ranges)
@@ -142,11 +118,39 @@ module _ (here more : Integers) (m : More here more) where
   unfolding numbers_of
   numbers_stay at t = stays_then (base_numbers here at t.base) (base_numbers more at t.base) _ _ (base-stays at t.base) (λ base. within-stays base t.range)
 
+  pub kind_stays : (at : ℕ) (f : Form) → Stays (kind_of here at f) (kind_of more at f)
+  unfolding kind_of
+  kind_stays at units.element = stays_same (Ok one)
+  kind_stays at (units.vector r) = stays_before (declared_bounds here at r) (declared_bounds more at r) _ (bounds-stay at r)
+  kind_stays at (units.enumeration count) = stays_same (Ok (enumeration count))
+  kind_stays at (units.Form.number t) = stays_before (numbers_of here at t) (numbers_of more at t) _ (numbers_stay at t)
+  kind_stays at units.boolean = stays_same (Ok boolean)
+
+  pub places_stay : (at : ℕ) (kind : ObjectKind) (part : Part) → Stays (places here at kind part) (places more at kind part)
+  unfolding places
+  places_stay at kind u.whole = stays_same _
+  places_stay at (vector b) (u.Part.element t) = stays_before (integer here at t) (integer more at t) _ (integer-stays at t)
+  places_stay at (vector b) (u.slice r) =
+      stays_then (integer here at r.left) (integer more at r.left) _ _ (integer-stays at r.left) (λ y.
+      stays_before (integer here at r.right) (integer more at r.right) _ (integer-stays at r.right))
+  places_stay at _ (u.Part.element t) = stays_same _
+  places_stay at _ (u.slice r) = stays_same _
+
+  -- of the same things
+  pub part_stays : (at from : ℕ) (kinds : List ObjectKind) (k : ℕ) (part : Part) → Stays (part_elements here at from kinds k part) (part_elements more at from kinds k part)
+  part_stays at from kinds k part =
+      stays_then (item_or problem.Index at (slice_get kinds k)) (item_or problem.Index at (slice_get kinds k)) _ _ (stays_same (item_or problem.Index at (slice_get kinds k))) (λ kind.
+      stays_before (places here at kind part) (places more at kind part) _ (places_stay at kind part))
+
+  -- ---- integer subtypes and truths
+
+  among-stays : (at : ℕ) (numbers : Numbers) (t : Static) → Stays (integer_among here at numbers t) (integer_among more at numbers t)
+  among-stays at numbers t = stays_before (integer here at t) (integer more at t) _ (integer-stays at t)
+
   pub integer_of_stays : (type : IntegerSubtype) (at : ℕ) (t : Static) → Stays (integer_of type here at t) (integer_of type more at t)
   unfolding integer_of
   integer_of_stays type at t =
-      stays_then (numbers_of here at type) (numbers_of more at type) _ _ (numbers_stay at type) (λ numbers.
-      stays_before (integer here at t) (integer more at t) _ (integer-stays at t))
+      stays_then (numbers_of here at type) (numbers_of more at type) _ _ (numbers_stay at type) (λ numbers. among-stays at numbers t)
 
   pub decision_stays : (t : StaticTest) → Stays (decision here t) (decision more t)
   unfolding decision
@@ -188,12 +192,16 @@ pub record Grown (here more : Site) : Type 0 where
   pub constants : Kept here.constants more.constants
   pub signals : (at : ℕ) (n : Signal) (part : Part) → Stays (signal_elements here at n part) (signal_elements more at n part)
   pub variables : (at k : ℕ) (part : Part) → Stays (variable_elements here at k part) (variable_elements more at k part)
-  pub signal_bounds : (at : ℕ) (n : Signal) → Stays (site.signal_bounds here at n) (site.signal_bounds more at n)
-  pub variable_bounds : (at k : ℕ) → Stays (site.variable_bounds here at k) (site.variable_bounds more at k)
+  pub signal_kinds : (n : Signal) (kind : ObjectKind) → signal_kind here n ≡ Some kind → signal_kind more n ≡ Some kind
+  pub variable_kinds : Kept here.variables more.variables
 
--- of things that are found
-pub bounds_kept : (at : ℕ) (ks js : List ObjectKind) → Kept ks js → (k : ℕ) → Stays (bounds_of at (slice_get ks k)) (bounds_of at (slice_get js k))
-bounds_kept at ks js kept k b h = ap (bounds_of at) (kept k (vector b) (bounds_found at (slice_get ks k) b h))
+-- of a thing that is found
+module _ (at : ℕ) (p q : Option ObjectKind) (kept : (kind : ObjectKind) → p ≡ Some kind → q ≡ Some kind) where
+  bounds-kept : Stays (bounds_of at p) (bounds_of at q)
+  bounds-kept b h = ap (bounds_of at) (kept (vector b) (bounds_found at p b h))
+
+  range-kept : Stays (integer_range at p) (integer_range at q)
+  range-kept r h = ap (integer_range at) (kept (kinds.integer r) (range_found at p r h))
 
 module _ (here more : Site) (g : Grown here more) where
   constant-bounds : (at k : ℕ) → Stays (constant_bounds here at k) (constant_bounds more at k)
@@ -206,12 +214,33 @@ module _ (here more : Site) (g : Grown here more) where
       stays_then (item_or problem.Index at (slice_get here.constants k)) (item_or problem.Index at (slice_get more.constants k)) _ _ (found_stays problem.Index at k here.constants more.constants g.constants) (λ c.
       stays_before (places here.integers at c.kind part) (places more.integers at c.kind part) _ (places_stay here.integers more.integers g.integers at c.kind part))
 
+  signal-bounds : (at : ℕ) (n : Signal) → Stays (site.signal_bounds here at n) (site.signal_bounds more at n)
+  unfolding site.signal_bounds
+  signal-bounds at n = bounds-kept at (signal_kind here n) (signal_kind more n) (g.signal_kinds n)
+
+  variable-bounds : (at k : ℕ) → Stays (site.variable_bounds here at k) (site.variable_bounds more at k)
+  variable-bounds at k = bounds-kept at (slice_get here.variables k) (slice_get more.variables k) (g.variable_kinds k)
+
+  signal-number : (at : ℕ) (n : Signal) → Stays (x.signal_number here at n) (x.signal_number more at n)
+  unfolding x.signal_number
+  signal-number at n =
+      stays_then (signal_elements here at n u.whole) (signal_elements more at n u.whole) _ _ (g.signals at n u.whole) (λ es.
+      stays_before (integer_range at (signal_kind here n)) (integer_range at (signal_kind more n)) _ (range-kept at (signal_kind here n) (signal_kind more n) (g.signal_kinds n)))
+
+  variable-number : (at k : ℕ) → Stays (x.variable_number here at k) (x.variable_number more at k)
+  unfolding x.variable_number
+  variable-number at k =
+      stays_then (variable_elements here at k u.whole) (variable_elements more at k u.whole) _ _ (g.variables at k u.whole) (λ es.
+      stays_before (integer_range at (slice_get here.variables k)) (integer_range at (slice_get more.variables k)) _ (range-kept at (slice_get here.variables k) (slice_get more.variables k) (g.variable_kinds k)))
+
   mutual
     unfolding x.vector
 
     computed-stays : (at : ℕ) (c : Computed) → Stays (x.computed here at c) (x.computed more at c)
     computed-stays at (u.static t) = stays_before (integer here.integers at t) (integer more.integers at t) _ (integer-stays here.integers more.integers g.integers at t)
     computed-stays at (u.number_of place v) = stays_before (x.vector here v) (x.vector more v) _ (vector-stays v)
+    computed-stays at (u.signal_number n) = signal-number at n
+    computed-stays at (u.variable_number k) = variable-number at k
     computed-stays at (u.Computed.negated place c) = stays_before (x.computed here place c) (x.computed more place c) _ (computed-stays place c)
     computed-stays at (u.magnitude place c) = stays_before (x.computed here place c) (x.computed more place c) _ (computed-stays place c)
     computed-stays at (u.calculated place op c d) =
@@ -221,6 +250,8 @@ module _ (here more : Site) (g : Grown here more) where
     measured-stays : (at : ℕ) (c : Computed) → Stays (x.measured here at c) (x.measured more at c)
     measured-stays at (u.static t) = stays_before (integer here.integers at t) (integer more.integers at t) _ (integer-stays here.integers more.integers g.integers at t)
     measured-stays at (u.number_of place v) = stays_before (x.vector here v) (x.vector more v) _ (vector-stays v)
+    measured-stays at (u.signal_number n) = stays_before (x.signal_number here at n) (x.signal_number more at n) _ (signal-number at n)
+    measured-stays at (u.variable_number k) = stays_before (x.variable_number here at k) (x.variable_number more at k) _ (variable-number at k)
     measured-stays at (u.Computed.negated place c) = stays_before (x.measured here place c) (x.measured more place c) _ (measured-stays place c)
     measured-stays at (u.magnitude place c) = stays_before (x.computed here place c) (x.computed more place c) _ (computed-stays place c)
     measured-stays at (u.calculated place op c d) =
@@ -239,11 +270,11 @@ module _ (here more : Site) (g : Grown here more) where
     vector-stays (u.of_constant at k part) = stays_before (constant_values here at k part) (constant_values more at k part) _ (constant-stays at k part)
     vector-stays (u.in_signal at n c) =
         stays_then (signal_elements here at n u.whole) (signal_elements more at n u.whole) _ _ (g.signals at n u.whole) (λ es.
-        stays_then (site.signal_bounds here at n) (site.signal_bounds more at n) _ _ (g.signal_bounds at n) (λ b.
+        stays_then (site.signal_bounds here at n) (site.signal_bounds more at n) _ _ (signal-bounds at n) (λ b.
         stays_before (x.chosen_row here at b c) (x.chosen_row more at b c) _ (row-stays at b c)))
     vector-stays (u.in_variable at k c) =
         stays_then (variable_elements here at k u.whole) (variable_elements more at k u.whole) _ _ (g.variables at k u.whole) (λ es.
-        stays_then (site.variable_bounds here at k) (site.variable_bounds more at k) _ _ (g.variable_bounds at k) (λ b.
+        stays_then (site.variable_bounds here at k) (site.variable_bounds more at k) _ _ (variable-bounds at k) (λ b.
         stays_before (x.chosen_row here at b c) (x.chosen_row more at b c) _ (row-stays at b c)))
     vector-stays (u.in_constant at k c) =
         stays_then (constant_values here at k u.whole) (constant_values more at k u.whole) _ _ (constant-stays at k u.whole) (λ vs.
@@ -303,6 +334,8 @@ module _ (here more : Site) (g : Grown here more) where
   unfolding x.value
   value-stays at (u.Value.elements v) = stays_before (x.vector here v) (x.vector more v) _ (vector-stays v)
   value-stays at (u.Value.position n) = stays_same _
+  value-stays at (u.Value.computed c) = stays_before (x.computed here at c) (x.computed more at c) _ (computed-stays at c)
+  value-stays at (u.static_truth t) = stays_before (decision here.integers t) (decision more.integers t) _ (decision_stays here.integers more.integers g.integers t)
   value-stays at (u.state_of n) =
       stays_before (the_element at (signal_elements here at n u.whole)) (the_element at (signal_elements more at n u.whole)) _
       (stays_before (signal_elements here at n u.whole) (signal_elements more at n u.whole) _ (g.signals at n u.whole))
@@ -335,9 +368,14 @@ module _ (here more : Site) (g : Grown here more) where
   given-starts : (at : ℕ) (kind : ObjectKind) (f : Fixed) → Stays (given_starts here at kind f) (given_starts more at kind f)
   given-starts at (enumeration n) (units.Fixed.position p) = stays_same _
   given-starts at (enumeration n) (units.Fixed.given v) = stays_before (value_given here at 1 v) (value_given more at 1 v) _ (given_stays at 1 v)
+  given-starts at boolean (units.Fixed.truth t) =
+      stays_before (decision here.integers t) (decision more.integers t) _ (decision_stays here.integers more.integers g.integers t)
+  given-starts at (kinds.integer r) (units.Fixed.integer t) =
+      stays_before (integer_among here.integers at (of_range r) t) (integer_among more.integers at (of_range r) t) _ (among-stays here.integers more.integers g.integers at (of_range r) t)
   given-starts at kind f = stays_before (fixed_values here at (size kind) f) (fixed_values more at (size kind) f) _ (fixed_stays at (size kind) f)
 
   pub starts_stay : (at : ℕ) (kind : ObjectKind) (default : Option Fixed) → Stays (starts here at kind default) (starts more at kind default)
   unfolding starts
+  starts_stay at (kinds.integer r) None = stays_same _
   starts_stay at kind None = stays_same _
   starts_stay at kind (Some f) = given-starts at kind f

@@ -7,11 +7,10 @@ use Rattle.vhdl_expand_rules.specs.declared.fault.ElabProblem.TheVariants as pro
 use Rattle.vhdl_expand_rules.specs.Elab.{Elab, ◌>>=◌, item_or}
 use Rattle.vhdl_expand_rules.specs.Integers.{IntegerRange, Integers}
 use Rattle.vhdl_expand_rules.specs.Kinds.{ObjectKind, places}
-use Rattle.vhdl_expand_rules.specs.Site as site
-use Rattle.vhdl_expand_rules.specs.Site.{Constant, Site, part_elements, elements_count, signal_elements, variable_elements}
+use Rattle.vhdl_expand_rules.specs.Site.{Constant, Site, part_elements, elements_count, signal_kind, signal_elements, variable_elements}
 use Rattle.vhdl_expand_rules.proofs.Steps.{given, bound}
 use Rattle.vhdl_expand_rules.proofs.laws.Names.{was_found}
-use Rattle.vhdl_expand_declarations.proofs.Growing.{Stays, stays_same, stays_then, stays_before, kept_same, kept_behind, found_stays, More, places_stay, part_stays, Grown, bounds_kept}
+use Rattle.vhdl_expand_declarations.proofs.Growing.{Stays, stays_then, stays_before, kept_same, kept_behind, found_stays, More, places_stay, part_stays, Grown}
 
 -- ---- elements, when more things are declared behind
 
@@ -39,14 +38,14 @@ module _ (here more : Integers) (m : More here more) (at from : ℕ) where
 module _ (here : Site) (more : Integers) (m : More here.integers more) where
   -- constants, or ranges alone
   pub known_grown : (others : List Constant) → Grown here (record here { integers = more; constants = here.constants ++ others })
-  unfolding signal_elements variable_elements site.signal_bounds
+  unfolding signal_elements variable_elements
   known_grown others = record {
     integers = m;
     constants = kept_behind here.constants others;
     signals = elements-stay;
     variables = variables-stay;
-    signal_bounds = bounds-stay;
-    variable_bounds = λ at k. stays_same _;
+    signal_kinds = kinds-stay;
+    variable_kinds = kept_same here.variables;
   }
     where
       elements-stay : (at : ℕ) (n : Signal) (part : Part) → Stays (signal_elements here at n part) (signal_elements (record here { integers = more; constants = here.constants ++ others }) at n part)
@@ -56,20 +55,20 @@ module _ (here : Site) (more : Integers) (m : More here.integers more) where
       variables-stay : (at k : ℕ) (part : Part) → Stays (variable_elements here at k part) (variable_elements (record here { integers = more; constants = here.constants ++ others }) at k part)
       variables-stay at k part = part_stays here.integers more m at 0 here.variables k part
 
-      bounds-stay : (at : ℕ) (n : Signal) → Stays (site.signal_bounds here at n) (site.signal_bounds (record here { integers = more; constants = here.constants ++ others }) at n)
-      bounds-stay at (u.port k) = stays_same _
-      bounds-stay at (u.Signal.signal k) = stays_same _
+      kinds-stay : (n : Signal) (kind : ObjectKind) → signal_kind here n ≡ Some kind → signal_kind (record here { integers = more; constants = here.constants ++ others }) n ≡ Some kind
+      kinds-stay (u.port k) kind h = h
+      kinds-stay (u.Signal.signal k) kind h = h
 
   -- ports, before any signal
   pub ports_grown : (others : List ObjectKind) → here.signals ≡ [] → Grown here (record here { integers = more; ports = here.ports ++ others })
-  unfolding signal_elements variable_elements site.signal_bounds
+  unfolding signal_elements variable_elements
   ports_grown others none = record {
     integers = m;
     constants = kept_same here.constants;
     signals = elements-stay;
     variables = variables-stay;
-    signal_bounds = bounds-stay;
-    variable_bounds = λ at k. stays_same _;
+    signal_kinds = kinds-stay;
+    variable_kinds = kept_same here.variables;
   }
     where
       no-signal : (ks : List ObjectKind) (at from k : ℕ) (part : Part) (q : Elab (List ℕ)) → ks ≡ [] → Stays (part_elements here.integers at from ks k part) q
@@ -83,19 +82,19 @@ module _ (here : Site) (more : Integers) (m : More here.integers more) where
       variables-stay : (at k : ℕ) (part : Part) → Stays (variable_elements here at k part) (variable_elements (record here { integers = more; ports = here.ports ++ others }) at k part)
       variables-stay at k part = part_stays here.integers more m at 0 here.variables k part
 
-      bounds-stay : (at : ℕ) (n : Signal) → Stays (site.signal_bounds here at n) (site.signal_bounds (record here { integers = more; ports = here.ports ++ others }) at n)
-      bounds-stay at (u.port k) = bounds_kept at here.ports (here.ports ++ others) (kept_behind here.ports others) k
-      bounds-stay at (u.Signal.signal k) = stays_same _
+      kinds-stay : (n : Signal) (kind : ObjectKind) → signal_kind here n ≡ Some kind → signal_kind (record here { integers = more; ports = here.ports ++ others }) n ≡ Some kind
+      kinds-stay (u.port k) kind h = kept_behind here.ports others k kind h
+      kinds-stay (u.Signal.signal k) kind h = h
 
   pub signals_grown : (others : List ObjectKind) → Grown here (record here { integers = more; signals = here.signals ++ others })
-  unfolding signal_elements variable_elements site.signal_bounds
+  unfolding signal_elements variable_elements
   signals_grown others = record {
     integers = m;
     constants = kept_same here.constants;
     signals = elements-stay;
     variables = variables-stay;
-    signal_bounds = bounds-stay;
-    variable_bounds = λ at k. stays_same _;
+    signal_kinds = kinds-stay;
+    variable_kinds = kept_same here.variables;
   }
     where
       elements-stay : (at : ℕ) (n : Signal) (part : Part) → Stays (signal_elements here at n part) (signal_elements (record here { integers = more; signals = here.signals ++ others }) at n part)
@@ -105,9 +104,9 @@ module _ (here : Site) (more : Integers) (m : More here.integers more) where
       variables-stay : (at k : ℕ) (part : Part) → Stays (variable_elements here at k part) (variable_elements (record here { integers = more; signals = here.signals ++ others }) at k part)
       variables-stay at k part = part_stays here.integers more m at 0 here.variables k part
 
-      bounds-stay : (at : ℕ) (n : Signal) → Stays (site.signal_bounds here at n) (site.signal_bounds (record here { integers = more; signals = here.signals ++ others }) at n)
-      bounds-stay at (u.port k) = stays_same _
-      bounds-stay at (u.Signal.signal k) = bounds_kept at here.signals (here.signals ++ others) (kept_behind here.signals others) k
+      kinds-stay : (n : Signal) (kind : ObjectKind) → signal_kind here n ≡ Some kind → signal_kind (record here { integers = more; signals = here.signals ++ others }) n ≡ Some kind
+      kinds-stay (u.port k) kind h = h
+      kinds-stay (u.Signal.signal k) kind h = kept_behind here.signals others k kind h
 
 -- of ranges alone
 pub more_ranges : (here : Integers) (rs : List IntegerRange) → More here (record here { ranges = here.ranges ++ rs })

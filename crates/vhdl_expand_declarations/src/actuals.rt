@@ -5,8 +5,10 @@ ghost use Rattle.vhdl_expand_tree.specs.Views.{object_view, role_view};
 ghost use Rattle.vhdl_names_rules.specs.views.Vectors.{place_view};
 ghost use Rattle.vhdl_expand_rules.specs.Declarations as definition;
 ghost use Rattle.vhdl_expand_rules.specs.Elab.{same_length};
-ghost use Rattle.vhdl_expand_rules.specs.Kinds.{size};
-ghost use Rattle.vhdl_expand_rules.specs.views.Integers.{Computes};
+ghost use Rattle.vhdl_expand_rules.specs.Computed.{covers};
+ghost use Rattle.vhdl_expand_rules.specs.Kinds as kinds;
+ghost use Rattle.vhdl_expand_rules.specs.Kinds.{range_span, size};
+ghost use Rattle.vhdl_expand_rules.specs.views.Integers.{range_view, Computes};
 ghost use Rattle.vhdl_expand_rules.specs.views.Kinds.{kind_view, run_view};
 ghost use Rattle.vhdl_expand_operands.specs.Results.{Expands};
 ghost use Rattle.vhdl_expand_bodies.specs.Sites.{IsShort, IsSite, site_view};
@@ -19,7 +21,7 @@ ghost use Rattle.vhdl_expand_declarations.specs.Stepwise.{stepwise};
 use crate::declared::InstanceObjects;
 use std::alloc::{AllocError, Global};
 use vhdl_expand_bodies::Site;
-use vhdl_expand_rules::{ElabFault, ElabProblem, ObjectKind, Run};
+use vhdl_expand_rules::{ElabFault, ElabProblem, IntegerRange, ObjectKind, Run};
 use vhdl_expand_tree::{Object, Role};
 use vhdl_names_rules::SignalPart;
 use vhdl_names_units::{Actuals, Entity, Ports};
@@ -69,8 +71,55 @@ fn as_many(run: Run, kind: ObjectKind, at: usize) -> Result<(), ElabFault>
     Ok(())
 }
 
+/// Whether a range has each number of another.
+fn has_all(range: IntegerRange, other: IntegerRange) -> bool
+    ensures { result ≡ covers (range_span (range_view range)) (range_span (range_view other)) }
+{
+    range.has(other.lower()) && range.has(other.upper())
+}
+
+/// Whether the numbers of a range are kept with a sign.
+fn has_sign(range: IntegerRange) -> bool
+    ensures { result ≡ kinds.has_sign (range_view range) }
+{
+    range.lower() < 0
+}
+
+/// Whether integers may flow from a range into another: that has them, and is kept in the same way.
+fn flows_into(from: IntegerRange, to: IntegerRange) -> bool
+    ensures { result ≡ definition.flows_into (range_view from) (range_view to) }
+{
+    if !has_all(to, from) {
+        return false;
+    }
+    if has_sign(from) {
+        has_sign(to)
+    } else {
+        !has_sign(to)
+    }
+}
+
+/// Whether a port of this kind may have an actual of this kind: of integers, the range that they
+/// flow from lies in the one that they flow to.
+fn may_flow(role: Role, actual: Option<ObjectKind>, formal: ObjectKind) -> bool
+    ensures { result ≡
+        definition.may_flow (role_view role) (option_map kind_view actual) (kind_view formal) }
+{
+    let Some(ObjectKind::Integer(actual)) = actual else {
+        return true;
+    };
+    let ObjectKind::Integer(formal) = formal else {
+        return true;
+    };
+    match role {
+        Role::Input => flows_into(actual, formal),
+        Role::Output => flows_into(formal, actual),
+        Role::Internal => true,
+    }
+}
+
 /// Gives a port of a declaration the elements of its actual, if it has one; a fault is StaticError,
-/// Index, Length or Unassociated, the last at this byte.
+/// Index, Length, GenericRange or Unassociated, the last at this byte.
 #[tactic(auto, unfolding(vhdl_expand_rules::specs::Declarations::association), using(crate::proofs::Associating::run_long))]
 fn associate(
     alloc: Global,
@@ -93,6 +142,9 @@ fn associate(
     };
     let run = above.signal_elements(place.signal, &place.part, place.at)?;
     as_many(run, port.kind, place.at)?;
+    if !may_flow(port.role, above.signal_kind(place.signal), port.kind) {
+        return Err(ElabProblem::GenericRange.at(place.at));
+    }
     port.actual = Some(elements(alloc, run)?);
     Ok(())
 }
@@ -153,8 +205,8 @@ fn associate_ports(
 
 /// Associates the ports of an instance of an entity, behind which nothing is declared yet, with
 /// elements of the instance above. It takes the memory of these, and for a while that of a list of
-/// the actuals. A fault is StaticError, Index, Length, or Unassociated at this byte, and then no
-/// one says how far it came.
+/// the actuals. A fault is StaticError, Index, Length, GenericRange, or Unassociated at this byte,
+/// and then no one says how far it came.
 pub fn associations(
     alloc: Global,
     above: &Site,

@@ -31,7 +31,6 @@ pub(crate) fn position_of(truth: bool) -> i32
 }
 
 /// A constant that is no integer; a fault is StaticError, Length, Index or TooWide.
-#[tactic(auto, using(vhdl_expand_rules::proofs::laws::Kinds::kind_width))]
 fn constant(
     alloc: Global,
     site: &Site,

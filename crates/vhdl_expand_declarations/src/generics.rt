@@ -95,7 +95,6 @@ fn values(
 }
 
 /// The value of a generic of this form; a fault is StaticError, Length, Index or TooWide.
-#[tactic(auto, using(vhdl_expand_rules::proofs::laws::Kinds::kind_width))]
 fn of_form(
     alloc: Global,
     from: &Site,

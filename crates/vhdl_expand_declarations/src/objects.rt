@@ -18,7 +18,8 @@ use vhdl_names_units::{Objects, Ports};
 use vhdl_tree::Mode;
 
 /// Puts the ports or signals of one declaration behind those before them, ports before any signal;
-/// a fault is StaticError, Length, Index or TooWide. What they are and start with is computed once.
+/// a fault is StaticError, GenericRange, Length, Index or TooWide. What they are and start with is
+/// computed once.
 pub(crate) fn add_objects(
     alloc: Global,
     role: Role,
@@ -52,7 +53,7 @@ fn role_of(mode: Mode) -> Role
 }
 
 /// Puts ports behind those before them, in order, before any signal; a fault is StaticError,
-/// Length, Index or TooWide.
+/// GenericRange, Length, Index or TooWide.
 pub(crate) fn add_ports(
     alloc: Global,
     declarations: &[Ports],

@@ -29,9 +29,8 @@ pub(crate) struct Shape {
 }
 
 impl Shape {
-    /// Of objects of a declaration; a fault is StaticError, Length, Index or TooWide, at this byte
-    /// where no operator is to blame. It takes the memory of the list.
-    #[tactic(auto, using(vhdl_expand_rules::proofs::laws::Kinds::kind_width))]
+    /// Of objects of a declaration; a fault is StaticError, GenericRange, Length, Index or TooWide,
+    /// at this byte where no operator is to blame. It takes the memory of the list.
     pub(crate) fn of(
         alloc: Global,
         site: &Site,

@@ -21,9 +21,9 @@ use vhdl_expand_tree::Variable;
 use vhdl_names_units::{Declaration, Objects};
 use vhdl_tree::Identifier;
 
-/// The variable of this name among those of a declaration; a fault is StaticError, Length, Index or
-/// TooWide.
-#[tactic(auto, unfolding(vhdl_expand_rules::specs::Declarations::variable), using(vhdl_expand_rules::proofs::laws::Kinds::kind_width))]
+/// The variable of this name among those of a declaration; a fault is StaticError, GenericRange,
+/// Length, Index or TooWide.
+#[tactic(auto, unfolding(vhdl_expand_rules::specs::Declarations::variable))]
 fn variable(
     alloc: Global,
     site: &Site,
@@ -42,7 +42,7 @@ fn variable(
 }
 
 /// Puts the variables of a declaration behind what is declared before them, in a process that
-/// stands at a site; a fault is StaticError, Length, Index or TooWide.
+/// stands at a site; a fault is StaticError, GenericRange, Length, Index or TooWide.
 fn add_variables(
     alloc: Global,
     site: &Site,

@@ -1,36 +1,20 @@
 -- How many digits numbers need.
-use Rattle.std.proofs.Common.{◌≡◌, ℕ, zero, suc, ◌+◌, ◌-◌, ◌*◌, ◌^◌, ◌<◌, ◌≤◌, ◌⊎◌, inl, inr, Bool, true, false, ◌&&◌, max, refl, sym, ap, ◌∙◌, subst, pow-suc, pow_mono, arith, w64}
-use Rattle.std.specs.Prelude.{ℤ, pos, negsuc, nat_lt, nat_abs, int_lt, FitsSigned}
-use Rattle.std.proofs.lemmas.Int.{ints}
+use Rattle.std.proofs.Common.{◌≡◌, ℕ, zero, suc, ◌+◌, ◌-◌, ◌*◌, ◌^◌, ◌<◌, ◌≤◌, ◌⊎◌, inl, inr, Bool, true, ◌&&◌, max, refl, sym, ◌∙◌, subst, pow-suc, pow_mono, arith, w64}
+use Rattle.std.specs.Prelude.{ℤ, pos, negsuc, nat_lt, FitsSigned}
 use Rattle.std.proofs.lemmas.Bool.{and_parts, and_from, ltb-true, lt-ltb, cases_lt}
 use Rattle.std.proofs.lemmas.Nat.{leading_length}
-use mir.Val.{bool_byte}
 use lib.Count.{count_leading_zeros}
+use Rattle.vhdl_numbers.specs.Digits.{without_sign}
 use Rattle.vhdl_expand_rules.specs.Computed.{Span, hold, digits_needed}
 use Rattle.vhdl_expand_rules.proofs.FirstPassing.{first_passing, first_by, first_passes, first_within}
 
--- a number's size in two's complement: of one below 0 that of the number one above it
-abbrev pub size : ℤ → ℕ
-size (pos n) = n
-size (negsuc n) = n
-
-pub not_below : (n : ℕ) → int_lt (pos n) (pos 0) ≡ false
-not_below n = grind (arith, ints)
-
-size-of : (x : ℤ) → nat_abs x - bool_byte (int_lt x (pos 0)) ≡ size x
-size-of (pos n) = let none : n - 0 ≡ n = omega arith in (λ i. n - bool_byte (not_below n i)) ∙ none
-size-of (negsuc n) = let e : suc n - 1 ≡ n = omega arith in e
-
-pub size_is : (x z : ℤ) (a b : ℕ) → z ≡ x → a ≡ nat_abs z → b ≡ bool_byte (int_lt z (pos 0)) → a - b ≡ size x
-size_is x z a b e h k = (λ i. h i - k i) ∙ size-of z ∙ ap size e
-
-pub size_small : (x : ℤ) → FitsSigned w64 x → size x < 2 ^ 63
+pub size_small : (x : ℤ) → FitsSigned w64 x → without_sign x < 2 ^ 63
 size_small (pos n) h = h.sfits
 size_small (negsuc n) h = h.sfits
 
-hold-size : (d : ℕ) (x : ℤ) → hold d x ≡ nat_lt (size x * 2) (2 ^ d)
-hold-size d (pos n) = refl
-hold-size d (negsuc n) = refl
+hold-without_sign : (d : ℕ) (x : ℤ) → hold d x ≡ nat_lt (without_sign x * 2) (2 ^ d)
+hold-without_sign d (pos n) = refl
+hold-without_sign d (negsuc n) = refl
 
 -- what is below a power needs a digit more than that
 enough-below : (a m : ℕ) → a < 2 ^ m → a * 2 < 2 ^ suc m
@@ -46,20 +30,20 @@ few-above a m k low high = by (cases_lt k m)
         let e = pow-suc 2 k in
         absurd (omega (arith, low, high, p, e))
 
-module _ (x : ℤ) (a zeros d : ℕ) (is : a ≡ size x) (word : a < 2 ^ 64) (counted : zeros ≡ count_leading_zeros 64 a) (made : d ≡ 65 - zeros) where
+module _ (x : ℤ) (a zeros d : ℕ) (is : a ≡ without_sign x) (word : a < 2 ^ 64) (counted : zeros ≡ count_leading_zeros 64 a) (made : d ≡ 65 - zeros) where
   pub digits_hold : hold d x ≡ true
   digits_hold =
       let w = leading_length 64 a word in
       let long : d ≡ suc w.0 = omega (arith, counted, made, w.1) in
-      hold-size d x
-      ∙ lt-ltb (size x * 2) (2 ^ d)
-      (subst (λ n. size x * 2 < 2 ^ n) (sym long) (subst (λ n. n * 2 < 2 ^ suc w.0) is (enough-below a w.0 w.2)))
+      hold-without_sign d x
+      ∙ lt-ltb (without_sign x * 2) (2 ^ d)
+      (subst (λ n. without_sign x * 2 < 2 ^ n) (sym long) (subst (λ n. n * 2 < 2 ^ suc w.0) is (enough-below a w.0 w.2)))
 
   pub digits_fewest : (n : ℕ) → 1 ≤ n → hold n x ≡ true → d ≤ n
   digits_fewest zero l h = absurd (omega (arith, l))
   digits_fewest (suc k) l h =
       let w = leading_length 64 a word in
-      let high : size x * 2 < 2 ^ suc k = ltb-true (size x * 2) (2 ^ suc k) (sym (hold-size (suc k) x) ∙ h) in
+      let high : without_sign x * 2 < 2 ^ suc k = ltb-true (without_sign x * 2) (2 ^ suc k) (sym (hold-without_sign (suc k) x) ∙ h) in
       let few = few-above a w.0 k w.3 (subst (λ n. n * 2 < 2 ^ suc k) (sym is) high) in
       omega (arith, few, counted, made, w.1)
 
@@ -72,9 +56,9 @@ module _ (x : ℤ) (a zeros d : ℕ) (is : a ≡ size x) (word : a < 2 ^ 64) (co
 -- more digits hold it too
 hold-more : (x : ℤ) (m n : ℕ) → m ≤ n → hold m x ≡ true → hold n x ≡ true
 hold-more x m n l h =
-    let small : size x * 2 < 2 ^ m = ltb-true (size x * 2) (2 ^ m) (sym (hold-size m x) ∙ h) in
+    let small : without_sign x * 2 < 2 ^ m = ltb-true (without_sign x * 2) (2 ^ m) (sym (hold-without_sign m x) ∙ h) in
     let p : 2 ^ m ≤ 2 ^ n = pow_mono l in
-    hold-size n x ∙ lt-ltb (size x * 2) (2 ^ n) (omega (arith, small, p))
+    hold-without_sign n x ∙ lt-ltb (without_sign x * 2) (2 ^ n) (omega (arith, small, p))
 
 -- the digits that hold both ends are the longer ones
 pub needed : (s : Span) (a b : ℕ) → hold a s.least ≡ true → ((n : ℕ) → 1 ≤ n → hold n s.least ≡ true → a ≤ n) → 1 ≤ a → a ≤ 64

@@ -6,4 +6,3 @@ pub mod Known
 pub mod TopDigit
 pub mod Summing
 pub mod Measuring
-pub mod Comparing

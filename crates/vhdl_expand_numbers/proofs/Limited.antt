@@ -1,17 +1,9 @@
 -- What lies within limits lies within the integers.
-use Rattle.std.proofs.Common.{◌≡◌, Bool, true, false, cond, refl, arith, w32}
-use Rattle.std.specs.Prelude.{ℤ, pos, negsuc, int_le, FitsSigned}
+use Rattle.std.proofs.Common.{◌≡◌, Bool, true, false, cond, refl, arith}
+use Rattle.std.specs.Prelude.{ℤ, pos, negsuc, int_le}
 use Rattle.std.proofs.lemmas.Int.{ints}
-use Rattle.std.proofs.lemmas.Bool.{and_parts, and_from, le-leb}
+use Rattle.std.proofs.lemmas.Bool.{and_parts, and_from}
 use Rattle.vhdl_expand_rules.specs.Computed.{Span, span, integers, has, covers, held_in, minimum, cut_to}
-
-pub word_has : (x : ℤ) → FitsSigned w32 x → has integers x ≡ true
-word_has (pos n) h =
-    let f = h.sfits in
-    and_from (int_le (negsuc 2147483647) (pos n)) (int_le (pos n) (pos 2147483647)) refl (le-leb n 2147483647 (omega (arith, f)))
-word_has (negsuc n) h =
-    let f = h.sfits in
-    and_from (int_le (negsuc 2147483647) (negsuc n)) (int_le (negsuc n) (pos 2147483647)) (le-leb n 2147483647 (omega (arith, f))) refl
 
 le-along : (x y z : ℤ) → int_le x y ≡ true → int_le y z ≡ true → int_le x z ≡ true
 le-along x y z h k = grind (arith, ints)

@@ -5,7 +5,7 @@ use Rattle.std.proofs.lemmas.Bool.{eqb-true, eq-eqb, le-leb, lt-leb, cond-true, 
 use Rattle.vhdl_values.specs.declared.kinds.Counted.TheVariants.{Resize, ResizeSigned}
 use Rattle.rtl_model.specs.bodies.Body as bodies
 use Rattle.rtl_model.specs.bodies.Fits.{width}
-use Rattle.vhdl_expand_rules.specs.Computed.{Span, integers, covers, digits_needed, Number, extended, natural, natural_digits}
+use Rattle.vhdl_expand_rules.specs.Computed.{Span, integers, covers, digits_needed, Number, extended, to_length}
 use Rattle.vhdl_expand_rules.proofs.laws.Computed.{digits_are_few}
 
 abbrev pub number_of : bodies.Expr → Span → Number
@@ -29,21 +29,15 @@ few_digits s e d len m h is made long =
     let w : width d ≡ len = ap width made ∙ width_extended len e in
     omega (arith, few, is, w, long)
 
--- what is natural of a number, beside a vector of this length
-module _ (len m : ℕ) (x : Number) (e : bodies.Expr) (is : e ≡ natural x) (long : width e ≡ m) where
-  pub natural_short : m ≤ len → extended len e ≡ natural_digits len x
-  unfolding natural_digits
-  natural_short h =
-      (λ i. extended len (is i))
-      ∙ sym (cond-true (nat_le (width (natural x)) len) (extended len (natural x)) (bodies.counted Resize len (natural x))
-      (le-leb (width (natural x)) len (let w : width (natural x) ≡ m = ap width (sym is) ∙ long in omega (arith, h, w))))
+-- as long as is asked for
+module _ (len m : ℕ) (e : bodies.Expr) (long : width e ≡ m) where
+  pub short_to : m ≤ len → extended len e ≡ to_length len e
+  short_to h = sym (cond-true (nat_le (width e) len) (extended len e) (bodies.counted Resize len e) (le-leb (width e) len (omega (arith, h, long))))
 
-  pub natural_long : (count : ℕ) → count ≡ len → len < m → bodies.counted Resize count e ≡ natural_digits len x
-  unfolding natural_digits
-  natural_long count same h =
-      (λ i. bodies.counted Resize (same i) (is i))
-      ∙ sym (cond-false (nat_le (width (natural x)) len) (extended len (natural x)) (bodies.counted Resize len (natural x))
-      (lt-leb (width (natural x)) len (let w : width (natural x) ≡ m = ap width (sym is) ∙ long in omega (arith, h, w))))
+  pub long_to : (count : ℕ) → count ≡ len → len < m → bodies.counted Resize count e ≡ to_length len e
+  long_to count same h =
+      (λ i. bodies.counted Resize (same i) e)
+      ∙ sym (cond-false (nat_le (width e) len) (extended len e) (bodies.counted Resize len e) (lt-leb (width e) len (omega (arith, h, long))))
 
 -- what is made is the same as another
 pub made_along : {X Y E : Type 0} (v : X → Y) (r : Result X E) (a b : Y) → a ≡ b → IfOk r (λ x. v x ≡ a) → IfOk r (λ x. v x ≡ b)

@@ -9,8 +9,6 @@ mod number;
 mod operations;
 mod relations;
 mod rows;
-mod same;
-mod same_parts;
 mod span;
 
 pub use bounded::Number;
@@ -18,5 +16,4 @@ pub use measured::Measured;
 pub use operations::operation;
 pub use relations::{compared_to, compared_with, relation};
 pub use rows::{Row, listed};
-pub use same::same_expr;
-pub use span::{Limits, Span};
+pub use span::{INTEGERS, Limits, Span};

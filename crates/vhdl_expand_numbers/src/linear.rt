@@ -7,10 +7,10 @@ ghost use Rattle.vhdl_expand_rules.specs.Linear as definition;
 ghost use Rattle.vhdl_expand_rules.specs.SameExpr.{same_expr};
 ghost use Rattle.vhdl_expand_numbers.specs.Views.{linear_view, term_view};
 
-use crate::same::same_expr;
 use rtl_net::Expr;
 use std::alloc::{AllocError, Global};
 use vhdl_expand_rules::{ElabFault, ElabProblem, operated};
+use vhdl_expand_same::same_expr;
 use vhdl_names_rules::Arithmetic;
 
 /// How many terms a sum may have: each is compared with each.

@@ -1,9 +1,11 @@
 //! Numbers: expressions in two's complement, as long as their bounds want them.
 
 ghost use Rattle.std.specs.Prelude.{◌≡◌, ◌≤◌, IfOk};
-ghost use Rattle.vhdl_numbers.specs.TwosComplement.{signed_digits_of};
 ghost use Rattle.rtl_model.specs.bodies.Fits.{width};
 ghost use Rattle.vhdl_expand_rules.specs.Computed as definition;
+ghost use Rattle.vhdl_expand_rules.specs.Expressions.{kept_in, number_in, signed_digits};
+ghost use Rattle.vhdl_expand_rules.specs.Kinds.{number_size};
+ghost use Rattle.vhdl_expand_rules.specs.views.Integers.{range_view};
 ghost use Rattle.vhdl_expand_numbers.specs.Views.{limits_view, span_view, number_view};
 ghost use Rattle.vhdl_expand_operands.specs.Operands.{operand_view};
 ghost use Rattle.vhdl_expand_operands.specs.Results.{Expands};
@@ -13,8 +15,8 @@ use crate::span::{INTEGERS, Limits, NATURALS, Span};
 use rtl_net::Operator;
 use std::alloc::{AllocError, Global};
 use vhdl_expand_operands::Operand;
-use vhdl_expand_rules::{ElabFault, ElabProblem};
-use vhdl_numbers::Conversion;
+use vhdl_expand_rules::{ElabFault, ElabProblem, IntegerRange};
+use vhdl_numbers::{Conversion, digits_of};
 use vhdl_values::{Counted, Nine, Vec9};
 
 /// An operand, longer or shorter by the sign. It may take the memory of a box.
@@ -56,17 +58,31 @@ pub fn limited(
     Ok(Number { operand, span })
 }
 
-/// The digits of a number in two's complement.
-fn digits_of(number: i64, len: usize) -> Vec9
+/// The last digits of an operand, as many as are asked for, or it extended to them. It may take the
+/// memory of a box.
+fn to_length(operand: Operand, alloc: Global, len: usize) -> Result<Operand, AllocError>
     requires some { 1 ≤ len }
     requires few { len ≤ 64 }
-    ensures { result ≡ signed_digits_of len number }
+    ensures { IfOk result (λ o. operand_view o ≡ definition.to_length len (operand_view operand)) }
 {
-    let size = number.unsigned_abs();
-    if number < 0 {
-        return Vec9::of_nat(size - 1, len).not();
+    if operand.width.len <= len {
+        extended(operand, alloc, len)
+    } else {
+        operand.by_count(alloc, Counted::Resize, len as u32)
     }
-    Vec9::of_nat(size, len)
+}
+
+/// The digits of an object of this range in two's complement. It may take the memory of boxes and a
+/// list.
+fn with_sign(operand: Operand, alloc: Global, range: IntegerRange) -> Result<Operand, AllocError>
+    requires { operand.width.len ≡ number_size (range_view range) }
+    ensures { IfOk result (λ o. operand_view o ≡ signed_digits (range_view range) (operand_view operand)) }
+{
+    if range.size() == Limits::of_range(range).span().digits() {
+        return Ok(operand);
+    }
+    let zero = Operand::constant(Vec9::fill(Nine::Zero, 1));
+    zero.operated(alloc, Operator::Concatenate, operand)
 }
 
 impl Number {
@@ -75,10 +91,10 @@ impl Number {
     pub fn known(number: i32) -> Number
         ensures { number_view result ≡ definition.known number }
     {
-        let number = i64::from(number);
+        let bound = i64::from(number);
         let span = Span {
-            least: number,
-            greatest: number,
+            least: bound,
+            greatest: bound,
         };
         let digits = digits_of(number, span.digits());
         Number {
@@ -126,17 +142,48 @@ impl Number {
 
     /// Its last digits, as many as a vector beside it has, where numeric_std asks for a natural
     /// number. It may take the memory of boxes.
-    #[tactic(auto, unfolding(vhdl_expand_rules::specs::Computed::natural_digits))]
+    #[tactic(auto, unfolding(vhdl_expand_rules::specs::Computed::natural_digits, vhdl_expand_rules::specs::Computed::natural))]
     pub fn natural_digits(self, alloc: Global, len: usize) -> Result<Operand, AllocError>
         requires some { 1 ≤ len }
         requires few { len ≤ 64 }
         ensures { IfOk result (λ o. operand_view o ≡ definition.natural_digits len (number_view self)) }
     {
-        let natural = self.within(alloc, NATURALS)?.operand;
-        if natural.width.len <= len {
-            extended(natural, alloc, len)
-        } else {
-            natural.by_count(alloc, Counted::Resize, len as u32)
+        to_length(self.within(alloc, NATURALS)?.operand, alloc, len)
+    }
+
+    /// The number of an object of this range, whose elements these are. It may take the memory of
+    /// boxes and a list.
+    pub fn of_object(
+        operand: Operand,
+        alloc: Global,
+        range: IntegerRange,
+    ) -> Result<Number, AllocError>
+        requires { operand.width.len ≡ number_size (range_view range) }
+        ensures { IfOk result (λ n. number_view n ≡ number_in (range_view range) (operand_view operand)) }
+    {
+        let limits = Limits::of_range(range);
+        let span = limits.span();
+        let digits = with_sign(operand, alloc, range)?;
+        let operand = extended(digits, alloc, span.digits())?;
+        Ok(Number { operand, span })
+    }
+
+    /// This as an object of a range keeps it: X where it lies outside. It may take the memory of
+    /// boxes.
+    pub fn kept_in(self, alloc: Global, range: IntegerRange) -> Result<Operand, AllocError>
+        ensures { IfOk result (λ o. operand_view o ≡ kept_in (range_view range) (number_view self)) }
+    {
+        let number = self.within(alloc, Limits::of_range(range))?;
+        to_length(number.operand, alloc, range.size())
+    }
+
+    /// The bounds that it lies between.
+    pub fn limits(&self) -> Limits
+        ensures { limits_view result ≡ (number_view self.now).span }
+    {
+        Limits {
+            least: self.span.least as i32,
+            greatest: self.span.greatest as i32,
         }
     }
 

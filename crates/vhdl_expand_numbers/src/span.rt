@@ -2,7 +2,11 @@
 
 ghost use Rattle.std.specs.Prelude.{◌≡◌, ◌≤◌, ℕ, true, if◌then◌else◌, pos};
 ghost use Rattle.vhdl_expand_rules.specs.Computed as definition;
+ghost use Rattle.vhdl_expand_rules.specs.Kinds.{range_span};
+ghost use Rattle.vhdl_expand_rules.specs.views.Integers.{range_view};
 ghost use Rattle.vhdl_expand_numbers.specs.Views.{limits_view, span_view};
+
+use vhdl_expand_rules::IntegerRange;
 
 /// A least and a greatest number.
 #[derive(Clone, Copy)]
@@ -30,6 +34,16 @@ pub const NATURALS: Limits = Limits {
 };
 
 impl Limits {
+    /// Those of a range that has a number.
+    pub fn of_range(range: IntegerRange) -> Limits
+        ensures { limits_view result ≡ range_span (range_view range) }
+    {
+        Limits {
+            least: range.lower(),
+            greatest: range.upper(),
+        }
+    }
+
     /// As bounds of numbers.
     pub fn span(self) -> Span
         ensures { span_view result ≡ limits_view self }

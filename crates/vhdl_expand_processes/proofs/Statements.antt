@@ -17,7 +17,8 @@ use Rattle.vhdl_names_units.specs.declared.sequential.Case.{Case, out-Case, roll
 use Rattle.vhdl_names_units.specs.declared.sequential.Loop.{Loop}
 use Rattle.vhdl_names_units.specs.declared.sequential.Branch.{Branch}
 use Rattle.vhdl_names_units.specs.declared.sequential.Alternative.{Alternative}
-use Rattle.vhdl_names_units.specs.views.Sequential.{statement_view, statements_view, statements_of, branch_view, branches_of, last_of, option_statements_view, alternative_view, alternatives_of}
+use Rattle.vhdl_names_units.specs.views.Answers.{choices_view}
+use Rattle.vhdl_names_units.specs.views.Sequential.{statement_view, statements_view, statements_of, branch_view, branches_of, last_of, option_statements_view, alternative_view, last_alternative, alternatives_of}
 use Rattle.vhdl_names_units.proofs.rows.Sequential as rows
 use Rattle.vhdl_expand_processes.specs.declared.name.Gathered.{Gathered}
 use Rattle.vhdl_expand_processes.specs.Adding.{Adds}
@@ -47,13 +48,17 @@ each-branch w (b ∷ bs) last =
     ∙ sym (append_assoc test (flat_map (statement_names w) b.statements.items) (flat_map (branch_names w) bs ++ branches_names w last))
     ∙ sym (append_assoc (branch_names w b) (flat_map (branch_names w) bs) (branches_names w last))
 
-each-alternative : (w : Sought) (as' : List Alternative) (last : s.Statements)
-    → alternatives_names w (alternatives_of (map alternative_view as') last) ≡ flat_map (alternative_names w) as' ++ body_names w last
+each-alternative : (w : Sought) (as' : List Alternative) (last : s.Alternatives)
+    → alternatives_names w (alternatives_of (map alternative_view as') last) ≡ flat_map (alternative_names w) as' ++ alternatives_names w last
 each-alternative w [] last = refl
 each-alternative w (a ∷ as') last =
     ap (λ ps. ps ++ alternatives_names w (alternatives_of (map alternative_view as') last)) (each_name w a.statements.items)
     ∙ ap (λ ps. alternative_names w a ++ ps) (each-alternative w as' last)
-    ∙ sym (append_assoc (alternative_names w a) (flat_map (alternative_names w) as') (body_names w last))
+    ∙ sym (append_assoc (alternative_names w a) (flat_map (alternative_names w) as') (alternatives_names w last))
+
+last-names : (w : Sought) (choices : List s.Choice) (body : s.Statements) → alternatives_names w (last_alternative choices body) ≡ body_names w body
+last-names w [] body = refl
+last-names w (c ∷ choices) body = refl
 
 each-else : (w : Sought) (o : Option (Vec Statement Global)) → branches_names w (last_of (option_statements_view o)) ≡ last_names w o
 each-else w None = refl
@@ -69,11 +74,13 @@ if_names w x =
 pub case_names : (w : Sought) (x : Case) → statement_names w (t.Case x)
     ≡ read_ones w (definition.value_names (value_view (out-Case x).selector)) ++ (flat_map (alternative_names w) (out-Case x).alternatives.items ++ flat_map (statement_names w) (out-Case x).others.items)
 case_names w x =
-    let last : s.Statements = statements_of (statements_view (out-Case x).others) in
+    let body : s.Statements = statements_of (statements_view (out-Case x).others) in
+    let last : s.Alternatives = last_alternative (choices_view (out-Case x).last) body in
     ap (λ y. statement_names w (t.Case y)) (sym (roll-out-Case x))
-    ∙ ap (definition.statement_names w) (rows.view_case (out-Case x).at (out-Case x).selector (out-Case x).alternatives (out-Case x).others)
+    ∙ ap (definition.statement_names w) (rows.view_case (out-Case x).at (out-Case x).selector (out-Case x).alternatives (out-Case x).last (out-Case x).others)
     ∙ ap (λ ps. read_ones w (definition.value_names (value_view (out-Case x).selector)) ++ ps)
-    (each-alternative w (out-Case x).alternatives.items last ∙ ap (λ ps. flat_map (alternative_names w) (out-Case x).alternatives.items ++ ps) (each_name w (out-Case x).others.items))
+    (each-alternative w (out-Case x).alternatives.items last
+    ∙ ap (λ ps. flat_map (alternative_names w) (out-Case x).alternatives.items ++ ps) (last-names w (choices_view (out-Case x).last) body ∙ each_name w (out-Case x).others.items))
 
 pub loop_names : (w : Sought) (x : Loop) → statement_names w (t.Loop x) ≡ flat_map (statement_names w) x.statements.items
 loop_names w x = ap (definition.statement_names w) (rows.view_loop x.at x.range x.statements) ∙ each_name w x.statements.items

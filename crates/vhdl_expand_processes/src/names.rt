@@ -61,7 +61,8 @@ fn of_computed<'a>(integer: &'a Computed, found: &mut Gathered<'a>)
     ensures { Adds found.old found.new (definition.computed_names (computed_view integer.now)) }
 {
     match integer {
-        Computed::Static(_) => {}
+        Computed::Static(_) | Computed::VariableNumber(_) => {}
+        Computed::SignalNumber(signal) => found.add_whole(*signal),
         Computed::Number(_, number) => of_vector(number, found),
         Computed::Negated(_, operand) => of_computed(operand, found),
         Computed::Magnitude(_, operand) => of_computed(operand, found),
@@ -169,7 +170,8 @@ pub(crate) fn of_value<'a>(value: &'a Value, found: &mut Gathered<'a>)
     match value {
         Value::Elements(vector) => of_vector(vector, found),
         Value::StateOf(signal) => found.add_whole(*signal),
-        Value::Position(_) | Value::StateOfVariable(_) => {}
+        Value::Computed(integer) => of_computed(integer, found),
+        Value::Position(_) | Value::StateOfVariable(_) | Value::StaticTruth(_) => {}
     }
 }
 

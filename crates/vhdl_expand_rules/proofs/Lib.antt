@@ -10,4 +10,5 @@ pub mod Parameters
 pub mod Decided
 pub mod StaticChains
 pub mod Tells
+pub mod Digits
 pub mod laws

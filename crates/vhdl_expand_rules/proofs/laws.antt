@@ -1,6 +1,8 @@
 pub mod Lengths
 pub mod Places
 pub mod Names
+pub mod Known
+pub mod KnownSites
 pub mod Aggregates
 pub mod Computed
 pub mod Operands

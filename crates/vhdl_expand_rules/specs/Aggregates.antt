@@ -4,7 +4,7 @@ use Rattle.std.specs.Prelude.{ℕ, suc, ◌+◌, ◌-◌, Bool, true, false, not
 use Rattle.std.specs.List.{list_any}
 use Rattle.vhdl_tree.specs.declared.operator.Direction.TheVariants.{To}
 use Rattle.vhdl_names_rules.specs.units.Expressions as u
-use Rattle.vhdl_names_rules.specs.units.Expressions.{Range, Index}
+use Rattle.vhdl_names_rules.specs.units.Expressions.{Range, Index, index_start}
 use Rattle.rtl_model.specs.bodies.Body as bodies
 use Rattle.rtl_model.specs.bodies.Fits.{width}
 use Rattle.vhdl_expand_rules.specs.declared.fault.ElabProblem.TheVariants as problem
@@ -62,10 +62,6 @@ choice_indexes here all (u.indexes at r) = do
   range_serves at all range
   range_indexes at range
 
-abbrev pub choice_at : Index → ℕ
-choice_at (u.index at s) = at
-choice_at (u.indexes at r) = at
-
 -- none of them is taken, and together they are 64 at most
 abbrev pub are_free : (at : ℕ) → (taken is : List ℤ) → Elab (Unit {0})
 are_free at taken is = do
@@ -77,7 +73,7 @@ abbrev pub chosen_indexes : Integers → Option (List ℤ) → (taken : List ℤ
 chosen_indexes here all taken [] = Ok []
 chosen_indexes here all taken (c ∷ cs) = do
   is ← choice_indexes here all c
-  are_free (choice_at c) taken is
+  are_free (index_start c) taken is
   rest ← chosen_indexes here all (taken ++ is) cs
   Ok (is ++ rest)
 

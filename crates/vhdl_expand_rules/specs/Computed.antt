@@ -1,6 +1,9 @@
 -- Integers that a run computes, as vectors (IEEE 1076-2008, 5.2.3, 9.2; numeric_std). Each stands in two's complement,
--- in the fewest digits that hold every number between two bounds. The bounds are found from the text, and a number that
--- is good lies between them. A number outside the integers is X (own): the standard has an error there.
+-- in the fewest digits that hold every number between two bounds, which are found from the text. A number that is good
+-- lies between its bounds: digits are cut to their length, a number that can't lie outside limits is not asked whether
+-- it does, and a case is complete by them. What keeps objects of integer types within their ranges: their defaults,
+-- what is assigned to them, what ports are joined with, and what a stimulus gives. A number outside the integers is X
+-- (own): the standard has an error there.
 use Rattle.std.specs.Prelude.{ℕ, ◌*◌, ◌-◌, ◌^◌, ◌==◌, max, Bool, not, ◌&&◌, ◌||◌, nat_lt, nat_le, if◌then◌else◌, List, [], ◌∷◌, replicate, find, unwrap_or}
 use Rattle.std.specs.Prelude.{ℤ, pos, negsuc, neg_ℤ, ◌+ℤ◌, ◌-ℤ◌, ◌*ℤ◌, int_div, int_le, int_lt, nat_abs, Ok}
 use Rattle.std.specs.List.{range_with_len}
@@ -19,7 +22,7 @@ use Rattle.rtl_model.specs.bodies.Body as bodies
 use Rattle.rtl_model.specs.bodies.Fits.{width}
 use Rattle.vhdl_expand_rules.specs.declared.fault.ElabProblem.TheVariants.{StaticError, TooWide}
 use Rattle.vhdl_expand_rules.specs.Elab.{Elab, ◌>>◌, refused, unless}
-use Rattle.vhdl_expand_rules.specs.Integers.{is_negative}
+use Rattle.vhdl_expand_rules.specs.Integers.{least_integer, is_negative}
 
 -- ---- bounds
 
@@ -38,7 +41,7 @@ span x y = record { least = x; greatest = y }
 
 -- those of all integers, and of the natural ones (5.2.3.2, 16.3)
 abbrev pub integers : Span
-integers = span (negsuc greatest_integer) (pos greatest_integer)
+integers = span least_integer (pos greatest_integer)
 
 abbrev pub naturals : Span
 naturals = span (pos 0) (pos greatest_integer)
@@ -241,8 +244,8 @@ unfoldable pub natural : Number → bodies.Expr
 natural x = (within naturals x).digits
 
 -- the last digits, as many as the vector has (TO_UNSIGNED, D.3)
+abbrev pub to_length : (len : ℕ) → bodies.Expr → bodies.Expr
+to_length len e = if nat_le (width e) len then extended len e else bodies.counted Resize len e
+
 unfoldable pub natural_digits : (len : ℕ) → Number → bodies.Expr
-natural_digits len x = to_length (natural x)
-  where
-    to_length : bodies.Expr → bodies.Expr
-    to_length e = if nat_le (width e) len then extended len e else bodies.counted Resize len e
+natural_digits len x = to_length len (natural x)

@@ -1,9 +1,10 @@
 -- What an instance declares: the values of its generics and constants, its ports and signals with what they start with,
 -- and what its ports are associated with (IEEE 1076-2008, 6.4.2, 6.5.6, 6.5.7, 14.2 to 14.4).
-use Rattle.std.specs.Prelude.{ℕ, Bool, true, false, not, ◌||◌, List, [], ◌∷◌, ◌++◌, length, map, replicate, slice_get, Option, Some, None}
-use Rattle.std.specs.Prelude.{is_some, ℤ, pos, Ok}
+use Rattle.std.specs.Prelude.{ℕ, Bool, true, false, not, ◌&&◌, ◌||◌, List, [], ◌∷◌, ◌++◌, length, map, replicate, slice_get, Option, Some, None}
+use Rattle.std.specs.Prelude.{is_some, if◌then◌else◌, ℤ, pos, Ok}
 use Rattle.vhdl_values.specs.declared.scalar.Nine.{Nine}
-use Rattle.vhdl_values.specs.Scalar.{code_of}
+use Rattle.vhdl_values.specs.declared.scalar.Nine.TheVariants.{Zero}
+use Rattle.vhdl_values.specs.Scalar.{code_of, value_of_truth}
 use Rattle.vhdl_values.specs.Numbers.{digits_of}
 use Rattle.vhdl_tree.specs.declared.declaration.Mode.{Mode}
 use Rattle.vhdl_tree.specs.declared.declaration.Mode.TheVariants.{In, Out}
@@ -13,11 +14,13 @@ use Rattle.vhdl_names_rules.specs.units.Units as u
 use Rattle.vhdl_names_rules.specs.units.Units.{Form, Fixed, IntegerSubtype, GenericType, Generic, Port, Declaration, Entity}
 use Rattle.rtl_model.specs.bodies.Body as bodies
 use Rattle.rtl_model.specs.bodies.Values.{Seen, elements_of}
-use Rattle.vhdl_expand_rules.specs.declared.fault.ElabProblem.TheVariants.{NoGeneric, Length, Index, Unassociated}
+use Rattle.vhdl_expand_rules.specs.declared.fault.ElabProblem.TheVariants.{NoGeneric, GenericRange, Length, Index, Unassociated}
 use Rattle.vhdl_expand_rules.specs.Elab.{Elab, ◌>>=◌, ◌>>◌, refused, item_or, same_length, unless}
 use Rattle.vhdl_expand_rules.specs.Integers.{IntegerRange, integer_of, natural, decision, Numbers, of_type, of_range, numbers_of, integer_among}
-use Rattle.vhdl_expand_rules.specs.Kinds.{ObjectKind, enumeration, size, kind_of, size_of, ranges_of, written_range}
-use Rattle.vhdl_expand_rules.specs.Site.{Site, no_site, with_ranges, Constant, place_elements}
+use Rattle.vhdl_numbers.specs.TwosComplement.{signed_digits_of}
+use Rattle.vhdl_expand_rules.specs.Computed.{covers}
+use Rattle.vhdl_expand_rules.specs.Kinds.{ObjectKind, enumeration, integer, boolean, has_sign, range_span, number_size, size, kind_of, size_of, ranges_of, written_range}
+use Rattle.vhdl_expand_rules.specs.Site.{Site, no_site, with_ranges, Constant, signal_kind, place_elements}
 use Rattle.vhdl_expand_rules.specs.Expressions.{vector}
 use Rattle.vhdl_expand_rules.specs.Statements.{value_given}
 use Rattle.vhdl_expand_rules.specs.Tree.{Role, input, output, internal, Object, Variable}
@@ -66,18 +69,31 @@ fixed_values here at len (u.Fixed.given g) = do
 -- alone, in units that names have passed
 fixed_values here at len _ = refused (Length 1 len) at
 
+abbrev pub number_starts : IntegerRange → ℤ → List ℕ
+number_starts r n = map code_of (signed_digits_of (number_size r) n)
+
 -- of an enumeration, by its position, or of elements
 abbrev pub given_starts : Site → (at : ℕ) → ObjectKind → Fixed → Elab (List ℕ)
 given_starts here at (enumeration count) (u.Fixed.position n) = Ok (n ∷ [])
 given_starts here at (enumeration count) (u.Fixed.given g) = do
   v ← value_given here at 1 g
   position_of_value at v
+-- a boolean, by its element, and an integer, by its digits
+given_starts here at boolean (u.Fixed.truth t) = do
+  b ← decision here.integers t
+  Ok (code_of (value_of_truth b) ∷ [])
+given_starts here at (integer r) (u.Fixed.integer s) = do
+  n ← integer_among here.integers at (of_range r) s
+  Ok (number_starts r n)
 given_starts here at kind f = do
   vs ← fixed_values here at (size kind) f
   Ok (map code_of vs)
 
--- what the elements of this kind start with: U, or the first literal, without a default (6.4.2.3)
+-- what the elements of this kind start with: U, the first literal, the left bound, or false, without a default
+-- (6.4.2.3)
 unfoldable pub starts : Site → (at : ℕ) → ObjectKind → Option Fixed → Elab (List ℕ)
+starts here at (integer r) None = Ok (number_starts r r.left)
+starts here at boolean None = Ok (code_of Zero ∷ [])
 starts here at kind None = Ok (replicate (size kind) 0)
 starts here at kind (Some f) = given_starts here at kind f
 
@@ -285,12 +301,24 @@ is_input input = true
 is_input output = false
 is_input internal = false
 
+-- integers flow into a range that has them and is kept in the same way (6.5.7.1, 14.3.5; own, as a conversion would be
+-- no net)
+abbrev pub flows_into : (from to : IntegerRange) → Bool
+flows_into from to =
+    covers (range_span to) (range_span from) && (if has_sign from then has_sign to else not (has_sign to))
+
+abbrev pub may_flow : Role → (actual : Option ObjectKind) → (formal : ObjectKind) → Bool
+may_flow input (Some (integer a)) (integer f) = flows_into a f
+may_flow output (Some (integer a)) (integer f) = flows_into f a
+may_flow _ _ _ = true
+
 -- A port has the elements of its actual, in the instance above, which are as many. An in port without an actual needs a
 -- default; that is told at this byte, where the instance's label starts.
 unfoldable pub association : (above : Site) → (at : ℕ) → Port → Option SignalPart → Object → Elab Object
 association above at p (Some place) o = do
   es ← place_elements above place
   same_length place.at (length es) (size o.kind)
+  unless GenericRange place.at (may_flow o.role (signal_kind above place.signal) o.kind)
   Ok (record o { actual = Some es })
 association above at p None o = do
   unless Unassociated at (not (is_input o.role) || is_some p.object.default)

@@ -1,6 +1,6 @@
 -- Expanded expressions: names are elements, lengths are computed, and a number beside a vector is a constant
 -- (IEEE 1076-2008, clause 9; numeric_std).
-use Rattle.std.specs.Prelude.{ℕ, ◌+◌, ◌==◌, Bool, true, false, nat_le, if◌then◌else◌, List, [], ◌∷◌, ◌++◌, length, Option, ℤ, pos, int_le, nat_abs, Ok}
+use Rattle.std.specs.Prelude.{ℕ, ◌+◌, ◌==◌, Bool, true, false, nat_le, if◌then◌else◌, List, [], ◌∷◌, ◌++◌, length, slice_get, Option, ℤ, pos, int_le, nat_abs, Ok}
 use Rattle.vhdl_tree.specs.declared.operator.Direction.{Direction}
 use Rattle.vhdl_tree.specs.declared.operator.Direction.TheVariants.{To, Downto}
 use Rattle.vhdl_values.specs.declared.scalar.Nine.{Nine}
@@ -10,6 +10,7 @@ use Rattle.vhdl_values.specs.declared.kinds.Cmp.TheVariants.{Eq, Ne, Lt, Le, Gt,
 use Rattle.vhdl_values.specs.declared.kinds.Edge.{Edge}
 use Rattle.vhdl_values.specs.declared.kinds.Edge.TheVariants.{Rising, Falling, To1, To0}
 use Rattle.vhdl_values.specs.declared.kinds.Logic.TheVariants.{And}
+use Rattle.vhdl_values.specs.Scalar.{value_of_truth}
 use Rattle.vhdl_values.specs.Numbers.{digits_of}
 use Rattle.vhdl_numbers.specs.Operators.{signed_length}
 use Rattle.vhdl_names_rules.specs.declared.operator.Numeric.{Numeric}
@@ -23,13 +24,13 @@ use Rattle.rtl_model.specs.bodies.Fits.{width}
 use Rattle.rtl_model.specs.bodies.Rows.{Spacing}
 use Rattle.vhdl_expand_rules.specs.declared.fault.ElabProblem.TheVariants.{StaticError, Index, TooWide}
 use Rattle.vhdl_expand_rules.specs.Elab.{Elab, ◌>>=◌, ◌>>◌, same_length, unless}
-use Rattle.vhdl_expand_rules.specs.Integers.{integer, natural, decision, is_same_direction}
-use Rattle.vhdl_expand_rules.specs.Kinds.{Bounds, as_size, size_of, count_of, declared_bounds, bounds_size}
+use Rattle.vhdl_expand_rules.specs.Integers.{IntegerRange, integer, natural, decision, is_same_direction}
+use Rattle.vhdl_expand_rules.specs.Kinds.{Bounds, range_span, number_size, as_size, size_of, count_of, declared_bounds, bounds_size}
 use Rattle.vhdl_expand_rules.specs.Computed as numbers
-use Rattle.vhdl_expand_rules.specs.Computed.{Number, known, natural_digits, relation}
+use Rattle.vhdl_expand_rules.specs.Computed.{Number, digits_needed, known, natural_digits, relation}
 use Rattle.vhdl_expand_rules.specs.Linear.{Linear, Measured, less, is_static, known_measured, as_term, negative_measured, measured_operation}
 use Rattle.vhdl_expand_rules.specs.Aggregates.{Placed, next, chosen, others, given_indexes, chosen_indexes, composed}
-use Rattle.vhdl_expand_rules.specs.Site.{Site, place_elements, signal_elements, variable_elements, constant_values, signal_bounds, variable_bounds, constant_bounds, the_element}
+use Rattle.vhdl_expand_rules.specs.Site.{Site, place_elements, signal_elements, variable_elements, constant_values, signal_bounds, variable_bounds, constant_bounds, integer_range, signal_kind, the_element}
 
 -- ---- vectors
 
@@ -56,6 +57,33 @@ abbrev pub operator : VectorOperator → bodies.Operator
 operator (v.Logical op) = bodies.logical op
 operator v.Concatenate = bodies.joined
 operator (v.Arithmetic op) = numeric op
+
+-- ---- objects of integer types
+
+-- a number as it is kept, in two's complement
+abbrev pub signed_digits : IntegerRange → bodies.Expr → bodies.Expr
+signed_digits r e =
+    if number_size r == digits_needed (range_span r) then e
+    else bodies.Expr.binary bodies.joined (bodies.constant (Zero ∷ [])) e
+
+abbrev pub number_in : IntegerRange → bodies.Expr → Number
+number_in r e = numbers.fitted (range_span r) (signed_digits r e)
+
+unfoldable pub signal_number : Site → (at : ℕ) → u.Signal → Elab Number
+signal_number here at x = do
+  es ← signal_elements here at x u.whole
+  r ← integer_range at (signal_kind here x)
+  Ok (number_in r (bodies.signal es))
+
+unfoldable pub variable_number : Site → (at : ℕ) → ℕ → Elab Number
+variable_number here at k = do
+  es ← variable_elements here at k u.whole
+  r ← integer_range at (slice_get here.variables k)
+  Ok (number_in r (bodies.variable es))
+
+-- as it is kept: X where it doesn't lie within the range (own: 5.2.1 has an error there)
+abbrev pub kept_in : IntegerRange → Number → bodies.Expr
+kept_in r n = numbers.to_length (number_size r) (numbers.within (range_span r) n).digits
 
 -- ---- what a run chooses of a vector
 
@@ -101,6 +129,8 @@ unfoldable mutual
   computed here _ (u.number_of at x) = do
     e ← vector here x
     numbers.number_read at e
+  computed here at (u.signal_number x) = signal_number here at x
+  computed here at (u.variable_number k) = variable_number here at k
   computed here _ (u.Computed.negated at x) = do
     a ← computed here at x
     Ok (numbers.negative_of a)
@@ -120,6 +150,12 @@ unfoldable mutual
   measured here _ (u.number_of at x) = do
     e ← vector here x
     n ← numbers.number_read at e
+    Ok (as_term n)
+  measured here at (u.signal_number x) = do
+    n ← signal_number here at x
+    Ok (as_term n)
+  measured here at (u.variable_number k) = do
+    n ← variable_number here at k
     Ok (as_term n)
   measured here _ (u.Computed.negated at x) = do
     a ← measured here at x
@@ -250,6 +286,12 @@ value here at (u.Value.elements x) = do
   e ← vector here x
   Ok (bodies.elements e)
 value here at (u.Value.position n) = Ok (bodies.position n)
+value here at (u.Value.computed x) = do
+  n ← computed here at x
+  Ok (bodies.elements n.digits)
+value here at (u.static_truth t) = do
+  b ← decision here.integers t
+  Ok (bodies.elements (bodies.constant (value_of_truth b ∷ [])))
 value here at (u.state_of s) = do
   e ← the_element at (signal_elements here at s u.whole)
   Ok (bodies.position_of e)

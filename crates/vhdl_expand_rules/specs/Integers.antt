@@ -40,7 +40,12 @@ pub record Integers : Type 0 where
 
 -- ---- values
 
--- static integers are as great as those that are written, and as small below 0 (5.2.3.2)
+-- the left bound of INTEGER (5.2.3.2)
+abbrev pub least_integer : ℤ
+least_integer = negsuc greatest_integer
+
+-- Static integers are as great as those that are written, and as small below 0 (own): the left bound of INTEGER, one
+-- less, is there by its name alone.
 abbrev pub checked_integer : (at : ℕ) → ℤ → Elab ℤ
 checked_integer at x = if nat_le (nat_abs x) greatest_integer then Ok x else refused StaticError at
 
@@ -128,9 +133,10 @@ is_slice whole s =
     is_same_direction whole.direction s.direction && not (is_null s.direction s.left s.right)
     && has whole s.left && has whole s.right
 
--- a length is a static integer as any other
+-- a length is a static integer as any other, and bounds are such already
 abbrev pub bound_checked : (at : ℕ) → Bound → IntegerRange → Elab ℤ
-bound_checked at b r = checked_integer at (bound_of b r)
+bound_checked at Length r = checked_integer at (bound_of Length r)
+bound_checked at b r = Ok (bound_of b r)
 
 abbrev pub sliced_bound : (at : ℕ) → Bound → (whole slice : IntegerRange) → Elab ℤ
 sliced_bound at b whole slice = do
@@ -161,6 +167,7 @@ integer here _ (u.Static.binary at op s t) = do
 integer here at (u.bound b k) = do
   r ← known_range at here.ranges k
   bound_checked at b r
+integer here at u.least_integer = Ok least_integer
 -- of a slice, which is computed
 integer here _ (u.slice_bound at b k s direction t) = do
   r ← known_range at here.ranges k

@@ -25,8 +25,8 @@ prefix p = if is_static_part p.part then p else record p { part = u.whole }
 
 -- ---- the signals that a text names: those that it reads, or those that it assigns
 
--- The whole of a signal of which a run chooses a part, or of an enumeration, whose byte the units don't have: it is
--- there in units that names have passed, so that nothing is told at it. What it is chosen by is read.
+-- The whole of a signal of which a run chooses a part, of an enumeration or of an integer, whose byte the units don't
+-- have: it is there in units that names have passed, so that nothing is told at it. What it is chosen by is read.
 abbrev pub whole_of : u.Signal → SignalPart
 whole_of x = record { at = 0; signal = x; part = u.whole }
 
@@ -34,6 +34,8 @@ abbrev mutual
   pub computed_names : Computed → List SignalPart
   computed_names (u.static s) = []
   computed_names (u.number_of at x) = vector_names x
+  computed_names (u.signal_number x) = whole_of x ∷ []
+  computed_names (u.variable_number k) = []
   computed_names (u.Computed.negated at x) = computed_names x
   computed_names (u.magnitude at x) = computed_names x
   computed_names (u.calculated at op x y) = computed_names x ++ computed_names y
@@ -69,6 +71,7 @@ abbrev mutual
 abbrev pub value_names : Value → List SignalPart
 value_names (u.Value.elements x) = vector_names x
 value_names (u.state_of x) = whole_of x ∷ []
+value_names (u.Value.computed x) = computed_names x
 value_names _ = []
 
 abbrev pub test_names : Test → List SignalPart
@@ -128,6 +131,7 @@ abbrev mutual
 
   pub alternatives_names : Sought → s.Alternatives → List SignalPart
   alternatives_names sought (s.others body) = body_names sought body
+  alternatives_names sought (s.complete cs body) = body_names sought body
   alternatives_names sought (s.alternative cs body alts) = body_names sought body ++ alternatives_names sought alts
 
 abbrev pub names : s.Statements → List SignalPart

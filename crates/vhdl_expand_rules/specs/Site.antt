@@ -9,7 +9,7 @@ use Rattle.vhdl_names_rules.specs.units.Expressions.{Signal, Part, SignalPart}
 use Rattle.vhdl_expand_rules.specs.declared.fault.ElabProblem.TheVariants.{Index}
 use Rattle.vhdl_expand_rules.specs.Elab.{Elab, ◌>>=◌, refused, item_or}
 use Rattle.vhdl_expand_rules.specs.Integers.{IntegerRange, Integers}
-use Rattle.vhdl_expand_rules.specs.Kinds.{ObjectKind, vector, Bounds, size, places}
+use Rattle.vhdl_expand_rules.specs.Kinds.{ObjectKind, vector, integer, Bounds, size, places}
 
 -- a constant that is no integer
 pub record Constant : Type 0 where
@@ -75,16 +75,20 @@ constant_values here at k part = do
   ps ← places here.integers at c.kind part
   Ok (map (λ p. slice_index_or c.values p X) ps)
 
--- ---- the bounds of vectors, by their numbers
+-- ---- what is declared, by its number
 
+abbrev pub signal_kind : Site → Signal → Option ObjectKind
+signal_kind here (u.port k) = slice_get here.ports k
+signal_kind here (u.Signal.signal k) = slice_get here.signals k
+
+-- the bounds of a vector
 abbrev pub bounds_of : (at : ℕ) → Option ObjectKind → Elab Bounds
 bounds_of at (Some (vector b)) = Ok b
 -- of what is no vector a run chooses no part, in units that names have passed
 bounds_of at _ = refused Index at
 
 unfoldable pub signal_bounds : Site → (at : ℕ) → Signal → Elab Bounds
-signal_bounds here at (u.port k) = bounds_of at (slice_get here.ports k)
-signal_bounds here at (u.Signal.signal k) = bounds_of at (slice_get here.signals k)
+signal_bounds here at x = bounds_of at (signal_kind here x)
 
 abbrev pub variable_bounds : Site → (at : ℕ) → ℕ → Elab Bounds
 variable_bounds here at k = bounds_of at (slice_get here.variables k)
@@ -93,6 +97,12 @@ abbrev pub constant_bounds : Site → (at : ℕ) → ℕ → Elab Bounds
 constant_bounds here at k = do
   c ← item_or Index at (slice_get here.constants k)
   bounds_of at (Some c.kind)
+
+-- the range of an integer
+abbrev pub integer_range : (at : ℕ) → Option ObjectKind → Elab IntegerRange
+integer_range at (Some (integer r)) = Ok r
+-- of what is no integer, in units that names have passed, no number is read
+integer_range at _ = refused Index at
 
 -- what has one element has this
 abbrev pub the_element : (at : ℕ) → Elab (List ℕ) → Elab ℕ

@@ -52,7 +52,7 @@ pub record Process : Type 0 where
   pub variables : List Variable
   -- elements stand in it where a flat netlist's body has nets, and where it has places
   pub body : Stmts
-  -- how many turns its loops have together
+  -- how many turns its loops have together, with the numbers that its cases on integers choose by
   pub turns : ℕ
 
 -- ---- instances

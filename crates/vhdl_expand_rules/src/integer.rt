@@ -26,7 +26,7 @@ pub struct Integers<'a> {
 }
 
 /// A value that has to lie in the range of static integers.
-pub fn checked(x: i32, at: usize) -> Result<i32, ElabFault>
+fn checked(x: i32, at: usize) -> Result<i32, ElabFault>
     ensures { Computes (definition.checked_integer at x) result }
 {
     if x.unsigned_abs() <= MAX_INTEGER {
@@ -212,6 +212,7 @@ impl Integers<'_> {
             Static::Constant(number) => self.constant(*number, at),
             Static::GenerateParameter(number) => known(self.generates, *number, at),
             Static::LoopParameter(number) => known(self.loops, *number, at),
+            Static::LeastInteger => Ok(i32::MIN),
             Static::Negated(sign, operand) => {
                 let x = self.integer(operand, *sign)?;
                 within(x.checked_neg(), *sign)

@@ -19,12 +19,15 @@ use vhdl_names_rules::{Part, Static, StaticRange};
 use vhdl_tree::Direction;
 use vhdl_values::Counted;
 
-/// One element, a vector, or a value of an enumeration of so many literals.
+/// One element, a vector, a value of an enumeration of so many literals, a number of a range, which
+/// has one, or a boolean: one element, 1 where it is true and 0 where it is false.
 #[derive(Clone, Copy)]
 pub enum ObjectKind {
     One,
     Vector(Bounds),
     Enumeration(u16),
+    Integer(IntegerRange),
+    Boolean,
 }
 
 /// Neighbouring places: the first, counted from the left, and how many there are.
@@ -107,8 +110,9 @@ impl ObjectKind {
         ensures { result ≡ definition.size (kind_view self) }
     {
         match self {
-            ObjectKind::One | ObjectKind::Enumeration(_) => 1,
+            ObjectKind::One | ObjectKind::Enumeration(_) | ObjectKind::Boolean => 1,
             ObjectKind::Vector(bounds) => bounds.size(),
+            ObjectKind::Integer(range) => range.size(),
         }
     }
 
@@ -118,7 +122,10 @@ impl ObjectKind {
     {
         match self {
             ObjectKind::Vector(bounds) => Some(bounds.range()),
-            ObjectKind::One | ObjectKind::Enumeration(_) => None,
+            ObjectKind::One
+            | ObjectKind::Enumeration(_)
+            | ObjectKind::Integer(_)
+            | ObjectKind::Boolean => None,
         }
     }
 
@@ -132,7 +139,10 @@ impl ObjectKind {
                 direction: bounds.direction,
                 right: Static::Number(bounds.right),
             }),
-            ObjectKind::One | ObjectKind::Enumeration(_) => None,
+            ObjectKind::One
+            | ObjectKind::Enumeration(_)
+            | ObjectKind::Integer(_)
+            | ObjectKind::Boolean => None,
         }
     }
 }
@@ -225,11 +235,17 @@ impl Integers<'_> {
             }),
             Part::Element(index) => match kind {
                 ObjectKind::Vector(bounds) => self.element_of(bounds, index, at),
-                ObjectKind::One | ObjectKind::Enumeration(_) => Err(ElabProblem::Index.at(at)),
+                ObjectKind::One
+                | ObjectKind::Enumeration(_)
+                | ObjectKind::Integer(_)
+                | ObjectKind::Boolean => Err(ElabProblem::Index.at(at)),
             },
             Part::Slice(range) => match kind {
                 ObjectKind::Vector(bounds) => self.slice_of(bounds, range, at),
-                ObjectKind::One | ObjectKind::Enumeration(_) => Err(ElabProblem::Index.at(at)),
+                ObjectKind::One
+                | ObjectKind::Enumeration(_)
+                | ObjectKind::Integer(_)
+                | ObjectKind::Boolean => Err(ElabProblem::Index.at(at)),
             },
         }
     }

@@ -4,6 +4,7 @@ ghost use Rattle.std.specs.Prelude.{◌≡◌, option_map};
 ghost use Rattle.vhdl_names_rules.specs.views.Integers as names;
 ghost use Rattle.vhdl_expand_rules.specs.Declarations as declarations;
 ghost use Rattle.vhdl_expand_rules.specs.Integers as definition;
+ghost use Rattle.vhdl_expand_rules.specs.Kinds as kinds;
 ghost use Rattle.vhdl_expand_rules.specs.views.Integers.{integers_view, range_view, if_any, Computes, Makes};
 ghost use Rattle.vhdl_expand_rules.specs.views.Numbers.{numbers_view, written_view};
 
@@ -12,6 +13,7 @@ use crate::fault::{ElabFault, ElabProblem};
 use crate::integer::Integers;
 use crate::range::IntegerRange;
 use vhdl_names_rules::{IntegerBase, IntegerSubtype, IntegerType, Static, StaticRange};
+use vhdl_tree::Direction;
 
 /// Which integers a subtype has: those of a type, or those in a range.
 #[derive(Clone, Copy)]
@@ -40,6 +42,19 @@ impl Numbers {
         match self {
             Numbers::Type(_) => None,
             Numbers::Range(range) => Some(range),
+        }
+    }
+
+    /// The range of all of them, a type's too.
+    pub fn whole_range(self) -> IntegerRange
+        ensures { range_view result ≡ kinds.range_of (numbers_view self) }
+    {
+        let to = Direction::To;
+        match self {
+            Numbers::Type(IntegerType::Integer) => IntegerRange::new(i32::MIN, to, i32::MAX),
+            Numbers::Type(IntegerType::Natural) => IntegerRange::new(0, to, i32::MAX),
+            Numbers::Type(IntegerType::Positive) => IntegerRange::new(1, to, i32::MAX),
+            Numbers::Range(range) => range,
         }
     }
 }

@@ -26,6 +26,7 @@ pub fn is_static(value: &Static) -> bool
     match value {
         Static::LoopParameter(_) => false,
         Static::Number(_)
+        | Static::LeastInteger
         | Static::Generic(_)
         | Static::Constant(_)
         | Static::GenerateParameter(_)

@@ -1,14 +1,16 @@
 //! Ranges of integers, computed (IEEE 1076-2008, 5.2.1, 8.5, 16.2).
 
-ghost use Rattle.std.specs.Prelude.{◌≡◌, map, pos};
+ghost use Rattle.std.specs.Prelude.{◌≡◌, ◌≤◌, map, pos};
+ghost use Rattle.rtl_model.specs.bodies.Fits.{IsWidth};
+ghost use Rattle.vhdl_numbers.specs.Digits as digits;
 ghost use Rattle.vhdl_expand_rules.specs.Integers as definition;
 ghost use Rattle.vhdl_expand_rules.specs.Aggregates as aggregates;
+ghost use Rattle.vhdl_expand_rules.specs.Kinds.{number_size};
 ghost use Rattle.vhdl_expand_rules.specs.views.Decisions.{turns_view};
 ghost use Rattle.vhdl_expand_rules.specs.views.Integers.{range_view, Computes, Makes};
 
 use crate::decision::{extent, is_null};
 use crate::fault::{ElabFault, ElabProblem};
-use crate::integer::checked;
 use crate::kind::is_same;
 use crate::turns::Turns;
 use vhdl_names_rules::Bound;
@@ -34,7 +36,7 @@ impl IntegerRange {
     }
 
     /// The least number that lies in it, unless it is null.
-    fn lower(self) -> i32
+    pub fn lower(self) -> i32
         ensures { result ≡ definition.lower (range_view self) }
     {
         match self.direction {
@@ -44,7 +46,7 @@ impl IntegerRange {
     }
 
     /// The greatest, likewise.
-    fn upper(self) -> i32
+    pub fn upper(self) -> i32
         ensures { result ≡ definition.upper (range_view self) }
     {
         match self.direction {
@@ -60,15 +62,31 @@ impl IntegerRange {
         self.lower() <= x && x <= self.upper()
     }
 
+    /// The fewest digits that hold each of its numbers, one at least: without a sign where none is
+    /// below 0, else in two's complement.
+    pub fn size(self) -> usize
+        ensures given { result ≡ number_size (range_view self) }
+        ensures width { IsWidth result }
+        ensures few { result ≤ 32 }
+    {
+        let lower = self.lower();
+        let most = places(self.upper());
+        if lower < 0 {
+            places(lower).max(most) + 1
+        } else {
+            most.max(1)
+        }
+    }
+
     /// One of its bounds, or its length; a fault is StaticError.
     pub fn bound(self, bound: Bound, at: usize) -> Result<i32, ElabFault>
         ensures { Computes (definition.bound_checked at bound (range_view self)) result }
     {
         match bound {
-            Bound::Left => checked(self.left, at),
-            Bound::Right => checked(self.right, at),
-            Bound::High => checked(self.upper(), at),
-            Bound::Low => checked(self.lower(), at),
+            Bound::Left => Ok(self.left),
+            Bound::Right => Ok(self.right),
+            Bound::High => Ok(self.upper()),
+            Bound::Low => Ok(self.lower()),
             Bound::Length => length(extent(self.direction, self.left, self.right), at),
         }
     }
@@ -114,6 +132,16 @@ impl IntegerRange {
             count: count as u32,
         })
     }
+}
+
+/// The fewest digits that hold a number, none of 0 or -1: of one below 0 they are those of its
+/// counterpart, each turned round, without the sign.
+fn places(number: i32) -> usize
+    ensures given { result ≡ digits.places (digits.without_sign number) }
+    ensures few { result ≤ 31 }
+{
+    let size = number.unsigned_abs() - u32::from(number < 0);
+    (32 - size.leading_zeros()) as usize
 }
 
 /// A length, which has to be a static integer.

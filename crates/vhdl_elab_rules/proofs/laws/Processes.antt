@@ -10,13 +10,14 @@ use Rattle.rtl_model.specs.nets.FlatNetlist.{FlatDriver, element_types, targets,
 use Rattle.rtl_model.proofs.nets.InRange.{type_at}
 use Rattle.vhdl_names_rules.specs.units.Units.{Units}
 use Rattle.vhdl_names_rules.specs.sound.Units.{are_sound}
-use Rattle.vhdl_expand_rules.specs.Kinds.{ObjectKind, one, vector, size, element_type}
+use Rattle.vhdl_expand_rules.specs.Kinds.{ObjectKind, vector, size, element_type}
 use Rattle.vhdl_expand_rules.specs.Kinds as k
 use Rattle.vhdl_expand_rules.specs.Tree.{Object, Variable}
 use Rattle.vhdl_expand_rules.specs.Expansion.{Design, expanded_design}
 use Rattle.vhdl_expand_rules.specs.laws.Sites.{kinds_types}
 use Rattle.vhdl_expand_rules.specs.laws.Trees.{IsKind, object_kinds, object_types, object_roles, MayBeDriven, VariableIsSound}
 use Rattle.vhdl_expand_rules.specs.Tops.{Top}
+use Rattle.vhdl_expand_rules.proofs.laws.Kinds.{width_of_kind}
 use Rattle.vhdl_expand_rules.proofs.laws.Lengths.{design-fits}
 use Rattle.vhdl_expand_rules.proofs.laws.Names.{length-types}
 use Rattle.vhdl_expand_rules.proofs.laws.Driven.{length-roles}
@@ -35,23 +36,19 @@ use Rattle.vhdl_elab_rules.proofs.laws.Walk.{types_of, PlacedIsSound, LocatedIsS
 
 variable-fits : (v : Variable) → VariableIsSound v → VariableInRange (flat_variable v)
 variable-fits v h = record {
-  width = subst IsWidth (sym h.as_declared) (by v.kind h.kind);
+  width = subst IsWidth (sym h.as_declared) (width_of_kind v.kind h.kind);
   type_fits = byte v.kind h.kind;
   one_literal = λ n e. h.as_declared ∙ single v.kind n e;
   starts = h.starts;
 }
   where
-    by : (q : ObjectKind) → IsKind q → IsWidth (size q)
-    by one w = (omega arith, omega arith)
-    by (vector b) w = w
-    by (k.enumeration n) w = (omega arith, omega arith)
-
     byte : (q : ObjectKind) → IsKind q → IsByte (element_type q)
     byte (k.enumeration n) w = w.1
     byte _ w = omega arith
 
     single : (q : ObjectKind) (n : ℕ) → element_type q ≡ enumeration n → size q ≡ 1
     single (vector b) n e = absurd cc
+    single (k.integer r) n e = absurd cc
     single _ n e = refl
 
 variable-types : (vs : List Variable) → All VariableIsSound vs → kinds_types (map (λ (v : Variable). v.kind) vs) ≡ element_types (map flat_variable vs)

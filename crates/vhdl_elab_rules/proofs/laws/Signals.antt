@@ -16,6 +16,7 @@ use Rattle.vhdl_expand_rules.specs.Tree.{Object, Variable}
 use Rattle.vhdl_expand_rules.specs.Expansion.{expanded_design}
 use Rattle.vhdl_expand_rules.specs.laws.Trees.{IsKind, object_types, ObjectIsSound, VariableIsSound}
 use Rattle.vhdl_expand_rules.proofs.Steps.{bound}
+use Rattle.vhdl_expand_rules.proofs.laws.Kinds.{width_of_kind}
 use Rattle.vhdl_expand_rules.proofs.laws.Places.{extent-to, extent-downto}
 use Rattle.vhdl_elab_rules.specs.Numbering.{Placed, Numbered, numbered_design, Located}
 use Rattle.vhdl_elab_rules.specs.Wiring.{flat_variable, flat_process, flat_net}
@@ -54,10 +55,6 @@ some-bounds l Downto r h = down l r (cases_lt l r) h
 pub width-of_kind : (q : ObjectKind) → IsKind q → width_of (kind_view q) ≡ size q
 width-of_kind (vector b) h = some-bounds b.left b.direction b.right h.0
 width-of_kind _ h = refl
-
-kind-width : (q : ObjectKind) → IsKind q → IsWidth (size q)
-kind-width (vector b) h = h
-kind-width _ h = (omega arith, omega arith)
 
 -- ---- the nets of a name
 
@@ -98,7 +95,7 @@ signals-fit types scopes scope (o ∷ os) outer front ns first s h z l =
     (signals_from scope (front ++ ns) (first + n) os)
     (record {
       scope = s;
-      width = subst IsWidth (sym long) (kind-width o.kind kind);
+      width = subst IsWidth (sym long) (width_of_kind o.kind kind);
       as_declared = long ∙ sym (width-of_kind o.kind kind);
       nets = subst (All (HasType types t)) (sym mine) (block-typed types n t c.left c.first);
     })

@@ -7,13 +7,13 @@ use Rattle.vhdl_names_rules.specs.units.Expressions.{SignalPart}
 use Rattle.vhdl_names_rules.specs.units.Units as u
 use Rattle.vhdl_names_rules.specs.units.Units.{Fixed, Port, Declaration, Entity, Units, Architecture}
 use Rattle.vhdl_names_rules.specs.units.Bytes.{if_any_bytes, form_bytes, fixed_bytes, port_bytes, declaration_bytes, concurrents_bytes, architecture_bytes, entity_bytes, units_bytes}
-use Rattle.vhdl_expand_rules.specs.declared.fault.ElabProblem.TheVariants.{TooMany, TwoUnresolved, ReadOfShared, Unassociated}
+use Rattle.vhdl_expand_rules.specs.declared.fault.ElabProblem.TheVariants.{TooMany, TwoUnresolved, ReadOfShared, Unassociated, GenericRange}
 use Rattle.vhdl_expand_rules.specs.Elab.{Told, unless, same_length}
 use Rattle.vhdl_expand_rules.specs.Kinds.{size}
-use Rattle.vhdl_expand_rules.specs.Site.{Site, place_elements}
+use Rattle.vhdl_expand_rules.specs.Site.{Site, place_elements, signal_kind}
 use Rattle.vhdl_expand_rules.specs.Tree.{Role, internal, Object, Instance, Parts, no_parts, inner, EachInstance, EachInner}
 use Rattle.vhdl_expand_rules.specs.Tree as t
-use Rattle.vhdl_expand_rules.specs.Declarations.{first_of, rest_of, object, role_of, InstanceObjects, interface, declarations, is_input, association, associations}
+use Rattle.vhdl_expand_rules.specs.Declarations.{first_of, rest_of, object, role_of, InstanceObjects, interface, declarations, is_input, may_flow, association, associations}
 use Rattle.vhdl_expand_rules.specs.Expansion.{Design, expanded_design}
 use Rattle.vhdl_expand_rules.specs.Tops.{Top}
 use Rattle.vhdl_expand_rules.proofs.Steps.{ok, bound}
@@ -81,7 +81,8 @@ module _ (P : ℕ → Type 0) where
   association-stands above at p (Some place) o x h k =
       let es = bound (place_elements above place) _ x k in
       let a = bound (same_length place.at (length es.x) (size o.kind)) _ x es.then_gave in
-      subst Stands (ok (record o { actual = Some es.x }) x a.then_gave) h
+      let flows = bound (unless GenericRange place.at (may_flow o.role (signal_kind above place.signal) o.kind)) _ x a.then_gave in
+      subst Stands (ok (record o { actual = Some es.x }) x flows.then_gave) h
 
   pub associations_stand : (above : Site) (at : ℕ) (ps : List Port) (actuals : List (Option SignalPart)) (os xs : List Object) → All Stands os → associations above at ps actuals os ≡ Ok xs → All Stands xs
   unfolding associations

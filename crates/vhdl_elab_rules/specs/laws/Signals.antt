@@ -10,7 +10,8 @@ use Rattle.rtl_net.specs.declared.signal.SignalKind.{SignalKind}
 use Rattle.rtl_net.specs.declared.signal.SignalKind.TheVariants as g
 use Rattle.vhdl_names_rules.specs.units.Units.{Units}
 use Rattle.vhdl_names_rules.specs.sound.Units.{are_sound}
-use Rattle.vhdl_expand_rules.specs.Kinds.{ObjectKind, one, vector, enumeration, element_type}
+use Rattle.vhdl_expand_rules.specs.Kinds.{ObjectKind, one, vector, enumeration, integer, boolean, element_type}
+use Rattle.vhdl_expand_rules.specs.Integers.{lower, upper}
 use Rattle.vhdl_expand_rules.specs.Tops.{Top}
 use Rattle.vhdl_elab_rules.specs.Names.{Signal, NamedVariable, NamedProcess}
 use Rattle.vhdl_elab_rules.specs.Elaboration.{Elaborated, elaborated_net}
@@ -20,6 +21,8 @@ abbrev pub kind_view : ObjectKind → SignalKind
 kind_view one = g.One
 kind_view (vector b) = g.Vector b.left b.right
 kind_view (enumeration count) = g.Enumeration count
+kind_view (integer r) = g.Integer (lower r) (upper r)
+kind_view boolean = g.Boolean
 
 -- of a netlist with these types and so many scopes
 pub record SignalFits (types : List ElementType) (scopes : ℕ) (s : Signal) : Type 0 where

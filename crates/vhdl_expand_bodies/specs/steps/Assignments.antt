@@ -1,24 +1,24 @@
 -- Assignments, each one statement.
-use Rattle.std.specs.Prelude.{ℕ, length, Ok}
+use Rattle.std.specs.Prelude.{ℕ, length, slice_get, Ok}
 use Rattle.vhdl_names_rules.specs.units.Expressions.{Signal, Part, whole, SignalPart, Chosen}
 use Rattle.vhdl_names_rules.specs.units.Statements.{Given}
 use Rattle.rtl_model.specs.bodies.Body as bodies
 use Rattle.vhdl_expand_rules.specs.Elab.{Elab, ◌>>=◌}
 use Rattle.vhdl_expand_rules.specs.Expressions.{chosen_row}
-use Rattle.vhdl_expand_rules.specs.Site.{Site, place_elements, signal_elements, variable_elements, signal_bounds, variable_bounds}
-use Rattle.vhdl_expand_rules.specs.Statements.{value_given, elements_given}
+use Rattle.vhdl_expand_rules.specs.Site.{Site, signal_kind, place_elements, signal_elements, variable_elements, signal_bounds, variable_bounds}
+use Rattle.vhdl_expand_rules.specs.Statements.{given_to, elements_given}
 
 module _ (here : Site) where
   abbrev pub assign : SignalPart → Given → Elab bodies.Stmt
   assign p g = do
     es ← place_elements here p
-    v ← value_given here p.at (length es) g
+    v ← given_to here p.at (signal_kind here p.signal) (length es) g
     Ok (bodies.assign es v)
 
   abbrev pub set : (at : ℕ) → ℕ → Part → Given → Elab bodies.Stmt
   set at k part g = do
     es ← variable_elements here at k part
-    v ← value_given here at (length es) g
+    v ← given_to here at (slice_get here.variables k) (length es) g
     Ok (bodies.set es v)
 
   -- to what a run chooses

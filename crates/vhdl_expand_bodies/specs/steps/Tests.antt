@@ -1,40 +1,17 @@
 -- Parts of conditions, as the code comes to them.
-use Rattle.std.specs.Prelude.{ℕ, Bool, true, false, Option, Some, None, Ok}
+use Rattle.std.specs.Prelude.{ℕ, Bool, false, Option, Some, None, Ok}
 use Rattle.vhdl_values.specs.declared.scalar.Nine.{Nine}
 use Rattle.vhdl_values.specs.declared.kinds.Cmp.{Cmp}
 use Rattle.vhdl_names_rules.specs.declared.test.TestLink.{TestLink}
 use Rattle.vhdl_names_rules.specs.declared.test.TestStart.{TestStart}
 use Rattle.vhdl_names_rules.specs.views.Tests.{test_view}
-use Rattle.vhdl_names_rules.specs.units.Expressions as u
 use Rattle.vhdl_names_rules.specs.units.Expressions.{Static, SignalPart, Vector, Value}
 use Rattle.rtl_model.specs.bodies.Body as bodies
 use Rattle.vhdl_expand_rules.specs.Elab.{Elab, ◌>>=◌}
 use Rattle.vhdl_expand_rules.specs.Site.{Site}
 use Rattle.vhdl_expand_rules.specs.Integers.{natural}
 use Rattle.vhdl_expand_rules.specs.Expressions.{place_level, value, vector, test}
-
--- a character literal, and whether it stands with no parentheses
-pub record Character : Type 0 where
-  pub is_plain : Bool
-  pub literal : Nine
-
--- the name, or the character literal, that a vector or a value is
-abbrev pub name_in : Vector → Option SignalPart
-name_in (u.of_signal p) = Some p
-name_in _ = None
-
-abbrev pub name_of : Value → Option SignalPart
-name_of (u.Value.elements x) = name_in x
-name_of _ = None
-
-abbrev pub character_in : Vector → Option Character
-character_in (u.character x) = Some (record { is_plain = true; literal = x })
-character_in (u.enclosed_character x) = Some (record { is_plain = false; literal = x })
-character_in _ = None
-
-abbrev pub character_of : Value → Option Character
-character_of (u.Value.elements x) = character_in x
-character_of _ = None
+use Rattle.vhdl_expand_choices.specs.Compared.{Literal, name_of, character_of}
 
 module _ (here : Site) where
   abbrev pub level : (plain : Bool) → SignalPart → Nine → Elab bodies.Test
@@ -69,10 +46,10 @@ module _ (here : Site) where
   abbrev pub alike : (at : ℕ) → Value → Value → Elab bodies.Test
   alike at v w = by (name_of v) (character_of w) (character_of v) (name_of w)
     where
-      by : Option SignalPart → Option Character → Option Character → Option SignalPart → Elab bodies.Test
-      by (Some p) (Some c) _ _ = level c.is_plain p c.literal
+      by : Option SignalPart → Option Literal → Option Literal → Option SignalPart → Elab bodies.Test
+      by (Some p) (Some c) _ _ = level c.is_plain p c.value
       by (Some p) None _ _ = equal at v w
-      by None _ (Some c) (Some p) = level false p c.literal
+      by None _ (Some c) (Some p) = level false p c.value
       by None _ (Some c) None = equal at v w
       by None _ None _ = equal at v w
 

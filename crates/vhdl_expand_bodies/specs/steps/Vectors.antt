@@ -11,14 +11,14 @@ use Rattle.vhdl_names_rules.specs.declared.vector.VectorLink.TheVariants as l
 use Rattle.vhdl_names_rules.specs.declared.vector.VectorStart.{VectorStart}
 use Rattle.vhdl_names_rules.specs.views.Integers.{static_view, index_view}
 use Rattle.vhdl_names_rules.specs.views.Vectors.{computed_view, vector_view}
-use Rattle.vhdl_names_rules.specs.units.Expressions.{Static, Range, Part, SignalPart, Vector}
+use Rattle.vhdl_names_rules.specs.units.Expressions.{Static, Range, Signal, Part, Vector}
 use Rattle.rtl_model.specs.bodies.Body as bodies
 use Rattle.rtl_model.specs.bodies.Fits.{width}
 use Rattle.vhdl_expand_rules.specs.Elab.{Elab, ◌>>=◌, ◌>>◌, same_length}
 use Rattle.vhdl_expand_rules.specs.Integers.{natural}
 use Rattle.vhdl_expand_rules.specs.Kinds.{as_size, size_of, count_of, declared_bounds, bounds_size}
 use Rattle.vhdl_expand_rules.specs.Aggregates.{Placed, next, chosen, others, chosen_indexes}
-use Rattle.vhdl_expand_rules.specs.Site.{Site, place_elements, variable_elements}
+use Rattle.vhdl_expand_rules.specs.Site.{Site, signal_elements, variable_elements}
 use Rattle.vhdl_expand_rules.specs.Expressions.{operation_on, operator, numeric, computed, vector}
 use Rattle.vhdl_expand_rules.specs.Computed.{Number, natural_digits}
 
@@ -28,9 +28,9 @@ literal at xs = do
   Ok (bodies.constant xs)
 
 module _ (here : Site) where
-  abbrev pub signal : SignalPart → Elab bodies.Expr
-  signal p = do
-    es ← place_elements here p
+  abbrev pub signal : (at : ℕ) → Signal → Part → Elab bodies.Expr
+  signal at x part = do
+    es ← signal_elements here at x part
     Ok (bodies.signal es)
 
   abbrev pub variable : (at : ℕ) → ℕ → Part → Elab bodies.Expr

@@ -1,7 +1,7 @@
 -- Names, and what a run chooses of them, fit.
 use Rattle.std.proofs.Common.{◌≡◌, ℕ, ◌+◌, ◌≤◌, true, List, length, map, take, Option, Some, None, Ok, All, refl, sym, ap, ◌∙◌, subst, arith}
 use Rattle.std.specs.Prelude.{slice_get, slice_index_or}
-use Rattle.std.specs.List.{range_with_len}
+use Rattle.std.specs.List.{AllZip, range_with_len}
 use Rattle.std.proofs.lemmas.Option.{same_Some}
 use Rattle.std.proofs.lemmas.List.{length-map}
 use Rattle.std.proofs.lemmas.List.FromFn.{length-range_with_len}
@@ -14,21 +14,21 @@ use Rattle.rtl_model.specs.bodies.Body as bodies
 use Rattle.vhdl_names_rules.specs.units.Expressions as u
 use Rattle.vhdl_names_rules.specs.units.Expressions.{Range, Signal, Part, Computed, Chosen}
 use Rattle.vhdl_names_rules.specs.units.Units as units
-use Rattle.vhdl_names_rules.specs.units.Units.{Form}
+use Rattle.vhdl_names_rules.specs.units.Units.{Form, IntegerSubtype}
 use Rattle.vhdl_names_rules.specs.Rules.{◌>>=◌}
-use Rattle.vhdl_names_rules.specs.sound.Expressions.{Inside, Shape, one, vector, is_elements, part_shape, signal_form, has_vector, chosen_shape}
+use Rattle.vhdl_names_rules.specs.sound.Expressions.{Inside, Shape, vector, number, is_elements, port_form, part_shape, signal_form, has_vector, chosen_shape, is_number}
 use Rattle.vhdl_expand_rules.specs.declared.fault.ElabProblem.TheVariants.{Index}
 use Rattle.vhdl_expand_rules.specs.Elab.{item_or}
-use Rattle.vhdl_expand_rules.specs.Integers.{Integers}
+use Rattle.vhdl_expand_rules.specs.Integers.{IntegerRange, Integers}
 use Rattle.vhdl_expand_rules.specs.Kinds as kinds
-use Rattle.vhdl_expand_rules.specs.Kinds.{ObjectKind, Bounds, size, bounds_size, places}
+use Rattle.vhdl_expand_rules.specs.Kinds.{ObjectKind, Bounds, size, bounds_size, number_size, places}
 use Rattle.vhdl_expand_rules.specs.Computed.{Number}
-use Rattle.vhdl_expand_rules.specs.Site.{Constant, Site, elements_count, part_elements, signal_elements, variable_elements, constant_values, bounds_of, signal_bounds, variable_bounds, constant_bounds}
-use Rattle.vhdl_expand_rules.specs.Expressions.{Row, row_from}
-use Rattle.vhdl_expand_rules.specs.laws.Sites.{IsConstant, IsSite, scope_at}
+use Rattle.vhdl_expand_rules.specs.Site.{Constant, Site, elements_count, part_elements, signal_elements, variable_elements, constant_values, bounds_of, signal_bounds, variable_bounds, constant_bounds, integer_range, signal_kind}
+use Rattle.vhdl_expand_rules.specs.Expressions.{Row, row_from, number_in, signal_number, variable_number}
+use Rattle.vhdl_expand_rules.specs.laws.Sites.{HasIntegers, IsOf, IsConstant, IsSite, scope_at}
 use Rattle.vhdl_expand_rules.specs.laws.Expressions.{HasShape, IsName, IsVector}
 use Rattle.vhdl_expand_rules.proofs.Steps.{ok, bound}
-use Rattle.vhdl_expand_rules.proofs.laws.Computed.{IsNumber, place_is_number}
+use Rattle.vhdl_expand_rules.proofs.laws.Computed.{IsNumber, number_in_fits, place_is_number}
 use Rattle.vhdl_expand_rules.proofs.laws.Names.{is_width, was_found, part_places, zip_at, name_fits, variable_fits}
 use Rattle.vhdl_expand_rules.proofs.laws.Operands.{elements_are_nine}
 
@@ -61,13 +61,25 @@ pub a_vector : (o : Option Form) → has_vector o ≡ true → (r : Range) × (o
 a_vector (Some (units.vector r)) h = (r, refl)
 a_vector (Some units.element) h = absurd cc
 a_vector (Some (units.enumeration n)) h = absurd cc
+a_vector (Some (units.Form.number s)) h = absurd cc
+a_vector (Some units.boolean) h = absurd cc
 a_vector None h = absurd cc
 
 pub bounds_found : (at : ℕ) (o : Option ObjectKind) (b : Bounds) → bounds_of at o ≡ Ok b → o ≡ Some (kinds.vector b)
 bounds_found at (Some (kinds.vector c)) b h = ap (λ (z : Bounds). Some (kinds.vector z)) (ok c b h)
 bounds_found at (Some kinds.one) b h = absurd cc
 bounds_found at (Some (kinds.enumeration n)) b h = absurd cc
+bounds_found at (Some (kinds.integer r)) b h = absurd cc
+bounds_found at (Some kinds.boolean) b h = absurd cc
 bounds_found at None b h = absurd cc
+
+pub range_found : (at : ℕ) (o : Option ObjectKind) (r : IntegerRange) → integer_range at o ≡ Ok r → o ≡ Some (kinds.integer r)
+range_found at (Some (kinds.integer q)) r h = ap (λ (z : IntegerRange). Some (kinds.integer z)) (ok q r h)
+range_found at (Some (kinds.vector b)) r h = absurd cc
+range_found at (Some kinds.one) r h = absurd cc
+range_found at (Some (kinds.enumeration n)) r h = absurd cc
+range_found at (Some kinds.boolean) r h = absurd cc
+range_found at None r h = absurd cc
 
 -- the whole has as many elements as lie within the bounds
 places-long : (here : Integers) (at : ℕ) (k : ObjectKind) (b : Bounds) (ps : List ℕ) → Some k ≡ Some (kinds.vector b) → places here at k u.whole ≡ Ok ps → length ps ≡ bounds_size b
@@ -159,3 +171,72 @@ constant-rows i here at n c vs b r h k e g row =
     let w = constant-values i here at n u.whole (units.vector f.0) vector vs h f.1 refl e in
     let long = constant-long here at n vs b g e in
     chosen-vector here b c r (bodies.constant vs) (row (subst IsWidth long w)) tt long
+
+-- ---- objects of integer types
+
+a-number : (o : Option Form) → is_number o ≡ true → (s : IntegerSubtype) × (o ≡ Some (units.Form.number s))
+a-number (Some (units.Form.number s)) h = (s, refl)
+a-number (Some units.element) h = absurd cc
+a-number (Some (units.vector r)) h = absurd cc
+a-number (Some (units.enumeration n)) h = absurd cc
+a-number (Some units.boolean) h = absurd cc
+a-number None h = absurd cc
+
+number-there : (forms : List Form) (ks : List ObjectKind) (n : ℕ) (s : IntegerSubtype) (r : IntegerRange) → AllZip IsOf forms ks → slice_get forms n ≡ Some (units.Form.number s) → slice_get ks n ≡ Some (kinds.integer r) → HasIntegers r
+number-there forms ks n s r h e g = zip_at IsOf forms ks n (units.Form.number s) (kinds.integer r) h e g
+
+-- the whole has as many digits as the range needs
+number-places : (here : Integers) (at : ℕ) (k : ObjectKind) (r : IntegerRange) (ps : List ℕ) → Some k ≡ Some (kinds.integer r) → places here at k u.whole ≡ Ok ps → length ps ≡ number_size r
+unfolding places
+number-places here at k r ps e h =
+    ap length (sym (ok (range_with_len 0 (size k)) ps h)) ∙ length-range_with_len 0 (size k) ∙ ap size (same_Some k (kinds.integer r) e)
+
+pub number_long : (here : Integers) (at from : ℕ) (ks : List ObjectKind) (n : ℕ) (es : List ℕ) (r : IntegerRange) → slice_get ks n ≡ Some (kinds.integer r) → part_elements here at from ks n u.whole ≡ Ok es → length es ≡ number_size r
+number_long here at from ks n es r h e =
+    let k = bound (item_or Index at (slice_get ks n)) _ es e in
+    let ps = bound (places here at k.x u.whole) _ es k.then_gave in
+    let same = sym (was_found Index at (slice_get ks n) k.x k.gave) ∙ h in
+    let f : ℕ → ℕ = λ p. from + elements_count (take n ks) + p in
+    ap length (sym (ok (map f ps.x) es ps.then_gave)) ∙ length-map ps.x f ∙ number-places here at k.x r ps.x same ps.gave
+
+-- the digits of one, and its range
+pub record NumberElements (r : IntegerRange) (es : List ℕ) : Type 0 where
+  pub integers : HasIntegers r
+  pub long : length es ≡ number_size r
+
+pub signal_digits : (i : Inside) (here : Site) (at : ℕ) (x : Signal) (es : List ℕ) (r : IntegerRange) → IsSite i here → is_number (signal_form i x) ≡ true → signal_elements here at x u.whole ≡ Ok es
+    → signal_kind here x ≡ Some (kinds.integer r) → NumberElements r es
+unfolding signal_elements
+signal_digits i here at (u.port n) es r h k e g =
+    let f = a-number (signal_form i (u.port n)) k in
+    record { integers = number-there (map port_form i.ports) here.ports n f.0 r h.ports f.1 g; long = number_long here.integers at 0 here.ports n es r g e }
+signal_digits i here at (u.Signal.signal n) es r h k e g =
+    let f = a-number (signal_form i (u.Signal.signal n)) k in
+    record { integers = number-there i.signals here.signals n f.0 r h.signals f.1 g; long = number_long here.integers at (elements_count here.ports) here.signals n es r g e }
+
+pub variable_digits : (i : Inside) (here : Site) (at n : ℕ) (es : List ℕ) (r : IntegerRange) → IsSite i here → is_number (slice_get i.variables n) ≡ true → variable_elements here at n u.whole ≡ Ok es
+    → slice_get here.variables n ≡ Some (kinds.integer r) → NumberElements r es
+unfolding variable_elements
+variable_digits i here at n es r h k e g =
+    let f = a-number (slice_get i.variables n) k in
+    record { integers = number-there i.variables here.variables n f.0 r h.variables f.1 g; long = number_long here.integers at 0 here.variables n es r g e }
+
+pub signal_is_number : (i : Inside) (here : Site) (at : ℕ) (x : Signal) (z : Number) → IsSite i here → is_number (signal_form i x) ≡ true → signal_number here at x ≡ Ok z → IsNumber here z
+unfolding signal_number
+signal_is_number i here at x z h k e =
+    let es = bound (signal_elements here at x u.whole) _ z e in
+    let r = bound (integer_range at (signal_kind here x)) _ z es.then_gave in
+    let w = signal_digits i here at x es.x r.x h k es.gave (range_found at (signal_kind here x) r.x r.gave) in
+    let f = a-number (signal_form i x) k in
+    let n = name_fits i here at x u.whole number es.x h (ap (λ (o : Option Form). o >>= λ y. part_shape i y u.whole) f.1) es.gave in
+    subst (IsNumber here) (ok (number_in r.x (bodies.signal es.x)) z r.then_gave) (number_in_fits here r.x (bodies.signal es.x) w.integers (is_width number (length es.x) n.width, n.typed) w.long)
+
+pub variable_is_number : (i : Inside) (here : Site) (at n : ℕ) (z : Number) → IsSite i here → is_number (slice_get i.variables n) ≡ true → variable_number here at n ≡ Ok z → IsNumber here z
+unfolding variable_number
+variable_is_number i here at n z h k e =
+    let es = bound (variable_elements here at n u.whole) _ z e in
+    let r = bound (integer_range at (slice_get here.variables n)) _ z es.then_gave in
+    let w = variable_digits i here at n es.x r.x h k es.gave (range_found at (slice_get here.variables n) r.x r.gave) in
+    let f = a-number (slice_get i.variables n) k in
+    let v = variable_fits i here at n u.whole (units.Form.number f.0) number es.x h f.1 refl es.gave in
+    subst (IsNumber here) (ok (number_in r.x (bodies.variable es.x)) z r.then_gave) (number_in_fits here r.x (bodies.variable es.x) w.integers (is_width number (length es.x) v.width, v.typed) w.long)

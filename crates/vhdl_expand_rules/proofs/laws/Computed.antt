@@ -1,6 +1,6 @@
 -- Numbers that a run computes are expressions that fit, of 1 to 32 elements.
 use Rattle.std.proofs.Common.{◌≡◌, ℕ, suc, ◌+◌, ◌-◌, ◌*◌, ◌^◌, ◌≤◌, Bool, true, false, cond, not, ◌&&◌, ◌||◌, ◌==◌, [], ◌∷◌, length, replicate, Ok, refl, sym, ◌∙◌, subst, arith}
-use Rattle.std.specs.Prelude.{ℤ, pos, negsuc, int_le, nat_le, nat_abs, max}
+use Rattle.std.specs.Prelude.{ℤ, pos, negsuc, int_le, int_lt, nat_le, nat_abs, max}
 use Rattle.std.proofs.lemmas.Int.{ints}
 use Rattle.std.proofs.lemmas.Bool.{and_parts, and_from, eqb-true, leb-true, lt-ltb}
 use Rattle.std.proofs.lemmas.List.{length-replicate}
@@ -20,15 +20,16 @@ use Rattle.rtl_model.specs.bodies.Body as bodies
 use Rattle.rtl_model.specs.bodies.Fits.{width, IsWidth, FitsExpr, FitsTest}
 use Rattle.vhdl_expand_rules.specs.declared.fault.ElabProblem.TheVariants.{StaticError, Index, TooWide}
 use Rattle.vhdl_expand_rules.specs.Elab.{unless}
-use Rattle.vhdl_expand_rules.specs.Integers.{is_same_direction}
-use Rattle.vhdl_expand_rules.specs.Kinds.{Bounds, bounds_size}
+use Rattle.vhdl_expand_rules.specs.Integers.{IntegerRange, is_null, is_same_direction}
+use Rattle.vhdl_expand_rules.specs.Kinds.{Bounds, bounds_size, range_span, number_size}
 use Rattle.vhdl_expand_rules.specs.Computed as n
-use Rattle.vhdl_expand_rules.specs.Computed.{Span, span, integers, naturals, is_span, has, covers, minimum, maximum, held_in, cut_to, hold, digits_needed, Number, extended, fitted, limited}
+use Rattle.vhdl_expand_rules.specs.Computed.{Span, span, integers, naturals, is_span, has, covers, minimum, maximum, held_in, cut_to, hold, digits_needed, Number, extended, fitted, limited, to_length}
 use Rattle.vhdl_expand_rules.specs.Linear.{Linear, is_static}
-use Rattle.vhdl_expand_rules.specs.Expressions.{place_number, distance, slice_length}
+use Rattle.vhdl_expand_rules.specs.Expressions.{signed_digits, number_in, kept_in, place_number, distance, slice_length}
 use Rattle.vhdl_expand_rules.specs.Site.{Site}
-use Rattle.vhdl_expand_rules.specs.laws.Sites.{scope_at}
+use Rattle.vhdl_expand_rules.specs.laws.Sites.{HasIntegers, scope_at}
 use Rattle.vhdl_expand_rules.proofs.Steps.{ok, bound, kept}
+use Rattle.vhdl_expand_rules.proofs.Digits.{integral, size_few, size_width}
 use Rattle.vhdl_expand_rules.proofs.FirstPassing.{first_passing, first_by, first_within}
 
 -- ---- bounds
@@ -85,6 +86,17 @@ pub cut_covered : (s t r : Span) → is_span t ≡ true → covers s t ≡ true 
 cut_covered s t r h k =
     covers-more s t (cut_to t r) k
     (and_from (has t (held_in t r.least)) (has t (held_in t r.greatest)) (held t r.least h) (held t r.greatest h))
+
+-- a range that isn't null has bounds
+in-order : (x y : ℤ) → not (int_lt y x) ≡ true → int_le x y ≡ true
+in-order x y e = grind (arith, ints)
+
+some-span : (r : IntegerRange) → HasIntegers r → is_span (range_span r) ≡ true
+some-span r h = by r.direction h.some
+  where
+    by : (d : Direction) → not (is_null d r.left r.right) ≡ true → is_span (range_span (record r { direction = d })) ≡ true
+    by To e = in-order r.left r.right e
+    by Downto e = in-order r.right r.left e
 
 -- ---- digits
 
@@ -163,6 +175,33 @@ module _ (here : Site) where
 
   integer-number : (s : Span) (e : bodies.Expr) → FitsHere e → IsNumber here (limited integers s e)
   integer-number s e f = limited_number integers s e refl refl f
+
+  -- those of an object
+  signed-fits : (r : IntegerRange) (e : bodies.Expr) → width e ≡ number_size r → (1 ≤ number_size r) × (number_size r ≤ 32) → FitsHere e → FitsHere (signed_digits r e)
+  signed-fits r e long few f = by (number_size r == digits_needed (range_span r))
+    where
+      by : (t : Bool) → FitsHere (cond t e (bodies.Expr.binary bodies.joined (bodies.constant (Zero ∷ [])) e))
+      by true = f
+      by false =
+          let low : 1 ≤ number_size r = few.0 in
+          let high : number_size r ≤ 32 = few.1 in
+          ((omega (arith, long, low), omega (arith, long, high)), (omega arith, omega arith), f, tt)
+
+  pub number_in_fits : (r : IntegerRange) (e : bodies.Expr) → HasIntegers r → FitsHere e → width e ≡ number_size r → IsNumber here (number_in r e)
+  number_in_fits r e h f long = fitted-number (range_span r) (signed_digits r e) h.within (signed-fits r e long (size_few r (integral r h)) f)
+
+  -- as an object keeps one
+  long-to : (len : ℕ) (e : bodies.Expr) → IsWidth len → FitsHere e → IsLong here len (to_length len e)
+  long-to len e w f = by (nat_le (width e) len)
+    where
+      by : (t : Bool) → IsLong here len (cond t (extended len e) (bodies.counted Resize len e))
+      by true = extended_is_long here len e w f
+      by false = record { fits = (w, f); long = refl }
+
+  pub kept_long : (r : IntegerRange) (x : Number) → HasIntegers r → IsNumber here x → IsLong here (number_size r) (kept_in r x)
+  kept_long r x h k =
+      long-to (number_size r) (limited (range_span r) x.span x.digits).digits (size_width r (integral r h))
+      (limited_number (range_span r) x.span x.digits (some-span r h) h.within k.fits).fits
 
   pub known_number : (x : ℤ) → IsNumber here (n.known x)
   unfolding n.known
@@ -284,11 +323,7 @@ module _ (here : Site) where
 
   pub natural_digits_long : (len : ℕ) (x : Number) → IsWidth len → IsNumber here x → IsLong here len (n.natural_digits len x)
   unfolding n.natural_digits
-  natural_digits_long len x w h = by (nat_le (width (n.natural x)) len)
-    where
-      by : (t : Bool) → IsLong here len (cond t (extended len (n.natural x)) (bodies.counted Resize len (n.natural x)))
-      by true = extended_is_long here len (n.natural x) w (natural_fits x h)
-      by false = record { fits = (w, natural_fits x h); long = refl }
+  natural_digits_long len x w h = long-to len (n.natural x) w (natural_fits x h)
 
   -- ---- relations
 

@@ -14,18 +14,19 @@ use Rattle.vhdl_names_rules.specs.units.Units.{Port, Declaration}
 use Rattle.vhdl_names_rules.specs.sound.Expressions.{Inside, shape_of, place_shape, fits_shape}
 use Rattle.vhdl_names_rules.specs.sound.Statements.{is_driven}
 use Rattle.vhdl_names_rules.specs.sound.Units.{form_fits, fixed_fits, is_variable, declaration_fits, with_declaration, declarations_fit, with_declarations, may_join, actual_fits, actuals_fit}
-use Rattle.vhdl_expand_rules.specs.declared.fault.ElabProblem.TheVariants.{Unassociated}
+use Rattle.vhdl_expand_rules.specs.declared.fault.ElabProblem.TheVariants.{GenericRange, Unassociated}
 use Rattle.vhdl_expand_rules.specs.Elab.{◌>>=◌, unless, same_length}
 use Rattle.vhdl_expand_rules.specs.Integers.{Integers, integer_of, numbers_of, decision}
 use Rattle.vhdl_expand_rules.specs.Kinds.{ObjectKind, size, element_type, kind_of}
-use Rattle.vhdl_expand_rules.specs.Site.{Site, place_elements}
+use Rattle.vhdl_expand_rules.specs.Site.{Site, signal_kind, place_elements}
 use Rattle.vhdl_expand_rules.specs.Tree.{internal, Object}
-use Rattle.vhdl_expand_rules.specs.Declarations.{fixed_values, object, role_of, InstanceObjects, with_signal, declared, declaration, declarations, is_input, association, associations}
+use Rattle.vhdl_expand_rules.specs.Declarations.{fixed_values, object, role_of, InstanceObjects, with_signal, declared, declaration, declarations, is_input, may_flow, association, associations}
 use Rattle.vhdl_expand_rules.specs.laws.Sites.{IsOf, IsSite, scope_at}
 use Rattle.vhdl_expand_rules.specs.laws.Trees.{object_kinds, object_types, MayBeDriven, is_port, ObjectIsSound}
 use Rattle.vhdl_expand_rules.proofs.Steps.{given, ok, bound}
 use Rattle.vhdl_expand_rules.proofs.laws.Kinds.{kind_is_of}
 use Rattle.vhdl_expand_rules.proofs.laws.Names.{zip_push, each-name-fits, whole}
+use Rattle.vhdl_expand_rules.proofs.laws.KnownSites.{Knows, declared_knows, signal_knows}
 use Rattle.vhdl_expand_rules.proofs.laws.Tests.{has_shape}
 use Rattle.vhdl_expand_rules.proofs.laws.Driven.{IsDeclared, site-types, driven_elements}
 use Rattle.vhdl_expand_rules.proofs.laws.Interfaces.{PortObject, constant-site, object-plain, plain-sound}
@@ -57,13 +58,14 @@ association-sound i here at ps ss p (Some place) o x h w fit e =
     let both = and_parts (fits_shape (shape_of p.object.form) (place_shape i place)) (may_join i p.mode place.signal) fit in
     let es = bound (place_elements here place) _ x e in
     let a = bound (same_length place.at (length es.x) (size o.kind)) _ x es.then_gave in
+    let flows = bound (unless GenericRange place.at (may_flow o.role (signal_kind here place.signal) o.kind)) _ x a.then_gave in
     let n = each-name-fits i here place (shape_of p.object.form) es.x h.site (has_shape (shape_of p.object.form) (place_shape i place) both.0) es.gave in
     let type_is = (whole p.object.form o.kind w.plain.kind).type_is in
     let plain = (port-sound (ps ++ ss) p o w).sound in
     let typed : All (HasType (object_types (ps ++ ss)) (element_type o.kind)) es.x =
     subst (λ (ts : List ElementType). All (HasType ts (element_type o.kind)) es.x) (site-types i here ps ss h)
     (subst (λ (t : ElementType). All (HasType (scope_at here).nets t) es.x) type_is n.typed) in
-    subst (λ (y : Object). (y.kind ≡ o.kind) × Joined (ps ++ ss) p y) (ok (record o { actual = Some es.x }) x a.then_gave) (
+    subst (λ (y : Object). (y.kind ≡ o.kind) × Joined (ps ++ ss) p y) (ok (record o { actual = Some es.x }) x flows.then_gave) (
       refl,
       record {
         role_is = w.plain.role_is;
@@ -145,28 +147,28 @@ more-known j here known h = record {
 fewer : (i : Inside) (here : Site) (m n : ℕ) → IsSite i here → IsSite (record i { integers = m; ranges = n }) here
 fewer i here m n h = record { constants = h.constants; ports = h.ports; signals = h.signals; variables = h.variables }
 
-pub declared-site : (x : Declaration) (i : Inside) (here e : Site) → IsPlain x → declaration_fits i x ≡ true → IsSite i here → declared here x ≡ Ok e → DeclaredSite (with_declaration i x) here e
+pub declared-site : (x : Declaration) (i : Inside) (here e : Site) → Knows here → IsPlain x → declaration_fits i x ≡ true → IsSite i here → declared here x ≡ Ok e → DeclaredSite (with_declaration i x) here e
 unfolding declared
-declared-site (u.Declaration.integer at type s) i here e plain fit h k =
+declared-site (u.Declaration.integer at type s) i here e known plain fit h k =
     let x = bound (integer_of type here.integers at s) _ e k in
     subst (DeclaredSite (with_declaration i (u.Declaration.integer at type s)) here) (ok _ e x.then_gave) (more-known _ here _ (fewer i here _ _ h))
-declared-site (u.Declaration.truth at t) i here e plain fit h k =
+declared-site (u.Declaration.truth at t) i here e known plain fit h k =
     let b = bound (decision here.integers t) _ e k in
     subst (DeclaredSite (with_declaration i (u.Declaration.truth at t)) here) (ok _ e b.then_gave) (more-known _ here _ (fewer i here _ _ h))
-declared-site (u.Declaration.constant at form f) i here e plain fit h k =
+declared-site (u.Declaration.constant at form f) i here e known plain fit h k =
     let both = and_parts (form_fits i form) (fixed_fits i (shape_of form) f) fit in
     let kind = bound (kind_of here.integers at form) _ e k in
     let vs = bound (fixed_values here at (size kind.x) f) _ e kind.then_gave in
-    let of = kind_is_of i here.integers at form kind.x both.0 kind.gave in
+    let of = kind_is_of i here.integers at form kind.x (λ q. known) both.0 kind.gave in
     subst (DeclaredSite (with_declaration i (u.Declaration.constant at form f)) here) (ok _ e vs.then_gave)
     (record { site = constant-site i here form (record { kind = kind.x; values = vs.x }) h of; ports = refl; signals = refl; variables = refl })
-declared-site (u.vector_subtype at r) i here e plain fit h k =
+declared-site (u.vector_subtype at r) i here e known plain fit h k =
     let kind = bound (kind_of here.integers at (u.vector r)) _ e k in
     subst (DeclaredSite (with_declaration i (u.vector_subtype at r)) here) (ok _ e kind.then_gave) (more-known _ here _ (fewer i here _ _ h))
-declared-site (u.integer_subtype at s) i here e plain fit h k =
+declared-site (u.integer_subtype at s) i here e known plain fit h k =
     let numbers = bound (numbers_of here.integers at s) _ e k in
     subst (DeclaredSite (with_declaration i (u.integer_subtype at s)) here) (ok _ e numbers.then_gave) (more-known _ here _ (fewer i here _ _ h))
-declared-site _ i here e plain fit h k = absurd plain
+declared-site _ i here e known plain fit h k = absurd plain
 
 pub plain-objects : (x : Declaration) (i : Inside) → IsPlain x → ((with_declaration i x).ports ≡ i.ports) × ((with_declaration i x).variables ≡ i.variables)
 plain-objects (u.Declaration.signal o) i plain = absurd plain
@@ -178,13 +180,14 @@ plain-stands : (x : Declaration) (i : Inside) (d e : InstanceObjects) (ps : List
 plain-stands x i d e ps plain fit h k =
     let here = bound (declared d.site x) _ e k in
     let w = h.declared in
-    let s = declared-site x i d.site here.x plain fit w.site here.gave in
+    let s = declared-site x i d.site here.x w.known plain fit w.site here.gave in
     let same = plain-objects x i plain in
     subst (λ (y : InstanceObjects). Stands (with_declaration i x) y ps) (ok _ e here.then_gave) (record {
       signals = h.signals;
       objects = h.objects;
       declared = record {
         site = s.site;
+        known = declared_knows x d.site here.x w.known here.gave;
         ports = w.ports ∙ sym s.ports;
         signals = w.signals ∙ sym s.signals;
         roles = subst (λ (fs : List Port). AllZip (λ (p : Port) (o : Object). o.role ≡ role_of p.mode) fs ps) (sym same.0) w.roles;
@@ -199,8 +202,8 @@ declaration-stands : (x : Declaration) (i : Inside) (d e : InstanceObjects) (ps 
 unfolding declaration
 declaration-stands (u.Declaration.signal o) i d e ps none fit h k =
     let x = bound (object d.site internal o) _ e k in
-    let plain = object-plain i d.site internal o x.x fit x.gave in
     let w = h.declared in
+    let plain = object-plain i d.site internal o x.x w.known fit x.gave in
     subst (λ (y : InstanceObjects). Stands (with_declaration i (u.Declaration.signal o)) y ps) (ok (with_signal d x.x) e x.then_gave) (record {
       signals = h.signals ++ x.x ∷ [];
       objects = ap (λ (os : List Object). os ++ x.x ∷ []) h.objects ∙ append_assoc ps h.signals (x.x ∷ []);
@@ -211,6 +214,7 @@ declaration-stands (u.Declaration.signal o) i d e ps none fit h k =
           signals = zip_push IsOf i.signals d.site.signals o.form x.x.kind w.site.signals plain.kind;
           variables = w.site.variables;
         };
+        known = signal_knows d o x.x w.known x.gave;
         ports = w.ports;
         signals = map-append (λ (y : Object). y.kind) h.signals (x.x ∷ []) ∙ ap (λ (ks : List ObjectKind). ks ++ x.x.kind ∷ []) w.signals;
         roles = w.roles;

@@ -25,10 +25,12 @@ use Rattle.vhdl_expand_rules.specs.laws.Trees.{object_kinds, object_types, objec
 use Rattle.vhdl_expand_rules.proofs.Steps.{ok, bound}
 use Rattle.vhdl_expand_rules.proofs.laws.Names.{was_found, zip_at, get-past, get-before, get-replicate, count-cons}
 use Rattle.vhdl_expand_rules.proofs.laws.Prefixes.{places_below}
+use Rattle.vhdl_expand_rules.proofs.laws.KnownSites.{Knows}
 
 -- What is known of a site, whose ports and signals are these objects.
 pub record IsDeclared (i : Inside) (here : Site) (ps ss : List Object) : Type 0 where
   pub site : IsSite i here
+  pub known : Knows here
   pub ports : object_kinds ps ≡ here.ports
   pub signals : object_kinds ss ≡ here.signals
   pub roles : AllZip (λ (p : Port) (o : Object). o.role ≡ role_of p.mode) i.ports ps

@@ -1,27 +1,29 @@
 -- What expansion keeps: of the objects of an instance, in its declarations and associations; and of parts, over concurrent statements.
 use Rattle.std.proofs.Common.{◌≡◌, ℕ, zero, suc, Bool, true, false, cond, not, ◌||◌, ◌==◌, List, [], ◌∷◌, ◌++◌, length, map, Option, Some, None, Ok, All, refl, sym, ap, ◌∙◌, subst, append_assoc, append-nil}
-use Rattle.std.specs.Prelude.{⊤, ℤ, is_some, bytes_eq}
+use Rattle.std.specs.Prelude.{⊤, ℤ, slice_get, is_some, bytes_eq}
 use Rattle.std.specs.Char.{to_ascii_lowercase}
 use Rattle.std.specs.List.{AllZip}
 use Rattle.std.proofs.lemmas.Bool.{eqb-true}
+use Rattle.std.proofs.lemmas.Option.{slice_get-get_or}
 use Rattle.std.proofs.lemmas.List.Elements.{All-append, All-cons, All-nil, All-head, All-tail}
 use Rattle.vhdl_names_rules.specs.units.Expressions.{Range, StaticTest, SignalPart}
 use Rattle.vhdl_names_rules.specs.units.Units as u
 use Rattle.vhdl_names_rules.specs.units.Units.{Fixed, Port, Declaration, Architecture, Entity, Units}
-use Rattle.vhdl_expand_rules.specs.declared.fault.ElabProblem.TheVariants.{Length, Unassociated}
+use Rattle.vhdl_expand_rules.specs.declared.fault.ElabProblem.TheVariants.{GenericRange, Length, Unassociated}
 use Rattle.vhdl_expand_rules.specs.Elab.{Elab, ◌>>=◌, unless, each, same_length}
 use Rattle.vhdl_expand_rules.specs.Integers.{decision, turns}
 use Rattle.vhdl_expand_rules.specs.Kinds.{ObjectKind, size, kind_of}
-use Rattle.vhdl_expand_rules.specs.Site.{Site, no_site, place_elements}
+use Rattle.vhdl_expand_rules.specs.Site.{Site, no_site, signal_kind, place_elements}
 use Rattle.vhdl_expand_rules.specs.Tops.{Top}
 use Rattle.vhdl_expand_rules.specs.Tree.{Role, internal, Object, Instance, Parts, no_parts, inner, followed_by, EachInstance, EachInner}
 use Rattle.vhdl_expand_rules.specs.Tree as t
-use Rattle.vhdl_expand_rules.specs.Declarations.{first_of, rest_of, generics, starts, object, role_of, InstanceObjects, with_port, with_signal, ports, interface, declared, declaration, declarations, is_input, association, associations}
+use Rattle.vhdl_expand_rules.specs.Declarations.{first_of, rest_of, generics, starts, object, role_of, InstanceObjects, with_port, with_signal, ports, interface, declared, declaration, declarations, is_input, may_flow, association, associations}
 use Rattle.vhdl_expand_rules.specs.Expansion.{Spot, in_turn, in_branch, process, joined_parts, instance, concurrent, concurrents, instance_of, entity_named, Design, expanded_design}
-use Rattle.vhdl_expand_rules.proofs.Steps.{given, ok, bound, kept, each-all}
+use Rattle.vhdl_expand_rules.proofs.Steps.{given, ok, bound, kept}
 use Rattle.vhdl_expand_rules.proofs.Items.{all_any, all_get, all_found}
 use Rattle.vhdl_expand_rules.proofs.laws.Names.{zip_push}
 use Rattle.vhdl_expand_rules.proofs.laws.Made.{instance_made, instance_built, design_made}
+use Rattle.vhdl_expand_rules.proofs.laws.Targets.{each_with}
 
 -- ---- objects
 
@@ -101,7 +103,8 @@ module _ (S : u.Object → Type 0) (R : Port → Object → Type 0) (P : Object 
   association-holds above at p (Some place) o x h k =
       let es = bound (place_elements above place) _ x k in
       let a = bound (same_length place.at (length es.x) (size o.kind)) _ x es.then_gave in
-      subst (R p) (ok (record o { actual = Some es.x }) x a.then_gave)
+      let flows = bound (unless GenericRange place.at (may_flow o.role (signal_kind above place.signal) o.kind)) _ x a.then_gave in
+      subst (R p) (ok (record o { actual = Some es.x }) x flows.then_gave)
       (of.of_actual p o es.x h (eqb-true (length es.x) (size o.kind) (kept (Length (length es.x) (size o.kind)) place.at (length es.x == size o.kind) a.x a.gave)))
 
   pub associations_hold : (above : Site) (at : ℕ) (ps : List Port) (actuals : List (Option SignalPart)) (os xs : List Object) → AllZip R ps os → associations above at ps actuals os ≡ Ok xs → AllZip R ps xs
@@ -141,13 +144,17 @@ module _ (S : u.Object → Type 0) (R : Port → Object → Type 0) (P : Object 
 
 -- ---- concurrent statements
 
+-- a value that the parameter of a generate takes
+abbrev pub IsTurn : Spot → ℕ → Range → ℤ → Type 0
+IsTurn here at r j = (is : List ℤ) × (turns here.site.integers at r ≡ Ok is) × ((k : ℕ) × (slice_get is k ≡ Some j))
+
 -- Where One is known of a statement at its spot, and Many of several: Holds is kept by the parts that they become.
 pub record OfParts (One : Spot → u.Concurrent → Type 0) (Many : Spot → u.Concurrents → Type 0) (Holds : Parts → Type 0) : Type 0 where
   pub none : Holds no_parts
   pub followed : (a b : Parts) → Holds a → Holds b → Holds (followed_by a b)
   pub split : (here : Spot) (x : u.Concurrent) (rest : u.Concurrents) → Many here (u.concurrent x rest) → One here x × Many here rest
   pub of_process : (here : Spot) (p : u.Process) (q : t.Process) → One here (u.process p) → process here p ≡ Ok q → Holds (t.process q no_parts)
-  pub in_for : (here : Spot) (at : ℕ) (label : List ℕ) (r : Range) (body : u.Concurrents) (j : ℤ) → One here (u.generate_for at label r body) → Many (in_turn here label j) body
+  pub in_for : (here : Spot) (at : ℕ) (label : List ℕ) (r : Range) (body : u.Concurrents) (j : ℤ) → IsTurn here at r j → One here (u.generate_for at label r body) → Many (in_turn here label j) body
   pub in_if : (here : Spot) (at : ℕ) (label : List ℕ) (r : StaticTest) (body : u.Concurrents) → One here (u.generate_if at label r body) → Many (in_branch here label) body
 
 module _ (units : Units) (go : ℕ → Entity → InstanceObjects → Elab Instance) (One : Spot → u.Concurrent → Type 0) (Many : Spot → u.Concurrents → Type 0) (Holds : Parts → Type 0) (of : OfParts One Many Holds)
@@ -174,8 +181,8 @@ module _ (units : Units) (go : ℕ → Entity → InstanceObjects → Elab Insta
         let is = bound (turns here.site.integers at r) _ ps h in
         let qs = bound (each (λ i. concurrents units go (in_turn here label i) body) is.x) _ ps is.then_gave in
         subst Holds (ok (joined_parts qs.x) ps qs.then_gave)
-        (joined-hold qs.x (each-all Holds (λ i. concurrents units go (in_turn here label i) body) is.x qs.x
-        (λ i q. concurrents_hold body (in_turn here label i) q (of.in_for here at label r body i s)) qs.gave))
+        (joined-hold qs.x (each_with (λ i. (k : ℕ) × (slice_get is.x k ≡ Some i)) Holds (λ i. concurrents units go (in_turn here label i) body) is.x qs.x
+        (λ i q m. concurrents_hold body (in_turn here label i) q (of.in_for here at label r body i (is.x, is.gave, m) s)) (λ k d l. (k, slice_get-get_or is.x k d l)) qs.gave))
     concurrent-holds (u.generate_if at label r body) here ps s h =
         let b = bound (decision here.site.integers r) _ ps h in
         chosen-holds b.x (concurrents units go (in_branch here label) body) ps (λ qs. concurrents_hold body (in_branch here label) qs (of.in_if here at label r body s)) b.then_gave
@@ -283,7 +290,7 @@ module _ (Known : Entity → Type 0) (S : u.Object → Type 0) (R : Port → Obj
       followed = followed-each;
       split = λ here x rest s. (tt, tt);
       of_process = λ here p q s h. tt;
-      in_for = λ here at label r body j s. tt;
+      in_for = λ here at label r body j turn s. tt;
       in_if = λ here at label r body s. tt;
     };
     of_unit = of.of_unit;

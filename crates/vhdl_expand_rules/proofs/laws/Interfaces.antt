@@ -17,12 +17,13 @@ use Rattle.vhdl_expand_rules.specs.Kinds.{ObjectKind, element_type, kind_of}
 use Rattle.vhdl_expand_rules.specs.Site.{Constant, Site, no_site}
 use Rattle.vhdl_expand_rules.specs.Tree.{Role, Object}
 use Rattle.vhdl_expand_rules.specs.Declarations as declares
-use Rattle.vhdl_expand_rules.specs.Declarations.{first_of, rest_of, position_of, generic_values, valued_generic, generic, generics, starts, object, role_of, InstanceObjects, with_port, ports, interface, declared}
+use Rattle.vhdl_expand_rules.specs.Declarations.{first_of, rest_of, position_of, generic_values, valued_generic, generic, generics, starts, object, role_of, InstanceObjects, with_port, ports, interface}
 use Rattle.vhdl_expand_rules.specs.laws.Sites.{IsOf, IsConstant, IsSite}
 use Rattle.vhdl_expand_rules.specs.laws.Trees.{object_kinds, is_port, ObjectIsSound}
 use Rattle.vhdl_expand_rules.proofs.Steps.{ok, bound}
-use Rattle.vhdl_expand_rules.proofs.laws.Kinds.{kind_is_of, is_kind, elements_kind, resolved_kind, starts_below}
+use Rattle.vhdl_expand_rules.proofs.laws.Kinds.{kind_is_of, is_kind, port_kind, resolved_kind, starts_below}
 use Rattle.vhdl_expand_rules.proofs.laws.Names.{zip_push}
+use Rattle.vhdl_expand_rules.proofs.laws.KnownSites.{Knows, site_knows, port_knows}
 
 -- ---- one object
 
@@ -34,14 +35,14 @@ pub record Plain (role : Role) (o : u.Object) (x : Object) : Type 0 where
   pub resolved : x.is_resolved ≡ true → element_type x.kind ≡ nine_valued
   pub none : x.actual ≡ None
 
-pub object-plain : (i : Inside) (here : Site) (role : Role) (o : u.Object) (x : Object) → object_fits i o ≡ true → object here role o ≡ Ok x → Plain role o x
+pub object-plain : (i : Inside) (here : Site) (role : Role) (o : u.Object) (x : Object) → Knows here → object_fits i o ≡ true → object here role o ≡ Ok x → Plain role o x
 unfolding object
-object-plain i here role o x h e =
+object-plain i here role o x known h e =
     let both = and_parts (form_fits i o.form && may_be_resolved o.form o.is_resolved) (default_fits i (shape_of o.form) o.default) h in
     let first = and_parts (form_fits i o.form) (may_be_resolved o.form o.is_resolved) both.0 in
     let k = bound (kind_of here.integers o.at o.form) _ x e in
     let vs = bound (starts here o.at k.x o.default) _ x k.then_gave in
-    let of = kind_is_of i here.integers o.at o.form k.x first.0 k.gave in
+    let of = kind_is_of i here.integers o.at o.form k.x (λ q. known) first.0 k.gave in
     subst (Plain role o) (ok _ x vs.then_gave) (record {
       kind = of;
       role_is = refl;
@@ -69,6 +70,7 @@ pub record PortObject (p : Port) (o : Object) : Type 0 where
 
 pub record Interface (i : Inside) (done : List Port) (d : InstanceObjects) : Type 0 where
   pub site : IsSite (record i { ports = done }) d.site
+  pub known : Knows d.site
   pub kinds : object_kinds d.objects ≡ d.site.ports
   pub no_signals : d.site.signals ≡ []
   pub objects : AllZip PortObject done d.objects
@@ -76,13 +78,13 @@ pub record Interface (i : Inside) (done : List Port) (d : InstanceObjects) : Typ
 abbrev PortFits : Inside → Port → Type 0
 PortFits i p = (object_fits i p.object ≡ true) × (port_fits p ≡ true)
 
-port-object : (i : Inside) (here : Site) (p : Port) (o : Object) → PortFits i p → object here (role_of p.mode) p.object ≡ Ok o → PortObject p o
-port-object i here p o h e =
-    let w = object-plain i here (role_of p.mode) p.object o h.0 e in
-    record { plain = w; nine = elements_kind p.object.form o.kind w.kind h.1 }
+port-object : (i : Inside) (here : Site) (p : Port) (o : Object) → Knows here → PortFits i p → object here (role_of p.mode) p.object ≡ Ok o → PortObject p o
+port-object i here p o known h e =
+    let w = object-plain i here (role_of p.mode) p.object o known h.0 e in
+    record { plain = w; nine = port_kind p.object.form o.kind w.kind h.1 }
 
-port-added : (i : Inside) (done : List Port) (d : InstanceObjects) (p : Port) (o : Object) → Interface i done d → PortObject p o → Interface i (done ++ p ∷ []) (with_port d o)
-port-added i done d p o h w = record {
+port-added : (i : Inside) (done : List Port) (d : InstanceObjects) (p : Port) (o : Object) → Interface i done d → PortObject p o → Knows (with_port d o).site → Interface i (done ++ p ∷ []) (with_port d o)
+port-added i done d p o h w known = record {
   site = record {
     constants = h.site.constants;
     ports = subst (λ (fs : List Form). AllZip IsOf fs (d.site.ports ++ o.kind ∷ [])) (sym (map-append port_form done (p ∷ [])))
@@ -90,6 +92,7 @@ port-added i done d p o h w = record {
     signals = h.site.signals;
     variables = h.site.variables;
   };
+  known = known;
   kinds = map-append (λ (x : Object). x.kind) d.objects (o ∷ []) ∙ ap (λ (ks : List ObjectKind). ks ++ o.kind ∷ []) h.kinds;
   no_signals = h.no_signals;
   objects = zip_push PortObject done d.objects p o h.objects w;
@@ -100,9 +103,9 @@ unfolding ports
 ports-stand [] i done d e h fit k = subst (λ (xs : List Port). Interface i xs e) (sym (append-nil done)) (subst (Interface i done) (ok d e k) h)
 ports-stand (p ∷ ps) i done d e h fit k =
     let o = bound (object d.site (role_of p.mode) p.object) _ e k in
-    let w = port-object i d.site p o.x (All-head (PortFits i) p ps fit) o.gave in
+    let w = port-object i d.site p o.x h.known (All-head (PortFits i) p ps fit) o.gave in
     subst (λ (xs : List Port). Interface i xs e) (append_assoc done (p ∷ []) ps)
-    (ports-stand ps i (done ++ p ∷ []) (with_port d o.x) e (port-added i done d p o.x h w) (All-tail (PortFits i) p ps fit) o.then_gave)
+    (ports-stand ps i (done ++ p ∷ []) (with_port d o.x) e (port-added i done d p o.x h w (port_knows d p o.x h.known o.gave)) (All-tail (PortFits i) p ps fit) o.then_gave)
 
 port-fits : (i : Inside) (ps : List Port) → objects_fit i (map (λ (p : Port). p.object) ps) ≡ true → list_all port_fits ps ≡ true → All (PortFits i) ps
 port-fits i [] h e = All-nil (PortFits i)
@@ -156,7 +159,8 @@ valued-stands i from own here at (u.values form) f fit h k =
     let kind = bound (kind_of own.integers at form) _ here k in
     let vs = bound (generic_values from at kind.x f) _ here kind.then_gave in
     subst (IsSite (with_constant i form)) (ok (declares.with_constant own (record { kind = kind.x; values = vs.x })) here vs.then_gave)
-    (constant-site i own form (record { kind = kind.x; values = vs.x }) h (kind_is_of i own.integers at form kind.x both.0 kind.gave))
+    (constant-site i own form (record { kind = kind.x; values = vs.x }) h
+    (kind_is_of i own.integers at form kind.x (λ q. absurd (let e = sym (ap is_elements q) ∙ both.1 in cc)) both.0 kind.gave))
 valued-stands i from own here at _ f fit h k = absurd cc
 
 generic-stands : (i : Inside) (above own here : Site) (actual : Option Fixed) (g : Generic) → generic_type_fits i g.type ≡ true → IsSite i own → generic above own actual g ≡ Ok here
@@ -215,10 +219,10 @@ before_ports unit = with_generics nothing_inside unit.generics
 pub none_before : (unit : Entity) → ((before_ports unit).ports ≡ []) × ((before_ports unit).variables ≡ [])
 none_before unit = let w = with-generics unit.generics nothing_inside in (w.ports, w.variables)
 
-pub interface-stands : (above : Site) (actuals : List (Option Fixed)) (unit : Entity) (d : InstanceObjects) → generics_fit nothing_inside unit.generics ≡ true
+pub interface-stands : (above : Site) (actuals : List (Option Fixed)) (unit : Entity) (d : InstanceObjects) → Knows above → generics_fit nothing_inside unit.generics ≡ true
     → objects_fit (before_ports unit) (map (λ (p : Port). p.object) unit.ports) ≡ true → list_all port_fits unit.ports ≡ true → interface above actuals unit ≡ Ok d → Interface (before_ports unit) unit.ports d
 unfolding interface
-interface-stands above actuals unit d g h e k =
+interface-stands above actuals unit d known g h e k =
     let i = before_ports unit in
     let here = bound (generics above no_site actuals unit.generics) _ d k in
     let site = generics-stand unit.generics nothing_inside above no_site here.x actuals g (record { constants = tt; ports = tt; signals = tt; variables = tt }) here.gave in
@@ -230,6 +234,7 @@ interface-stands above actuals unit d g h e k =
         signals = site.signals;
         variables = site.variables;
       };
+      known = site_knows above actuals unit here.x known here.gave;
       kinds = sym bare.ports;
       no_signals = bare.signals;
       objects = tt;

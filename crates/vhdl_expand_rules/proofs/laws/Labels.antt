@@ -144,7 +144,7 @@ parts = record {
   followed = followed-named;
   split = λ here x rest n. split_named x rest n;
   of_process = λ here p q n h. (process-named here p q (process-parts p n) h, tt);
-  in_for = λ here at label r body j n. for_named at label r body n;
+  in_for = λ here at label r body j turn n. for_named at label r body n;
   in_if = λ here at label r body n. (if_named at label r body n).1;
 }
 

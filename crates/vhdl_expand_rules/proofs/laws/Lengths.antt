@@ -1,22 +1,25 @@
 -- Objects of an expanded tree are as long as what they start with, and as their actuals.
 use Rattle.std.proofs.Common.{◌≡◌, ℕ, ◌==◌, List, [], ◌∷◌, length, map, replicate, Option, Some, None, Ok, All, sym, ap, ◌∙◌, subst}
-use Rattle.std.specs.Prelude.{slice_get}
+use Rattle.std.specs.Prelude.{ℤ, slice_get}
 use Rattle.std.proofs.lemmas.List.Elements.{All-append}
 use Rattle.std.proofs.lemmas.Bool.{eqb-true}
 use Rattle.vhdl_values.specs.declared.scalar.Nine.{Nine}
-use Rattle.vhdl_values.specs.Scalar.{code_of}
+use Rattle.vhdl_values.specs.declared.scalar.Nine.TheVariants.{Zero}
+use Rattle.vhdl_values.specs.Scalar.{code_of, value_of_truth}
 use Rattle.vhdl_values.specs.Numbers.{digits_of}
+use Rattle.vhdl_numbers.specs.TwosComplement.{signed_digits_of}
+use Rattle.vhdl_numbers.proofs.Lengths.{length-signed_digits_of}
 use Rattle.rtl_model.specs.bodies.Body as bodies
 use Rattle.rtl_model.specs.bodies.Values.{elements_of}
 use Rattle.vhdl_names_rules.specs.units.Units as u
 use Rattle.vhdl_names_rules.specs.units.Units.{Fixed, Port}
 use Rattle.vhdl_expand_rules.specs.declared.fault.ElabProblem.TheVariants.{Length, Index}
 use Rattle.vhdl_expand_rules.specs.Elab.{◌>>=◌, item_or, same_length}
-use Rattle.vhdl_expand_rules.specs.Integers.{natural}
-use Rattle.vhdl_expand_rules.specs.Kinds.{ObjectKind, vector, enumeration, size, size_of}
+use Rattle.vhdl_expand_rules.specs.Integers.{IntegerRange, of_range, natural, integer_among, decision}
+use Rattle.vhdl_expand_rules.specs.Kinds.{ObjectKind, vector, enumeration, integer, boolean, number_size, size, size_of}
 use Rattle.vhdl_expand_rules.specs.Site.{Site}
 use Rattle.vhdl_expand_rules.specs.Tree.{Role, internal, Object}
-use Rattle.vhdl_expand_rules.specs.Declarations.{as_long_as, nothing_seen, elements_of_value, position_of_value, fixed_values, given_starts, starts, object, role_of}
+use Rattle.vhdl_expand_rules.specs.Declarations.{as_long_as, nothing_seen, elements_of_value, position_of_value, fixed_values, number_starts, given_starts, starts, object, role_of}
 use Rattle.vhdl_expand_rules.specs.Statements.{value_given}
 use Rattle.vhdl_expand_rules.specs.laws.Lengths.{ObjectFits, EachDesignFits}
 use Rattle.vhdl_expand_rules.proofs.Steps.{given, ok, bound, kept}
@@ -60,17 +63,29 @@ position-length : (at : ℕ) (v : bodies.Value) (vs : List ℕ) → position_of_
 position-length at (bodies.position n) vs h = ap length (sym (ok (n ∷ []) vs h))
 position-length at _ vs h = absurd cc
 
+number-length : (r : IntegerRange) (x : ℤ) → length (number_starts r x) ≡ number_size r
+number-length r x = length-map (signed_digits_of (number_size r) x) code_of ∙ length-signed_digits_of (number_size r) x
+
 given-length : (here : Site) (at : ℕ) (kind : ObjectKind) (f : Fixed) (vs : List ℕ) → given_starts here at kind f ≡ Ok vs → length vs ≡ size kind
 given-length here at (vector b) f vs h = codes-length here at (size (vector b)) f vs h
 given-length here at (enumeration count) (u.Fixed.position n) vs h = ap length (sym (ok (n ∷ []) vs h))
 given-length here at (enumeration count) (u.Fixed.given g) vs h =
     let v = bound (value_given here at 1 g) _ vs h in
     position-length at v.x vs v.then_gave
+given-length here at boolean (u.Fixed.truth t) vs h =
+    let b = bound (decision here.integers t) _ vs h in
+    ap length (sym (ok (code_of (value_of_truth b.x) ∷ []) vs b.then_gave))
+given-length here at (integer r) (u.Fixed.integer s) vs h =
+    let n = bound (integer_among here.integers at (of_range r) s) _ vs h in
+    ap length (sym (ok (number_starts r n.x) vs n.then_gave)) ∙ number-length r n.x
+given-length here at (integer r) f vs h = codes-length here at (number_size r) f vs h
 given-length here at _ f vs h = codes-length here at 1 f vs h
 
 pub starts-length : (here : Site) (at : ℕ) (kind : ObjectKind) (d : Option Fixed) (vs : List ℕ) → starts here at kind d ≡ Ok vs → length vs ≡ size kind
 unfolding starts
-starts-length here at kind None vs h = subst (λ (ns : List ℕ). length ns ≡ size kind) (ok (replicate (size kind) 0) vs h) (length-replicate (size kind) 0)
+starts-length here at (integer r) None vs h = ap length (sym (ok (number_starts r r.left) vs h)) ∙ number-length r r.left
+starts-length here at boolean None vs h = ap length (sym (ok (code_of Zero ∷ []) vs h))
+starts-length here at kind None vs h = subst (λ (ns : List ℕ). length ns ≡ size kind) (ok (replicate (size kind) 0) vs h) (length-replicate {A = ℕ} (size kind) 0)
 starts-length here at kind (Some f) vs h = given-length here at kind f vs h
 
 -- ---- objects

@@ -18,19 +18,22 @@ use Rattle.vhdl_names_rules.specs.sound.Expressions.{Inside, Shape, static_fits,
 use Rattle.vhdl_expand_rules.specs.declared.fault.ElabProblem.{ElabProblem}
 use Rattle.vhdl_expand_rules.specs.declared.fault.ElabProblem.TheVariants.{Index}
 use Rattle.vhdl_expand_rules.specs.Elab.{item_or}
-use Rattle.vhdl_expand_rules.specs.Integers.{Integers, integer}
-use Rattle.vhdl_expand_rules.specs.Kinds.{ObjectKind, one, vector, enumeration, size, element_type, place_of, places}
+use Rattle.vhdl_expand_rules.specs.Integers as integers
+use Rattle.vhdl_expand_rules.specs.Integers.{Integers}
+use Rattle.vhdl_expand_rules.specs.Kinds.{ObjectKind, one, vector, enumeration, integer, boolean, number_size, size, element_type, place_of, places}
 use Rattle.vhdl_expand_rules.specs.Site.{Site, elements_count, part_elements, signal_elements, variable_elements}
 use Rattle.vhdl_expand_rules.specs.laws.Sites.{IsOf, IsSite, kinds_types, scope_at}
 use Rattle.vhdl_expand_rules.specs.laws.Expressions.{HasShape, type_of, IsName, EachNameFits}
 use Rattle.vhdl_expand_rules.proofs.Steps.{given, ok, bound}
 use Rattle.vhdl_expand_rules.proofs.Options.{step, given_some}
+use Rattle.vhdl_expand_rules.proofs.Digits.{integral, size_width}
 use Rattle.vhdl_expand_rules.proofs.laws.Places.{run-within, place_below, slice_within}
 
 -- ---- shapes
 
 pub is_width : (s : Shape) (n : ℕ) → HasShape s n → IsWidth n
 is_width sound.vector n h = h
+is_width sound.number n h = h
 is_width _ n h = (omega (arith, h), omega (arith, h))
 
 pub width-le : (m n : ℕ) → 1 ≤ m → m ≤ n → IsWidth n → IsWidth m
@@ -57,6 +60,12 @@ whole (units.vector r) (vector b) h =
     let some : 1 ≤ n = h.0 in
     let w = run-within n 0 n n n refl refl some (omega arith) in
     record { below = w.below; width = subst IsWidth (sym (length-range_with_len 0 n)) h; type_is = refl }
+whole (units.Form.number s) (integer r) h =
+    let n : ℕ = number_size r in
+    let width = size_width r (integral r h) in
+    let w = run-within n 0 n n n refl refl width.0 (omega arith) in
+    record { below = w.below; width = subst IsWidth (sym (length-range_with_len 0 n)) width; type_is = refl }
+whole units.boolean boolean h = record { below = one-place 1 0 (omega arith); width = refl; type_is = refl }
 whole (units.enumeration m) (enumeration n) h = record { below = one-place 1 0 (omega arith); width = refl; type_is = ap enumeration h.0 }
 whole _ _ h = elim h [ ]
 
@@ -67,19 +76,23 @@ part_places i here at f kind u.whole s ps h e g =
     subst (PartPlaces kind s) (ok (range_with_len 0 (size kind)) ps g)
     (subst (λ (x : Shape). PartPlaces kind x (range_with_len 0 (size kind))) (same_Some (shape_of f) s e) (whole f kind h))
 part_places i here at (units.vector r) (vector b) (u.Part.element x) s ps h e g =
-    let j = bound (integer here at x) _ ps g in
+    let j = bound (integers.integer here at x) _ ps g in
     let p = bound (place_of b at j.x) _ ps j.then_gave in
     subst (PartPlaces (vector b) s) (ok (p.x ∷ []) ps p.then_gave)
     (subst (λ (y : Shape). PartPlaces (vector b) y (p.x ∷ [])) (given_some (static_fits i x) sound.one s e).1
     (record { below = one-place (size (vector b)) p.x (place_below b at j.x p.x p.gave); width = refl; type_is = refl }))
 part_places i here at (units.vector r) (vector b) (u.slice x) s ps h e g =
-    let l = bound (integer here at x.left) _ ps g in
-    let m = bound (integer here at x.right) _ ps l.then_gave in
+    let l = bound (integers.integer here at x.left) _ ps g in
+    let m = bound (integers.integer here at x.right) _ ps l.then_gave in
     let w = slice_within b at x.direction l.x m.x ps m.then_gave in
     subst (λ (y : Shape). PartPlaces (vector b) y ps) (given_some (range_fits i x) sound.vector s e).1
     (record { below = w.below; width = width-le (length ps) (size (vector b)) w.some w.most h; type_is = refl })
 part_places i here at units.element kind (u.Part.element x) s ps h e g = absurd cc
 part_places i here at units.element kind (u.slice x) s ps h e g = absurd cc
+part_places i here at (units.Form.number r) kind (u.Part.element x) s ps h e g = absurd cc
+part_places i here at (units.Form.number r) kind (u.slice x) s ps h e g = absurd cc
+part_places i here at units.boolean kind (u.Part.element x) s ps h e g = absurd cc
+part_places i here at units.boolean kind (u.slice x) s ps h e g = absurd cc
 part_places i here at (units.enumeration m) kind (u.Part.element x) s ps h e g = absurd cc
 part_places i here at (units.enumeration m) kind (u.slice x) s ps h e g = absurd cc
 part_places i here at _ _ _ s ps h e g = elim h [ ]

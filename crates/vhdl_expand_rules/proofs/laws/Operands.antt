@@ -16,7 +16,7 @@ use Rattle.vhdl_names_rules.specs.declared.operator.Numeric.TheVariants.{Add, Su
 use Rattle.vhdl_names_rules.specs.declared.operator.VectorOperator.{VectorOperator}
 use Rattle.vhdl_names_rules.specs.declared.operator.VectorOperator.TheVariants as v
 use Rattle.vhdl_names_rules.specs.units.Expressions.{Static, Vector}
-use Rattle.vhdl_names_rules.specs.sound.Expressions.{Inside, Shape, one, vector, state, is_elements, is_vector, same_shape, operated_shape, static_fits, with_static, is_vector_shape, vector_shape}
+use Rattle.vhdl_names_rules.specs.sound.Expressions.{Inside, Shape, one, vector, state, number, is_elements, is_vector, same_shape, operated_shape, static_fits, with_static, is_vector_shape, vector_shape}
 use Rattle.vhdl_expand_rules.specs.declared.fault.ElabProblem.TheVariants.{Length, Index, TooWide}
 use Rattle.vhdl_expand_rules.specs.Elab.{unless}
 use Rattle.vhdl_expand_rules.specs.Integers.{Integers, natural}
@@ -117,6 +117,7 @@ pub vector-shape : (o : Option Shape) → is_vector_shape o ≡ true → o ≡ S
 vector-shape (Some vector) h = refl
 vector-shape (Some one) h = absurd cc
 vector-shape (Some (state n)) h = absurd cc
+vector-shape (Some number) h = absurd cc
 vector-shape None h = absurd cc
 
 -- with a static integer: a vector's shape, and what comes of it

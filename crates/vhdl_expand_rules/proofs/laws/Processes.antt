@@ -30,6 +30,7 @@ use Rattle.vhdl_expand_rules.specs.Expansion.{Spot, process}
 use Rattle.vhdl_expand_rules.specs.laws.Sites.{IsOf, IsSite, kinds_types}
 use Rattle.vhdl_expand_rules.specs.laws.Trees.{object_kinds, object_types, object_roles, MayBeDriven, VariableIsSound, ProcessIsSound}
 use Rattle.vhdl_expand_rules.proofs.Steps.{given, ok, bound}
+use Rattle.vhdl_expand_rules.proofs.laws.KnownSites.{Knows, declared_knows, variable_knows}
 use Rattle.vhdl_expand_rules.proofs.laws.Made.{process_made}
 use Rattle.vhdl_expand_rules.proofs.laws.Names.{zip_push}
 use Rattle.vhdl_expand_rules.proofs.laws.Declared.{IsPlain, declared-site, none_such}
@@ -45,14 +46,14 @@ record Declares (o : u.Object) (v : Variable) : Type 0 where
   kind : IsOf o.form v.kind
   sound : VariableIsSound v
 
-variable-declares : (i : Inside) (here : Site) (o : u.Object) (v : Variable) → object_fits i o ≡ true → variable here o ≡ Ok v → Declares o v
+variable-declares : (i : Inside) (here : Site) (o : u.Object) (v : Variable) → Knows here → object_fits i o ≡ true → variable here o ≡ Ok v → Declares o v
 unfolding variable
-variable-declares i here o v h e =
+variable-declares i here o v known h e =
     let both = and_parts (form_fits i o.form && may_be_resolved o.form o.is_resolved) (default_fits i (shape_of o.form) o.default) h in
     let first = and_parts (form_fits i o.form) (may_be_resolved o.form o.is_resolved) both.0 in
     let k = bound (kind_of here.integers o.at o.form) _ v e in
     let vs = bound (starts here o.at k.x o.default) _ v k.then_gave in
-    let of = kind_is_of i here.integers o.at o.form k.x first.0 k.gave in
+    let of = kind_is_of i here.integers o.at o.form k.x (λ q. known) first.0 k.gave in
     subst (Declares o) (ok _ v vs.then_gave) (record {
       kind = of;
       sound = record {
@@ -68,6 +69,7 @@ kinds_of vs = map (λ (v : Variable). v.kind) vs
 -- what is declared in a process that stands here
 record ProcessStands (j : Inside) (here : Site) (d : ProcessVariables) : Type 0 where
   site : IsSite j d.site
+  known : Knows d.site
   ports : d.site.ports ≡ here.ports
   signals : d.site.signals ≡ here.signals
   kinds : kinds_of d.variables ≡ d.site.variables
@@ -77,9 +79,10 @@ plain-declares : (x : Declaration) (i : Inside) (here : Site) (d e : ProcessVari
     → (declared d.site x >>= λ site. given (record d { site = site })) ≡ Ok e → ProcessStands (with_declaration i x) here e
 plain-declares x i here d e plain fit h k =
     let site = bound (declared d.site x) _ e k in
-    let s = declared-site x i d.site site.x plain fit h.site site.gave in
+    let s = declared-site x i d.site site.x h.known plain fit h.site site.gave in
     subst (ProcessStands (with_declaration i x) here) (ok _ e site.then_gave) (record {
       site = s.site;
+      known = declared_knows x d.site site.x h.known site.gave;
       ports = s.ports ∙ h.ports;
       signals = s.signals ∙ h.signals;
       kinds = h.kinds ∙ sym s.variables;
@@ -91,7 +94,7 @@ declaration-declares : (x : Declaration) (i : Inside) (here : Site) (d e : Proce
 unfolding process_declaration
 declaration-declares (u.Declaration.variable o) i here d e none fit h k =
     let v = bound (variable d.site o) _ e k in
-    let w = variable-declares i d.site o v.x fit v.gave in
+    let w = variable-declares i d.site o v.x h.known fit v.gave in
     subst (ProcessStands (with_declaration i (u.Declaration.variable o)) here) (ok (with_variable d v.x) e v.then_gave) (record {
       site = record {
         constants = h.site.constants;
@@ -99,6 +102,7 @@ declaration-declares (u.Declaration.variable o) i here d e none fit h k =
         signals = h.site.signals;
         variables = zip_push IsOf i.variables d.site.variables o.form v.x.kind h.site.variables w.kind;
       };
+      known = variable_knows d o v.x h.known v.gave;
       ports = h.ports;
       signals = h.signals;
       kinds = map-append (λ (y : Variable). y.kind) d.variables (v.x ∷ []) ∙ ap (λ (ks : List ObjectKind). ks ++ v.x.kind ∷ []) h.kinds;
@@ -190,6 +194,7 @@ process-sound i here os ss p q h alone fit g =
         signals = h.site.signals;
         variables = subst (λ (fs : List Form). AllZip IsOf fs []) (sym alone) tt;
       };
+      known = h.known;
       ports = refl;
       signals = refl;
       kinds = refl;
@@ -198,6 +203,7 @@ process-sound i here os ss p q h alone fit g =
     let st = declarations-declare ds i here.site (no_variables here.site) m.declared third.1 second.1 start m.declares in
     let within : IsDeclared j site os ss = record {
       site = st.site;
+      known = st.known;
       ports = h.ports ∙ sym st.ports;
       signals = h.signals ∙ sym st.signals;
       roles = subst (λ (fs : List Port). AllZip (λ (f : Port) (o : Object). o.role ≡ role_of f.mode) fs os) (sym (same-ports ds i)) h.roles;

@@ -15,9 +15,9 @@ use Rattle.vhdl_expand_rules.specs.declared.fault.ElabProblem.TheVariants.{Index
 use Rattle.vhdl_expand_rules.specs.Elab.{Elab, ◌>>=◌, item_or, each}
 use Rattle.vhdl_expand_rules.specs.Integers.{Integers, turns}
 use Rattle.vhdl_expand_rules.specs.Kinds.{ObjectKind, places}
-use Rattle.vhdl_expand_rules.specs.Site.{Site, in_loop, elements_count, part_elements, signal_elements, place_elements, variable_elements, signal_bounds, variable_bounds}
+use Rattle.vhdl_expand_rules.specs.Site.{Site, in_loop, elements_count, part_elements, signal_elements, place_elements, variable_elements, signal_kind, signal_bounds, variable_bounds}
 use Rattle.vhdl_expand_rules.specs.Expressions as x
-use Rattle.vhdl_expand_rules.specs.Statements.{value_given, elements_given, choice, joined_bodies, one, statement, statements, branches, alternatives}
+use Rattle.vhdl_expand_rules.specs.Statements.{given_to, elements_given, choice, may_choose, choices_serve, spread, joined_bodies, one, statement, statements, branches, alternatives}
 use Rattle.vhdl_expand_rules.specs.declared.prefix.Sought.TheVariants.{Assigned}
 use Rattle.vhdl_expand_rules.specs.Prefixes.{prefix, whole_of, statement_names, targets, branches_names, alternatives_names, concatenation_of, is_among, in_order}
 use Rattle.vhdl_expand_rules.specs.laws.Trees.{StmtAssigns, Assigns, BranchesAssign, AlternativesAssign}
@@ -155,11 +155,11 @@ module _ (here : Site) (vs : List ObjectKind) (P : ℕ → Type 0) where
     statement-assigns s.null_of loops body h m = subst (Assigns P) (ok (one bodies.null_of) body m) (tt, tt)
     statement-assigns (s.assign p g) loops body h m =
         let es = bound (place_elements (within here loops vs) p) _ body m in
-        let v = bound (value_given (within here loops vs) p.at (length es.x) g) _ body es.then_gave in
+        let v = bound (given_to (within here loops vs) p.at (signal_kind (within here loops vs) p.signal) (length es.x) g) _ body es.then_gave in
         subst (Assigns P) (ok (one (bodies.assign es.x v.x)) body v.then_gave) (name-assigned loops p es.x (All-head Driven p [] h) es.gave, tt)
     statement-assigns (s.set at n part g) loops body h m =
         let es = bound (variable_elements (within here loops vs) at n part) _ body m in
-        let v = bound (value_given (within here loops vs) at (length es.x) g) _ body es.then_gave in
+        let v = bound (given_to (within here loops vs) at (slice_get (within here loops vs).variables n) (length es.x) g) _ body es.then_gave in
         subst (Assigns P) (ok (one (bodies.set es.x v.x)) body v.then_gave) (tt, tt)
     statement-assigns (s.assign_in at y c g) loops body h m =
         let es = bound (signal_elements (within here loops vs) at y u.whole) _ body m in
@@ -177,10 +177,17 @@ module _ (here : Site) (vs : List ObjectKind) (P : ℕ → Type 0) where
     statement-assigns (s.if_of at bs) loops body h m =
         let cs = bound (branches (within here loops vs) bs) _ body m in
         subst (Assigns P) (ok (one (bodies.if_of cs.x)) body cs.then_gave) (branches-assign bs loops cs.x h cs.gave, tt)
+    statement-assigns (s.case_of at (u.Value.computed c) alts) loops body h m =
+        let n = bound (x.computed (within here loops vs) at c) _ body m in
+        let served = bound (choices_serve (within here loops vs).integers at (may_choose c n.x) n.x alts) _ body n.then_gave in
+        let codes : List s.Choice → Elab (List (List ℕ)) = spread (within here loops vs).integers (may_choose c n.x) n.x in
+        let cs = bound (alternatives (within here loops vs) codes alts) _ body served.then_gave in
+        subst (Assigns P) (ok (one (bodies.case_of (bodies.elements n.x.digits) cs.x)) body cs.then_gave) (alternatives-assign alts loops codes cs.x h cs.gave, tt)
     statement-assigns (s.case_of at v alts) loops body h m =
         let e = bound (x.value (within here loops vs) at v) _ body m in
-        let cs = bound (alternatives (within here loops vs) at (value_width e.x) alts) _ body e.then_gave in
-        subst (Assigns P) (ok (one (bodies.case_of e.x cs.x)) body cs.then_gave) (alternatives-assign alts loops at (value_width e.x) cs.x h cs.gave, tt)
+        let codes : List s.Choice → Elab (List (List ℕ)) = each (choice at (value_width e.x)) in
+        let cs = bound (alternatives (within here loops vs) codes alts) _ body e.then_gave in
+        subst (Assigns P) (ok (one (bodies.case_of e.x cs.x)) body cs.then_gave) (alternatives-assign alts loops codes cs.x h cs.gave, tt)
     statement-assigns (s.for_of at r inner) loops body h m =
         let is = bound (turns (within here loops vs).integers at r) _ body m in
         let ss = bound (each (λ j. statements (in_loop (within here loops vs) j) inner) is.x) _ body is.then_gave in
@@ -209,17 +216,20 @@ module _ (here : Site) (vs : List ObjectKind) (P : ℕ → Type 0) where
         subst (BranchesAssign P) (ok (bodies.branch c.x a.x rest.x) cs rest.then_gave)
         (statements-assign ys loops a.x (all_left Driven (targets ys) (branches_names Assigned bs) h) a.gave, branches-assign bs loops rest.x (all_right Driven (targets ys) (branches_names Assigned bs) h) rest.gave)
 
-    alternatives-assign : (alts : s.Alternatives) (loops : List ℤ) (at len : ℕ) (cs : bodies.Alternatives) → All Driven (alternatives_names Assigned alts)
-        → alternatives (within here loops vs) at len alts ≡ Ok cs → AlternativesAssign P cs
-    alternatives-assign (s.others ys) loops at len cs h m =
+    alternatives-assign : (alts : s.Alternatives) (loops : List ℤ) (codes : List s.Choice → Elab (List (List ℕ))) (cs : bodies.Alternatives) → All Driven (alternatives_names Assigned alts)
+        → alternatives (within here loops vs) codes alts ≡ Ok cs → AlternativesAssign P cs
+    alternatives-assign (s.others ys) loops codes cs h m =
         let a = bound (statements (within here loops vs) ys) _ cs m in
         subst (AlternativesAssign P) (ok (bodies.others a.x) cs a.then_gave) (statements-assign ys loops a.x h a.gave)
-    alternatives-assign (s.alternative choices ys alts) loops at len cs h m =
-        let c = bound (each (choice at len) choices) _ cs m in
+    alternatives-assign (s.complete choices ys) loops codes cs h m =
+        let a = bound (statements (within here loops vs) ys) _ cs m in
+        subst (AlternativesAssign P) (ok (bodies.others a.x) cs a.then_gave) (statements-assign ys loops a.x h a.gave)
+    alternatives-assign (s.alternative choices ys alts) loops codes cs h m =
+        let c = bound (codes choices) _ cs m in
         let a = bound (statements (within here loops vs) ys) _ cs c.then_gave in
-        let rest = bound (alternatives (within here loops vs) at len alts) _ cs a.then_gave in
+        let rest = bound (alternatives (within here loops vs) codes alts) _ cs a.then_gave in
         subst (AlternativesAssign P) (ok (bodies.alternative c.x a.x rest.x) cs rest.then_gave)
-        (statements-assign ys loops a.x (all_left Driven (targets ys) (alternatives_names Assigned alts) h) a.gave, alternatives-assign alts loops at len rest.x (all_right Driven (targets ys) (alternatives_names Assigned alts) h) rest.gave)
+        (statements-assign ys loops a.x (all_left Driven (targets ys) (alternatives_names Assigned alts) h) a.gave, alternatives-assign alts loops codes rest.x (all_right Driven (targets ys) (alternatives_names Assigned alts) h) rest.gave)
 
 pub body_assigns : (here : Site) (vs : List ObjectKind) (P : ℕ → Type 0) (ys : s.Statements) (loops : List ℤ) (body : bodies.Stmts)
     → All (λ (p : SignalPart). (ds : List ℕ) × (place_elements here (prefix p) ≡ Ok ds) × All P ds) (targets ys) → statements (within here loops vs) ys ≡ Ok body → Assigns P body
@@ -259,9 +269,10 @@ mutual
 
   alternatives-targets : (alts : s.Alternatives) (i : Inside) (o : Option Shape) → alternatives_fit i o alts ≡ true → All (IsDriven i) (alternatives_names Assigned alts)
   alternatives-targets (s.others ys) i o k = statements-targets ys i k
+  alternatives-targets (s.complete cs ys) i o k = statements-targets ys i (and_parts (list_all (choice_fits i o) cs) (statements_fit i ys) k).1
   alternatives-targets (s.alternative cs ys alts) i o k =
-      let both = and_parts (list_all (choice_fits o) cs && statements_fit i ys) (alternatives_fit i o alts) k in
-      All-append (IsDriven i) (targets ys) (alternatives_names Assigned alts) (statements-targets ys i (and_parts (list_all (choice_fits o) cs) (statements_fit i ys) both.0).1) (alternatives-targets alts i o both.1)
+      let both = and_parts (list_all (choice_fits i o) cs && statements_fit i ys) (alternatives_fit i o alts) k in
+      All-append (IsDriven i) (targets ys) (alternatives_names Assigned alts) (statements-targets ys i (and_parts (list_all (choice_fits i o) cs) (statements_fit i ys) both.0).1) (alternatives-targets alts i o both.1)
 
 pub targets_are_driven : (ys : s.Statements) (i : Inside) → statements_fit i ys ≡ true → All (λ (p : SignalPart). is_driven i p.signal ≡ true) (targets ys)
 targets_are_driven ys i k = statements-targets ys i k

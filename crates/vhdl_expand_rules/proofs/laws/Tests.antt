@@ -1,10 +1,11 @@
 -- Expanded values and tests fit.
-use Rattle.std.proofs.Common.{◌≡◌, ℕ, suc, ◌+◌, ◌≤◌, Bool, true, false, not, List, [], ◌∷◌, Option, Some, None, Ok, All, refl, sym, ap, subst, arith}
-use Rattle.std.specs.Prelude.{slice_get}
+use Rattle.std.proofs.Common.{◌≡◌, ℕ, suc, ◌+◌, ◌≤◌, Bool, true, false, List, [], ◌∷◌, Option, Some, None, Ok, All, refl, sym, ap, subst, arith}
+use Rattle.std.specs.Prelude.{⊤, slice_get}
 use Rattle.std.proofs.lemmas.Option.{same_Some}
-use Rattle.std.proofs.lemmas.Bool.{eqb-true, ltb-true, and_parts, not-true}
+use Rattle.std.proofs.lemmas.Bool.{eqb-true, ltb-true, and_parts}
 use Rattle.std.proofs.lemmas.List.Elements.{All-head}
 use Rattle.vhdl_values.specs.declared.scalar.Nine.{Nine}
+use Rattle.vhdl_values.specs.Scalar.{value_of_truth}
 use Rattle.vhdl_values.specs.declared.kinds.Edge.{Edge}
 use Rattle.vhdl_values.specs.declared.kinds.Edge.TheVariants.{To1, To0}
 use Rattle.rtl_model.specs.bodies.Types.{ElementType, nine_valued, enumeration, HasType}
@@ -12,9 +13,10 @@ use Rattle.rtl_model.specs.bodies.Fits.{FitBoth, FitsTest}
 use Rattle.rtl_model.specs.bodies.Body as bodies
 use Rattle.vhdl_names_rules.specs.units.Expressions as u
 use Rattle.vhdl_names_rules.specs.units.Expressions.{SignalPart, Value, Test}
+use Rattle.vhdl_names_rules.specs.units.Units as units
 use Rattle.vhdl_names_rules.specs.units.Units.{Form}
 use Rattle.vhdl_names_rules.specs.Rules.{◌>>=◌}
-use Rattle.vhdl_names_rules.specs.sound.Expressions.{Inside, Shape, one, vector, state, shape_of, is_elements, same_shape, static_fits, part_shape, signal_form, place_shape, computed_fits, vector_shape}
+use Rattle.vhdl_names_rules.specs.sound.Expressions.{Inside, Shape, one, vector, state, number, shape_of, is_elements, same_shape, static_fits, static_test_fits, part_shape, signal_form, place_shape, computed_fits, vector_shape}
 use Rattle.vhdl_names_rules.specs.sound.Expressions.{state_shape, value_shape, position_fits, fits_shape, value_fits, value_fits_beside, values_fit, edge_fits, test_fits}
 use Rattle.vhdl_expand_rules.specs.declared.fault.ElabProblem.TheVariants.{Index}
 use Rattle.vhdl_expand_rules.specs.Elab.{Elab}
@@ -29,7 +31,7 @@ use Rattle.vhdl_expand_rules.specs.laws.Expressions.{type_of, IsName, IsVector, 
 use Rattle.vhdl_expand_rules.proofs.Steps.{ok, bound}
 use Rattle.vhdl_expand_rules.proofs.Options.{step, given_some}
 use Rattle.vhdl_expand_rules.proofs.laws.Names.{is_width, was_found, name_fits, each-name-fits, variable_fits}
-use Rattle.vhdl_expand_rules.proofs.laws.Computed.{natural_fits, relation_fits}
+use Rattle.vhdl_expand_rules.proofs.laws.Computed.{number_width, natural_fits, relation_fits}
 use Rattle.vhdl_expand_rules.proofs.laws.Operands.{elements_are_nine, one_character}
 use Rattle.vhdl_expand_rules.proofs.laws.Chosen.{named}
 use Rattle.vhdl_expand_rules.proofs.laws.Vectors.{computed_is_number, each-vector-fits}
@@ -40,6 +42,7 @@ same-shape : (s t : Shape) → same_shape s t ≡ true → s ≡ t
 same-shape one one h = refl
 same-shape vector vector h = refl
 same-shape (state m) (state n) h = ap state (eqb-true m n h)
+same-shape number number h = refl
 same-shape _ _ h = absurd cc
 
 pub has_shape : (s : Shape) (o : Option Shape) → fits_shape s o ≡ true → o ≡ Some s
@@ -68,13 +71,25 @@ vector-value : (here : Site) (s : Shape) (e : bodies.Expr) → IsVector here s e
 vector-value here (state count) e h = absurd (let k = h.of_elements in cc)
 vector-value here _ e h = record { fits = h.fits; width = h.width }
 
-state-of : (here : Site) (s : Shape) (e : ℕ) → is_elements s ≡ false → HasType (scope_at here).nets (type_of s) e → IsValue here s (bodies.position_of e)
-state-of here (state count) e h g = record { fits = g; width = refl }
-state-of here _ e h g = absurd cc
+-- of an enumeration
+abbrev IsState : Shape → Type 0
+IsState (state count) = ⊤
+IsState _ = ⊥
 
-state-in : (here : Site) (s : Shape) (e : ℕ) → is_elements s ≡ false → HasType (kinds_types here.variables) (type_of s) e → IsValue here s (bodies.position_in e)
+state-form : (f : Form) (s : Shape) → state_shape f ≡ Some s → IsState (shape_of f) × (shape_of f ≡ s)
+state-form (units.enumeration count) s h = (tt, same_Some (state count) s h)
+state-form units.element s h = absurd cc
+state-form (units.vector r) s h = absurd cc
+state-form (units.Form.number n) s h = absurd cc
+state-form units.boolean s h = absurd cc
+
+state-of : (here : Site) (s : Shape) (e : ℕ) → IsState s → HasType (scope_at here).nets (type_of s) e → IsValue here s (bodies.position_of e)
+state-of here (state count) e h g = record { fits = g; width = refl }
+state-of here _ e h g = elim h [ ]
+
+state-in : (here : Site) (s : Shape) (e : ℕ) → IsState s → HasType (kinds_types here.variables) (type_of s) e → IsValue here s (bodies.position_in e)
 state-in here (state count) e h g = record { fits = g; width = refl }
-state-in here _ e h g = absurd cc
+state-in here _ e h g = elim h [ ]
 
 pub value_of_shape : (i : Inside) (here : Site) (at : ℕ) (v : Value) (s : Shape) (e : bodies.Value) → IsSite i here → value_shape i v ≡ Some s → x.value here at v ≡ Ok e → IsValue here s e
 unfolding x.value
@@ -82,24 +97,36 @@ value_of_shape i here at (u.Value.elements y) s e h k m =
     let d = bound (x.vector here y) _ e m in
     subst (IsValue here s) (ok (bodies.elements d.x) e d.then_gave) (vector-value here s d.x (each-vector-fits i here y s d.x h k d.gave))
 value_of_shape i here at (u.Value.position n) s e h k m = absurd cc
+value_of_shape i here at (u.Value.computed c) s e h k m =
+    let g = given_some (computed_fits i c) number s k in
+    let d = bound (x.computed here at c) _ e m in
+    let w = computed_is_number i here at c d.x h g.0 d.gave in
+    subst (λ (z : Shape). IsValue here z e) g.1
+    (subst (IsValue here number) (ok (bodies.elements d.x.digits) e d.then_gave) (record { fits = w.fits; width = number_width here d.x w }))
+value_of_shape i here at (u.static_truth t) s e h k m =
+    let g = given_some (static_test_fits i t) one s k in
+    let b = bound (decision here.integers t) _ e m in
+    subst (λ (z : Shape). IsValue here z e) g.1
+    (subst (IsValue here one) (ok (bodies.elements (bodies.constant (value_of_truth b.x ∷ []))) e b.then_gave)
+    (vector-value here one (bodies.constant (value_of_truth b.x ∷ [])) (one_character here (value_of_truth b.x))))
 value_of_shape i here at (u.state_of y) s e h k m =
     let f = step (signal_form i y) state_shape s k in
-    let g = given_some (not (is_elements (shape_of f.x))) (shape_of f.x) s f.then_gave in
+    let g = state-form f.x s f.then_gave in
     let d = bound (the_element at (signal_elements here at y u.whole)) _ e m in
     let q = the-element at (signal_elements here at y u.whole) d.x d.gave in
     let w = name_fits i here at y u.whole (shape_of f.x) q.es h (ap (λ (o : Option Form). o >>= λ z. part_shape i z u.whole) f.gave) q.gave in
     subst (IsValue here s) (ok (bodies.position_of d.x) e d.then_gave)
     (subst (λ (z : Shape). IsValue here z (bodies.position_of d.x)) g.1
-    (state-of here (shape_of f.x) d.x (not-true (is_elements (shape_of f.x)) g.0) (first_is (HasType (scope_at here).nets (type_of (shape_of f.x))) q.es d.x w.typed q.first)))
+    (state-of here (shape_of f.x) d.x g.0 (first_is (HasType (scope_at here).nets (type_of (shape_of f.x))) q.es d.x w.typed q.first)))
 value_of_shape i here at (u.state_of_variable n) s e h k m =
     let f = step (slice_get i.variables n) state_shape s k in
-    let g = given_some (not (is_elements (shape_of f.x))) (shape_of f.x) s f.then_gave in
+    let g = state-form f.x s f.then_gave in
     let d = bound (the_element at (variable_elements here at n u.whole)) _ e m in
     let q = the-element at (variable_elements here at n u.whole) d.x d.gave in
     let w = variable_fits i here at n u.whole f.x (shape_of f.x) q.es h f.gave refl q.gave in
     subst (IsValue here s) (ok (bodies.position_in d.x) e d.then_gave)
     (subst (λ (z : Shape). IsValue here z (bodies.position_in d.x)) g.1
-    (state-in here (shape_of f.x) d.x (not-true (is_elements (shape_of f.x)) g.0) (first_is (HasType (kinds_types here.variables) (type_of (shape_of f.x))) q.es d.x w.typed q.first)))
+    (state-in here (shape_of f.x) d.x g.0 (first_is (HasType (kinds_types here.variables) (type_of (shape_of f.x))) q.es d.x w.typed q.first)))
 
 position-value : (here : Site) (s : Shape) (n : ℕ) → position_fits s n ≡ true → IsValue here s (bodies.position n)
 position-value here (state count) n h = record { fits = ltb-true n count h; width = refl }
@@ -139,6 +166,8 @@ both_fit i here at (u.Value.position p) (u.Value.position q) d e h k m n =
     subst (λ (y : bodies.Value). FitBoth (scope_at here) y e) (ok (bodies.position p) d m)
     (subst (λ (y : bodies.Value). FitBoth (scope_at here) (bodies.position p) y) (ok (bodies.position q) e n) (enumeration (suc (p + q)), omega arith, omega arith))
 both_fit i here at (u.Value.elements y) w d e h k m n = left-first i here at (u.Value.elements y) w d e h k m n
+both_fit i here at (u.Value.computed y) w d e h k m n = left-first i here at (u.Value.computed y) w d e h k m n
+both_fit i here at (u.static_truth y) w d e h k m n = left-first i here at (u.static_truth y) w d e h k m n
 both_fit i here at (u.state_of y) w d e h k m n = left-first i here at (u.state_of y) w d e h k m n
 both_fit i here at (u.state_of_variable y) w d e h k m n = left-first i here at (u.state_of_variable y) w d e h k m n
 both_fit i here at v w d e h k m n = right-first i here at v w d e h k m n

@@ -5,6 +5,7 @@ use Rattle.std.specs.List.{AllZip, list_all, list_any}
 use Rattle.std.specs.Char.{to_ascii_lowercase}
 use Rattle.std.proofs.lemmas.Bool.{and_parts}
 use Rattle.std.proofs.lemmas.List.Elements.{All-cons, All-nil, All-head, All-tail, All-append, All-weaker}
+use Rattle.vhdl_names_rules.specs.units.Expressions.{Range}
 use Rattle.vhdl_names_rules.specs.units.Units as u
 use Rattle.vhdl_names_rules.specs.units.Units.{Form, Fixed, Units, Port, Declaration, Entity}
 use Rattle.vhdl_names_rules.specs.sound.Expressions.{Inside, range_fits, static_test_fits, port_form}
@@ -19,7 +20,10 @@ use Rattle.vhdl_expand_rules.specs.laws.Sites.{IsOf, IsConstant, IsSite}
 use Rattle.vhdl_expand_rules.specs.laws.Trees.{object_kinds, is_port, ObjectIsSound, InstanceIsSound, PartsAreSound, DesignIsSound, EachTreeIsSound}
 use Rattle.vhdl_expand_rules.proofs.Items.{all_pass, all_get, all_found, all_of_zip}
 use Rattle.vhdl_expand_rules.proofs.laws.Made.{instance_made, BuiltInstance, instance_built, design_made}
-use Rattle.vhdl_expand_rules.proofs.laws.Expanded.{OfParts, concurrents_hold}
+use Rattle.vhdl_expand_rules.proofs.Digits.{IsInteger}
+use Rattle.vhdl_expand_rules.proofs.laws.Known.{turns_have}
+use Rattle.vhdl_expand_rules.proofs.laws.KnownSites.{Knows, knows_nothing, generate_knows}
+use Rattle.vhdl_expand_rules.proofs.laws.Expanded.{IsTurn, OfParts, concurrents_hold}
 use Rattle.vhdl_expand_rules.proofs.laws.Driven.{IsDeclared}
 use Rattle.vhdl_expand_rules.proofs.laws.Interfaces.{PortObject, Interface, before_ports, none_before, interface-stands}
 use Rattle.vhdl_expand_rules.proofs.laws.Declared.{Joined, port-sound, associations-sound, Stands, Anywhere, declarations-stand}
@@ -34,14 +38,18 @@ module _ (os : List Object) where
   followed-sound (inner label i rest) c h k = (h.0, followed-sound rest c h.1 k)
 
 -- in a turn of a generate, and in a branch
-in-generate : (i : Inside) (here : Site) (j : ℤ) (ps ss : List Object) → IsDeclared i here ps ss → IsDeclared (within_generate i) (in_generate here j) ps ss
-in-generate i here j ps ss h = record {
+in-generate : (i : Inside) (here : Site) (j : ℤ) (ps ss : List Object) → IsInteger j → IsDeclared i here ps ss → IsDeclared (within_generate i) (in_generate here j) ps ss
+in-generate i here j ps ss is h = record {
   site = record { constants = h.site.constants; ports = h.site.ports; signals = h.site.signals; variables = h.site.variables };
+  known = generate_knows here j h.known is;
   ports = h.ports;
   signals = h.signals;
   roles = h.roles;
   internals = h.internals;
 }
+
+turn-has : (here : Spot) (at : ℕ) (r : Range) (j : ℤ) → Knows here.site → IsTurn here at r j → IsInteger j
+turn-has here at r j h t = all_get IsInteger t.0 t.2.0 j (turns_have here.site.integers h at r t.0 t.1) t.2.1
 
 -- what holds inside an entity before its architecture
 abbrev inside : Entity → Inside
@@ -96,6 +104,7 @@ begins : (above : List Object) (unit : Entity) (d : InstanceObjects) (os : List 
 begins above unit d os h kinds joined = record {
   declared = record {
     site = site-inside unit d.site h.site;
+    known = h.known;
     ports = kinds ∙ h.kinds;
     signals = sym h.no_signals;
     roles = subst (λ (ps : List Port). AllZip (λ (p : Port) (o : Object). o.role ≡ role_of p.mode) ps os) (sym (ports-inside unit)) (roles-of above unit.ports os joined);
@@ -121,9 +130,9 @@ entity-parts units unit h =
     let first = and_parts a b ports.0 in
     record { generics = first.0; objects = first.1; ports = ports.1; architecture = all.1 }
 
-unit-begins : (units : Units) (above : Site) (actuals : List (Option Fixed)) (unit : Entity) (d : InstanceObjects) → EntityFits units unit → interface above actuals unit ≡ Ok d
+unit-begins : (units : Units) (above : Site) (actuals : List (Option Fixed)) (unit : Entity) (d : InstanceObjects) → Knows above → EntityFits units unit → interface above actuals unit ≡ Ok d
     → Interface (before_ports unit) unit.ports d
-unit-begins units above actuals unit d fit e = interface-stands above actuals unit d fit.generics fit.objects fit.ports e
+unit-begins units above actuals unit d known fit e = interface-stands above actuals unit d known fit.generics fit.objects fit.ports e
 
 -- what fits, where these ports and signals are declared
 record Fitting (os ss : List Object) (fits : Inside → Bool) (here : Spot) : Type 0 where
@@ -144,7 +153,7 @@ module _ (units : Units) (sound : list_all (entity_fits units) units ≡ true) (
   instance-sound i here os ss x y h fit e =
       let m = instance_made units go here x y e in
       let fits : entity_fits units m.unit ≡ true = all_get (λ (z : Entity). entity_fits units z ≡ true) units x.unit m.unit (all_pass (entity_fits units) units sound) m.there in
-      let begun = unit-begins units here.site x.generics m.unit m.declared (entity-parts units m.unit fits) m.declares in
+      let begun = unit-begins units here.site x.generics m.unit m.declared h.known (entity-parts units m.unit fits) m.declares in
       let joined = associations-sound i here.site x.at os ss m.unit.ports x.ports m.declared.objects m.objects h begun.objects (fitting i x m.unit m.there fit) m.joins in
       go-sound (os ++ ss) x.at m.unit (record m.declared { objects = m.objects }) y fits (begins (os ++ ss) m.unit m.declared m.objects begun joined.kinds joined.joined) m.gave
 
@@ -163,9 +172,9 @@ module _ (units : Units) (sound : list_all (entity_fits units) units ≡ true) (
         let both = and_parts (concurrent_fits units f.known x) (concurrents_fit units f.known rest) f.is in
         (record { known = f.known; declared = f.declared; alone = f.alone; is = both.0 }, record { known = f.known; declared = f.declared; alone = f.alone; is = both.1 });
     of_process = λ here p q f h. (process-sound f.known here os ss p q f.declared f.alone f.is h, tt);
-    in_for = λ here at label r body j f. record {
+    in_for = λ here at label r body j turn f. record {
       known = within_generate f.known;
-      declared = in-generate f.known here.site j os ss f.declared;
+      declared = in-generate f.known here.site j os ss (turn-has here at r j f.declared.known turn) f.declared;
       alone = f.alone;
       is = (and_parts (range_fits f.known r) (concurrents_fit units (within_generate f.known) body) f.is).1;
     };
@@ -245,7 +254,7 @@ each-tree-is-sound units top design h e =
     let m = design_made units top design e in
     let fit : entity_fits units m.unit ≡ true =
     all_found (λ (x : Entity). entity_fits units x ≡ true) (λ (x : Entity). bytes_eq x.name (map to_ascii_lowercase top.name)) units m.unit (all_pass (entity_fits units) units sound) m.there in
-    let begun = unit-begins units no_site m.actuals m.unit m.declared (entity-parts units m.unit fit) m.declares in
+    let begun = unit-begins units no_site m.actuals m.unit m.declared knows_nothing (entity-parts units m.unit fit) m.declares in
     let start = begins [] m.unit m.declared m.declared.objects begun refl (not-joined [] m.unit.ports m.declared.objects begun.objects) in
     let none = all_of_zip PortObject NotJoined (λ p o j. j.plain.none) m.unit.ports m.declared.objects begun.objects in
     subst DesignIsSound m.is (record {

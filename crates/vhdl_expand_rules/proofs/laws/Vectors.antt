@@ -1,5 +1,5 @@
 -- Expanded vectors fit, by induction over expressions.
-use Rattle.std.proofs.Common.{◌≡◌, ℕ, ◌+◌, true, ◌&&◌, ◌==◌, List, [], ◌∷◌, ◌++◌, length, Option, Some, None, Ok, All, refl, sym, subst}
+use Rattle.std.proofs.Common.{◌≡◌, ℕ, true, ◌&&◌, ◌==◌, List, [], ◌∷◌, ◌++◌, length, Option, Some, None, Ok, All, refl, sym, subst}
 use Rattle.std.specs.Prelude.{ℤ, slice_get}
 use Rattle.std.specs.List.{list_all}
 use Rattle.std.proofs.lemmas.Option.{same_Some}
@@ -13,6 +13,7 @@ use Rattle.rtl_model.specs.bodies.Fits.{width, IsWidth}
 use Rattle.rtl_model.specs.bodies.Body as bodies
 use Rattle.vhdl_names_rules.specs.units.Expressions as u
 use Rattle.vhdl_names_rules.specs.units.Expressions.{Computed, Chosen, Vector, Elements}
+use Rattle.vhdl_names_rules.specs.sound.Expressions as sound
 use Rattle.vhdl_names_rules.specs.sound.Expressions.{Inside, Shape, one, vector, state, is_elements, is_vector, part_shape, place_shape, static_fits, range_fits, any_range_fits, index_fits, is_one, are_elements, signal_form, has_vector, chosen_shape, is_vector_shape, computed_fits, chosen_fits, vector_shape, elements_fit}
 use Rattle.vhdl_expand_rules.specs.declared.fault.ElabProblem.TheVariants.{Length}
 use Rattle.vhdl_expand_rules.specs.Elab.{same_length}
@@ -33,7 +34,7 @@ use Rattle.vhdl_expand_rules.proofs.laws.Computed.{IsNumber, known_number, numbe
 use Rattle.vhdl_expand_rules.proofs.laws.Aggregates.{given_few, One, PlacedFits, composed_whole}
 use Rattle.vhdl_expand_rules.proofs.laws.Names.{is_width, each-name-fits, variable_fits}
 use Rattle.vhdl_expand_rules.proofs.laws.Operands.{elements_are_nine, vector_width, one_character, constant_vector, asked, size_is_width, count_is_count, arithmetic, operated-fits, beside, computed-beside, vector-shape, static-shape}
-use Rattle.vhdl_expand_rules.proofs.laws.Chosen.{named, constant-values, RowFits, element-row, slice-row, signal-rows, variable-rows, constant-rows}
+use Rattle.vhdl_expand_rules.proofs.laws.Chosen.{named, constant-values, RowFits, element-row, slice-row, signal-rows, variable-rows, constant-rows, signal_is_number, variable_is_number}
 
 -- ---- all vectors
 
@@ -42,6 +43,7 @@ one-shape : (o : Option Shape) → is_one o ≡ true → o ≡ Some one
 one-shape (Some one) h = refl
 one-shape (Some vector) h = absurd cc
 one-shape (Some (state n)) h = absurd cc
+one-shape (Some sound.number) h = absurd cc
 one-shape None h = absurd cc
 
 record OfElements (o : Option Shape) : Type 0 where
@@ -66,6 +68,8 @@ mutual
       let e = bound (x.vector here v) _ z m in
       let w = each-vector-fits i here v vector e.x h (vector-shape (vector_shape i v) k) e.gave in
       number_is_read here place e.x z w.fits w.width e.then_gave
+  computed_is_number i here at (u.signal_number y) z h k m = signal_is_number i here at y z h k m
+  computed_is_number i here at (u.variable_number n) z h k m = variable_is_number i here at n z h k m
   computed_is_number i here at (u.Computed.negated place c) z h k m =
       let a = bound (x.computed here place c) _ z m in
       subst (IsNumber here) (ok (number.negative_of a.x) z a.then_gave) (negative_number here a.x (computed_is_number i here place c a.x h k a.gave))
@@ -87,6 +91,12 @@ mutual
       let n = bound (number.number_read place e.x) _ z e.then_gave in
       let w = each-vector-fits i here v vector e.x h (vector-shape (vector_shape i v) k) e.gave in
       subst (λ (y : Measured). IsNumber here y.number) (ok (as_term n.x) z n.then_gave) (number_is_read here place e.x n.x w.fits w.width n.gave)
+  measured-number i here at (u.signal_number y) z h k m =
+      let n = bound (x.signal_number here at y) _ z m in
+      subst (λ (y : Measured). IsNumber here y.number) (ok (as_term n.x) z n.then_gave) (signal_is_number i here at y n.x h k n.gave)
+  measured-number i here at (u.variable_number v) z h k m =
+      let n = bound (x.variable_number here at v) _ z m in
+      subst (λ (y : Measured). IsNumber here y.number) (ok (as_term n.x) z n.then_gave) (variable_is_number i here at v n.x h k n.gave)
   measured-number i here at (u.Computed.negated place c) z h k m =
       let a = bound (x.measured here place c) _ z m in
       let l = bound (opposite place a.x.linear) _ z a.then_gave in

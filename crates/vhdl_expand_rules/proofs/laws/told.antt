@@ -2,6 +2,7 @@ pub mod Static
 pub mod Aggregates
 pub mod Sums
 pub mod Expressions
+pub mod Choices
 pub mod Statements
 pub mod Names
 pub mod Declarations

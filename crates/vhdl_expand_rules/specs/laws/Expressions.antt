@@ -5,7 +5,7 @@ use Rattle.rtl_model.specs.bodies.Types.{ElementType, nine_valued, enumeration, 
 use Rattle.rtl_model.specs.bodies.Body as bodies
 use Rattle.rtl_model.specs.bodies.Fits.{IsWidth, width, value_width, FitsExpr, FitsAs, FitsTest}
 use Rattle.vhdl_names_rules.specs.units.Expressions.{SignalPart, Vector, Value, Test}
-use Rattle.vhdl_names_rules.specs.sound.Expressions.{Inside, Shape, one, vector, state, is_elements, place_shape, vector_shape, value_fits, test_fits}
+use Rattle.vhdl_names_rules.specs.sound.Expressions.{Inside, Shape, one, vector, state, number, is_elements, place_shape, vector_shape, value_fits, test_fits}
 use Rattle.vhdl_expand_rules.specs.Site.{Site, place_elements}
 use Rattle.vhdl_expand_rules.specs.Expressions as x
 use Rattle.vhdl_expand_rules.specs.laws.Sites.{IsSite, scope_at}
@@ -15,11 +15,13 @@ abbrev pub HasShape : Shape → ℕ → Type 0
 HasShape one n = n ≡ 1
 HasShape vector n = IsWidth n
 HasShape (state count) n = n ≡ 1
+HasShape number n = IsWidth n
 
 abbrev pub type_of : Shape → ElementType
 type_of one = nine_valued
 type_of vector = nine_valued
 type_of (state count) = enumeration count
+type_of number = nine_valued
 
 -- the elements of a name of a signal or port
 pub record IsName (here : Site) (s : Shape) (es : List ℕ) : Type 0 where

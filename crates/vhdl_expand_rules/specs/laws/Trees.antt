@@ -10,13 +10,13 @@ use Rattle.rtl_model.specs.bodies.Types.{ElementType, nine_valued, limit_of, Has
 use Rattle.rtl_model.specs.bodies.Fits.{Scope, IsWidth, Fits}
 use Rattle.vhdl_names_rules.specs.units.Units.{Units}
 use Rattle.vhdl_names_rules.specs.sound.Units.{are_sound}
-use Rattle.vhdl_expand_rules.specs.Kinds.{ObjectKind, one, vector, enumeration, bounds_size, size, element_type}
+use Rattle.vhdl_expand_rules.specs.Kinds.{ObjectKind, one, vector, enumeration, integer, boolean, bounds_size, size, element_type}
 use Rattle.vhdl_expand_rules.specs.Site.{elements_count}
 use Rattle.vhdl_expand_rules.specs.Tree.{Role, input, output, internal, Object, Variable, Process, Instance, instance, Parts, no_parts, process, inner, objects_of}
 use Rattle.vhdl_expand_rules.specs.Declarations.{is_input}
 use Rattle.vhdl_expand_rules.specs.Expansion.{Design, expanded_design}
 use Rattle.vhdl_expand_rules.specs.Tops.{Top}
-use Rattle.vhdl_expand_rules.specs.laws.Sites.{kinds_types}
+use Rattle.vhdl_expand_rules.specs.laws.Sites.{HasIntegers, kinds_types}
 
 -- ---- objects and variables
 
@@ -25,6 +25,8 @@ abbrev pub IsKind : ObjectKind → Type 0
 IsKind one = ⊤
 IsKind (vector b) = IsWidth (bounds_size b)
 IsKind (enumeration n) = (1 ≤ n) × (n ≤ 256)
+IsKind (integer r) = HasIntegers r
+IsKind boolean = ⊤
 
 abbrev pub object_kinds : List Object → List ObjectKind
 object_kinds os = map (λ (o : Object). o.kind) os

@@ -25,7 +25,7 @@ abbrev driven_in : Site → List Statement → Elab (List ℕ)
 driven_in at ss = drives_of at (bodies.statements_of (map bodies.statement_view ss))
 
 abbrev paid_in : Site → Counts → List Statement → Elab (ℕ × Counts)
-paid_in at left ss = turns_paid left (statements_costs at.integers (bodies.statements_of (map bodies.statement_view ss)))
+paid_in at left ss = turns_paid left (statements_costs at (bodies.statements_of (map bodies.statement_view ss)))
 
 pub returns-in_err-drives : goal.returns-in_err-drives
 returns-in_err-drives c =

@@ -2,7 +2,8 @@ use Rattle.std.proofs.Common.{◌≡◌, true, sym, ap, ◌∙◌, subst, rules,
 use Rattle.vhdl_expand_rules.specs.Computed.{Span, integers, covers, cut_to}
 use Rattle.vhdl_expand_operands.specs.Operands.{operand_view}
 use Rattle.vhdl_expand_numbers.specs.Views.{span_view}
-use Rattle.vhdl_expand_numbers.proofs.Limited.{word_has, within_covered, cut_within}
+use Rattle.vhdl_expand_rules.proofs.Digits.{word_has}
+use Rattle.vhdl_expand_numbers.proofs.Limited.{within_covered, cut_within}
 use Rattle.vhdl_expand_numbers.proofs.Widths.{few_digits}
 use Rattle.vhdl_expand_numbers.proofs.number.limited.Goals as goal
 

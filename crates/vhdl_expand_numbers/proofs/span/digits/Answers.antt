@@ -1,11 +1,13 @@
 use Rattle.std.proofs.Common.{◌≡◌, ◌-◌, ◌<◌, ◌^◌, refl, arith, subst, sym, w64}
 use Rattle.std.specs.Prelude.{ℕ}
 use Rattle.std.proofs.lemmas.Int.{to_z-of_z}
-use Rattle.vhdl_expand_numbers.proofs.Digits.{size, size_is, size_small, digits_hold, digits_fewest, digits_few}
+use Rattle.vhdl_numbers.specs.Digits.{without_sign}
+use Rattle.vhdl_expand_rules.proofs.Digits.{size_is}
+use Rattle.vhdl_expand_numbers.proofs.Digits.{size_small, digits_hold, digits_fewest, digits_few}
 use Rattle.vhdl_expand_numbers.proofs.span.digits.Goals as goal
 use Rattle.vhdl_expand_numbers.proofs.span.digits.Goals.{After-from}
 
-size-here : (c : After-from) → c.unsigned_abs.result - c.from.result ≡ size c.args.number
+size-here : (c : After-from) → c.unsigned_abs.result - c.from.result ≡ without_sign c.args.number
 size-here c =
     size_is c.args.number _ c.unsigned_abs.result c.from.result (to_z-of_z w64 c.args.number c.ranges.number) c.unsigned_abs.ensures.value c.from.ensures
 

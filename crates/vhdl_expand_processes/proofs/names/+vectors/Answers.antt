@@ -62,8 +62,9 @@ of_vector-returns-in-Shifted t c =
 
 -- ---- integers that a run computes
 
-pub of_computed-returns-in-Static : goal.of_computed-returns-in-Static
-of_computed-returns-in-Static t c = nothing_more c.args.found.now _ (ap (λ (x : Computed). computed_names (computed_view x)) c.in-Static.is)
+pub of_computed-returns-in-SignalNumber : goal.of_computed-returns-in-SignalNumber
+of_computed-returns-in-SignalNumber t c =
+    adds_along c.args.found.now c.add_whole.new.self _ _ (ap (λ (x : Computed). computed_names (computed_view x)) c.in-SignalNumber.is) c.add_whole.ensures
 
 pub of_computed-returns-in-Number : goal.of_computed-returns-in-Number
 of_computed-returns-in-Number t c =

@@ -12,3 +12,7 @@ returns-in-Elements c =
 pub returns-in-StateOf : goal.returns-in-StateOf
 returns-in-StateOf c =
     adds_along c.args.found.now c.add_whole.new.self _ _ (ap (λ (x : Value). value_names (value_view x)) c.in-StateOf.is) c.add_whole.ensures
+
+pub returns-in-Computed : goal.returns-in-Computed
+returns-in-Computed c =
+    adds_along c.args.found.now c.of_computed.new.found _ _ (ap (λ (x : Value). value_names (value_view x)) c.in-Computed.is) c.of_computed.ensures

@@ -6,13 +6,13 @@ use Rattle.std.proofs.lemmas.List.Elements.{All-head, All-tail}
 use Rattle.rtl_model.specs.bodies.Body as bodies
 use Rattle.vhdl_tree.specs.declared.operator.Direction.TheVariants.{To}
 use Rattle.vhdl_names_rules.specs.units.Expressions as u
-use Rattle.vhdl_names_rules.specs.units.Expressions.{Range, Index}
+use Rattle.vhdl_names_rules.specs.units.Expressions.{Range, Index, index_start}
 use Rattle.vhdl_names_rules.specs.units.Bytes.{if_any_bytes, static_bytes, range_bytes, index_bytes}
 use Rattle.vhdl_expand_rules.specs.declared.fault.ElabProblem.TheVariants.{Length, StaticError, TooWide}
 use Rattle.vhdl_expand_rules.specs.declared.fault.ElabProblem.TheVariants as problem
 use Rattle.vhdl_expand_rules.specs.Elab.{Told, unless, item_or}
 use Rattle.vhdl_expand_rules.specs.Integers.{IntegerRange, Integers, is_null, extent, integer}
-use Rattle.vhdl_expand_rules.specs.Aggregates.{Placed, least_of, greatest_of, is_among, range_indexes, computed_range, given_indexes, serves, range_serves, choice_indexes, choice_at, are_free, chosen_indexes, listed, left_over, joined_all, widths, filled_up, listed_values, placed_indexes, element_for, value_of, runs, elements_for, run_value, values_at, own_indexes, chosen_values, are_listed, composed}
+use Rattle.vhdl_expand_rules.specs.Aggregates.{Placed, least_of, greatest_of, is_among, range_indexes, computed_range, given_indexes, serves, range_serves, choice_indexes, are_free, chosen_indexes, listed, left_over, joined_all, widths, filled_up, listed_values, placed_indexes, element_for, value_of, runs, elements_for, run_value, values_at, own_indexes, chosen_values, are_listed, composed}
 use Rattle.vhdl_expand_rules.proofs.Tells.{Tells, At, tells_none, tells_refused, tells_then, tells_unless, tells_item, tells_all}
 use Rattle.vhdl_expand_rules.proofs.laws.Targets.{all_left, all_right}
 use Rattle.vhdl_expand_rules.proofs.laws.told.Static.{tells_chosen, integer_tells}
@@ -25,8 +25,8 @@ module _ (P : Told → Type 0) where
       tells_then P (unless TooWide at (nat_le (extent r.direction r.left r.right) 64)) _
       (tells_unless P TooWide tt at (nat_le (extent r.direction r.left r.right) 64) h) (λ few. tells_none P _)
 
-  range-tells : (here : Integers) (at : ℕ) (r : Range) → At P at → All (At P) (range_bytes r) → Tells P (computed_range here at r)
-  range-tells here at r h k =
+  pub computed_range_tells : (here : Integers) (at : ℕ) (r : Range) → At P at → All (At P) (range_bytes r) → Tells P (computed_range here at r)
+  computed_range_tells here at r h k =
       tells_then P (integer here at r.left) _ (integer_tells P here at r.left h (all_left (At P) (static_bytes r.left) (static_bytes r.right) k)) (λ x.
       tells_then P (integer here at r.right) _ (integer_tells P here at r.right h (all_right (At P) (static_bytes r.left) (static_bytes r.right) k)) (λ y.
       tells_none P _))
@@ -34,7 +34,7 @@ module _ (P : Told → Type 0) where
   pub bounds_tell : (here : Integers) (at : ℕ) (r : Option Range) → At P at → All (At P) (if_any_bytes range_bytes r) → Tells P (given_indexes here at r)
   bounds_tell here at None h k = tells_none P None
   bounds_tell here at (Some r) h k =
-      tells_then P (computed_range here at r) _ (range-tells here at r h k) (λ range.
+      tells_then P (computed_range here at r) _ (computed_range_tells here at r h k) (λ range.
       tells_then P (range_indexes at range) _ (indexes-tell at range h) (λ is. tells_none P _))
 
   serves-tells : (at : ℕ) (all : Option (List ℤ)) (i : ℤ) → At P at → Tells P (serves at all i)
@@ -54,12 +54,12 @@ module _ (P : Told → Type 0) where
       tells_then P (serves at all i) _ (serves-tells at all i own) (λ served. tells_none P _))
   choice-tells here all (u.indexes at r) k =
       let own : At P at = All-head (At P) at (range_bytes r) k in
-      tells_then P (computed_range here at r) _ (range-tells here at r own (All-tail (At P) at (range_bytes r) k)) (λ range.
+      tells_then P (computed_range here at r) _ (computed_range_tells here at r own (All-tail (At P) at (range_bytes r) k)) (λ range.
       tells_then P (range_serves at all range) _ (range-serves at all range own) (λ served. indexes-tell at range own))
 
-  choice-stands : (c : Index) → All (At P) (index_bytes c) → At P (choice_at c)
-  choice-stands (u.index at s) k = All-head (At P) at (static_bytes s) k
-  choice-stands (u.indexes at r) k = All-head (At P) at (range_bytes r) k
+  pub index_stands : (c : Index) → All (At P) (index_bytes c) → At P (index_start c)
+  index_stands (u.index at s) k = All-head (At P) at (static_bytes s) k
+  index_stands (u.indexes at r) k = All-head (At P) at (range_bytes r) k
 
   free-tells : (at : ℕ) (taken is : List ℤ) → At P at → Tells P (are_free at taken is)
   free-tells at taken is h =
@@ -73,7 +73,7 @@ module _ (P : Told → Type 0) where
   chosen_tells here all taken (c ∷ cs) k =
       let own = All-head (λ y. All (At P) (index_bytes y)) c cs k in
       tells_then P (choice_indexes here all c) _ (choice-tells here all c own) (λ is.
-      tells_then P (are_free (choice_at c) taken is) _ (free-tells (choice_at c) taken is (choice-stands c own)) (λ free.
+      tells_then P (are_free (index_start c) taken is) _ (free-tells (index_start c) taken is (index_stands c own)) (λ free.
       tells_then P (chosen_indexes here all (taken ++ is) cs) _ (chosen_tells here all (taken ++ is) cs (All-tail (λ y. All (At P) (index_bytes y)) c cs k)) (λ rest.
       tells_none P _)))
 

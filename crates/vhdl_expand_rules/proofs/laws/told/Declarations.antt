@@ -12,16 +12,16 @@ use Rattle.vhdl_names_rules.specs.units.Expressions.{Static, SignalPart}
 use Rattle.vhdl_names_rules.specs.units.Units as u
 use Rattle.vhdl_names_rules.specs.units.Units.{Fixed, IntegerSubtype, GenericType, Generic, Port, Declaration, Entity}
 use Rattle.vhdl_names_rules.specs.units.Bytes.{if_any_bytes, static_bytes, range_bytes, static_test_bytes, elements_bytes, part_bytes, place_bytes, form_bytes, fixed_bytes, subtype_bytes, generic_type_bytes, generic_bytes, object_bytes, port_bytes, declaration_bytes, architecture_bytes, entity_bytes}
-use Rattle.vhdl_expand_rules.specs.declared.fault.ElabProblem.TheVariants.{NoGeneric, Length, Index, Unassociated}
+use Rattle.vhdl_expand_rules.specs.declared.fault.ElabProblem.TheVariants.{NoGeneric, GenericRange, Length, Index, Unassociated}
 use Rattle.vhdl_expand_rules.specs.Elab.{Told, item_or, same_length, unless}
-use Rattle.vhdl_expand_rules.specs.Integers.{integer_of, integer_among, numbers_of, natural, decision}
+use Rattle.vhdl_expand_rules.specs.Integers.{of_range, integer_of, integer_among, numbers_of, natural, decision}
 use Rattle.vhdl_expand_rules.specs.Kinds as kinds
-use Rattle.vhdl_expand_rules.specs.Kinds.{ObjectKind, one, enumeration, size, kind_of, size_of, written_range}
-use Rattle.vhdl_expand_rules.specs.Site.{Site, no_site, place_elements}
+use Rattle.vhdl_expand_rules.specs.Kinds.{ObjectKind, one, enumeration, number_size, size, kind_of, size_of, written_range}
+use Rattle.vhdl_expand_rules.specs.Site.{Site, no_site, signal_kind, place_elements}
 use Rattle.vhdl_expand_rules.specs.Expressions.{vector}
 use Rattle.vhdl_expand_rules.specs.Statements.{value_given}
 use Rattle.vhdl_expand_rules.specs.Tree.{Role, internal, Object}
-use Rattle.vhdl_expand_rules.specs.Declarations.{first_of, rest_of, integer_generic, generic_values, valued_generic, generic, generics, as_long_as, nothing_seen, elements_of_value, position_of_value, known_values, fixed_values, given_starts, starts, object, role_of, InstanceObjects, with_port, ports, interface, declared, declaration, declarations, variable, ProcessVariables, process_declaration, process_declarations, is_input, association, associations}
+use Rattle.vhdl_expand_rules.specs.Declarations.{first_of, rest_of, integer_generic, generic_values, valued_generic, generic, generics, as_long_as, nothing_seen, elements_of_value, position_of_value, known_values, fixed_values, given_starts, starts, object, role_of, InstanceObjects, with_port, ports, interface, declared, declaration, declarations, variable, ProcessVariables, process_declaration, process_declarations, is_input, may_flow, association, associations}
 use Rattle.vhdl_expand_rules.specs.Tops.{Setting, Top, static_of, sets, set_actual, actuals_of, is_generic, top_interface}
 use Rattle.vhdl_expand_rules.proofs.Tells.{Tells, At, tells_none, tells_refused, tells_then, tells_with, tells_unless, tells_item, all_flat}
 use Rattle.vhdl_expand_rules.proofs.laws.Names.{was_found}
@@ -97,10 +97,16 @@ module _ (P : Told → Type 0) where
   values-tell here at (kinds.vector b) f h k = tells_then P (fixed_values here at (size (kinds.vector b)) f) _ (fixed-tells here at (size (kinds.vector b)) f h k) (λ vs. tells_none P _)
   values-tell here at (enumeration count) (u.Fixed.position n) h k = tells_none P _
   values-tell here at (enumeration count) (u.Fixed.given g) h k = tells_then P (value_given here at 1 g) _ (given_tells P here at 1 g h k) (λ v. position-tells at v h)
+  values-tell here at kinds.boolean (u.Fixed.truth t) h k = tells_then P (decision here.integers t) _ (decision_tells P here.integers t k) (λ b. tells_none P _)
+  values-tell here at (kinds.integer r) (u.Fixed.integer s) h k =
+      tells_then P (integer_among here.integers at (of_range r) s) _ (among_tells P here.integers at (of_range r) s h k) (λ n. tells_none P _)
+  values-tell here at (kinds.integer r) f h k = tells_then P (fixed_values here at (number_size r) f) _ (fixed-tells here at (number_size r) f h k) (λ vs. tells_none P _)
   values-tell here at _ f h k = tells_then P (fixed_values here at 1 f) _ (fixed-tells here at 1 f h k) (λ ws. tells_none P _)
 
   starts-tell : (here : Site) (at : ℕ) (kind : ObjectKind) (d : Option Fixed) → At P at → MayStand (At P) fixed_bytes d → Tells P (starts here at kind d)
   unfolding starts
+  starts-tell here at (kinds.integer r) None h k = tells_none P _
+  starts-tell here at kinds.boolean None h k = tells_none P _
   starts-tell here at kind None h k = tells_none P _
   starts-tell here at kind (Some f) h k = values-tell here at kind f h k
 
@@ -274,7 +280,8 @@ module _ (P : Told → Type 0) where
   association-tells above at p (Some place) o h k =
       tells_then P (place_elements above place) _ (place_tells P above place k) (λ es.
       tells_then P (same_length place.at (length es) (size o.kind)) _ (tells_unless P (Length (length es) (size o.kind)) tt place.at (length es == size o.kind) (All-head (At P) place.at (part_bytes place.part) k)) (λ same.
-      tells_none P _))
+      tells_then P (unless GenericRange place.at (may_flow o.role (signal_kind above place.signal) o.kind)) _
+      (tells_unless P GenericRange tt place.at (may_flow o.role (signal_kind above place.signal) o.kind) (All-head (At P) place.at (part_bytes place.part) k)) (λ flows. tells_none P _)))
 
   pub associations_tell : (above : Site) (at : ℕ) (ps : List Port) (actuals : List (Option SignalPart)) (os : List Object) → At P at → All (MayStand (At P) place_bytes) actuals → Tells P (associations above at ps actuals os)
   unfolding associations

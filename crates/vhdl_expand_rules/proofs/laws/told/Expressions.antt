@@ -1,5 +1,5 @@
 -- What is refused of vectors, values and tests is told at one of their bytes, or at the byte that is given.
-use Rattle.std.proofs.Common.{ℕ, ◌+◌, ◌==◌, List, [], ◌++◌, length, Option, All}
+use Rattle.std.proofs.Common.{ℕ, ◌==◌, List, [], ◌++◌, length, Option, Some, All}
 use Rattle.std.specs.Prelude.{ℤ, flat_map}
 use Rattle.std.proofs.lemmas.List.Elements.{All-nil, All-head, All-tail}
 use Rattle.rtl_model.specs.bodies.Body as bodies
@@ -11,19 +11,20 @@ use Rattle.vhdl_names_rules.specs.units.Statements as s
 use Rattle.vhdl_names_rules.specs.units.Bytes.{if_any_bytes, given_bytes, static_bytes, range_bytes, part_bytes, place_bytes, index_bytes, computed_bytes, chosen_bytes, vector_bytes, elements_bytes, value_bytes, test_bytes}
 use Rattle.vhdl_expand_rules.specs.declared.fault.ElabProblem.TheVariants.{Length, TooWide}
 use Rattle.vhdl_expand_rules.specs.Elab.{Told, same_length}
-use Rattle.vhdl_expand_rules.specs.Integers.{integer, natural, decision}
-use Rattle.vhdl_expand_rules.specs.Kinds.{Bounds, as_size, size_of, count_of, declared_bounds, bounds_size}
+use Rattle.vhdl_expand_rules.specs.Integers.{IntegerRange, of_range, integer, natural, integer_among, decision}
+use Rattle.vhdl_expand_rules.specs.Kinds as kinds
+use Rattle.vhdl_expand_rules.specs.Kinds.{ObjectKind, Bounds, as_size, size_of, count_of, declared_bounds, bounds_size}
 use Rattle.vhdl_expand_rules.specs.Aggregates.{given_indexes, chosen_indexes}
 use Rattle.vhdl_expand_rules.specs.Site.{Site, place_elements, signal_elements, variable_elements, constant_values, signal_bounds, variable_bounds, constant_bounds, the_element}
 use Rattle.vhdl_expand_rules.specs.Expressions as x
 use Rattle.vhdl_expand_rules.specs.Expressions.{operands_fit, operation_on, numeric, operator, slice_length, alike}
 use Rattle.vhdl_expand_rules.specs.Computed.{number_read, natural_digits}
-use Rattle.vhdl_expand_rules.specs.Statements.{value_given, elements_given}
+use Rattle.vhdl_expand_rules.specs.Statements.{value_given, number_given, given_to, elements_given}
 use Rattle.vhdl_expand_rules.proofs.Tells.{Tells, At, tells_none, tells_refused, tells_then, tells_unless, all_flat}
 use Rattle.vhdl_expand_rules.proofs.laws.Targets.{all_left, all_right}
 use Rattle.vhdl_expand_rules.proofs.laws.told.Aggregates.{bounds_tell, chosen_tells, composed_tells}
 use Rattle.vhdl_expand_rules.proofs.laws.told.Sums.{read_tells, number_operation_tells, negative_tells, measured_operation_tells, slice_tells}
-use Rattle.vhdl_expand_rules.proofs.laws.told.Static.{integer_tells, natural_tells, decision_tells, bounds_tells, size_tells, size_of_tells, count_tells, signal_tells, place_tells, variable_tells, constant_tells, signal_bounds_tell, variable_bounds_tell, constant_bounds_tell, element_tells}
+use Rattle.vhdl_expand_rules.proofs.laws.told.Static.{integer_tells, natural_tells, among_tells, decision_tells, bounds_tells, size_tells, size_of_tells, count_tells, signal_tells, place_tells, variable_tells, constant_tells, signal_bounds_tell, variable_bounds_tell, constant_bounds_tell, signal_number_tells, variable_number_tells, element_tells}
 
 module _ (P : Told → Type 0) where
   -- ---- vectors
@@ -44,6 +45,8 @@ module _ (P : Told → Type 0) where
     computed_tells here at (u.static s) own k = tells_then P (integer here.integers at s) _ (integer_tells P here.integers at s own k) (λ n. tells_none P _)
     computed_tells here at (u.number_of place v) own k =
         tells_then P (x.vector here v) _ (vector_tells here v (All-tail (At P) place (vector_bytes v) k)) (λ e. read_tells P place (All-head (At P) place (vector_bytes v) k) e)
+    computed_tells here at (u.signal_number y) own k = signal_number_tells P here at y own
+    computed_tells here at (u.variable_number n) own k = variable_number_tells P here at n own
     computed_tells here at (u.Computed.negated place c) own k =
         tells_then P (x.computed here place c) _ (computed_tells here place c (All-head (At P) place (computed_bytes c) k) (All-tail (At P) place (computed_bytes c) k)) (λ a. tells_none P _)
     computed_tells here at (u.magnitude place c) own k =
@@ -60,6 +63,8 @@ module _ (P : Told → Type 0) where
     measured-tells here at (u.number_of place v) own k =
         tells_then P (x.vector here v) _ (vector_tells here v (All-tail (At P) place (vector_bytes v) k)) (λ e.
         tells_then P (number_read place e) _ (read_tells P place (All-head (At P) place (vector_bytes v) k) e) (λ n. tells_none P _))
+    measured-tells here at (u.signal_number y) own k = tells_then P (x.signal_number here at y) _ (signal_number_tells P here at y own) (λ n. tells_none P _)
+    measured-tells here at (u.variable_number v) own k = tells_then P (x.variable_number here at v) _ (variable_number_tells P here at v own) (λ n. tells_none P _)
     measured-tells here at (u.Computed.negated place c) own k =
         let there : At P place = All-head (At P) place (computed_bytes c) k in
         tells_then P (x.measured here place c) _ (measured-tells here place c there (All-tail (At P) place (computed_bytes c) k)) (λ a. negative_tells P place there a)
@@ -187,6 +192,8 @@ module _ (P : Told → Type 0) where
   unfolding x.value
   value_tells here at (u.Value.elements v) h k = tells_then P (x.vector here v) _ (vector_tells here v k) (λ e. tells_none P _)
   value_tells here at (u.Value.position n) h k = tells_none P _
+  value_tells here at (u.Value.computed c) h k = tells_then P (x.computed here at c) _ (computed_tells here at c h k) (λ n. tells_none P _)
+  value_tells here at (u.static_truth t) h k = tells_then P (decision here.integers t) _ (decision_tells P here.integers t k) (λ b. tells_none P _)
   value_tells here at (u.state_of s) h k =
       tells_then P (the_element at (signal_elements here at s u.whole)) _ (element_tells P at _ h (signal_tells P here at s u.whole h k)) (λ e. tells_none P _)
   value_tells here at (u.state_of_variable n) h k =
@@ -267,6 +274,14 @@ module _ (P : Told → Type 0) where
   given_tells here at len (s.filled v) h k =
       tells_then P (x.vector here v) _ (vector_tells here v k) (λ e.
       tells_then P (same_length at (width e) 1) _ (length_tells at (width e) 1 h) (λ same. tells_none P _))
+
+  number-given : (here : Site) (at : ℕ) (r : IntegerRange) (c : Computed) → At P at → All (At P) (computed_bytes c) → Tells P (number_given here at r c)
+  number-given here at r (u.static y) h k = tells_then P (integer_among here.integers at (of_range r) y) _ (among_tells P here.integers at (of_range r) y h k) (λ n. tells_none P _)
+  number-given here at r c h k = tells_then P (x.computed here at c) _ (computed_tells here at c h k) (λ n. tells_none P _)
+
+  pub given_to_tells : (here : Site) (at : ℕ) (o : Option ObjectKind) (len : ℕ) (g : s.Given) → At P at → All (At P) (given_bytes g) → Tells P (given_to here at o len g)
+  given_to_tells here at (Some (kinds.integer r)) len (s.single (u.Value.computed c)) h k = number-given here at r c h k
+  given_to_tells here at o len g h k = given_tells here at len g h k
 
   pub elements_given_tell : (here : Site) (at len : ℕ) (g : s.Given) → At P at → All (At P) (given_bytes g) → Tells P (elements_given here at len g)
   unfolding elements_given

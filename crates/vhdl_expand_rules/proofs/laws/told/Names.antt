@@ -5,7 +5,7 @@ use Rattle.std.proofs.lemmas.List.Elements.{All-cons, All-nil, All-head, All-tai
 use Rattle.vhdl_names_rules.specs.units.Expressions as e
 use Rattle.vhdl_names_rules.specs.units.Expressions.{Signal, SignalPart, Computed, Chosen, Vector, Elements, Value, Test}
 use Rattle.vhdl_names_rules.specs.units.Statements as s
-use Rattle.vhdl_names_rules.specs.units.Bytes.{if_any_bytes, static_bytes, range_bytes, part_bytes, place_bytes, index_bytes, computed_bytes, chosen_bytes, vector_bytes, elements_bytes, value_bytes, test_bytes, given_bytes, statement_bytes, statements_bytes, branches_bytes, alternatives_bytes}
+use Rattle.vhdl_names_rules.specs.units.Bytes.{if_any_bytes, static_bytes, range_bytes, part_bytes, place_bytes, index_bytes, computed_bytes, chosen_bytes, vector_bytes, elements_bytes, value_bytes, test_bytes, given_bytes, choice_bytes, statement_bytes, statements_bytes, branches_bytes, alternatives_bytes}
 use Rattle.vhdl_expand_rules.specs.Elab.{Told, each}
 use Rattle.vhdl_expand_rules.specs.Site.{Site, place_elements}
 use Rattle.vhdl_expand_rules.specs.declared.prefix.Sought.{Sought}
@@ -33,6 +33,8 @@ module _ (P : Told → Type 0) where
       computed-names : (c : Computed) → All (At P) (computed_bytes c) → All Stands (computed_names c)
       computed-names (e.static s) k = All-nil Stands
       computed-names (e.number_of at v) k = vector-names v (All-tail (At P) at (vector_bytes v) k)
+      computed-names (e.signal_number x) k = whole-stands x
+      computed-names (e.variable_number n) k = All-nil Stands
       computed-names (e.Computed.negated at c) k = computed-names c (All-tail (At P) at (computed_bytes c) k)
       computed-names (e.magnitude at c) k = computed-names c (All-tail (At P) at (computed_bytes c) k)
       computed-names (e.calculated at op c d) k =
@@ -91,6 +93,7 @@ module _ (P : Told → Type 0) where
     value-names : (v : Value) → All (At P) (value_bytes v) → All Stands (value_names v)
     value-names (e.Value.elements v) k = vector-names v k
     value-names (e.state_of x) k = whole-stands x
+    value-names (e.Value.computed c) k = computed-names c k
     value-names _ k = All-nil Stands
 
     two-values : (v w : Value) → All (At P) (value_bytes v ++ value_bytes w) → All Stands (value_names v ++ value_names w)
@@ -182,9 +185,11 @@ module _ (P : Told → Type 0) where
 
         alternatives-names : (alts : s.Alternatives) → All (At P) (alternatives_bytes alts) → All Stands (alternatives_names sought alts)
         alternatives-names (s.others ys) k = names_stand ys k
+        alternatives-names (s.complete cs ys) k = names_stand ys (all_right (At P) (flat_map choice_bytes cs) (statements_bytes ys) k)
         alternatives-names (s.alternative cs ys alts) k =
-            All-append Stands (body_names sought ys) (alternatives_names sought alts) (names_stand ys (all_left (At P) (statements_bytes ys) (alternatives_bytes alts) k))
-            (alternatives-names alts (all_right (At P) (statements_bytes ys) (alternatives_bytes alts) k))
+            let rest : All (At P) (statements_bytes ys ++ alternatives_bytes alts) = all_right (At P) (flat_map choice_bytes cs) (statements_bytes ys ++ alternatives_bytes alts) k in
+            All-append Stands (body_names sought ys) (alternatives_names sought alts) (names_stand ys (all_left (At P) (statements_bytes ys) (alternatives_bytes alts) rest))
+            (alternatives-names alts (all_right (At P) (statements_bytes ys) (alternatives_bytes alts) rest))
 
   -- ---- their elements
 

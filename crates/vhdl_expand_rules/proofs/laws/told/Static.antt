@@ -1,13 +1,14 @@
 -- What is refused of static integers, kinds and the elements of names is told at the byte that is given, or at one of theirs.
 use Rattle.std.proofs.Common.{ℕ, Bool, true, false, cond, not, ◌&&◌, ◌||◌, List, [], ◌∷◌, ◌++◌, Option, Some, None, All}
 use Rattle.std.specs.Prelude.{ℤ, pos, negsuc, nat_le, nat_abs, neg_ℤ, slice_get}
-use Rattle.std.proofs.lemmas.List.Elements.{All-head, All-tail}
+use Rattle.std.proofs.lemmas.List.Elements.{All-nil, All-head, All-tail}
 use Rattle.vhdl_values.specs.declared.kinds.Counted.{Counted}
 use Rattle.vhdl_values.specs.declared.kinds.Counted.TheVariants.{Resize, ResizeSigned, Shift}
 use Rattle.vhdl_tree.specs.declared.operator.Direction.{Direction}
 use Rattle.vhdl_lexer.specs.Literals.{greatest_integer}
 use Rattle.vhdl_names_rules.specs.declared.operator.Arithmetic.{Arithmetic}
 use Rattle.vhdl_names_rules.specs.declared.operator.Bound.{Bound}
+use Rattle.vhdl_names_rules.specs.declared.operator.Bound.TheVariants.{Length}
 use Rattle.vhdl_names_rules.specs.units.Expressions as u
 use Rattle.vhdl_names_rules.specs.units.Expressions.{Static, Range, StaticTest, Signal, Part, SignalPart}
 use Rattle.vhdl_names_rules.specs.units.Units as units
@@ -15,9 +16,11 @@ use Rattle.vhdl_names_rules.specs.units.Units.{Form, IntegerSubtype}
 use Rattle.vhdl_names_rules.specs.units.Bytes.{if_any_bytes, static_bytes, range_bytes, static_test_bytes, subtype_bytes, part_bytes, place_bytes, form_bytes}
 use Rattle.vhdl_expand_rules.specs.declared.fault.ElabProblem.TheVariants.{StaticError, GenericRange, TooMany, Index, TooWide}
 use Rattle.vhdl_expand_rules.specs.Elab.{Told, Elab, unless, item_or}
-use Rattle.vhdl_expand_rules.specs.Integers.{IntegerRange, Integers, Numbers, checked_integer, integer_operation, is_null, extent, bound_of, is_same_direction, is_slice, sliced_bound, known_range, integer, as_natural, natural, have, base_numbers, numbers_within, numbers_of, integer_among, integer_of, decision, most_turns, turns}
-use Rattle.vhdl_expand_rules.specs.Kinds.{Bounds, ObjectKind, one, vector, enumeration, declared_bounds, kind_of, as_size, size_of, count_of, is_within, place_of, slice_places, places}
-use Rattle.vhdl_expand_rules.specs.Site.{Site, elements_count, part_elements, signal_elements, place_elements, variable_elements, constant_values, bounds_of, signal_bounds, variable_bounds, constant_bounds, the_element}
+use Rattle.vhdl_expand_rules.specs.Integers.{IntegerRange, Integers, Numbers, checked_integer, integer_operation, is_null, extent, bound_of, bound_checked, is_same_direction, is_slice, sliced_bound, known_range, integer, as_natural, natural, have, base_numbers, numbers_within, numbers_of, integer_among, integer_of, decision, most_turns, turns}
+use Rattle.vhdl_expand_rules.specs.Kinds as kinds
+use Rattle.vhdl_expand_rules.specs.Kinds.{Bounds, ObjectKind, one, vector, enumeration, boolean, declared_bounds, range_of, not_null, kind_of, as_size, size_of, count_of, is_within, place_of, slice_places, places}
+use Rattle.vhdl_expand_rules.specs.Site.{Site, elements_count, part_elements, signal_elements, place_elements, variable_elements, constant_values, signal_kind, bounds_of, signal_bounds, variable_bounds, constant_bounds, integer_range, the_element}
+use Rattle.vhdl_expand_rules.specs.Expressions.{signal_number, variable_number}
 use Rattle.vhdl_expand_rules.proofs.Chains.{each_operation}
 use Rattle.vhdl_expand_rules.proofs.Tells.{Tells, At, tells_none, tells_refused, tells_then, tells_unless, tells_within, tells_item}
 use Rattle.vhdl_expand_rules.proofs.laws.Targets.{all_left, all_right}
@@ -35,9 +38,13 @@ module _ (P : Told → Type 0) where
   operation-tells : (at : ℕ) (op : Arithmetic) (x y : ℤ) → At P at → Tells P (integer_operation at op x y)
   operation-tells at op x y h = each_operation (λ r. Tells P r) at (λ z. checked_tells at z h) (tells_refused P StaticError tt at h) op x y
 
+  bound-tells : (at : ℕ) (b : Bound) (r : IntegerRange) → At P at → Tells P (bound_checked at b r)
+  bound-tells at Length r h = checked_tells at (bound_of Length r) h
+  bound-tells at b r h = tells_none P (bound_of b r)
+
   sliced-tells : (at : ℕ) (b : Bound) (whole slice : IntegerRange) → At P at → Tells P (sliced_bound at b whole slice)
   sliced-tells at b whole s h =
-      tells_then P (unless Index at (is_slice whole s)) _ (tells_unless P Index tt at (is_slice whole s) h) (λ kept. checked_tells at (bound_of b s) h)
+      tells_then P (unless Index at (is_slice whole s)) _ (tells_unless P Index tt at (is_slice whole s) h) (λ kept. bound-tells at b s h)
 
   pub integer_tells : (here : Integers) (at : ℕ) (s : Static) → At P at → All (At P) (static_bytes s) → Tells P (integer here at s)
   unfolding integer
@@ -53,7 +60,8 @@ module _ (P : Told → Type 0) where
       let own : At P sign = All-head (At P) sign (static_bytes s) k in
       tells_then P (integer here sign s) _ (integer_tells here sign s own (All-tail (At P) sign (static_bytes s) k)) (λ x. checked_tells sign (pos (nat_abs x)) own)
   integer_tells here at (u.bound b n) h k =
-      tells_then P (known_range at here.ranges n) _ (tells_item P StaticError tt at (slice_get here.ranges n) h) (λ r. checked_tells at (bound_of b r) h)
+      tells_then P (known_range at here.ranges n) _ (tells_item P StaticError tt at (slice_get here.ranges n) h) (λ r. bound-tells at b r h)
+  integer_tells here at u.least_integer h k = tells_none P _
   integer_tells here at (u.slice_bound place b n s direction t) h k =
       let own : At P place = All-head (At P) place (static_bytes s ++ static_bytes t) k in
       let rest : All (At P) (static_bytes s ++ static_bytes t) = All-tail (At P) place (static_bytes s ++ static_bytes t) k in
@@ -149,6 +157,15 @@ module _ (P : Told → Type 0) where
   kind_tells here at units.element h k = tells_none P one
   kind_tells here at (units.vector r) h k = tells_then P (declared_bounds here at r) _ (bounds_tells here at r h k) (λ b. tells_none P (vector b))
   kind_tells here at (units.enumeration count) h k = tells_none P (enumeration count)
+  kind_tells here at (units.Form.number s) h k =
+      tells_then P (numbers_of here at s) _ (numbers_tells here at s h k) (λ n.
+      tells_then P (not_null at (range_of n)) _ (some-tells at (range_of n) h) (λ r. tells_none P _))
+    where
+      some-tells : (at : ℕ) (r : IntegerRange) → At P at → Tells P (not_null at r)
+      some-tells at r h =
+          tells_then P (unless GenericRange at (not (is_null r.direction r.left r.right))) _
+          (tells_unless P GenericRange tt at (not (is_null r.direction r.left r.right)) h) (λ some. tells_none P r)
+  kind_tells here at units.boolean h k = tells_none P boolean
 
   pub size_tells : (at n : ℕ) → At P at → Tells P (as_size at n)
   size_tells at n h =
@@ -227,6 +244,22 @@ module _ (P : Told → Type 0) where
   pub constant_bounds_tell : (here : Site) (at n : ℕ) → At P at → Tells P (constant_bounds here at n)
   constant_bounds_tell here at n h =
       tells_then P (item_or Index at (slice_get here.constants n)) _ (tells_item P Index tt at (slice_get here.constants n) h) (λ c. bounds-of-tell at (Some c.kind) h)
+
+  range-of-tells : (at : ℕ) (o : Option ObjectKind) → At P at → Tells P (integer_range at o)
+  range-of-tells at (Some (kinds.integer r)) h = tells_none P r
+  range-of-tells at _ h = tells_refused P Index tt at h
+
+  pub signal_number_tells : (here : Site) (at : ℕ) (x : Signal) → At P at → Tells P (signal_number here at x)
+  unfolding signal_number
+  signal_number_tells here at x h =
+      tells_then P (signal_elements here at x u.whole) _ (signal_tells here at x u.whole h (All-nil (At P))) (λ es.
+      tells_then P (integer_range at (signal_kind here x)) _ (range-of-tells at (signal_kind here x) h) (λ r. tells_none P _))
+
+  pub variable_number_tells : (here : Site) (at n : ℕ) → At P at → Tells P (variable_number here at n)
+  unfolding variable_number
+  variable_number_tells here at n h =
+      tells_then P (variable_elements here at n u.whole) _ (variable_tells here at n u.whole h (All-nil (At P))) (λ es.
+      tells_then P (integer_range at (slice_get here.variables n)) _ (range-of-tells at (slice_get here.variables n) h) (λ r. tells_none P _))
 
   pub element_tells : (at : ℕ) (r : Elab (List ℕ)) → At P at → Tells P r → Tells P (the_element at r)
   element_tells at r h k = tells_then P r _ k (λ es. tells_item P Index tt at (slice_get es 0) h)

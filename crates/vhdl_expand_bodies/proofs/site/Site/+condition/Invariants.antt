@@ -1,5 +1,5 @@
 use Rattle.std.proofs.Common.{◌≡◌, drop}
-use Rattle.vhdl_expand_bodies.specs.Characters.{chain_view}
+use Rattle.vhdl_expand_bodies.specs.Conditions.{chain_view}
 use Rattle.vhdl_expand_bodies.specs.Sites.{site_view}
 use Rattle.vhdl_expand_bodies.specs.steps.Chains.{chained}
 use Rattle.vhdl_expand_bodies.specs.steps.Tests as steps

@@ -18,6 +18,7 @@ use Rattle.vhdl_expand_rules.specs.declared.fault.ElabFault.TheVariants.{NoMemor
 use Rattle.vhdl_expand_rules.specs.Statements as definition
 use Rattle.vhdl_expand_rules.proofs.Modulus.{same_word}
 use Rattle.vhdl_expand_rules.proofs.Items.{none_left}
+use Rattle.vhdl_expand_choices.specs.Views.{codes_by}
 use Rattle.vhdl_expand_bodies.specs.Sites.{site_view}
 use Rattle.vhdl_expand_bodies.specs.Statements.{branch_view, branches_view, alternative_view, alternatives_view, otherwise_view}
 use Rattle.vhdl_expand_bodies.specs.steps.Statements as steps
@@ -88,11 +89,12 @@ conditional-returns t c =
     is ∙ ap Ok (sym (if_made c.byte.result made.branches made.otherwise))
 
 pub selection-returns : goal.selection-returns
+unfolding out-Case
 selection-returns t c =
     let made = c.in_ok-selector-3 in
     let here = site_view c.args.self.now in
     let is : steps.selection here (out-Case c.args.selection.now).at (value_view (out-Case c.args.selection.now).selector) (analysed.alternatives_view (out-Case c.args.selection.now).alternatives)
-    (analysed.statements_of (analysed.statements_view (out-Case c.args.selection.now).others))
+    (answers.choices_view (out-Case c.args.selection.now).last) (analysed.statements_of (analysed.statements_view (out-Case c.args.selection.now).others))
     ≡ Ok (bodies.case_of (net.value_view made.selector.value) (steps.alternatives_before (statements_of made.others.items) (alternatives_view made.alternatives)))
     = first_of (search rules, grind (arith, common_steps)) in
     is ∙ ap Ok (sym (case_made c.byte.result made.selector.value made.alternatives made.others))
@@ -171,25 +173,25 @@ branches-returns t c =
 
 pub alternatives-loop-item-init : goal.alternatives-loop-item-init
 alternatives-loop-item-init t c =
-    none_behind _ (each (steps.alternative (site_view c.args.self.now) c.args.at c.args.width.len) (map analysed.alternative_view c.args.list.now)) (ap (map alternative_view) c.new-alternatives.ensures.items)
+    none_behind _ (each (steps.alternative (site_view c.args.self.now) (codes_by (site_view c.args.self.now).integers c.args.at c.args.coding)) (map analysed.alternative_view c.args.list.now)) (ap (map alternative_view) c.new-alternatives.ensures.items)
 
 pub alternatives-loop-item-preserved : goal.alternatives-loop-item-preserved
 alternatives-loop-item-preserved t c =
     let i = c.loop-item.item-index in
     let below : i < length c.args.list.now = omega arith in
-    each_adds (steps.alternative (site_view c.args.self.now) c.args.at c.args.width.len) analysed.alternative_view alternative_view _ c.loop-item.alternatives.items c.add.new.list.items c.args.list.now i c.item-item.result c.alternative.result below c.item-item.is c.loop-item.invariant c.alternative.ensures c.in_ok-add.ensures
+    each_adds (steps.alternative (site_view c.args.self.now) (codes_by (site_view c.args.self.now).integers c.args.at c.args.coding)) analysed.alternative_view alternative_view _ c.loop-item.alternatives.items c.add.new.list.items c.args.list.now i c.item-item.result c.alternative.result below c.item-item.is c.loop-item.invariant c.alternative.ensures c.in_ok-add.ensures
 
 pub alternatives-returns-in_err-add : goal.alternatives-returns-in_err-add
 alternatives-returns-in_err-add t c =
     let i = c.loop-item.item-index in
     let below : i < length c.args.list.now = omega arith in
-    let stopped : c.in_err-add.field-0.0 ≢ NoMemory → each (steps.alternative (site_view c.args.self.now) c.args.at c.args.width.len) (map analysed.alternative_view c.args.list.now) ≡ Err (fault_told c.in_err-add.field-0.0) =
-    each_refuses (steps.alternative (site_view c.args.self.now) c.args.at c.args.width.len) analysed.alternative_view alternative_view _ c.loop-item.alternatives.items c.add.new.list.items c.args.list.now i c.item-item.result c.alternative.result c.in_err-add.field-0.0 below c.item-item.is c.loop-item.invariant c.alternative.ensures c.in_err-add.ensures in
+    let stopped : c.in_err-add.field-0.0 ≢ NoMemory → each (steps.alternative (site_view c.args.self.now) (codes_by (site_view c.args.self.now).integers c.args.at c.args.coding)) (map analysed.alternative_view c.args.list.now) ≡ Err (fault_told c.in_err-add.field-0.0) =
+    each_refuses (steps.alternative (site_view c.args.self.now) (codes_by (site_view c.args.self.now).integers c.args.at c.args.coding)) analysed.alternative_view alternative_view _ c.loop-item.alternatives.items c.add.new.list.items c.args.list.now i c.item-item.result c.alternative.result c.in_err-add.field-0.0 below c.item-item.is c.loop-item.invariant c.alternative.ensures c.in_err-add.ensures in
     passed_on _ _ c.in_err-add.field-0.0 _ c.from_residual.result c.from_residual.ensures.1 (λ e p. p) stopped
 
 pub alternatives-returns : goal.alternatives-returns
 alternatives-returns t c =
-    each_ends (steps.alternative (site_view c.args.self.now) c.args.at c.args.width.len) analysed.alternative_view _ (map alternative_view c.loop-item.alternatives.items) _ (none_left c.args.list.now c.loop-item.item-index (omega arith)) c.loop-item.invariant
+    each_ends (steps.alternative (site_view c.args.self.now) (codes_by (site_view c.args.self.now).integers c.args.at c.args.coding)) analysed.alternative_view _ (map alternative_view c.loop-item.alternatives.items) _ (none_left c.args.list.now c.loop-item.item-index (omega arith)) c.loop-item.invariant
 
 -- ---- two parts, one after the other
 
@@ -213,16 +215,16 @@ branch-returns t c =
 pub alternative-returns-in_err-choices : goal.alternative-returns-in_err-choices
 alternative-returns-in_err-choices t c =
     passed_on _ _ c.in_err-choices.field-0.0 _ c.from_residual.result c.from_residual.ensures.1 (λ e p. p)
-    (λ n. on (λ l. definition.statements (site_view c.args.self.now) (analysed.statements_of (analysed.alternative_view c.args.alternative.now).statements) >>= λ x. alternative_of l x) _ _ (ap (λ xs. each (definition.choice c.args.at c.args.width.len) (map answers.choice_view xs)) (sym c.deref.ensures.value) ∙ c.in_err-choices.ensures n))
+    (λ n. on (λ l. definition.statements (site_view c.args.self.now) (analysed.statements_of (analysed.alternative_view c.args.alternative.now).statements) >>= λ x. alternative_of l x) _ _ (ap (λ xs. codes_by (site_view c.args.self.now).integers c.args.at c.args.coding (map answers.choice_view xs)) (sym c.deref.ensures.value) ∙ c.in_err-choices.ensures n))
 
 pub alternative-returns-in_err-choices-2 : goal.alternative-returns-in_err-choices-2
 alternative-returns-in_err-choices-2 t c =
     passed_on _ _ c.in_err-choices-2.field-0.0 _ c.from_residual-in_err-choices-2.result c.from_residual-in_err-choices-2.ensures.1 (λ e p. p)
-    (λ n. on (λ l. definition.statements (site_view c.args.self.now) (analysed.statements_of (analysed.alternative_view c.args.alternative.now).statements) >>= λ x. alternative_of l x) _ _ (ap (λ xs. each (definition.choice c.args.at c.args.width.len) (map answers.choice_view xs)) (sym c.deref.ensures.value) ∙ c.in_ok-choices.ensures)
+    (λ n. on (λ l. definition.statements (site_view c.args.self.now) (analysed.statements_of (analysed.alternative_view c.args.alternative.now).statements) >>= λ x. alternative_of l x) _ _ (ap (λ xs. codes_by (site_view c.args.self.now).integers c.args.at c.args.coding (map answers.choice_view xs)) (sym c.deref.ensures.value) ∙ c.in_ok-choices.ensures)
     ∙ on (λ x. alternative_of (map net.choice_view c.in_ok-choices.choices.items) x) _ _ (ap (λ (xs : List analysed_statement.Statement). definition.statements (site_view c.args.self.now) (analysed.statements_of (map analysed.statement_view xs))) (sym c.deref-2.ensures.value) ∙ refused_by _ _ _ _ c.in_err-choices-2.ensures.fault c.body-statements.ensures n))
 
 pub alternative-returns : goal.alternative-returns
 alternative-returns t c =
-    on (λ l. definition.statements (site_view c.args.self.now) (analysed.statements_of (analysed.alternative_view c.args.alternative.now).statements) >>= λ x. alternative_of l x) _ _ (ap (λ xs. each (definition.choice c.args.at c.args.width.len) (map answers.choice_view xs)) (sym c.deref.ensures.value) ∙ c.in_ok-choices.ensures)
+    on (λ l. definition.statements (site_view c.args.self.now) (analysed.statements_of (analysed.alternative_view c.args.alternative.now).statements) >>= λ x. alternative_of l x) _ _ (ap (λ xs. codes_by (site_view c.args.self.now).integers c.args.at c.args.coding (map answers.choice_view xs)) (sym c.deref.ensures.value) ∙ c.in_ok-choices.ensures)
     ∙ on (λ x. alternative_of (map net.choice_view c.in_ok-choices.choices.items) x) _ _ (ap (λ (xs : List analysed_statement.Statement). definition.statements (site_view c.args.self.now) (analysed.statements_of (map analysed.statement_view xs))) (sym c.deref-2.ensures.value) ∙ made_by (λ v. statements_of v.items) _ _ _ c.in_ok-choices-2.ensures.both.0 c.body-statements.ensures)
     ∙ ap (λ (v : Vec Choice Global). alternative_of (map net.choice_view v.items) (statements_of c.in_ok-choices-2.statements.items)) c.in_ok-choices-2.ensures.both.1

@@ -4,6 +4,7 @@ use Rattle.vhdl_names_units.specs.views.Sequential as analysed
 use Rattle.vhdl_expand_rules.specs.Elab.{each}
 use Rattle.vhdl_expand_rules.specs.Integers.{numbers_from}
 use Rattle.vhdl_expand_rules.specs.Statements as definition
+use Rattle.vhdl_expand_choices.specs.Views.{codes_by}
 use Rattle.vhdl_expand_bodies.specs.Sites.{site_view}
 use Rattle.vhdl_expand_bodies.specs.Statements.{branch_view, alternative_view}
 use Rattle.vhdl_expand_bodies.specs.steps.Statements as steps
@@ -19,9 +20,9 @@ invariant-branches-loop-item l =
 
 abbrev pub invariant-alternatives-loop-item : goal.invariant-alternatives-loop-item
 invariant-alternatives-loop-item l =
-    each (steps.alternative (site_view l.self) l.fn.at l.width.len) (map analysed.alternative_view l.list)
+    each (steps.alternative (site_view l.self) (codes_by (site_view l.self).integers l.fn.at l.fn.coding)) (map analysed.alternative_view l.list)
     ≡ behind (map alternative_view l.alternatives.items)
-    (each (steps.alternative (site_view l.self) l.fn.at l.width.len) (map analysed.alternative_view (drop l.item-index l.list)))
+    (each (steps.alternative (site_view l.self) (codes_by (site_view l.self).integers l.fn.at l.fn.coding)) (map analysed.alternative_view (drop l.item-index l.list)))
 
 -- the statements so far, and those that are left behind them
 abbrev pub invariant-add_statements-loop-statement : goal.invariant-add_statements-loop-statement
