@@ -1,5 +1,5 @@
 -- What commands do with what was read.
-use Rattle.std.specs.Prelude.{◌≡◌, ◌+◌, ◌||◌, ◌≤◌, ℕ, Bool, true, false, List, [], ◌∷◌, Option, None, is_some, length, map, option_map, unwrap_or}
+use Rattle.std.specs.Prelude.{◌≡◌, ◌+◌, ◌||◌, ◌≤◌, ℕ, Bool, true, false, List, [], ◌∷◌, Option, None, is_some, length, map, option_map, unwrap_or, Result}
 use Rattle.rtlsim.specs.Requests.{TextsView, set_form}
 use Rattle.byte_streams.specs.Stands.{Stand}
 use Rattle.rtlsim.specs.declared.job.Job.{Job}
@@ -8,12 +8,17 @@ use Rattle.rtlsim_commands.specs.Expected.{Comparing}
 use Rattle.rtlsim_commands.specs.Listed.{ListsNet, ChecksNetTold, DrawsNetTold}
 use Rattle.rtlsim_commands.specs.Machine.{ShowsMachine, ShowsLevels, EvaluatesMachine}
 use Rattle.rtlsim_commands.specs.Served.{Outputs, Serves as ServesSource, ServesObject}
-use Rattle.rtlsim_commands.specs.Sights.{machine}
+use Rattle.rtlsim_commands.specs.Sights.{Sight, machine}
 use Rattle.rtlsim_commands.specs.Sights as by
 use Rattle.rtlsim_commands.specs.Simulated.{ShowsEvents}
 use Rattle.rtlsim_commands.specs.Told.{quiet, verdict, summary, events, levels}
 use Rattle.rtlsim_commands.specs.Tracing.{ChoiceView, Tracing, whole, named, none}
 use Rattle.rtlsim_commands.specs.Watched.{OfEvents, OfMachine, Watched}
+use Rattle.rtlsim_remarked_runs.specs.Remarking.{Remarking, with_remark}
+use Rattle.rtlsim_remarked_runs.specs.declared.answering.Remarked.{Remarked}
+use Rattle.rtl_net.specs.Nets.{NetlistView, SignalView}
+use Rattle.byte_streams.specs.Written.{SinkState}
+use Rattle.rtlsim_command_faults.specs.declared.faults.Fault.{Fault}
 use Rattle.rtlsim_command_faults.specs.declared.status.Status.{Status}
 use Rattle.rtlsim_command_faults.specs.declared.telling.Telling.{Telling}
 use Rattle.vhdl_lexer.specs.Cut.{Cuts}
@@ -108,30 +113,35 @@ GoesBy {P} (Run is_event Reverse) picks =
     (old new : P) (count place : ℕ) → picks old count place new → place + 1 ≡ count
 GoesBy _ picks = ⊥
 
+-- what a run does of whose trace this is chosen: it is compared with what is expected if that is given, and ends with a
+-- remark on the first integer that is lost
+abbrev pub Runs : {A : Type 0} → Telling → ChoiceView → Sight
+    → (Shows : (names : List SignalView) → NetlistView → Result A Fault → SinkState → SinkState → Type 0)
+    → (expected : Option (List ℕ)) → NetlistView → Result (Remarked A) Fault → (old new : SinkState) → Type 0
+Runs telling choice sight Shows expected =
+    Remarking sight (Comparing sight (Tracing choice Shows) (read_of telling.source) expected) telling
+
 module _ (telling : Telling) (asked : Asked) (outcome : Status) (o : Outputs) (Holds : List Stand → Type 0)
     (choice : ChoiceView) where
-  -- A run under the text of a stimulus, of whose trace this is chosen, compared with what is expected if that is given.
-  -- This holds of what is seen of it where it writes all that is chosen. No order of processes counts.
+  -- A run under the text of a stimulus. This holds of what is seen of it where it writes all that is chosen. No order
+  -- of processes counts.
   abbrev pub ServesMachine : (text : List ℕ) → (expected : Option (List ℕ)) → Type 0
   ServesMachine text expected =
       ServesSource
-      (Watched (Comparing (machine text) (Tracing choice (ShowsMachine text)) (read_of telling.source) expected)
-      (OfMachine text Holds))
-      summary telling asked outcome o
+      (Watched (Runs telling choice (machine text) (ShowsMachine text) expected) (OfMachine text Holds))
+      (with_remark summary) telling asked outcome o
 
   abbrev pub ServesEvents : (text : List ℕ) → (expected : Option (List ℕ)) → Type 0
   ServesEvents text expected =
       ServesSource
-      (Watched (Comparing (by.events text) (Tracing choice (ShowsEvents text)) (read_of telling.source) expected)
-      (OfEvents text Holds))
-      (events text) telling asked outcome o
+      (Watched (Runs telling choice (by.events text) (ShowsEvents text) expected) (OfEvents text Holds))
+      (with_remark (events text)) telling asked outcome o
 
   abbrev pub ServesLevels : (text : List ℕ) → (expected : Option (List ℕ)) → Type 0
   ServesLevels text expected =
       ServesSource
-      (Watched (Comparing (machine text) (Tracing choice (ShowsLevels text)) (read_of telling.source) expected)
-      (OfMachine text Holds))
-      levels telling asked outcome o
+      (Watched (Runs telling choice (machine text) (ShowsLevels text) expected) (OfMachine text Holds))
+      (with_remark levels) telling asked outcome o
 
   -- by events alone where `is_event` says so
   abbrev pub ServesRun : (is_event : Bool) → (text : List ℕ) → (expected : Option (List ℕ)) → Type 0

@@ -3,18 +3,16 @@
 ghost use Rattle.std.specs.Prelude.{◌≡◌, ◌⊎◌, false, map, option_map, unwrap_or, [], IfOk};
 ghost use Rattle.rtlsim.specs.Requests as requests;
 ghost use Rattle.rtlsim.specs.Served as served;
-ghost use Rattle.rtlsim.specs.Served.{GoesBy, ServesBy, ServesRun, ServesTexts, AreTokens, asked_in, asks_places, choice_in};
+ghost use Rattle.rtlsim.specs.Served.{GoesBy, Runs, ServesBy, ServesRun, ServesTexts, AreTokens, asked_in, asks_places, choice_in};
 ghost use Rattle.rtlsim.specs.Sinks.{AreIntact, ShowsIf, outputs, sinks};
 ghost use Rattle.rtlsim_commands.specs.Served.{Serves, both};
-ghost use Rattle.rtlsim_commands.specs.Expected.{Comparing};
 ghost use Rattle.rtlsim_commands.specs.Sights.{Seeing, events_of};
-ghost use Rattle.rtlsim_commands.specs.Tracing.{Tracing};
+ghost use Rattle.rtlsim_remarked_runs.specs.Remarking.{with_remark};
 ghost use Rattle.rtlsim.specs.Texts.{texts_view};
 ghost use Rattle.rtlsim.specs.Tools.{Silently, TellsInput};
 ghost use Rattle.rtlsim_command_line.specs.Words.{call_view};
 ghost use Rattle.rtlsim_command_faults.specs.Lines.{memory_line};
 ghost use Rattle.rtlsim_command_faults.specs.declared.status.Status.TheVariants as status;
-ghost use Rattle.vhdl_slips.specs.Words.{read_of};
 
 use crate::job::Job;
 use crate::prepared::prepare;
@@ -28,6 +26,7 @@ use rtlsim_commands::{
     CheckNet, Command, Compared, EvalNet, Form, Forward, Front, ListNet, Pick, Reverse, RunEvents,
     RunLevels, RunMachine, Simulate, Status, Telling, Traced, describe, serve,
 };
+use rtlsim_remarked_runs::RemarkedRun;
 use std::alloc::{AllocError, Global};
 use vhdl_lexer::{Language, LexFault, Token, lex};
 use vhdl_slips::Lexed;
@@ -239,7 +238,7 @@ fn simulate<F: Front, P: Pick, V: Watch, O: Sink, E: Sink>(
 }
 
 /// Makes a run of the source of a job, by what is asked of its trace, while this watch looks on,
-/// and compares it with what is expected if that is given.
+/// compares it with what is expected if that is given, and remarks on it.
 fn serve_run<F: Front, R: Simulate + Drop, V: Watch, O: Sink, E: Sink>(
     alloc: Global,
     run: R,
@@ -250,20 +249,24 @@ fn serve_run<F: Front, R: Simulate + Drop, V: Watch, O: Sink, E: Sink>(
 ) -> Status
     requires { AreIntact (O.state out.old) (E.state err.old) }
     ensures { Serves (Seeing (R.sight run)
-        (Comparing (R.sight run) (Tracing (choice_in job.now) (R.shows run)) (read_of job.now.telling.now.source)
+        (Runs job.now.telling.now (choice_in job.now) (R.sight run) (R.shows run)
         (option_map (λ text. text.now) job.now.expected))
         (λ stands. V.told watch.old stands watch.new))
-        (record { text = R.Answer.text; status = R.Answer.said; events = events_of (R.sight run) })
+        (with_remark (record { text = R.Answer.text; status = R.Answer.said; events = events_of (R.sight run) }))
         job.now.telling.now (asked_in job.now) result
         (both (O.state out.old) (O.state out.new) (E.state err.old) (E.state err.new)) }
 {
-    let mut run = Compared {
+    let compared = Compared {
         run: Traced {
             run,
             choice: job.choice(),
         },
         source: job.telling.source,
         expected: job.expected,
+    };
+    let mut run = RemarkedRun {
+        run: compared,
+        telling: job.telling,
     };
     serve_job::<F, _, _, _, _>(alloc, &mut run, job, watch, out, err)
 }

@@ -50,12 +50,12 @@ impl<R: Run + Drop> Command for Compared<'_, R> {
         };
         let expected = Expectations::read(site.alloc, site.net, &literals, expected)?;
         let mut both = Both {
-            expected,
+            watch: expected,
             other: watch,
         };
         let answer = self.run.on_net(site, &mut both, out);
         let Both {
-            expected,
+            watch: expected,
             other: _watch,
         } = both;
         unless_differs(answer, expected.differences())

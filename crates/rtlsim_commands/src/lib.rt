@@ -31,6 +31,7 @@ mod serving;
 mod tracing;
 mod wider;
 
+pub use both::Both;
 pub use byte_streams::{Sink, Unwatched, Watch};
 pub use command::{Answer, Command, Run, Site};
 pub use comparing::Compared;

@@ -93,7 +93,7 @@ abbrev pub circle_text : NetlistView → CircleView → List ℕ
 circle_text net (Processes processes) = flat_map (member_text net) processes
 circle_text net (Nets nets) = codes " nets" ++ flat_map (link_text net) nets
 
--- the name of a variable, with the index of its element at this place where it is a vector
+-- the name of a variable, with the index of its element at this place where it is a vector or an integer
 abbrev pub element_name : (place : ℕ) → Option Variable → List ℕ
 element_name place None = []
 element_name place (Some v) =

@@ -27,14 +27,16 @@ pub fn element_of(
     element_name(alloc, variable, place)
 }
 
-/// The name of a variable's element, with its index where the variable is a vector.
+/// The name of a variable's element, with its index where the variable is a vector or an integer.
 fn element_name(alloc: Global, variable: &Variable, place: usize) -> Result<Vec<u8>, NoMemory>
     requires declared { length variable.now.starts.items ≡ width_of variable.now.kind }
     ensures { IfOk result (λ text. text.items ≡ element_name place (Some variable.now)) }
 {
     let mut text = Vec::from_slice(alloc, &variable.name)?;
     if place < variable.starts.len() {
-        variable.kind.push_index(place, &mut text)?;
+        variable
+            .kind
+            .push_index(place, variable.starts.len(), &mut text)?;
     }
     Ok(text)
 }

@@ -1,0 +1,2 @@
+pub mod Seeing
+mod Looking

@@ -1,0 +1,4 @@
+-- In order of reading:
+pub mod Lost
+pub mod Told
+pub mod Watching
