@@ -135,6 +135,7 @@ remarking_words remarking.NeverKnown = row REMARKING 6
 remarking_words remarking.UnreadElement = row REMARKING 7
 remarking_words remarking.ClockWithoutLine = row REMARKING 8
 remarking_words remarking.InputWithoutLine = row REMARKING 9
+remarking_words remarking.OutsideRange = row REMARKING 10
 
 abbrev pub words_of : Rule → Words Text
 words_of (r.Lex rule) = lexing_words rule

@@ -26,8 +26,8 @@ static CHECKING: [Words<&str>; 9] = [
             c(i + 1)" },
     rule! { fault 2 Mixed: "process " PROCESS " has an edge or an event, and is none of the registers that are read"
         => "write a register as one if: its asynchronous reset first, the edge as the only other branch, and enables \
-            inside that; a second edge takes a process of its own; the reset is tested as rst = '1' or rst = '0', and \
-            its branch assigns constants" },
+            inside that; a second edge takes a process of its own; the reset is tested as rst = '1' or rst = '0', or, with \
+            --wide, by a boolean's name, and its branch assigns constants" },
     rule! { fault 3 ClockNotInput: "process " PROCESS " has the clock " NET ", which is no input of the top"
         => "clock it by an input of the top, and let what gates or divides it be an enable inside the edge" },
     rule! { fault 4 EdgeNotSensitive: "process " PROCESS " is clocked or reset by " NET ", and isn't sensitive to it"

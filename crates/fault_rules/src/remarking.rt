@@ -16,10 +16,11 @@ pub enum RemarkRule {
     UnreadElement,
     ClockWithoutLine,
     InputWithoutLine,
+    OutsideRange,
 }
 
 /// What is said of each, in their order.
-static REMARKING: [Words<&str>; 9] = [
+static REMARKING: [Words<&str>; 10] = [
     rule! { remark 1 Undriven: "process " PROCESS " reads " NET ", which nothing drives" },
     rule! { remark 2 Unassigned: "nothing drives the out port " NET },
     rule! { remark 3 IdlePort: "nothing assigns, inside its instance, an out port that drives " NET },
@@ -31,6 +32,7 @@ static REMARKING: [Words<&str>; 9] = [
     rule! { remark 7 UnreadElement: "nothing reads " NET ", though other elements of this in port are read" },
     rule! { remark 8 ClockWithoutLine: "no line of the stimulus drives the clock " NET },
     rule! { remark 9 InputWithoutLine: "no line of the stimulus drives the input " NET },
+    rule! { remark 10 OutsideRange: "process " PROCESS " may give " NET " a number outside its range, which makes it x" },
 ];
 
 impl RemarkRule {

@@ -162,8 +162,8 @@ static ELABORATION: [Words<&str>; 12] = [
         => "give it a value in the generic map of each instance of this entity, or a default here; the top has no \
             generic map, so that its generics need defaults" },
     rule! { elab 3 GenericRange: WORD "is a value outside of its type"
-        => "see its default and what each generic map gives it: a natural is at least 0, a positive at least 1, and \
-            all are at most 2147483647" },
+        => "see its default and what each generic map gives it: a natural is at least 0, a positive at least 1, what \
+            has a range lies in that, and all are at most 2147483647" },
     rule! { elab 4 StaticError: WORD "can't be computed"
         => "see whether it divides by 0, goes past what an integer holds, or is negative where a length or count \
             stands" },
@@ -178,7 +178,8 @@ static ELABORATION: [Words<&str>; 12] = [
     rule! { elab 8 Unassociated: WORD "leaves an in port open that has no default"
         => "associate it in the port map, or give the port a default" },
     rule! { elab 9 TwoUnresolved: WORD "has two sources and is of an unresolved type"
-        => "let one process drive it; std_logic resolves several, std_ulogic and enumerations don't" },
+        => "let one process drive it; std_logic resolves several, and std_ulogic, integers, booleans and \
+            enumerations don't" },
     rule! { elab 10 ReadOfShared: WORD "is an out port that is read inside, and several drive it or one of its elements"
         => "see whether two slices that are assigned overlap, and let one process or instance drive each element; \
             where several are meant, read a signal that one alone drives, and assign the port from it" },

@@ -27,8 +27,8 @@ static STIMULI: [Words<&str>; 8] = [
         => "see the spelling of the port, which in a line stands alone before its value, as in at 20 en 1; in ports of \
             the top alone are set, each as a whole, and no out port and no signal inside" },
     rule! { stim 3 BadValue: "the value doesn't fit the input"
-        => "write for each element one of U X 0 1 Z W L H -, the leftmost first, with no quotation mark and no x; a \
-            clock has one element" },
+        => "write for each element one of U X 0 1 Z W L H -, the leftmost first, with no quotation mark and no x; an \
+            integer in decimal digits, and within its range; a boolean as true or false; a clock has one element" },
     rule! { stim 4 SetTwice: "the input is set twice, at one time or by two clocks"
         => "keep one of the two words or lines that set it, or give a line another time; an input has one clock" },
     rule! { stim 5 ClockAndSet: "the input is a clock, and is set too"

@@ -4,3 +4,4 @@ mod Meanwhile
 mod ResetBranches
 mod Rising
 mod Events
+mod Leaving

@@ -1,7 +1,7 @@
 -- Remarks on a netlist, whatever the checker says of it: a signal that is read and that nothing drives; an out port
 -- that nothing assigns, of the top or of an instance; a register that its reset's branch leaves out; a clock that
 -- combinational logic reads as data; a register that starts undefined and stays so; an element of an in port that
--- nothing reads, though others are read.
+-- nothing reads, though others are read; an integer that may be given a number outside its range.
 use Rattle.std.specs.Prelude.{ℕ, suc, Bool, true, false, not, ◌&&◌, ◌==◌, if◌then◌else◌, List, [], ◌∷◌, ◌++◌, length, map, flat_map, Option, Some, None}
 use Rattle.std.specs.List.{list_any, filter, range_with_len}
 use Rattle.std.specs.Option.{is_some}
@@ -21,7 +21,8 @@ use Rattle.rtl_body_facts.specs.Paths.{driven, to_net}
 use Rattle.rtl_body_facts.specs.Reading.{is_in}
 use Rattle.rtl_remarks.specs.declared.remark.Remark.{Remark}
 use Rattle.rtl_remarks.specs.declared.remark.RemarkKind.{RemarkKind}
-use Rattle.rtl_remarks.specs.declared.remark.RemarkKind.TheVariants.{Undriven, Unassigned, IdlePort, NotReset, ClockRead, NeverKnown, UnreadElement}
+use Rattle.rtl_remarks.specs.declared.remark.RemarkKind.TheVariants.{Undriven, Unassigned, IdlePort, NotReset, ClockRead, NeverKnown, UnreadElement, OutsideRange}
+use Rattle.rtl_outside_ranges.specs.Outside.{gives, is_integer}
 use Rattle.rtl_remarks.specs.Undefined.{may_assign}
 
 -- it names a net alone, or a process too
@@ -139,8 +140,22 @@ stays_undefined p (Some s) n =
     (may_assign p.drives.items true n s && not (may_assign p.drives.items false n s))
     && starts_undefined p.drives.items n
 
+-- the process is combinational and drives the net
+abbrev pub is_made : Process → (n : ℕ) → Bool
+is_made p n = is_empty (events (body_of p)) && is_in n (driven p.drives.items)
+
+-- some combinational process drives the net
+abbrev pub is_logic : NetlistView → (n : ℕ) → Bool
+is_logic net n = list_any (λ p. is_made p n) net.processes
+
+-- a digit of an integer to which the process may give a number outside its range
+abbrev pub may_leave_range : NetlistView → Process → (n : ℕ) → Bool
+may_leave_range net p n =
+    is_of is_integer net.signals n && gives p.drives.items (is_logic net) (λ m. false) n (body_of p)
+
 -- Of a process the nets with which remarks of a kind name it: those that it drives and the branch of its reset
--- doesn't assign, the clocks that it reads as data, and its registers without a reset that stay undefined.
+-- doesn't assign, the clocks that it reads as data, its registers without a reset that stay undefined, and the integers
+-- that it may take out of their ranges.
 abbrev pub named : NetlistView → RemarkKind → Process → List ℕ
 named net NotReset p =
     filter (leaves_out p (reset_branch (clocking net.wide net.inputs (body_of p))))
@@ -149,6 +164,7 @@ named net ClockRead p = clocks_read net p
 named net NeverKnown p =
     filter (stays_undefined p (edge_branch (clocking net.wide net.inputs (body_of p))))
     (range_with_len 0 (length net.types))
+named net OutsideRange p = filter (may_leave_range net p) (range_with_len 0 (length net.types))
 named net _ p = []
 
 abbrev pub on_process : NetlistView → RemarkKind → (number : ℕ) → Process → List Remark
@@ -175,4 +191,4 @@ abbrev pub remarks_of : NetlistView → List Remark
 remarks_of net =
     on_nets net Undriven ++ on_nets net Unassigned ++ on_nets net IdlePort
     ++ on_processes net NotReset ++ on_processes net ClockRead ++ on_processes net NeverKnown
-    ++ on_nets net UnreadElement
+    ++ on_nets net UnreadElement ++ on_processes net OutsideRange

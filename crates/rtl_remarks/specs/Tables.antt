@@ -12,17 +12,19 @@ use Rattle.rtl_net.specs.declared.body.Statement.{Statement}
 use Rattle.rtl_net.specs.declared.body.TestLink.{TestLink}
 use Rattle.rtl_net.specs.declared.process.Driver.{Driver}
 use Rattle.rtl_body_facts.specs.Reading.{is_in}
-use Rattle.rtl_remarks.specs.Remarks.{is_signal, is_top_port, is_of, is_read_port, is_clock, reader_from, reset_branch, edge_branch}
+use Rattle.rtl_remarks.specs.Remarks.{is_signal, is_top_port, is_of, is_read_port, is_clock, is_logic, reader_from, reset_branch, edge_branch}
+use Rattle.rtl_outside_ranges.specs.Outside.{is_integer}
 use Rattle.rtl_remarks.specs.Undefined.{passes, whole_of, some_is, is_whole, is_and, fails, counts, stmt_may, may_assign}
 use Rattle.rtl_remarks.specs.declared.known.Known.{Known}
 use Rattle.rtl_remarks.specs.declared.undefined.Makers.{Makers}
 use Rattle.rtl_remarks.specs.declared.signals.Which.{Which}
-use Rattle.rtl_remarks.specs.declared.signals.Which.TheVariants.{Signals, TopPorts}
+use Rattle.rtl_remarks.specs.declared.signals.Which.TheVariants.{Signals, TopPorts, Integers}
 
 -- the signals of this kind
 abbrev pub takes : Which → SignalView → Bool
 takes Signals s = is_signal s
 takes TopPorts s = is_top_port s
+takes Integers s = is_integer s
 
 -- the numbers of which this is so, rising
 pub record AreThose (is : ℕ → Bool) (numbers : List ℕ) : Type 0 where
@@ -40,6 +42,8 @@ pub record IsKnown (net : NetlistView) (known : Known) : Type 0 where
   pub ports : AreThose (is_of is_top_port net.signals) known.ports.items
   pub read_ports : AreThose (is_of (is_read_port net) net.signals) known.read_ports.items
   pub clocks : AreThose (is_clock net) known.clocks.items
+  pub integers : AreThose (is_of is_integer net.signals) known.integers.items
+  pub logic : AreThose (is_logic net) known.logic.items
   pub readers : AreReaders net known.readers.items
 
 -- ---- branches of clocked processes

@@ -4,6 +4,7 @@ ghost use Rattle.std.specs.Prelude.{IfOk};
 ghost use Rattle.rtl_remarks.specs.Tables.{IsKnown};
 
 use crate::clocks::clocks_of;
+use crate::logic::logic_of;
 use crate::readers::first_readers;
 use crate::signals::{Which, nets_of, read_ports};
 use rtl_net::{Net, NoMemory};
@@ -18,6 +19,10 @@ pub(crate) struct Known {
     pub(crate) ports: Vec<usize>,
     pub(crate) read_ports: Vec<usize>,
     pub(crate) clocks: Vec<usize>,
+    /// The digits of integers.
+    pub(crate) integers: Vec<usize>,
+    /// What combinational processes drive.
+    pub(crate) logic: Vec<usize>,
     /// Of each net the first process that reads it.
     pub(crate) readers: Vec<Option<usize>>,
 }
@@ -31,11 +36,15 @@ pub(crate) fn known_of(alloc: Global, net: &Net) -> Result<Known, NoMemory>
     let signals = nets_of(alloc, net, Which::Signals)?;
     let ports = nets_of(alloc, net, Which::TopPorts)?;
     let clocks = clocks_of(alloc, net)?;
+    let integers = nets_of(alloc, net, Which::Integers)?;
+    let logic = logic_of(alloc, net)?;
     Ok(Known {
         signals,
         ports,
         read_ports,
         clocks,
+        integers,
+        logic,
         readers,
     })
 }

@@ -26,5 +26,6 @@ pub fn remarks(alloc: Global, net: &Net) -> Result<Vec<Remark>, NoMemory>
     push_on_processes(alloc, net, &known, RemarkKind::ClockRead, &mut remarks)?;
     push_on_processes(alloc, net, &known, RemarkKind::NeverKnown, &mut remarks)?;
     push_on_nets(net, &known, RemarkKind::UnreadElement, &mut remarks)?;
+    push_on_processes(alloc, net, &known, RemarkKind::OutsideRange, &mut remarks)?;
     Ok(remarks)
 }

@@ -1,14 +1,13 @@
 //! Lists of numbers.
 
 ghost use Rattle.std.specs.Prelude.{◌≡◌, ◌&&◌, ◌||◌, ℕ, IfOk};
-ghost use Rattle.std.specs.List.{filter, range_with_len};
+ghost use Rattle.std.specs.List.{filter};
 ghost use Rattle.std.specs.List.Sorted.{IsStrictlyIncreasing};
-ghost use Rattle.rtl_net.specs.Indices.{numbers};
 ghost use Rattle.rtl_body_facts.specs.Reading.{is_in};
 ghost use Rattle.rtl_remarks.specs.Undefined.{is_same};
 
 use rtl_body_facts::contains_rising;
-use rtl_net::{Indices, NoMemory};
+use rtl_net::NoMemory;
 use std::alloc::Global;
 
 /// Whether a number is among others, or isn't, as is asked.
@@ -53,25 +52,4 @@ pub(crate) fn joined_if(
     let mut all = left;
     all.extend_from_slice(right)?;
     Ok(all)
-}
-
-/// So many numbers from the first on.
-fn run_of(alloc: Global, first: u32, len: u32) -> Result<Vec<usize>, NoMemory>
-    ensures { IfOk result (λ found. found.items ≡ range_with_len first len) }
-{
-    let mut found = Vec::new(alloc);
-    for i in 0..len {
-        found.push(first as usize + i as usize)?;
-    }
-    Ok(found)
-}
-
-/// The numbers of a name, from the left.
-pub(crate) fn numbers_of(alloc: Global, indices: &Indices) -> Result<Vec<usize>, NoMemory>
-    ensures { IfOk result (λ found. found.items ≡ numbers indices.now) }
-{
-    match indices {
-        Indices::Run { first, len } => run_of(alloc, *first, *len),
-        Indices::List(listed) => listed.as_slice().iter().map(|n| *n as usize).collect(alloc),
-    }
 }

@@ -9,6 +9,7 @@ ghost use Rattle.rtl_remarks.specs.Tables.{AreThose, IsKnown};
 
 use crate::known::Known;
 use crate::lists::chosen;
+use crate::ranges::leaving_range;
 use crate::registers::stay_undefined;
 use crate::remark::{Remark, RemarkKind};
 use crate::resets::left_out;
@@ -51,6 +52,7 @@ fn named(
         RemarkKind::NotReset => left_out(alloc, wide, inputs, process),
         RemarkKind::ClockRead => clocks_read(alloc, net, &known.clocks, process),
         RemarkKind::NeverKnown => stay_undefined(alloc, wide, inputs, process),
+        RemarkKind::OutsideRange => leaving_range(alloc, &known.integers, &known.logic, process),
         _ => Ok(Vec::new(alloc)),
     }
 }

@@ -27,6 +27,9 @@ pub enum RemarkKind {
     ClockWithoutLine,
     /// The same of another input.
     InputWithoutLine,
+    /// It is a digit of an integer, to which the process may give a number outside its range, where
+    /// no condition round that looks at what the number is made of.
+    OutsideRange,
 }
 
 /// A remark, by the numbers of what it names.

@@ -4,11 +4,12 @@ ghost use Rattle.std.specs.Prelude.{◌≡◌, ◌<◌, ◌&&◌, ◌||◌, ℕ,
 ghost use Rattle.std.specs.List.{list_any};
 ghost use Rattle.rtl_net.specs.Nets.{signal_view};
 ghost use Rattle.rtl_body_facts.specs.Reading.{is_in};
+ghost use Rattle.rtl_outside_ranges.specs.Outside.{is_of_integers};
 ghost use Rattle.rtl_remarks.specs.Remarks as spec;
 ghost use Rattle.rtl_remarks.specs.Tables.{takes, AreThose, AreReaders};
 
 use rtl_body_facts::sort_once;
-use rtl_net::{Net, NoMemory, Signal};
+use rtl_net::{Net, NoMemory, Signal, SignalKind};
 use std::alloc::Global;
 
 /// Which signals.
@@ -18,6 +19,8 @@ pub(crate) enum Which {
     Signals,
     /// Ports of the top.
     TopPorts,
+    /// Integers.
+    Integers,
 }
 
 impl Which {
@@ -28,7 +31,21 @@ impl Which {
         match self {
             Which::Signals => !signal.port,
             Which::TopPorts => signal.port && signal.scope == 0,
+            Which::Integers => is_integer(signal.kind),
         }
+    }
+}
+
+/// Whether elements of this kind are digits of an integer.
+fn is_integer(kind: SignalKind) -> bool
+    ensures { result ≡ is_of_integers kind }
+{
+    match kind {
+        SignalKind::Integer { .. } => true,
+        SignalKind::One
+        | SignalKind::Vector { .. }
+        | SignalKind::Enumeration { .. }
+        | SignalKind::Boolean => false,
     }
 }
 

@@ -8,9 +8,10 @@ ghost use Rattle.rtl_body_facts.specs.Reading.{is_in};
 ghost use Rattle.rtl_remarks.specs.Undefined as spec;
 ghost use Rattle.rtl_remarks.specs.Tables.{MakeUndefined, links_some, links_whole};
 
-use crate::lists::{joined_if, numbers_of};
+use crate::lists::joined_if;
 use rtl_body_facts::sort_once;
 use rtl_net::{Expr, Link, NoMemory, Operator, Value};
+use rtl_outside_ranges::numbers_of;
 use std::alloc::Global;
 use vhdl_values::Logic;
 

@@ -1,6 +1,7 @@
--- What is told of remarks, as data: one of them tells elements of a vector that stand side by side and of which the
--- same is said.
-use Rattle.std.specs.Prelude.{ℕ, ◌==◌, ◌&&◌, Bool, if◌then◌else◌, List, [], ◌∷◌, ◌++◌, Option}
+-- What is told of remarks, as data: one of them tells elements of a vector that stand side by side, or digits of an
+-- integer, and of which the same is said.
+use Rattle.std.specs.Prelude.{ℕ, ◌==◌, ◌&&◌, ◌||◌, Bool, if◌then◌else◌, List, [], ◌∷◌, ◌++◌, bytes_eq, Option}
+use Rattle.std.specs.List.{before_first}
 use Rattle.rtl_net.specs.Names.{net_name}
 use Rattle.rtl_net.specs.Nets.{NetlistView}
 use Rattle.rtl_remarks.specs.declared.remark.Remark.{Remark}
@@ -29,6 +30,7 @@ rule_of k.NeverKnown = rule.NeverKnown
 rule_of k.UnreadElement = rule.UnreadElement
 rule_of k.ClockWithoutLine = rule.ClockWithoutLine
 rule_of k.InputWithoutLine = rule.InputWithoutLine
+rule_of k.OutsideRange = rule.OutsideRange
 
 abbrev pub report_of : Remark → Report
 report_of r = record { rule = Remark' (rule_of r.kind); place = place_of r.process; subject = Net r.net }
@@ -39,15 +41,25 @@ number_of remark = (words_of (report_of remark).rule).number
 abbrev pub process_of : Remark → Option ℕ
 process_of remark = remark.process
 
+abbrev pub opens_digit : (byte : ℕ) → Bool
+opens_digit byte = byte == 91
+
+-- what stands before the `[k]` of an integer's digit
+abbrev pub before_digit : List ℕ → List ℕ
+before_digit name = before_first opens_digit name
+
+-- an integer is told as a whole
 abbrev pub name : NetlistView → Remark → List ℕ
-name net remark = net_name net remark.net
+name net remark = before_digit (net_name net remark.net)
 
 -- of one kind, and of one process where they have one
 abbrev pub is_same : (before remark : Remark) → Bool
 is_same before remark = number_of before == number_of remark && is_same_number (process_of before) (process_of remark)
 
 abbrev pub goes_on : NetlistView → (before remark : Remark) → Bool
-goes_on net before remark = is_same before remark && follows (name net before) (name net remark)
+goes_on net before remark =
+    is_same before remark
+    && (bytes_eq (name net before) (name net remark) || follows (name net before) (name net remark))
 
 -- the last remark that is told, and the range of nets up to its own
 pub record RemarkView : Type 0 where

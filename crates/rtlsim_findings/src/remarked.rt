@@ -1,6 +1,7 @@
 //! What is told of remarks.
 
-ghost use Rattle.std.specs.Prelude.{◌≡◌, ◌++◌, map, IfOk, OnOk};
+ghost use Rattle.std.specs.Prelude.{◌≡◌, ◌++◌, map, position, IfOk, OnOk};
+ghost use Rattle.std.specs.List.{position_or_len};
 ghost use Rattle.rtlsim_findings.specs.Remarked as spec;
 ghost use Rattle.rtlsim_findings.specs.Remarked.{remark_view};
 
@@ -38,6 +39,7 @@ fn rule_of(kind: RemarkKind) -> RemarkRule
         RemarkKind::UnreadElement => RemarkRule::UnreadElement,
         RemarkKind::ClockWithoutLine => RemarkRule::ClockWithoutLine,
         RemarkKind::InputWithoutLine => RemarkRule::InputWithoutLine,
+        RemarkKind::OutsideRange => RemarkRule::OutsideRange,
     }
 }
 
@@ -68,13 +70,36 @@ fn is_same(before: Remark, remark: Remark) -> bool
     first == second && is_same_number(before.process, remark.process)
 }
 
+/// The name of a remark's net, or of the integer that it is a digit of.
+fn name_of(alloc: Global, net: &Net, remark: Remark) -> Result<Vec<u8>, NoMemory>
+    ensures { IfOk result (λ name. name.items ≡ spec.name net.now remark) }
+{
+    let mut name = net_name(alloc, net, remark.net)?;
+    name.truncate(digit_start(&name));
+    Ok(name)
+}
+
+/// Where the `[` of a digit stands; the length, where there is none.
+fn digit_start(name: &[u8]) -> usize
+    ensures { result ≡ position_or_len spec.opens_digit name.now }
+{
+    opening(name).unwrap_or(name.len())
+}
+
+/// Where a `[` stands first.
+fn opening(name: &[u8]) -> Option<usize>
+    ensures { result ≡ position spec.opens_digit name.now }
+{
+    name.iter().position(|byte| *byte == b'[')
+}
+
 /// Whether a remark is told with the one before.
 fn goes_on(alloc: Global, net: &Net, before: Remark, remark: Remark) -> Result<bool, NoMemory>
     ensures { IfOk result (λ same. same ≡ spec.goes_on net.now before remark) }
 {
-    let last = net_name(alloc, net, before.net)?;
-    let next = net_name(alloc, net, remark.net)?;
-    Ok(is_same(before, remark) && follows(&last, &next))
+    let last = name_of(alloc, net, before)?;
+    let next = name_of(alloc, net, remark)?;
+    Ok(is_same(before, remark) && (last == next || follows(&last, &next)))
 }
 
 /// What is told of these remarks. It takes memory for each.
@@ -104,7 +129,7 @@ fn push_found(
     ensures { OnOk result (map remark_view found.new.items
         ≡ map remark_view found.old.items ++ spec.found_from net.now (spec.name net.now begin) begin remarks.now) }
 {
-    let mut first = net_name(alloc, net, begin.net)?;
+    let mut first = name_of(alloc, net, begin)?;
     let mut before = begin;
     let mut left = remarks;
     while let [remark, others @ ..] = left {
@@ -134,7 +159,7 @@ fn push_ended(
         return Ok(());
     }
     found.push(told(alloc, net, first.as_slice(), before)?)?;
-    *first = net_name(alloc, net, remark.net)?;
+    *first = name_of(alloc, net, remark)?;
     Ok(())
 }
 
@@ -142,7 +167,7 @@ fn push_ended(
 fn told(alloc: Global, net: &Net, first: &[u8], last: Remark) -> Result<RemarkFinding, NoMemory>
     ensures { IfOk result (λ found. remark_view found ≡ spec.told net.now first.now last) }
 {
-    let nets = range(alloc, first, &net_name(alloc, net, last.net)?)?;
+    let nets = range(alloc, first, &name_of(alloc, net, last)?)?;
     Ok(RemarkFinding { remark: last, nets })
 }
 
