@@ -1,5 +1,5 @@
 -- Hints, as data.
-use Rattle.std.specs.Prelude.{ℕ, Bool, true, false, List}
+use Rattle.std.specs.Prelude.{ℕ, Bool, true, false, List, Option, Some, None}
 use Rattle.vhdl_slips.specs.Forms.{Said}
 use Rattle.vhdl_misfits.specs.Lengths.{Measure, measure_view}
 use Rattle.vhdl_hints.specs.declared.hint.Hint as code
@@ -55,6 +55,11 @@ hint_view (c.NoPosition entity is_port formals) = NoPosition entity is_port form
 -- what the code says of a word
 abbrev pub form : (said : record { now : List ℕ } × record { now : List ℕ }) → Hint
 form said = Form (said.0.now, said.1.now)
+
+-- what is told of a word, or nothing
+abbrev pub told_hint : Option Said → Hint
+told_hint None = Nothing
+told_hint (Some said) = Form said
 
 -- the first of two that tells something
 abbrev pub or_else : (first second : Hint) → Hint

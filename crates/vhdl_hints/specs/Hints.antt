@@ -8,14 +8,13 @@ use Rattle.fault_rules.specs.declared.report.Rule.{Rule}
 use Rattle.fault_rules.specs.declared.report.Rule.TheVariants as rule
 use Rattle.fault_rules.specs.declared.report.Subject.{Subject}
 use Rattle.fault_rules.specs.declared.report.Subject.TheVariants.{Lengths}
-use Rattle.vhdl_slips.specs.Forms.{Said}
 use Rattle.vhdl_slips.specs.Words.{Read, text_of, text_of_first, with_tokens}
 use Rattle.vhdl_misfits.specs.Bounds.{architecture, bounds_of, is_empty, is_declared, known_object, listed_bounds, ports_of, range_at}
 use Rattle.vhdl_slips.specs.Choices.{choices, is_among, type_of}
 use Rattle.vhdl_hints.specs.Ends.{but_last_two, end_word, last_begun, last_two}
-use Rattle.vhdl_hints.specs.Hinted.{Actual, Differs, Empty, Form, Hint, Measured, NoFormal, NoPosition, Nothing, OpenPort, OtherName, OtherType, Outside, form, is_nothing, or_else}
+use Rattle.vhdl_hints.specs.Hinted.{Actual, Differs, Empty, Hint, Measured, NoFormal, NoPosition, Nothing, OpenPort, OtherName, OtherType, Outside, form, is_nothing, or_else, told_hint}
 use Rattle.vhdl_misfits.specs.Lengths.{Measure, measured}
-use Rattle.vhdl_misfits.specs.Misfits.{foreign, misfit}
+use Rattle.vhdl_misfits.specs.Misfits.{crowded, foreign, misfit, overlapping, strayed, uncomputed}
 use Rattle.vhdl_misfits.specs.Places.{begins_one_of, begins_statement, behind_name, is_inside_loop}
 use Rattle.vhdl_misfits.specs.declared.told.Known.{Known}
 use Rattle.vhdl_misfits.specs.declared.told.Known.TheVariants as known
@@ -293,11 +292,13 @@ abbrev pub names_entity : List Token → Bool
 names_entity (entity ∷ library ∷ dot ∷ name ∷ paren ∷ []) = same_kind entity.kind k.Entity
 names_entity _ = false
 
--- std_logic(..), as if that converted
+-- std_logic(..), integer(..) or boolean(..), as if that converted
 abbrev pub is_cast : (word : List ℕ) → List Token → Bool
 is_cast word tokens =
     begins k.LeftParen (drop 1 tokens)
-    && (str_eq_ignore_ascii_case word (codes "std_logic") || str_eq_ignore_ascii_case word (codes "std_ulogic"))
+    && (str_eq_ignore_ascii_case word (codes "std_logic") || str_eq_ignore_ascii_case word (codes "std_ulogic")
+    || str_eq_ignore_ascii_case word (codes "integer") || str_eq_ignore_ascii_case word (codes "natural")
+    || str_eq_ignore_ascii_case word (codes "positive") || str_eq_ignore_ascii_case word (codes "boolean"))
 
 abbrev pub misplaced : (text : List ℕ) → (before from : List Token) → Hint
 misplaced text before tokens =
@@ -340,10 +341,6 @@ actual source before from subject =
     (entity_of (open_instance before)) subject
 
 -- ---- of each rule
-
-abbrev pub told_hint : Option Said → Hint
-told_hint None = Nothing
-told_hint (Some said) = Form said
 
 -- a word of the packages may be meant, where nothing is assigned to
 abbrev pub meant : (text : List ℕ) → (before from : List Token) → Hint
@@ -389,7 +386,12 @@ hint_at source before from (rule.Name naming.LeftOut) subject = assigned source 
 hint_at source before from (rule.Name naming.NoOthers) subject = enumeration (with_tokens source.text before) from
 hint_at source before from (rule.Elab elaboration.Length) subject =
     or_else (actual source before from subject) (measure_hint subject (measured source.text from))
-hint_at source before from (rule.Elab elaboration.Index) subject = outside source before from
+hint_at source before from (rule.Elab elaboration.Index) subject =
+    or_else (told_hint (overlapping source.text (last_two before) from)) (outside source before from)
 hint_at source before from (rule.Elab elaboration.Unassociated) subject = open_port source from
+hint_at source before from (rule.Elab elaboration.GenericRange) subject =
+    told_hint (strayed source.text (last_two before) from)
+hint_at source before from (rule.Elab elaboration.StaticError) subject = told_hint (uncomputed source.text from)
+hint_at source before from (rule.Elab elaboration.TooMany) subject = told_hint (crowded source.text from)
 hint_at source before from (rule.Name naming.NoSensitivity) subject = no_edge from
 hint_at source before from rule subject = Nothing

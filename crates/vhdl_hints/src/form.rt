@@ -76,8 +76,9 @@ pub const LISTED: Said = (
 );
 
 pub const CAST: Said = (
-    "is a type of one element, and converts nothing",
-    "leave it and its parentheses out: one element of a vector or of unsigned is a std_logic already",
+    "is a type of one element, of whole numbers or boolean, and converts nothing",
+    "leave it and its parentheses out: one element of a vector or of unsigned is a std_logic already; with --wide \
+     to_integer(n) is a whole number of unsigned n, and s = '1' a boolean of one element s",
 );
 
 pub const OTHERS: Said = (

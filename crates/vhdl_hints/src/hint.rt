@@ -5,7 +5,7 @@ ghost use Rattle.vhdl_misfits.specs.Lengths.{measure_view};
 ghost use Rattle.vhdl_slips.specs.Forms.{said_of};
 ghost use Rattle.vhdl_slips.specs.Parts.{first_of};
 ghost use Rattle.vhdl_slips.specs.Words.{read_of, with_tokens};
-ghost use Rattle.vhdl_hints.specs.Hinted.{hint_view, is_nothing, or_else};
+ghost use Rattle.vhdl_hints.specs.Hinted.{hint_view, is_nothing, or_else, told_hint};
 ghost use Rattle.vhdl_hints.specs.Hints as spec;
 
 use crate::end_name::{Begun, but_last_two, end_word, last_begun, last_two};
@@ -15,7 +15,8 @@ use crate::word::{elsewhere, known_of, meant_among, misspelt, no_target, twice};
 use fault_rules::{ElabRule, NameRule, Report, Rule, Subject};
 use vhdl_lexer::{Token, TokenKind};
 use vhdl_misfits::{
-    Measure, begins_one_of, bounds_of, foreign, is_declared, is_empty, measured, misfit, range_at,
+    Measure, begins_one_of, bounds_of, crowded, foreign, is_declared, is_empty, measured, misfit,
+    overlapping, range_at, strayed, uncomputed,
 };
 use vhdl_slips::{
     Lexed, Said, associations, begins, entity_of, first_choice, first_of, first_open, first_text,
@@ -98,8 +99,17 @@ pub fn hint_at<'a>(
         Rule::Elab(ElabRule::Length) => actual(source, before, from, report.subject).or_else(
             measure_hint(report.subject, measured(source.text, from)),
         ),
-        Rule::Elab(ElabRule::Index) => outside(source, before, from),
+        Rule::Elab(ElabRule::Index) => told_hint(overlapping(
+            source.text,
+            last_two(before),
+            from,
+        )).or_else(outside(source, before, from)),
         Rule::Elab(ElabRule::Unassociated) => open_port(source, from),
+        Rule::Elab(ElabRule::GenericRange) => {
+            told_hint(strayed(source.text, last_two(before), from))
+        }
+        Rule::Elab(ElabRule::StaticError) => told_hint(uncomputed(source.text, from)),
+        Rule::Elab(ElabRule::TooMany) => told_hint(crowded(source.text, from)),
         _ => Hint::Nothing,
     }
 }
@@ -116,7 +126,7 @@ fn no_edge(from: &[Token]) -> Hint<'static>
 
 /// What is told of a word, or nothing.
 fn told_hint(said: Option<Said>) -> Hint<'static>
-    ensures { hint_view result ≡ spec.told_hint (option_map said_of said.entry) }
+    ensures { hint_view result ≡ told_hint (option_map said_of said.entry) }
 {
     match said {
         Some(said) => Hint::Form(said),

@@ -308,12 +308,17 @@ pub(crate) fn opens_list(behind: &[Token]) -> bool
     begins(TokenKind::LeftParen, behind) && !has(TokenKind::RightParen, behind)
 }
 
-/// Whether it is `std_logic(..)`, as if that converted.
+/// Whether it is `std_logic(..)`, `integer(..)` or `boolean(..)`, as if that converted.
 fn is_cast(word: &[u8], from: &[Token]) -> bool
     ensures { result ≡ spec.is_cast word.now from.now }
 {
     begins(TokenKind::LeftParen, past(1, from))
-        && (is_same_word(word, b"std_logic") || is_same_word(word, b"std_ulogic"))
+        && (is_same_word(word, b"std_logic")
+            || is_same_word(word, b"std_ulogic")
+            || is_same_word(word, b"integer")
+            || is_same_word(word, b"natural")
+            || is_same_word(word, b"positive")
+            || is_same_word(word, b"boolean"))
 }
 
 /// Whether these tokens are `entity LIBRARY . NAME (`.

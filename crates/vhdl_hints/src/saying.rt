@@ -19,11 +19,12 @@ const HELP_EMPTY: &str =
     "write one of these; a slice goes in the direction in which its name is declared";
 
 const HELP_LENGTH: &str =
-    "give both one length; a generic in the bounds of a port is what the generic map of the instance gives, or else \
-     its default";
+    "give both one length, and whole numbers one range; a generic in the bounds of a port is what the generic map of \
+     the instance gives, or else its default";
 
 const HELP_TYPE: &str =
-    "see how the port is declared, and give a signal of that type: one element, a vector or unsigned";
+    "see how the port is declared, and give a signal of that type: one element, a vector or unsigned, and with --wide \
+     a whole number or a boolean";
 
 const HELP_COMPONENT: &str =
     "repeat in it the generics and ports of the entity, in the same order, each with its mode, type, bounds and default";

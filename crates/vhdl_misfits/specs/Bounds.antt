@@ -1,5 +1,5 @@
 -- The bounds of an object that one declaration alone declares.
-use Rattle.std.specs.Prelude.{ℕ, ◌&&◌, ◌||◌, min, nat_lt, Bool, true, false, if◌then◌else◌, List, [], ◌∷◌, codes, drop}
+use Rattle.std.specs.Prelude.{ℕ, ◌&&◌, ◌||◌, min, nat_lt, Bool, true, false, if◌then◌else◌, List, [], ◌∷◌, drop}
 use Rattle.vhdl_slips.specs.Choices.{is_written}
 use Rattle.vhdl_slips.specs.Interfaces.{formals, interface_of}
 use Rattle.vhdl_slips.specs.Parts.{begins, behind_last, found_by, from, in_parentheses, up_to}
@@ -8,7 +8,8 @@ use Rattle.vhdl_misfits.specs.declared.bound.Declared as code
 use Rattle.vhdl_misfits.specs.declared.bound.Declared.TheVariants as c
 use Rattle.vhdl_misfits.specs.declared.told.Known.{Known}
 use Rattle.vhdl_misfits.specs.declared.told.Known.TheVariants as known
-use Rattle.vhdl_slips.specs.Words.{text_of}
+use Rattle.vhdl_misfits.specs.Values.{names_element}
+use Rattle.vhdl_slips.specs.Words.{text_of, text_of_first}
 use Rattle.vhdl_lexer.specs.declared.token.Token.{Token}
 use Rattle.vhdl_lexer.specs.declared.token.TokenKind.{TokenKind}
 use Rattle.vhdl_lexer.specs.declared.token.TokenKind.TheVariants as k
@@ -79,10 +80,9 @@ all_declared text name source before =
     declared_in text name true (declared_in text name false Never (architecture before))
     (ports_of text source (architecture before))
 
--- its type is std_logic or std_ulogic
+-- one element, a whole number or a boolean, by the name of its type, which stands first behind the colon and a mode
 abbrev pub is_element : (text : List ℕ) → (declaration : List Token) → Bool
-is_element text declaration =
-    is_written text declaration (codes "std_logic") || is_written text declaration (codes "std_ulogic")
+is_element text declaration = names_element (text_of_first text (from k.Identifier declaration))
 
 -- what is known of a name that is declared so often
 abbrev pub known_by : (text : List ℕ) → Declared → Known

@@ -8,14 +8,14 @@ use Rattle.std.specs.Str.{str_eq_ignore_ascii_case}
 use Rattle.vhdl_slips.specs.Parts.{begins}
 use Rattle.vhdl_slips.specs.Words.{text_of_first}
 use Rattle.vhdl_slips.specs.Forms.{Said, Texts, said_of}
-use Rattle.vhdl_misfits.specs.Places.{at_depth, begins_one_of, behind_name, from_one_of, has_one_argument, has_slice, is_target}
+use Rattle.vhdl_misfits.specs.Places.{at_depth, begins_declaration, begins_one_of, behind_name, behind_one_of, from_one_of, has_one_argument, has_slice, is_target}
 use Rattle.vhdl_misfits.specs.Sorts.{relations, stand}
 use Rattle.vhdl_misfits.specs.Values.{are_elements, is_one_value}
 use Rattle.vhdl_misfits.specs.declared.row.Provided.{Provided}
 use Rattle.vhdl_misfits.specs.declared.row.Provided.TheVariants as provided
 use Rattle.vhdl_misfits.specs.declared.sort.Sort.{Sort}
 use Rattle.vhdl_misfits.specs.declared.sort.Sort.TheVariants as sort
-use Rattle.vhdl_misfits.specs.declared.table.TheConstants.{CONDITIONS, ASSIGNED, NAMES, CALLS, CONVERSIONS, PLACES, OPERATORS, COMPUTING, FOREIGN}
+use Rattle.vhdl_misfits.specs.declared.table.TheConstants.{CONDITIONS, ASSIGNED, NAMES, CALLS, CONVERSIONS, PLACES, OPERATORS, COMPUTING, FOREIGN, STRAYED, OVERLAPS, UNCOMPUTED, CROWDED}
 use Rattle.vhdl_misfits.specs.declared.told.Known.{Known}
 use Rattle.vhdl_misfits.specs.declared.told.Known.TheVariants as shown
 use Rattle.vhdl_lexer.specs.declared.token.Token.{Token}
@@ -48,6 +48,18 @@ misfits =
 unfoldable pub foreigns : List Row
 foreigns = map (λ row. (row.0.now, row.1.now, row.2.now, row.3, (row.4.0.now, row.4.1.now))) FOREIGN
 
+unfoldable pub strays : List Row
+strays = map (λ row. (row.0.now, row.1.now, row.2.now, row.3, (row.4.0.now, row.4.1.now))) STRAYED
+
+unfoldable pub overlaps : List Row
+overlaps = map (λ row. (row.0.now, row.1.now, row.2.now, row.3, (row.4.0.now, row.4.1.now))) OVERLAPS
+
+unfoldable pub uncomputables : List Row
+uncomputables = map (λ row. (row.0.now, row.1.now, row.2.now, row.3, (row.4.0.now, row.4.1.now))) UNCOMPUTED
+
+unfoldable pub crowds : List Row
+crowds = map (λ row. (row.0.now, row.1.now, row.2.now, row.3, (row.4.0.now, row.4.1.now))) CROWDED
+
 -- ---- what else has to hold
 
 -- no side of a relation in a condition, which a word of that ends
@@ -78,6 +90,10 @@ is_range tokens =
     (from_one_of (k.To ∷ k.Downto ∷ k.LeftParen ∷ k.RightParen ∷ k.Comma ∷ k.Loop ∷ k.Generate ∷ k.Semicolon ∷ [])
     tokens)
 
+-- in or out stands behind the colon of a declaration
+abbrev pub has_mode : List Token → Bool
+has_mode tokens = begins_one_of (k.In ∷ k.Out ∷ []) (behind_one_of (k.Colon ∷ []) tokens)
+
 abbrev pub is_turn : Known → Bool
 is_turn shown.Turn = true
 is_turn _ = false
@@ -103,6 +119,8 @@ holds provided.Element known written tokens = is_element known
 holds provided.Target known written tokens = is_target tokens
 holds provided.OneArgument known written tokens = has_one_argument tokens
 holds provided.Range known written tokens = is_range tokens
+holds provided.Undeclared known written tokens = not (begins_declaration tokens)
+holds provided.Moded known written tokens = has_mode tokens
 
 -- ---- which row it is
 
@@ -143,3 +161,19 @@ misfit known text last_two tokens = first_told misfits known text last_two token
 -- a name that isn't declared, where another package or language has it
 abbrev pub foreign : (text : List ℕ) → List Token → Option Said
 foreign text tokens = told_in foreigns shown.Unknown text [] tokens
+
+-- what gets numbers outside of its range, or is one
+abbrev pub strayed : (text : List ℕ) → (last_two from : List Token) → Option Said
+strayed text last_two tokens = told_in strays shown.Unknown text last_two tokens
+
+-- a choice that isn't apart from the others
+abbrev pub overlapping : (text : List ℕ) → (last_two from : List Token) → Option Said
+overlapping text last_two tokens = told_in overlaps shown.Unknown text last_two tokens
+
+-- what can't be computed
+abbrev pub uncomputed : (text : List ℕ) → List Token → Option Said
+uncomputed text tokens = told_in uncomputables shown.Unknown text [] tokens
+
+-- what has more than the limits let it have
+abbrev pub crowded : (text : List ℕ) → List Token → Option Said
+crowded text tokens = told_in crowds shown.Unknown text [] tokens

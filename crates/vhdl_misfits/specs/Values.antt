@@ -1,5 +1,5 @@
--- The characters of literals, and the calls whose second argument is a length (IEEE 1076-2008, 15.6, 15.7, 16.8.4
--- and 16.8.5).
+-- The characters of literals, the calls whose second argument is a length, and names of types (IEEE 1076-2008, 15.6,
+-- 15.7, 16.3, 16.7, 16.8.4 and 16.8.5).
 use Rattle.std.specs.Prelude.{ℕ, ◌==◌, ◌||◌, Bool, false, List, [], ◌∷◌, codes}
 use Rattle.std.specs.List.{list_all}
 use Rattle.std.specs.Str.{str_eq_ignore_ascii_case}
@@ -27,3 +27,12 @@ is_one_value _ = false
 -- its second argument is a length
 abbrev pub is_sized : (word : List ℕ) → Bool
 is_sized word = str_eq_ignore_ascii_case word (codes "resize") || str_eq_ignore_ascii_case word (codes "to_unsigned")
+
+-- ---- types
+
+-- the name of a type of one element, of whole numbers, or of truths
+abbrev pub names_element : (word : List ℕ) → Bool
+names_element word =
+    str_eq_ignore_ascii_case word (codes "std_logic") || str_eq_ignore_ascii_case word (codes "std_ulogic")
+    || str_eq_ignore_ascii_case word (codes "integer") || str_eq_ignore_ascii_case word (codes "natural")
+    || str_eq_ignore_ascii_case word (codes "positive") || str_eq_ignore_ascii_case word (codes "boolean")

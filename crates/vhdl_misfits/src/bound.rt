@@ -5,10 +5,11 @@ ghost use Rattle.vhdl_misfits.specs.Bounds as spec;
 
 use crate::place::begins_declaration;
 use crate::told::Known;
+use crate::word::names_element;
 use vhdl_lexer::{MAX_INTEGER, Token, TokenKind, integer_value};
 use vhdl_slips::{
-    Lexed, begins, behind_last, formals, from, in_parentheses, interface_of, is_literal,
-    is_same_kind, past, text_of, up_to,
+    Lexed, begins, behind_last, first_text, formals, from, in_parentheses, interface_of,
+    is_literal, is_same_kind, past, text_of, up_to,
 };
 
 /// How often a name was declared.
@@ -71,15 +72,14 @@ pub fn known_object(source: Lexed<'_>, name: &[u8], before: &[Token]) -> Known
     }
 }
 
-/// Whether a declaration is of one element: its type is std_logic or std_ulogic.
+/// Whether a declaration is of one element, a whole number or a boolean.
 fn is_element(text: &[u8], declaration: &[Token]) -> bool
     ensures { result ≡ spec.is_element text.now declaration.now }
 {
-    let words = Lexed {
+    names_element(first_text(Lexed {
         text,
-        tokens: declaration,
-    };
-    is_literal(words, b"std_logic") || is_literal(words, b"std_ulogic")
+        tokens: from(TokenKind::Identifier, declaration),
+    }))
 }
 
 /// How often the architecture before a byte and the ports of its entity declare a name together.

@@ -8,8 +8,8 @@ pub const BEGINS: Said = (
 );
 
 pub const JOINED: Said = (
-    "joins elements and vectors of one type, and no tests",
-    "join tests by and; convert a side by unsigned(v) or std_logic_vector(n)",
+    "joins elements and vectors of one type, and no tests or whole numbers",
+    "join tests by and; convert a side by unsigned(v), std_logic_vector(n) or to_unsigned(i, 4)",
 );
 
 pub const JOINED_NUMBER: Said = (
@@ -26,8 +26,8 @@ pub const SHIFTED: Said = (
 
 pub const WHOLE_NUMBER: Said = (
     "takes unsigned, and gives a whole number that only a run knows",
-    "write to_integer(unsigned(v)) for a vector v; ranges, lengths and choices are known before the run; write case a is, \
-     with choices as \"011\", for case to_integer(a) is",
+    "write to_integer(unsigned(v)) for a vector v; ranges, lengths and choices are known before the run; for a loop to \
+     to_integer(a) write all turns, and inside if i <= to_integer(a) then",
 );
 
 pub const EXCHANGED: Said = (
@@ -77,10 +77,48 @@ pub const BOUND: Said = (
 pub const NAMED: Said = (
     "is no value of the type of what it is assigned to",
     "to_unsigned(i, 3) converts a whole number, std_logic_vector(n) unsigned, and unsigned(v) a vector; v(3) is \
-     one element; an enumeration takes its own literals, and what is declared of it",
+     one element; an enumeration takes its own literals, and what is declared of it; with --wide to_integer(n) is a whole \
+     number, s = '1' a boolean, and '1' when f else '0' one element of a boolean f",
 );
 
 pub const TURN: Said = (
     "is a whole number, as the index of a loop or generate, and what it is assigned to is none",
     "write to_unsigned(i, 3) for unsigned, and std_logic_vector(to_unsigned(i, 3)) for a vector",
+);
+
+pub const STRAYED_CHOICE: Said = (
+    "begins a choice outside of the selector's range",
+    "leave it out, or widen the range that the selector is declared with",
+);
+
+pub const OVERLAPPING: Said = (
+    "begins a choice with a number that an earlier one has already",
+    "drop one of the two choices, or write ranges that part the numbers: when 0 to 3 => and when 4 to 7 =>",
+);
+
+pub const STRAYED_START: Said = (
+    "is declared with a value outside of its range, or with a range without numbers",
+    "see whether its range goes upward by to, as 0 to 9, or downward by downto, and whether its value lies in that",
+);
+
+pub const STRAYED_FORMAL: Said = (
+    "is declared with a range without numbers, or has a value outside of its range",
+    "see whether its range goes upward by to, as 0 to 9, or downward by downto, and whether its default lies in that",
+);
+
+pub const STRAYED_ACTUAL: Said = (
+    "doesn't fit the range of the port that it is given to",
+    "declare a port and its signal with one range, or the narrower one where the numbers come from: both have negative \
+     numbers, or neither has",
+);
+
+pub const UNCHOSEN: Said = (
+    "doesn't name each number that its selector may have, and has no others",
+    "let others be the last choice: in a case `when others =>`, in a with .. select `, b when others`; or give each \
+     number of the selector's range a choice",
+);
+
+pub const CROWDED_CHOICES: Said = (
+    "has more than 4096 numbers in its alternatives, the last one aside",
+    "let others, or the widest range, be the last alternative; or write an if: if c < 0 then",
 );

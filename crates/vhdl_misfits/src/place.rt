@@ -50,7 +50,7 @@ pub(crate) fn from_one_of<'a>(kinds: &[TokenKind], tokens: &'a [Token]) -> &'a [
 }
 
 /// What stands behind it.
-fn behind_one_of<'a>(kinds: &[TokenKind], tokens: &'a [Token]) -> &'a [Token]
+pub(crate) fn behind_one_of<'a>(kinds: &[TokenKind], tokens: &'a [Token]) -> &'a [Token]
     ensures { result.now ≡ spec.behind_one_of kinds.now tokens.now }
 {
     past(1, from_one_of(kinds, tokens))

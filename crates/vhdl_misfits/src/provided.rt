@@ -4,8 +4,8 @@ ghost use Rattle.std.specs.Prelude.{◌≡◌};
 ghost use Rattle.vhdl_misfits.specs.Misfits as spec;
 
 use crate::place::{
-    at_depth, begins_one_of, behind_name, from_one_of, has_one_argument, has_slice, is_target,
-    kinds,
+    at_depth, begins_declaration, begins_one_of, behind_name, behind_one_of, from_one_of,
+    has_one_argument, has_slice, is_target, kinds,
 };
 use crate::row::Provided;
 use crate::sort::{Sort, stand};
@@ -37,6 +37,8 @@ pub(crate) fn holds(provided: Provided, known: Known, written: &[u8], from: &[To
         Provided::Target => is_target(from),
         Provided::OneArgument => has_one_argument(from),
         Provided::Range => is_range(from),
+        Provided::Undeclared => !begins_declaration(from),
+        Provided::Moded => has_mode(from),
     }
 }
 
@@ -78,4 +80,11 @@ fn is_range(from: &[Token]) -> bool
             from,
         ),
     )
+}
+
+/// Whether in or out stands behind the colon of a declaration.
+fn has_mode(from: &[Token]) -> bool
+    ensures { result ≡ spec.has_mode from.now }
+{
+    begins_one_of(&kinds!(In Out), behind_one_of(&kinds!(Colon), from))
 }

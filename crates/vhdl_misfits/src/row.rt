@@ -27,7 +27,7 @@ pub enum Provided {
     Alone,
     /// It is the index of a loop or generate that is open.
     Turn,
-    /// It is declared as one element.
+    /// It is declared as one element, a whole number or a boolean.
     Element,
     /// It is assigned to.
     Target,
@@ -35,6 +35,10 @@ pub enum Provided {
     OneArgument,
     /// A range goes on.
     Range,
+    /// No declaration begins with it.
+    Undeclared,
+    /// It is declared with a mode.
+    Moded,
 }
 
 /// A row: how the first token is written where it is called, and nothing for any; of which sorts

@@ -4,8 +4,9 @@ ghost use Rattle.std.specs.Prelude.{◌≡◌, map};
 ghost use Rattle.vhdl_misfits.specs.Misfits as spec;
 
 use crate::form::{
-    BEGINS, BOUND, CONVERTED, EDGE, EXCHANGED, FOREIGN_CALL, JOINED, JOINED_NUMBER, LACKING, NAMED,
-    POWER, REDUCTION, SHIFTED, TURN, WHOLE_NUMBER,
+    BEGINS, BOUND, CONVERTED, CROWDED_CHOICES, EDGE, EXCHANGED, FOREIGN_CALL, JOINED,
+    JOINED_NUMBER, LACKING, NAMED, OVERLAPPING, POWER, REDUCTION, SHIFTED, STRAYED_ACTUAL,
+    STRAYED_CHOICE, STRAYED_FORMAL, STRAYED_START, TURN, UNCHOSEN, WHOLE_NUMBER,
 };
 use crate::row::{Provided, Row, row};
 use crate::sort::Sort;
@@ -25,7 +26,7 @@ pub static CONDITIONS: [Row; 10] = [
     )),
     row!(b"" [] [Is(LeftParen) Is(Others)] Always (
         "begins (others => ..), which fills a vector, and what gets it is none",
-        "write '0' for one element, 0 for a whole number, and a literal of its enumeration",
+        "write '0' for one element, 0 for a whole number, false for a boolean, and a literal of its enumeration",
     )),
     // a condition
     row!(b"" [Any Is(If)] [] Static (
@@ -71,8 +72,8 @@ pub static ASSIGNED: [Row; 9] = [
     )),
     row!(b"" [Any Given] [Any Arithmetic] Value (
         "begins a computation, which gives unsigned or a whole number, and is assigned to another type",
-        "write std_logic_vector(a + b) where a vector is assigned to, and to_unsigned(i + 1, 4) of whole numbers for \
-         unsigned",
+        "write std_logic_vector(a + b) where a vector is assigned to, to_unsigned(i + 1, 4) of whole numbers for \
+         unsigned, and with --wide to_integer(a) + 1 of unsigned for a whole number",
     )),
     row!(b"" [Any Given] [Any Is(Ampersand)] Value (
         "begins what & joins to a vector, and is assigned to another type",
@@ -82,7 +83,7 @@ pub static ASSIGNED: [Row; 9] = [
     row!(b"" [Any Given] [Any Logical] Value (
         "begins a value of another type than what it is assigned to",
         "and, or and xor keep the type of their operands: write std_logic_vector(a xor b) of unsigned, unsigned(v \
-         xor w) of vectors, and v(3) for one element",
+         xor w) of vectors, v(3) for one element, and with --wide (a and b) = '1' for a boolean",
     )),
     row!(b"" [Any Begun] [Sign Is(Integer) End] Value (
         "begins a whole number, which doesn't fit here",
@@ -114,7 +115,7 @@ pub static CALLS: [Row; 11] = [
 ];
 
 /// Of a conversion, and of a name and its parentheses.
-pub static CONVERSIONS: [Row; 12] = [
+pub static CONVERSIONS: [Row; 13] = [
     row!(b"unsigned" [] [Any Is(LeftParen)] Always CONVERTED),
     row!(b"std_logic_vector" [] [Any Is(LeftParen)] Always CONVERTED),
     row!(b"std_ulogic_vector" [] [Any Is(LeftParen)] Always CONVERTED),
@@ -122,8 +123,14 @@ pub static CONVERSIONS: [Row; 12] = [
     row!(b"rising_edge" [] [Any Is(LeftParen)] Always CONVERTED),
     row!(b"falling_edge" [] [Any Is(LeftParen)] Always CONVERTED),
     row!(b"" [] [Is(Identifier) Is(LeftParen)] Element (
-        "is declared as one element, and has no index or slice",
-        "declare it as a vector, as std_logic_vector(3 downto 0), as long as it has to be, or leave the parentheses out",
+        "is declared as one element, a whole number or a boolean, and has no index or slice",
+        "declare it as a vector, as std_logic_vector(3 downto 0), as long as it has to be, or leave the parentheses out; \
+         assign to_unsigned(c, 4) of a whole number c to unsigned, and take the elements of that",
+    )),
+    row!(b"" [Any Condition] [Is(Identifier) Is(Tick)] Element (
+        "is declared as one element, a whole number or a boolean, and has no such attribute here",
+        "an edge is one of a signal of one element, as rising_edge(clk); test a boolean by its name alone, and a whole \
+         number as c = 5",
     )),
     row!(b"" [Any Given] [Is(Identifier) Is(LeftParen)] Joined (
         "has no such index, or begins what & joins to a vector, and is assigned to another type",
@@ -163,12 +170,13 @@ pub static PLACES: [Row; 7] = [
     row!(b"" [Any Bound] [Is(Identifier) Plain] Always BOUND),
     row!(b"" [Any Range] [Is(Identifier)] Range BOUND),
     row!(b"" [Any Selector] [Is(Identifier) Plain] Always (
-        "begins a test or a whole number, and nothing selects by these",
-        "write an if for a test; case and with select by one element, a vector, unsigned or an enumeration",
+        "begins a test or a whole number, and these select with --wide alone",
+        "give --wide, or write an if for a test; case and with select by one element, a vector, unsigned or an enumeration",
     )),
     row!(b"" [] [Is(Integer) End] Always (
         "is a whole number, which doesn't fit here",
-        "write '0' for one element, \"0101\" or (others => '0') for a vector, and to_unsigned(5, 8) for unsigned",
+        "write '0' for one element, \"0101\" or (others => '0') for a vector, to_unsigned(5, 8) for unsigned, and true or \
+         false for a boolean",
     )),
     row!(b"" [] [Vector End] Always (
         "is a vector, which doesn't fit here",
@@ -176,31 +184,36 @@ pub static PLACES: [Row; 7] = [
     )),
     row!(b"" [] [Is(Character) End] Always (
         "is one element, which doesn't fit here",
-        "write a vector as \"0101\" or (others => '0'), a whole number as 5, and a literal of an enumeration without \
-         ticks",
+        "write a vector as \"0101\" or (others => '0'), a whole number as 5, a boolean as true or false, and a literal of \
+         an enumeration without ticks",
     )),
 ];
 
 /// Of an operator that compares, or joins tests or values.
-pub static OPERATORS: [Row; 8] = [
+pub static OPERATORS: [Row; 9] = [
     row!(b"" [] [Equality Is(Character)] Always (
-        "compares two values of one type, and no tests here",
-        "'0' and '1' are single elements: of a vector v write v(0) = '1' or v = \"0001\", and of unsigned n = 1; \
-         rising_edge(clk) and other tests stand alone, without = '1'",
+        "compares two values of one type, and two tests with --wide alone",
+        "'0' and '1' are single elements: of a vector v write v(0) = '1' or v = \"0001\", and of unsigned or a whole \
+         number n = 1; rising_edge(clk), booleans and other tests stand alone, without = '1'",
     )),
     row!(b"" [] [Equality Is(Integer)] Always (
-        "compares two values of one type, and no tests here",
+        "compares two values of one type, and two tests with --wide alone",
         "a number is compared with unsigned: write unsigned(v) = 5 or v = \"0101\" of a vector v, or declare v as \
          unsigned where it counts; en = '1' of one element, and state = idle of an enumeration",
     )),
     row!(b"" [] [Equality Vector] Always (
-        "compares two values of one type, and no tests here",
+        "compares two values of one type, and two tests with --wide alone",
         "a string is a vector: write en = '1' of one element, i = 2 of a whole number, and state = idle of an enumeration",
     )),
     row!(b"" [] [Equality] Always (
-        "compares two values of one type, and no tests here",
+        "compares two values of one type, and two tests with --wide alone",
         "unsigned(v) = n compares a vector v with unsigned; an element is compared with an element, and an enumeration \
          with one of its own literals, as state = idle",
+    )),
+    row!(b"" [] [Relation] Always (
+        "compares unsigned and whole numbers alone",
+        "write unsigned(v) < unsigned(w) of vectors, and n < 5 of unsigned; compare elements, booleans and literals of an \
+         enumeration by = and /=; of tests write not a and b for a < b",
     )),
     row!(b"" [] [Logical Is(Not)] Always (
         "joins here two tests, or two elements, vectors or unsigned of one type",
@@ -209,8 +222,8 @@ pub static OPERATORS: [Row; 8] = [
     )),
     row!(b"" [] [Logical Is(Identifier) Tested] Always (
         "joins here two tests, or two elements, vectors or unsigned of one type",
-        "beside a test a name alone is none: write en = '1' of one element, v = \"01\" of a vector v, n = 1 of unsigned, and \
-         state = idle of an enumeration",
+        "a name alone is a test only where it is a boolean's: write en = '1' of one element, v = \"01\" of a vector v, n = 1 \
+         of unsigned, and state = idle of an enumeration",
     )),
     row!(b"" [] [Logical] Test (
         "joins here two tests, or two elements, vectors or unsigned of one type",
@@ -240,7 +253,8 @@ pub static COMPUTING: [Row; 8] = [
     )),
     row!(b"" [] [Arithmetic] Always (
         "computes with whole numbers alone here, and not with unsigned",
-        "write n(1 downto 0) for n mod 4, and shift_right(n, 2) for n / 4",
+        "write n(1 downto 0) for n mod 4, shift_right(n, 2) for n / 4, and with --wide to_unsigned(to_integer(n) mod 10, 8) \
+         for n mod 10",
     )),
     row!(b"" [] [Is(Not)] Always (
         "negates what stands right behind it, and that has no inverse",
@@ -266,6 +280,49 @@ pub static FOREIGN: [Row; 12] = [
         "write when others =>",
     )),
 ];
+
+/// Of what gets numbers outside of its range, or is one.
+pub static STRAYED: [Row; 12] = [
+    row!(b"" [Any Is(When)] [] Always STRAYED_CHOICE),
+    row!(b"" [Any Is(Bar)] [] Always STRAYED_CHOICE),
+    row!(b"" [Any Is(Signal)] [] Always STRAYED_START),
+    row!(b"" [Any Is(Variable)] [] Always STRAYED_START),
+    row!(b"" [Any Is(Constant)] [] Always STRAYED_START),
+    row!(b"" [Is(Port) Is(LeftParen)] [] Always STRAYED_START),
+    row!(b"" [] [Is(Identifier) Assignment] Always (
+        "is assigned a number outside of its range",
+        "see the range that it is declared with, and widen that, or assign another number; branches that are never taken \
+         are computed too",
+    )),
+    row!(b"" [Any Is(Semicolon)] [Is(Identifier)] Moded STRAYED_FORMAL),
+    row!(b"" [Any Is(Assign)] [] Always (
+        "begins a value outside of the range of the constant that gets it",
+        "see whether that range goes upward by to, as 0 to 9, or downward by downto, and widen it, or give another value",
+    )),
+    row!(b"" [Is(Identifier) Is(Arrow)] [Is(Identifier)] Always STRAYED_ACTUAL),
+    row!(b"" [Is(Map) Is(LeftParen)] [Is(Identifier)] Always STRAYED_ACTUAL),
+    row!(b"" [Any Is(Comma)] [Is(Identifier)] Undeclared STRAYED_ACTUAL),
+];
+
+/// Of a choice that isn't apart from the others.
+pub static OVERLAPS: [Row; 4] = [
+    row!(b"" [Any Is(When)] [Plain Plain] Always OVERLAPPING),
+    row!(b"" [Any Is(Bar)] [Plain Plain] Always OVERLAPPING),
+    row!(b"" [Any Is(When)] [Is(LeftParen)] Always OVERLAPPING),
+    row!(b"" [Any Is(Bar)] [Is(LeftParen)] Always OVERLAPPING),
+];
+
+/// Of what can't be computed.
+pub static UNCOMPUTED: [Row; 2] = [
+    row!(b"" [] [Selector] Always UNCHOSEN),
+    row!(b"" [] [Is(Identifier) Is(LeftParen)] Slice (
+        "has a slice whose length only a run knows, or which can't be computed",
+        "let the same number that moves stand in both bounds, as v(8 * i + 7 downto 8 * i); see whether a bound divides by 0",
+    )),
+];
+
+/// Of what has more than the limits let it have.
+pub static CROWDED: [Row; 1] = [row!(b"" [] [Selector] Always CROWDED_CHOICES)];
 
 /// The tables of what doesn't fit.
 pub(crate) fn misfits() -> [&'static [Row]; 8]

@@ -7,7 +7,7 @@ ghost use Rattle.vhdl_misfits.specs.Misfits as spec;
 use crate::provided::holds;
 use crate::row::Row;
 use crate::sort::stand;
-use crate::table::{FOREIGN, misfits};
+use crate::table::{CROWDED, FOREIGN, OVERLAPS, STRAYED, UNCOMPUTED, misfits};
 use vhdl_lexer::Token;
 use vhdl_slips::{Lexed, Said, first_text, is_same_word};
 
@@ -18,7 +18,7 @@ pub enum Known {
     Unknown,
     /// A signal, variable or constant.
     Object,
-    /// One of these, which is declared as one element.
+    /// One of these, which is declared as one element, a whole number or a boolean.
     Element,
     /// The index of a loop or generate that is open.
     Turn,
@@ -37,6 +37,34 @@ pub fn foreign(text: &[u8], from: &[Token]) -> Option<Said>
     ensures { option_map said_of result ≡ spec.foreign text.now from.now }
 {
     told_in(&FOREIGN, Known::Unknown, text, &[], from)
+}
+
+/// What is told of what gets numbers outside of its range, or is one.
+pub fn strayed(text: &[u8], last_two: &[Token], from: &[Token]) -> Option<Said>
+    ensures { option_map said_of result ≡ spec.strayed text.now last_two.now from.now }
+{
+    told_in(&STRAYED, Known::Unknown, text, last_two, from)
+}
+
+/// What is told of a choice that isn't apart from the others.
+pub fn overlapping(text: &[u8], last_two: &[Token], from: &[Token]) -> Option<Said>
+    ensures { option_map said_of result ≡ spec.overlapping text.now last_two.now from.now }
+{
+    told_in(&OVERLAPS, Known::Unknown, text, last_two, from)
+}
+
+/// What is told of what can't be computed.
+pub fn uncomputed(text: &[u8], from: &[Token]) -> Option<Said>
+    ensures { option_map said_of result ≡ spec.uncomputed text.now from.now }
+{
+    told_in(&UNCOMPUTED, Known::Unknown, text, &[], from)
+}
+
+/// What is told of what has more than the limits let it have.
+pub fn crowded(text: &[u8], from: &[Token]) -> Option<Said>
+    ensures { option_map said_of result ≡ spec.crowded text.now from.now }
+{
+    told_in(&CROWDED, Known::Unknown, text, &[], from)
 }
 
 /// What the first of these tables tells that has a row that fits.

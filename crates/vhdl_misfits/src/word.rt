@@ -1,4 +1,4 @@
-//! The characters of literals, and the words of calls that have a length.
+//! The characters of literals, the words of calls that have a length, and names of types.
 
 ghost use Rattle.std.specs.Prelude.{◌≡◌};
 ghost use Rattle.vhdl_misfits.specs.Values as spec;
@@ -43,4 +43,16 @@ pub(crate) fn is_sized(word: &[u8]) -> bool
     ensures { result ≡ spec.is_sized word.now }
 {
     is_same_word(word, b"resize") || is_same_word(word, b"to_unsigned")
+}
+
+/// Whether it is the name of a type of one element, of whole numbers, or of truths.
+pub(crate) fn names_element(word: &[u8]) -> bool
+    ensures { result ≡ spec.names_element word.now }
+{
+    is_same_word(word, b"std_logic")
+        || is_same_word(word, b"std_ulogic")
+        || is_same_word(word, b"integer")
+        || is_same_word(word, b"natural")
+        || is_same_word(word, b"positive")
+        || is_same_word(word, b"boolean")
 }

@@ -7,7 +7,7 @@ use Rattle.vhdl_slips.specs.declared.form.Behind.{Behind}
 use Rattle.vhdl_slips.specs.declared.form.Behind.TheVariants as behind
 use Rattle.vhdl_slips.specs.declared.form.TheConstants.{OTHER}
 use Rattle.vhdl_slips.specs.declared.slip.TheConstants.{SLIP}
-use Rattle.vhdl_slips.specs.declared.table.TheConstants.{BEGUN, CONDITIONS, LISTS, TARGETS, SIGNS, VARIABLES, DECLARED, WIDE_DECLARED, STATIC, WIDE_STATIC, AGGREGATES, WIDE_AGGREGATES, TYPES, UNITS, WAITS, STATEMENTS, LOGICAL, SHIFTS, ENDED, VALUES, WIDE_VALUES, ELEMENTS, WIDE_ELEMENTS, RELATIONS, FUNCTIONS, OTHER_TYPES, PLACES, DEFAULTS, WIDE_DEFAULTS}
+use Rattle.vhdl_slips.specs.declared.table.TheConstants.{BEGUN, CONDITIONS, LISTS, TARGETS, SIGNS, VARIABLES, DECLARED, WIDE_DECLARED, STATIC, WIDE_STATIC, AGGREGATES, WIDE_AGGREGATES, TYPES, UNITS, WAITS, STATEMENTS, LOGICAL, SHIFTS, ENDED, VALUES, WIDE_VALUES, ELEMENTS, WIDE_ELEMENTS, RELATIONS, FUNCTIONS, NUMBERS, WIDE_NUMBERS, OTHER_TYPES, PLACES, WIDE_PLACES, DEFAULTS, WIDE_DEFAULTS}
 use Rattle.vhdl_slips.specs.declared.unread.Context.{Context}
 use Rattle.vhdl_lexer.specs.declared.language.Language.{Language}
 use Rattle.vhdl_lexer.specs.declared.language.Language.TheVariants.{Profile, Wide}
@@ -198,7 +198,8 @@ unfoldable pub left_out : Language → List (List FormWord)
 left_out language =
     map (map (λ w. (w.0.now, w.1, (w.2.0.now, w.2.1.now))))
     (told_in language VALUES WIDE_VALUES ∷ told_in language ELEMENTS WIDE_ELEMENTS
-    ∷ RELATIONS ∷ FUNCTIONS ∷ OTHER_TYPES ∷ PLACES ∷ told_in language DEFAULTS WIDE_DEFAULTS ∷ [])
+    ∷ RELATIONS ∷ FUNCTIONS ∷ told_in language NUMBERS WIDE_NUMBERS ∷ OTHER_TYPES
+    ∷ told_in language PLACES WIDE_PLACES ∷ told_in language DEFAULTS WIDE_DEFAULTS ∷ [])
 
 -- a slip of the pen at the word, or a form that isn't read
 abbrev pub form_behind : Language → Context → (word : List ℕ) → Said

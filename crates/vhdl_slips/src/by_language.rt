@@ -6,9 +6,9 @@ ghost use Rattle.vhdl_slips.specs.Forms as spec;
 use crate::form::FormWord;
 use crate::table::{
     AGGREGATES, BEGUN, CONDITIONS, DECLARED, DEFAULTS, ELEMENTS, ENDED, FUNCTIONS, LISTS, LOGICAL,
-    OTHER_TYPES, PLACES, RELATIONS, SHIFTS, SIGNS, STATEMENTS, STATIC, TARGETS, TYPES, UNITS,
-    VALUES, VARIABLES, WAITS, WIDE_AGGREGATES, WIDE_DECLARED, WIDE_DEFAULTS, WIDE_ELEMENTS,
-    WIDE_STATIC, WIDE_VALUES,
+    NUMBERS, OTHER_TYPES, PLACES, RELATIONS, SHIFTS, SIGNS, STATEMENTS, STATIC, TARGETS, TYPES,
+    UNITS, VALUES, VARIABLES, WAITS, WIDE_AGGREGATES, WIDE_DECLARED, WIDE_DEFAULTS, WIDE_ELEMENTS,
+    WIDE_NUMBERS, WIDE_PLACES, WIDE_STATIC, WIDE_VALUES,
 };
 use vhdl_lexer::Language;
 
@@ -45,7 +45,7 @@ pub(crate) fn unread(language: Language) -> [&'static [FormWord]; 9]
 }
 
 /// The names of packages, types and attributes that are left out.
-pub(crate) fn left_out(language: Language) -> [&'static [FormWord]; 7]
+pub(crate) fn left_out(language: Language) -> [&'static [FormWord]; 8]
     ensures { map spec.words_of result ≡ spec.left_out language }
 {
     [
@@ -53,8 +53,9 @@ pub(crate) fn left_out(language: Language) -> [&'static [FormWord]; 7]
         told_in(language, &ELEMENTS, &WIDE_ELEMENTS),
         &RELATIONS,
         &FUNCTIONS,
+        told_in(language, &NUMBERS, &WIDE_NUMBERS),
         &OTHER_TYPES,
-        &PLACES,
+        told_in(language, &PLACES, &WIDE_PLACES),
         told_in(language, &DEFAULTS, &WIDE_DEFAULTS),
     ]
 }

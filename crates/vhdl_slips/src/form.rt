@@ -35,15 +35,15 @@ pub enum Behind {
 pub type FormWord = (&'static [u8], Behind, Said);
 
 pub const WHOLE_NUMBERS: Said = (
-    "isn't read here: signals, ports and variables of whole numbers aren't served",
-    "declare it as unsigned(7 downto 0), as wide as it needs, and write n + 1 or n = 5 as before; leave out the index \
-     of a loop, which its for declares",
+    "isn't read here: signals, ports and variables of whole numbers are read with --wide alone",
+    "give --wide, or declare it as unsigned(7 downto 0), as wide as it needs, and write n + 1 or n = 5 as before; \
+     leave out the index of a loop, which its for declares",
 );
 
 pub const NUMBER_RANGE: Said = (
-    "isn't read here: a whole number has no range of its own, and is a generic, a constant or a loop's index",
-    "drop the range of a generic or constant; declare a signal, port or variable as unsigned(7 downto 0), as \
-     wide as it needs, and write n + 1 or n = 5 as before",
+    "isn't read here: a whole number has a range of its own with --wide alone",
+    "give --wide, or drop the range of a generic or constant, and declare a signal, port or variable as \
+     unsigned(7 downto 0), as wide as it needs, and write n + 1 or n = 5 as before",
 );
 
 pub const RANGE_ATTRIBUTE: Said = (
@@ -72,6 +72,12 @@ pub const OTHER_TYPE: Said = (
     "use std_logic, std_logic_vector, unsigned or an enumeration; a generic is an integer, natural or positive",
 );
 
+pub const BOOLEAN: Said = (
+    "isn't read here: it is a type with --wide alone",
+    "give --wide, or use std_logic, '1' for true and '0' for false, and test it by = '1'; make a generic a natural, 1 \
+     or 0",
+);
+
 pub const SUBPROGRAM: Said = (
     "isn't read here: functions and procedures aren't served",
     "write the computation as a process with a variable, or as an entity of its own",
@@ -93,8 +99,8 @@ pub const ALIAS: Said = (
 );
 
 pub const SUBTYPE: Said = (
-    "isn't read here: subtypes aren't declared here",
-    "write the type with its range at each declaration",
+    "isn't read here: subtypes are declared with --wide alone",
+    "give --wide, or write the type with its range at each declaration",
 );
 
 pub const MODE: Said = (
@@ -188,7 +194,8 @@ pub const DEFAULT: Said = (
 /// What is no literal, behind `when` or `|`.
 pub const CHOICE: Said = (
     "begins what is no choice: a choice is one literal of the selector's type or a constant, and | parts several",
-    "write when \"00\" | \"01\" of a vector or unsigned, when '0' of one element, and a literal of an enumeration",
+    "write when \"00\" | \"01\" of a vector or unsigned, when '0' of one element, and a literal of an enumeration; numbers \
+     are choices of case to_integer(u) is, with --wide",
 );
 
 /// Vector types without a range.
@@ -209,9 +216,10 @@ pub const ORDER: Said = (
 );
 
 pub const DYNAMIC_INDEX: Said = (
-    "isn't served: a number stays unsigned, and indices are static",
-    "write n = 5 for to_integer(n) = 5, and case v is, with choices as \"011\", for case to_integer(unsigned(v)) is; \
-     for v(to_integer(p)) compare in a loop: for i in 0 to 3 loop if p = i then y <= v(i); end if; end loop;",
+    "isn't read here: it is called with --wide alone",
+    "give --wide, or write n = 5 for to_integer(n) = 5, and case v is, with choices as \"011\", for case \
+     to_integer(unsigned(v)) is; for v(to_integer(p)) compare in a loop: for i in 0 to 3 loop if p = i then y <= v(i); \
+     end if; end loop;",
 );
 
 /// Functions of numeric_std that are left out.
@@ -227,9 +235,9 @@ pub const SIGNED: Said = (
 );
 
 pub const TRUTH: Said = (
-    "is a value of type boolean, and that isn't served here",
-    "write '1' for true and '0' for false, as rst = '0', and 1 or 0 for a generic; a test needs no = true, and is negated \
-     as not (n = 3)",
+    "is a value of type boolean, which is read with --wide alone",
+    "give --wide, or write '1' for true and '0' for false, as rst = '0', and 1 or 0 for a generic; a test needs no = \
+     true, and is negated as not (n = 3)",
 );
 
 /// A library, or a package of one.

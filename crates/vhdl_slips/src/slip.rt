@@ -92,7 +92,7 @@ pub const CHOICES: Said = (
 
 pub const CHOICE_RANGE: Said = (
     "isn't read here: a choice is one value, and no range",
-    "write each value, parted by |: when \"00\" | \"01\"",
+    "write each value, parted by |: when \"00\" | \"01\"; a whole number has when 0 to 3 with --wide",
 );
 
 pub const NAMES: Said = (

@@ -2,11 +2,11 @@
 //! fit the first counts. Some tables differ by the language.
 
 use crate::form::{
-    ABSOLUTE, ACTUAL, AGGREGATE, ALIAS, ARRAY, ATTRIBUTE, BLOCK, Behind, CHOICE, DEFAULT, DELAY,
-    DYNAMIC_INDEX, ELEMENT, FUNCTION, FormWord, INSTANCE, LIBRARY, MESSAGE, MODE, NUMBER_RANGE,
-    ORDER, OTHER_LOOP, OTHER_TYPE, PACKAGE, POWER, QUALIFIED, RANGE_ATTRIBUTE, RECORD, REDUCTION,
-    SECOND_INDEX, SHIFT, SIGNED, SUBPROGRAM, SUBTYPE, TRUTH, VECTOR, WAIT, WAIT_HEAD,
-    WHOLE_NUMBERS,
+    ABSOLUTE, ACTUAL, AGGREGATE, ALIAS, ARRAY, ATTRIBUTE, BLOCK, BOOLEAN, Behind, CHOICE, DEFAULT,
+    DELAY, DYNAMIC_INDEX, ELEMENT, FUNCTION, FormWord, INSTANCE, LIBRARY, MESSAGE, MODE,
+    NUMBER_RANGE, ORDER, OTHER_LOOP, OTHER_TYPE, PACKAGE, POWER, QUALIFIED, RANGE_ATTRIBUTE,
+    RECORD, REDUCTION, SECOND_INDEX, SHIFT, SIGNED, SUBPROGRAM, SUBTYPE, TRUTH, VECTOR, WAIT,
+    WAIT_HEAD, WHOLE_NUMBERS,
 };
 use crate::slip::{
     ALTERNATIVE, ARROW, BEGIN, BEGIN_LINE, CASE_GENERATE, CASE_IS, CHOICE_RANGE, CHOICES, COMMA,
@@ -289,8 +289,8 @@ pub static ELEMENTS: [FormWord; 5] = [
     (b"std_ulogic", Behind::Declared, ELEMENT),
 ];
 
-/// The same with `--wide`, and truth values.
-pub static WIDE_ELEMENTS: [FormWord; 11] = [
+/// The same with `--wide`.
+pub static WIDE_ELEMENTS: [FormWord; 10] = [
     (b"std_logic_vector", Behind::Declared, wide::VECTOR),
     (
         b"std_logic_vector",
@@ -309,7 +309,6 @@ pub static WIDE_ELEMENTS: [FormWord; 11] = [
     (b"std_logic", Behind::Kind(TokenKind::Is), wide::ELEMENT),
     (b"std_ulogic", Behind::Declared, wide::ELEMENT),
     (b"std_ulogic", Behind::Kind(TokenKind::Is), wide::ELEMENT),
-    (b"boolean", Behind::Anything, wide::BOOLEAN),
 ];
 
 /// Relations.
@@ -329,13 +328,25 @@ pub static FUNCTIONS: [FormWord; 5] = [
     (b"std_match", Behind::Anything, FUNCTION),
 ];
 
-/// Other types.
-pub static OTHER_TYPES: [FormWord; 11] = [
-    (b"signed", Behind::Anything, SIGNED),
+/// Types of whole numbers and of truths.
+pub static NUMBERS: [FormWord; 4] = [
     (b"integer", Behind::Anything, WHOLE_NUMBERS),
     (b"natural", Behind::Anything, WHOLE_NUMBERS),
     (b"positive", Behind::Anything, WHOLE_NUMBERS),
-    (b"boolean", Behind::Anything, OTHER_TYPE),
+    (b"boolean", Behind::Anything, BOOLEAN),
+];
+
+/// The same with `--wide`.
+pub static WIDE_NUMBERS: [FormWord; 4] = [
+    (b"integer", Behind::Anything, wide::WHOLE_NUMBER),
+    (b"natural", Behind::Anything, wide::WHOLE_NUMBER),
+    (b"positive", Behind::Anything, wide::WHOLE_NUMBER),
+    (b"boolean", Behind::Anything, wide::BOOLEAN),
+];
+
+/// Other types.
+pub static OTHER_TYPES: [FormWord; 7] = [
+    (b"signed", Behind::Anything, SIGNED),
     (b"bit", Behind::Anything, OTHER_TYPE),
     (b"bit_vector", Behind::Anything, OTHER_TYPE),
     (b"real", Behind::Anything, OTHER_TYPE),
@@ -352,6 +363,16 @@ pub static PLACES: [FormWord; 6] = [
     (b"", Behind::Kind(TokenKind::Library), LIBRARY),
     (b"", Behind::Kind(TokenKind::Dot), LIBRARY),
     (b"", Behind::Kind(TokenKind::Bar), CHOICE),
+];
+
+/// The same with `--wide`.
+pub static WIDE_PLACES: [FormWord; 6] = [
+    (b"wait", Behind::Anything, WAIT_HEAD),
+    (b"", Behind::Kind(TokenKind::When), wide::CHOICE),
+    (b"work", Behind::Kind(TokenKind::Use), PACKAGE),
+    (b"", Behind::Kind(TokenKind::Library), LIBRARY),
+    (b"", Behind::Kind(TokenKind::Dot), LIBRARY),
+    (b"", Behind::Kind(TokenKind::Bar), wide::CHOICE),
 ];
 
 /// Values of declarations.

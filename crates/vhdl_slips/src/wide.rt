@@ -3,7 +3,7 @@
 use crate::form::Said;
 
 pub const NUMBER_RANGE: Said = (
-    "isn't read here: a range is read behind the type of a whole number in declarations, and in no loop",
+    "isn't read here: a range is read behind the type of a whole number in declarations, and in no loop or choice",
     "write for i in 0 to 3 loop; or declare subtype index is integer range 0 to 3; and write for i in index loop",
 );
 
@@ -92,8 +92,24 @@ pub const ELEMENT: Said = (
 );
 
 pub const BOOLEAN: Said = (
-    "isn't served here: constants and generics are boolean, and nothing else is",
-    "use std_logic, '1' for true and '0' for false, and test it by = '1'",
+    "can't stand here so: boolean takes no range, qualifies no value, and is no choice and no range for a loop",
+    "write boolean alone behind the colon, and the test itself for boolean'(a = b)",
+);
+
+/// A type of whole numbers where it has no range behind it, or qualifies a value.
+pub const WHOLE_NUMBER: Said = (
+    "can't stand here so: a type of whole numbers takes range 0 to 9 behind it, qualifies no value, and has no range \
+     for a loop",
+    "write integer range 0 to 9 for integer(0 to 9), k itself for natural'(k), and for i in 0 to 3 loop",
+);
+
+/// What is no literal and no constant, behind `when` or `|`.
+pub const CHOICE: Said = (
+    "begins what is no choice: a choice is a literal of the selector's type, or a constant that a literal declares; \
+     whole numbers have ranges too, and constants that hang on no generic; booleans and enumerations literals alone",
+    "write when 0 to 3 | 5 of a whole number, as in case to_integer(u) is, when true of a boolean, when \"00\" | \"01\" of \
+     a vector or unsigned, when '0' of one element, and a literal of an enumeration; compare with a generic, or the index \
+     of a loop, by if",
 );
 
 pub const DEFAULT: Said = (
@@ -109,7 +125,7 @@ pub const STATIC_NUMBER: Said = (
 
 /// A type that a declaration or a loop names.
 pub const MARK: Said = (
-    "can't stand here so: a vector takes one range, a whole number range 0 to 9, one element and an enumeration none, \
-     and a loop goes through a type that has a range of its own",
+    "can't stand here so: a vector takes one range, a whole number range 0 to 9, one element, a boolean and an \
+     enumeration none, and a loop goes through a type that has a range of its own",
     "declare the range once, at the type or at its subtype; write for i in 0 to 3 loop for other turns",
 );

@@ -54,7 +54,8 @@ pub record DeclarationsDeclare : Type 0 where
   -- a, b : std_logic, which are inputs
   pub ports : port empty_sight (ports_of (codes "a" ∷ codes "b" ∷ []) (plain_type (codes "std_logic"))) ≡ Some (record {
     declared =
-        declare (codes "a") (visibility.port 0 In Element) ∷ declare (codes "b") (visibility.port 1 In Element) ∷ [];
+        declare (codes "a") (visibility.port 0 In (Elements Element))
+        ∷ declare (codes "b") (visibility.port 1 In (Elements Element)) ∷ [];
     analysed =
         record { mode = In; object = object_of 10 (codes "a") }
         ∷ record { mode = In; object = object_of 11 (codes "b") } ∷ [];

@@ -10,7 +10,7 @@ use Rattle.vhdl_tree.specs.declared.declaration.Mode.TheVariants.{In, Out}
 use Rattle.vhdl_tree.specs.Tree as t
 use Rattle.vhdl_tree.specs.Tree.{Ident, Expr}
 use Rattle.vhdl_names_rules.specs.declared.kind.ElementKind.TheVariants.{Element, LogicVector, Unsigned}
-use Rattle.vhdl_names_rules.specs.declared.kind.ObjectType.TheVariants.{Enumeration}
+use Rattle.vhdl_names_rules.specs.declared.kind.ObjectType.TheVariants.{Elements, Enumeration}
 use Rattle.vhdl_names_rules.specs.units.Expressions as u
 use Rattle.vhdl_names_rules.specs.units.Expressions.{Part, Vector}
 use Rattle.vhdl_names_rules.specs.Visibility as visibility
@@ -97,8 +97,10 @@ logic_alone = record { language = Profile; has_ieee = true; has_logic = true; ha
 -- integer k
 abbrev pub region : List Declared
 region =
-    declare (codes "a") (visibility.port 0 In Element) ∷ declare (codes "v") (visibility.port 1 In LogicVector)
-    ∷ declare (codes "n") (visibility.port 2 In Unsigned) ∷ declare (codes "y") (visibility.port 3 Out Element)
+    declare (codes "a") (visibility.port 0 In (Elements Element))
+    ∷ declare (codes "v") (visibility.port 1 In (Elements LogicVector))
+    ∷ declare (codes "n") (visibility.port 2 In (Elements Unsigned))
+    ∷ declare (codes "y") (visibility.port 3 Out (Elements Element))
     ∷ declare (codes "colour") (visibility.enumeration_type 0 2) ∷ declare (codes "red") (visibility.literal 0 2 0)
     ∷ declare (codes "green") (visibility.literal 0 2 1) ∷ declare (codes "q") (visibility.signal 0 (Enumeration 0 2))
     ∷ declare (codes "one") (visibility.constant 0 Element (Some (One ∷ [])))
