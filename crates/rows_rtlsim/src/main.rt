@@ -37,7 +37,7 @@ use std::io;
 use tries::Tries;
 
 /// The tables of calls, in the folder in which the program runs.
-const TABLES: [&str; 32] = [
+const TABLES: [&str; 35] = [
     "values.txt",
     "refused.txt",
     "inputs.txt",
@@ -51,6 +51,9 @@ const TABLES: [&str; 32] = [
     "kept_variables.txt",
     "static_names.txt",
     "computed_integers.txt",
+    "integers.txt",
+    "lost_integers.txt",
+    "integers_outside.txt",
     "explain.txt",
     "remarks.txt",
     "net.txt",
