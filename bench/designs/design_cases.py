@@ -14,6 +14,7 @@
     design_cases.py make_static N SEED FILE   as make_wide, with subtypes, attributes, aggregates, powers, constants of any type and so on
     design_cases.py make_numbers N SEED FILE  as make_wide, with integers that a run computes, and elements and slices at such places; where one
                                               leaves its range, GHDL's text has a condition that gives X
+    design_cases.py make_objects N SEED FILE  as make_numbers, with integers and booleans as signals, ports and variables
     design_cases.py make_plain N SEED FILE    as make, with no weak letter in stimuli and literals, so that a 0 or 1 of GHDL's trace is one
     design_cases.py expect FILE PROGRAM       PROGRAM run --expect (also --levels, --event) of such designs with GHDL's values in a file: all
                                               hold; and with one letter turned over, that line is told
@@ -35,6 +36,7 @@ from pathlib import Path
 import designs
 from computed import ComputedDesign, ours, theirs
 from designs import HEAD, Design, Signal, beside
+from objects import ObjectDesign
 from static import StaticDesign
 
 TOP = Path(__file__).resolve().parents[2]
@@ -65,7 +67,7 @@ def stimulus(r, d):
         t = 0
         while t <= stop:
             if t not in busy and (t or r.random() < 0.95):
-                changes.append((t, s, "".join(r.choice("01" if s.name == "rst" and r.random() < 0.9 else NINE) for _ in range(s.width))))
+                changes.append((t, s, s.drawn(r, "01" if s.name == "rst" and r.random() < 0.9 else NINE)))
             t += r.randint(1, 60 if s.name == "rst" else 30)
     lines = [f"at {t} {s.name} {v}" for t, s, v in changes] + [f"clock {n} {f} {h}" for n, (f, h) in clocks.items()] + [f"at 0 {n} 0" for n in idle]
     r.shuffle(lines)
@@ -73,18 +75,17 @@ def stimulus(r, d):
 
 
 def testbench(d, changes, toggles):
-    quoted = lambda s, v: f"'{v}'" if s.kind == "s" else f'"{v}"'
     inputs, events = [Signal("rst", "s", 1)] + d.in_ports, collections.defaultdict(list)
     text = "{}entity tb_{} is end;\narchitecture t of tb_{} is\nsignal clk, ck2 : std_logic := '0';\n".format(HEAD, d.top, d.top)
     for s in inputs:
         first = [v for t, x, v in changes if x.name == s.name and t == 0]
-        text += "signal {} : {}{};\n".format(s.name, s.type(), " := " + quoted(s, first[0]) if first else "")
+        text += "signal {} : {}{};\n".format(s.name, s.type(), " := " + s.quoted(first[0]) if first else "")
     text += "begin\ndut: entity work.{} port map ({});\nprocess begin\n".format(
         d.top, ", ".join("{} => {}".format(n, n) for n in ["clk", "ck2"] + [s.name for s in inputs])
     )
     for t, s, v in changes:
         if t:
-            events[t].append("{} <= {};".format(s.name, quoted(s, v)))
+            events[t].append(f"{s.name} <= {s.quoted(v)};")
     for t, pairs in toggles.items():
         events[t] += ["%s <= '%s';" % p for p in pairs]
     last = 0
@@ -106,13 +107,19 @@ def trace(lines, stops, place):
             design, path = place(scopes)
             if design in stops:
                 name = name[3:].replace("_", ".") if name.startswith("zz_") else name
-                now.setdefault(design, {})[".".join([*path, name])] = "".join(DIGITS.get(it, "x") for it in value.lower())
+                now.setdefault(design, {})[".".join([*path, name])] = digits(name, value)
         for design, values in now.items():
             new = {name: value for name, value in values.items() if last.get((design, name)) != value}
             last.update(((design, name), value) for name, value in new.items())
             if new and time <= stops[design]:
                 out[design].append((time, new))
     return out
+
+
+def digits(name, value):
+    """0, 1, z, else x; where an integer that may leave its range is none, GHDL has the least one"""
+    value = "".join(DIGITS.get(it, "x") for it in value.lower())
+    return 32 * "x" if name[0] == "o" and value == "1" + 31 * "0" else value
 
 
 def accepted(text):
@@ -254,7 +261,8 @@ def run(path, program, words):
             a.update(mine.get(t, {}))
             b.update(theirs.get(t, {}))
             names += len(a.keys() & b.keys())
-            diff += [(t, n, a[n], b[n]) for n in a.keys() & b.keys() if a[n] != b[n]]
+            # GHDL leaves zeros out that lead an integer
+            diff += [(t, n, a[n], b[n]) for n in a.keys() & b.keys() if a[n].lstrip("0") != b[n].lstrip("0")]
             odd = [n for n in a.keys() ^ b.keys() if not is_variable(n)]
             if odd:
                 diff.append((t, "names", sorted(odd)[:3]))
@@ -346,6 +354,8 @@ if __name__ == "__main__":
         FORM, BATCH = StaticDesign, 10
     if sys.argv[1] == "make_numbers":
         FORM = ComputedDesign
+    if sys.argv[1] == "make_objects":
+        FORM = ObjectDesign
     words = ("make_wide", "make_nets", "make_resets", "make_kept")
     designs.WIDE, designs.NETS, designs.RESETS, designs.KEPT = (sys.argv[1] == word for word in words)
     if sys.argv[1].startswith("make"):

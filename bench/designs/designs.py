@@ -20,6 +20,14 @@ class Signal:
         self.name, self.kind, self.width, self.upward, self.words, self.low = name, kind, width, upward, words, low
         self.is_local = True  # whether its range is locally static
 
+    def drawn(self, r, letters):
+        """a value of it, as a stimulus has it"""
+        return "".join(r.choice(letters) for _ in range(self.width))
+
+    def quoted(self, value):
+        """that value as VHDL has it"""
+        return f"'{value}'" if self.kind == "s" else f'"{value}"'
+
     def ends(self):
         both = self.low, self.low + self.width - 1
         return both if self.upward else both[::-1]
@@ -244,25 +252,22 @@ class Design:
             return self.turns(s, sign) or self.assign(s, sign)
         return self.assign(s, sign)
 
+    def variable(self):
+        kind = self.r.choice("suve" if self.types else "suv")
+        width, upward = 1 if kind in "se" else self.r.randint(1, 9), self.chance(0.3)
+        return self.placed(Signal(self.fresh("v"), kind, width, upward, self.r.choice(self.types) if kind == "e" else None))
+
     def variables(self):
         """declarations, statements that set each, and the variables, known from here on"""
         decls, text, mine = "", "", []
         while self.chance(0.4) and len(mine) < 3:
-            kind = self.r.choice("suve" if self.types else "suv")
-            v = Signal(
-                self.fresh("v"),
-                kind,
-                1 if kind in "se" else self.r.randint(1, 9),
-                self.chance(0.3),
-                self.r.choice(self.types) if kind == "e" else None,
-            )
-            v = self.placed(v)
+            v = self.variable()
             decls += "variable {} : {}{}; ".format(v.name, self.type_of(v), " := " + self.literal(v) if self.chance(0.4) else "")
             text += self.assign(v, ":=") + " "
             self.known.append(v)
             mine.append(v)
             near = self.of_kind("uv", 2)
-            if near and kind in "su" and self.chance(0.5):
+            if near and v.kind in "su" and self.chance(0.5):
                 text += self.stepped(v, near) + " "
             elif self.chance(0.5):
                 text += self.statement(v, ":=", 1, False) + " "
@@ -342,6 +347,9 @@ class Design:
             self.shown.append(s)
         return s
 
+    def declare_like(self, port):
+        return self.declare(port.kind, port.width)
+
     def any(self, out=False, start=False):
         kind = self.r.choice("suvv" if out or not self.types else "suvve")
         return self.declare(kind, 1 if kind in "se" else self.r.randint(1, 12), out, start)
@@ -387,7 +395,7 @@ class Design:
                 if p.name in wide:
                     maps.append("{} => {}".format(p.name, wide[p.name].slice(turn * p.width, p.width)))
                 elif self.chance(0.85):
-                    s = self.declare(p.kind, p.width)
+                    s = self.declare_like(p)
                     fresh.append(s)
                     maps.append("{} => {}".format(p.name, s.name))
                 elif self.chance(0.5):
@@ -539,13 +547,16 @@ class Design:
 
     # variables that clocked processes keep
 
+    def kept_variable(self, name):
+        kind = self.r.choice("suuvve" if self.types else "suuvv")
+        words = self.r.choice(self.types) if kind == "e" else None
+        return Signal(name, kind, 1 if kind in "se" else self.r.randint(1, 9), self.chance(0.3), words)
+
     def kept(self):
         """declarations of such variables, which are known from here on"""
         r, mine = self.r, []
         for k in range(r.randint(1, 4)):
-            kind = r.choice("suuvve" if self.types else "suuvv")
-            words = r.choice(self.types) if kind == "e" else None
-            x = Signal(f"x{k}", kind, 1 if kind in "se" else r.randint(1, 9), self.chance(0.3), words)
+            x = self.kept_variable(f"x{k}")
             x.start = self.literal(x)
             mine.append(x)
         self.known = self.known + 3 * mine
@@ -730,15 +741,16 @@ class Design:
         self.known.append(s)
         self.faults.add(kind)
 
+    def in_port(self, name):
+        kind = self.r.choice("svvu")
+        return self.placed(Signal(name, kind, 1 if kind == "s" else self.r.randint(1, 12), self.chance(0.25)))
+
     def make(self, wild=False):
         r = self.r
         for _ in range(r.randint(0, 2)):
             self.types.append([self.fresh("t")] + [self.fresh("w") for _ in range(r.randint(2, 6))])
             self.decls.append("type {} is ({});".format(self.types[-1][0], ", ".join(self.types[-1][1:])))
-        self.in_ports = [Signal("i0", "s", 1)] + [
-            self.placed(Signal(f"i{k}", q, 1 if q == "s" else r.randint(1, 12), self.chance(0.25)))
-            for k, q in enumerate((r.choice("svvu") for _ in range(r.randint(0, 4))), 1)
-        ]
+        self.in_ports = [Signal("i0", "s", 1)] + [self.in_port(f"i{k}") for k in range(1, 1 + r.randint(0, 4))]
         self.known = self.in_ports + ([Signal("rst", "s", 1)] if self.chance(0.5) else [])
         registers = [self.any(False, self.chance(0.8)) for _ in range(r.randint((WIDE or KEPT) and self.depth == 0, 5))]
         self.constants()
