@@ -1,7 +1,7 @@
 //! The line that tells of an integer that is lost.
 
 ghost use Rattle.byte_streams.specs.Written.{Goes};
-ghost use Rattle.std.specs.Prelude.{◌≡◌, IfOk, slice_get};
+ghost use Rattle.std.specs.Prelude.{◌≡◌, None, IfOk, IsOk, slice_get};
 ghost use Rattle.rtl_lost_integers.specs.Told as spec;
 
 use crate::watching::LostInteger;
@@ -11,15 +11,19 @@ use rtl_signal_names::push_name;
 use std::alloc::{AllocError, Global};
 
 /// The line that tells which integer was lost first, if one was, and when: `FILE: remark: at TIME
-/// ns NAME becomes x`. It takes memory for the line.
+/// ns NAME becomes x`. It takes memory for the line; where none was, it takes none.
 pub fn lost_text(
     alloc: Global,
     file: &[u8],
     net: &Net,
     lost: Option<LostInteger>,
 ) -> Result<Vec<u8>, NoMemory>
-    ensures { IfOk result (λ text. text.items ≡ spec.lost_text file.now net.now lost) }
+    ensures text { IfOk result (λ text. text.items ≡ spec.lost_text file.now net.now lost) }
+    ensures nothing { lost ≡ None → IsOk result }
 {
+    let Some(lost) = lost else {
+        return Ok(Vec::new(alloc));
+    };
     let mut text = Out::new(Vec::new(alloc));
     push_lost(file, net, lost, &mut text);
     if text.failed() {
@@ -28,13 +32,10 @@ pub fn lost_text(
     Ok(text.into_inner())
 }
 
-/// Writes that line, if one was.
-fn push_lost<S: Sink>(file: &[u8], net: &Net, lost: Option<LostInteger>, sink: &mut S)
-    ensures { Goes (S.state sink.old) (S.state sink.new) (spec.lost_text file.now net.now lost) }
+/// Writes that line.
+fn push_lost<S: Sink>(file: &[u8], net: &Net, lost: LostInteger, sink: &mut S)
+    ensures { Goes (S.state sink.old) (S.state sink.new) (spec.lost_line file.now net.now lost) }
 {
-    let Some(lost) = lost else {
-        return;
-    };
     push_text(sink, file);
     push_text(sink, b": remark: at ");
     push_number(sink, lost.time);

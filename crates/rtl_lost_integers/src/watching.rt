@@ -1,6 +1,6 @@
 //! Integers that are looked at while a netlist is simulated.
 
-ghost use Rattle.std.specs.Prelude.{◌≡◌, IfOk};
+ghost use Rattle.std.specs.Prelude.{◌≡◌, false, IfOk, IsOk};
 ghost use Rattle.rtl_lost_integers.specs.Lost as spec;
 ghost use Rattle.rtl_lost_integers.specs.Watching.{AreWatched, IsToldOf, nothing_seen};
 
@@ -27,9 +27,11 @@ pub struct Integers {
 
 impl Integers {
     /// The integers of a netlist, where they are asked for; else none, of which none is lost. It
-    /// takes memory for their digits. A moment takes time for these, until one is lost.
+    /// takes memory for their digits, and none where they aren't asked for. A moment takes time for
+    /// these, until one is lost.
     pub fn of(alloc: Global, net: &Net, asked: bool) -> Result<Integers, NoMemory>
-        ensures { IfOk result (AreWatched asked net.now) }
+        ensures watched { IfOk result (AreWatched asked net.now) }
+        ensures unasked { asked ≡ false → IsOk result }
     {
         let integers = if asked {
             integers_of(alloc, net)?

@@ -1,5 +1,5 @@
 -- What a run answers that ends with a remark on the first integer that is lost in it.
-use Rattle.std.specs.Prelude.{◌≡◌, ◌⊎◌, ℕ, if◌then◌else◌, IfSome, List, [], ◌++◌, Option, Some, None, Result, Ok, Err, Vec}
+use Rattle.std.specs.Prelude.{◌≡◌, ◌≢◌, ◌⊎◌, ℕ, true, if◌then◌else◌, List, [], ◌++◌, Option, Some, None, Result, Ok, Err, Vec}
 use Rattle.std.specs.Global.{Global}
 use Rattle.byte_streams.specs.Stands.{Stand}
 use Rattle.byte_streams.specs.Written.{SinkState}
@@ -28,8 +28,10 @@ abbrev pub told_text : Option (Vec ℕ Global) → List ℕ
 told_text None = memory_line
 told_text (Some text) = text.items
 
+-- nothing takes no memory
 abbrev pub IsText : (text : List ℕ) → Option (Vec ℕ Global) → Type 0
-IsText text remark = IfSome remark (λ t. t.items ≡ text)
+IsText text (Some t) = t.items ≡ text
+IsText text None = text ≢ []
 
 -- what the run does, and the remark on what is seen of it
 abbrev pub Remarking : {A : Type 0} → Sight
@@ -37,8 +39,9 @@ abbrev pub Remarking : {A : Type 0} → Sight
     → NetlistView → Result (Remarked A) Fault → (old new : SinkState) → Type 0
 Remarking sight Runs telling net (Ok told) old new =
     Runs net (Ok told.answer) old new × Seen sight (λ stands. IsText (remark_text telling net stands) told.remark) net
--- memory may be refused before the run
-Remarking sight Runs telling net (Err Memory) old new = Runs net (Err Memory) old new ⊎ (new ≡ old)
+-- memory may be refused before a run whose integers are looked at
+Remarking sight Runs telling net (Err Memory) old new =
+    Runs net (Err Memory) old new ⊎ ((telling.explains ≡ true) × (new ≡ old))
 Remarking sight Runs telling net (Err fault) old new = Runs net (Err fault) old new
 
 -- the remark is told behind the answer

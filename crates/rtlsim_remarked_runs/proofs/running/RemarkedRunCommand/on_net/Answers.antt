@@ -13,7 +13,7 @@ returns-clause-does g c =
     let runs = g.R.Command.does run in
     let net = c.args.site.net.now in
     let work = c.on_net-answer in
-    let read = c.in_ok-integers.ensures in
+    let read = c.in_ok-integers.ensures.watched in
     seeing_of sight (Remarking sight runs telling) _ net _ _ _
     (remarks_so sight runs telling net _ _ _ _ _ (λ stands told. let held = told.2 in let same = told.0 in search rules)
     (λ stands told. c.lost.ensures ∙ (told.1 read.1).lost ∙ ap (λ (is : List IntegerView). first_lost is stands) read.0) work.result _ c.with_remark.ensures
