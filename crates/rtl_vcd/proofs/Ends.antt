@@ -16,7 +16,7 @@ use Rattle.rtl_vcd.specs.Trace.{printed}
 use Rattle.rtl_net.specs.Showing.{IsShown}
 use Rattle.rtl_vcd.specs.Ready.{LiesAmong, IsRun, IsReady, AreReady, beginning, elements}
 use Rattle.rtl_vcd.proofs.Names.{part_of_names}
-use Rattle.rtl_vcd.proofs.Printing.{same_test}
+use Rattle.rtl_vcd_values.proofs.Printing.{same_test}
 
 step_more : (a n : ℕ) → range_with_len a (suc n) ≡ range_with_len a n ++ (a + n) ∷ []
 step_more a zero = let e : a ≡ a + 0 = omega arith in ap (λ x. x ∷ []) e

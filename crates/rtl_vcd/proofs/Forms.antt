@@ -12,11 +12,11 @@ use Rattle.rtl_vcd.specs.declared.ready.Form.{Form}
 use Rattle.rtl_vcd.specs.declared.ready.Form.TheVariants.{Single, Several, Position}
 use Rattle.rtl_vcd.specs.declared.ready.Run.{Run}
 use Rattle.rtl_net.specs.Digits.{binary_digits}
-use Rattle.rtl_vcd.specs.Values.{code, character, binary, value_change}
+use Rattle.rtl_vcd_values.specs.Values.{code, character, binary, value_change}
 use Rattle.rtl_vcd.specs.Trace.{printed}
 use Rattle.rtl_vcd.specs.Ready.{form_of, beginning, behind, elements_as, elements, line}
 use Rattle.rtl_vcd.proofs.Runs.{behind_page}
-use Rattle.rtl_vcd.proofs.Binaries.{length-binary}
+use Rattle.rtl_vcd_values.proofs.Binaries.{length-binary}
 
 -- nothing prints more characters than a vector
 pub elements_short : (form : Form) (first count : ℕ) (values : List ℕ) → ((digits : ℕ) → form ≡ Position digits → digits ≤ 64) → count ≤ 64

@@ -10,7 +10,7 @@ use Rattle.std.proofs.lemmas.List.Elements.{All-contains, All-head, All-tail, Al
 use Rattle.std.proofs.lemmas.Bool.{cases_lt}
 use Rattle.rtl_net.specs.Nets.{SignalView}
 use Rattle.rtl_vcd.specs.declared.blocks.Block.{Block}
-use Rattle.rtl_vcd.specs.Values.{code, value_change}
+use Rattle.rtl_vcd_values.specs.Values.{code, value_change}
 use Rattle.rtl_vcd.specs.Trace.{printed, change}
 use Rattle.rtl_net.specs.Showing.{IsShown}
 use Rattle.rtl_vcd.specs.Blocks.{IsBlockOf, AreBlocks, changes_from}

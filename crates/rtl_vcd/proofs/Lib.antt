@@ -1,17 +1,11 @@
 pub mod Changes
 pub mod Codes
-pub mod Digits
 pub mod Ends
 pub mod Forms
 pub mod Hulls
-pub mod Lanes
 pub mod Listed
 pub mod Names
 pub mod Pages
-pub mod Plain
-pub mod Puts
-pub mod Binaries
-pub mod Printing
 pub mod Runs
 pub mod Scopes
 pub mod Stamps

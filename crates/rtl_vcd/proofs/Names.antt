@@ -4,7 +4,7 @@ use Rattle.std.proofs.lemmas.List.{take_more, take_rest, length-map, length-take
 use Rattle.std.proofs.lemmas.List.Elements.{All-get_or, All-take, All-drop}
 use Rattle.rtl_net.specs.declared.signal.Signal.{Signal}
 use Rattle.rtl_net.specs.Nets.{SignalView, signal_view}
-use Rattle.rtl_vcd.specs.Values.{numbered}
+use Rattle.rtl_vcd_values.specs.Values.{numbered}
 use Rattle.rtl_net.specs.Showing.{IsShown}
 
 pub numbered-append : (f : ℕ → SignalView → List ℕ) (k : ℕ) (xs ys : List SignalView) → numbered f k (xs ++ ys) ≡ numbered f k xs ++ numbered f (k + length xs) ys

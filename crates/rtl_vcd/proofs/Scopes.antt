@@ -9,7 +9,7 @@ use Rattle.rtl_net.specs.declared.signal.Signal.{Signal}
 use Rattle.rtl_net.specs.Nets.{ScopeView, SignalView, scope_view, signal_view, parent_of, label_at}
 use Rattle.rtl_net.specs.Elaborated.{AreScopes}
 use Rattle.rtl_vcd.specs.Header.{depth, depth_within, one_deeper, upscopes, variable_line_in, variable_line}
-use Rattle.rtl_vcd.specs.Values.{numbered}
+use Rattle.rtl_vcd_values.specs.Values.{numbered}
 use Rattle.rtl_vcd.specs.Shown.{StandInOrder, StartsScope}
 use Rattle.rtl_vcd.proofs.Names.{numbered-append}
 

@@ -5,7 +5,7 @@ use Rattle.std.specs.Str.{bytes_eq}
 use Rattle.rtl_net.specs.declared.signal.SignalKind.TheVariants.{One, Vector, Enumeration, Integer, Boolean}
 use Rattle.rtl_net.specs.declared.signal.SignalKind.{SignalKind}
 use Rattle.rtl_net.specs.Nets.{SignalView}
-use Rattle.rtl_vcd.specs.Values.{character, code, value_change}
+use Rattle.rtl_vcd_values.specs.Values.{character, code, value_change}
 use Rattle.rtl_vcd.proofs.Names.{numbered_further}
 use Rattle.rtl_vcd.specs.Trace.{printed, change, are_some, time_line}
 use Rattle.rtl_vcd.specs.Blocks.{changes_from, continued}

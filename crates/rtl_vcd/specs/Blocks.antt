@@ -3,7 +3,7 @@ use Rattle.std.specs.Prelude.{◌≡◌, ℕ, ◌+◌, ◌<◌, ◌≤◌, Bool,
 use Rattle.rtl_net.specs.Nets.{SignalView}
 use Rattle.rtl_net_groups.specs.Groups.{Grouping, IsListed}
 use Rattle.rtl_vcd.specs.declared.blocks.Block.{Block}
-use Rattle.rtl_vcd.specs.Values.{numbered}
+use Rattle.rtl_vcd_values.specs.Values.{numbered}
 use Rattle.rtl_vcd.specs.Trace.{change, stamped}
 
 -- The block of these names and no others: their nets, among so many, lie between its least and its greatest.

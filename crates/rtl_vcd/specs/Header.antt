@@ -4,7 +4,7 @@ use Rattle.std.specs.Prelude.{ℕ, zero, suc, ◌-◌, ◌==◌, if◌then◌els
 use Rattle.rtl_net.specs.declared.signal.SignalKind.{SignalKind}
 use Rattle.rtl_net.specs.declared.signal.SignalKind.TheVariants.{Vector}
 use Rattle.rtl_net.specs.Nets.{ScopeView, SignalView, parent_of, label_at}
-use Rattle.rtl_vcd.specs.Values.{code, variable_type, digits, numbered}
+use Rattle.rtl_vcd_values.specs.Values.{code, variable_type, digits, numbered}
 
 -- ---- names
 

@@ -2,7 +2,7 @@
 use Rattle.std.specs.Prelude.{◌≡◌, ℕ, [], ◌∷◌, codes, pos, negsuc}
 use Rattle.rtl_net.specs.declared.signal.SignalKind.TheVariants.{One, Vector, Enumeration, Integer, Boolean}
 use Rattle.rtl_net.specs.Digits.{binary_digits}
-use Rattle.rtl_vcd.specs.Values.{code, value_change}
+use Rattle.rtl_vcd_values.specs.Values.{code, value_change}
 
 -- every name has a code of its own
 abbrev pub CodesDiffer : Type 0

@@ -8,7 +8,7 @@ use Rattle.rtl_vcd.specs.declared.ready.Form.{Form}
 use Rattle.rtl_vcd.specs.declared.ready.Form.TheVariants.{Single, Several, Position}
 use Rattle.rtl_vcd.specs.declared.ready.Run.{Run}
 use Rattle.rtl_net.specs.Digits.{binary_digits}
-use Rattle.rtl_vcd.specs.Values.{character, binary}
+use Rattle.rtl_vcd_values.specs.Values.{character, binary}
 use Rattle.rtl_vcd.specs.Trace.{printed}
 
 -- how a name of this kind prints its elements; an integer prints them in no such form

@@ -3,7 +3,7 @@
 use Rattle.std.specs.Prelude.{ℕ, nat_lt, Bool, true, false, if◌then◌else◌, List, [], ◌∷◌, ◌++◌, map, slice_index, codes, decimal}
 use Rattle.std.specs.Str.{bytes_eq}
 use Rattle.rtl_net.specs.Nets.{ScopeView, SignalView}
-use Rattle.rtl_vcd.specs.Values.{code, value_change, numbered}
+use Rattle.rtl_vcd_values.specs.Values.{code, value_change, numbered}
 use Rattle.rtl_vcd.specs.Header.{header_text}
 
 -- what the name number k prints in a valuation of the nets

@@ -7,9 +7,9 @@ ghost use Rattle.rtl_net.specs.Showing.{IsShown};
 ghost use Rattle.rtl_net_groups.specs.Touching.{KeepsLeft};
 ghost use Rattle.rtl_vcd.specs.Blocks.{IsBlockOf, AreBlocks, AreListed};
 
-use crate::characters::are_same;
 use rtl_net::{Shown, Signal};
 use rtl_net_groups::{Groups, Lists, Touched};
+use rtl_vcd_values::are_same;
 use std::alloc::{AllocError, Global};
 
 /// The most names of a block whose nets are compared, and at how many others a block ends.

@@ -1,14 +1,16 @@
 //! What a name prints.
 
-ghost use Rattle.std.specs.Prelude.{◌≡◌, ◌<◌, ◌==◌, not, All, length, map, slice_index, true};
+ghost use Rattle.std.specs.Prelude.{◌≡◌, ◌<◌, not, All, length, map, slice_index, true};
 ghost use Rattle.std.specs.Str.{bytes_eq};
 ghost use Rattle.rtl_net.specs.Nets.{signal_view};
 ghost use Rattle.rtl_net.specs.Showing.{IsShown};
 ghost use Rattle.rtl_vcd.specs.Trace.{printed};
-ghost use Rattle.rtl_vcd.specs.Values.{character};
+ghost use Rattle.rtl_vcd_values.specs.Values.{character};
 
-use crate::line::{self, Line, binary_digits, push_binary, push_code, push_elements, push_integer};
 use rtl_net::{Signal, SignalKind};
+use rtl_vcd_values::{
+    Line, binary_digits, is_other_character, push_binary, push_code, push_elements, push_integer,
+};
 
 /// The line that the name with this number prints where the nets have these values.
 pub fn change_line(number: usize, signal: &Signal, values: &[u8]) -> Line
@@ -74,11 +76,4 @@ fn has_other_characters(nets: &[usize], old: &[u8], new: &[u8]) -> bool
         }
     }
     false
-}
-
-/// Whether one value prints otherwise than the other.
-pub(crate) fn is_other_character(before: u8, now: u8) -> bool
-    ensures { result ≡ not (character before == character now) }
-{
-    line::character(before) != line::character(now)
 }

@@ -4,15 +4,15 @@ ghost use Rattle.std.specs.Prelude.{◌≡◌, ◌+◌, ◌<◌, ◌≤◌, ◌+
 ghost use Rattle.byte_streams.specs.Written.{IsIntact, HasFailed, Goes};
 ghost use Rattle.rtl_net.specs.Nets.{scope_view, signal_view};
 ghost use Rattle.rtl_net.specs.Elaborated.{AreScopes};
-ghost use Rattle.rtl_vcd.specs.Values as values;
+ghost use Rattle.rtl_vcd_values.specs.Values as values;
 ghost use Rattle.rtl_vcd.specs.Header as spec;
 ghost use Rattle.rtl_vcd.specs.Shown.{StandInOrder, StartsScope};
 
 use crate::fault::VcdFault;
-use crate::line::{INTEGER, Line, binary_digits, push_code};
 use crate::trace::written;
 use byte_streams::{Sink, push_number, push_text};
 use rtl_net::{Scope, Shown, Signal, SignalKind};
+use rtl_vcd_values::{INTEGER, Line, binary_digits, push_code};
 
 /// Writes the header: the unit of time, and the design's scopes with the names that are shown.
 /// Takes no memory.

@@ -7,17 +7,14 @@
 
 mod blocks;
 mod change;
-mod characters;
 mod ending;
 mod fault;
 mod heading;
 mod laws;
-mod line;
 mod moment;
 mod named;
 mod page;
 mod positions;
-mod put;
 mod ready;
 mod trace;
 

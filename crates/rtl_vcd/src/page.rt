@@ -2,11 +2,10 @@
 
 ghost use Rattle.std.specs.Prelude.{◌≡◌, ◌+◌, ◌<◌, ◌≤◌, ◌++◌, ◌∷◌, ℕ, List, [], false, not, if◌then◌else◌, codes, length, map, take};
 ghost use Rattle.std.specs.Str.{bytes_eq};
-ghost use Rattle.rtl_vcd.specs.Values.{character};
+ghost use Rattle.rtl_vcd_values.specs.Values.{character};
 
 use crate::ending::End;
-use crate::line::LINE;
-use crate::put::put_run;
+use rtl_vcd_values::{LINE, put_run};
 use std::marker::Model;
 
 /// How many bytes a page has room for.

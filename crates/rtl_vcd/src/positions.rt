@@ -1,23 +1,9 @@
 //! Positions of enumerations' values, in binary digits.
 
-ghost use Rattle.std.specs.Prelude.{◌≡◌, ◌+◌, ◌≤◌, ◌++◌, not, length};
-ghost use Rattle.std.specs.Str.{bytes_eq};
-ghost use Rattle.rtl_vcd.specs.Values as spec;
+ghost use Rattle.std.specs.Prelude.{◌≡◌, ◌+◌, ◌≤◌, ◌++◌, length};
+ghost use Rattle.rtl_vcd_values.specs.Values as spec;
 
 use crate::page::{PAGE, Page};
-
-/// Whether one position prints otherwise than the other in so many binary digits.
-pub(crate) fn is_other_position(digits: u8, before: u8, now: u8) -> bool
-    ensures { result ≡ not (bytes_eq (spec.binary digits before) (spec.binary digits now)) }
-{
-    if digits == 0 {
-        return false;
-    }
-    if before % 2 != now % 2 {
-        return true;
-    }
-    is_other_position(digits - 1, before / 2, now / 2)
-}
 
 /// Appends so many binary digits of the number, the lowest last.
 pub(crate) fn push_digits(page: &mut Page, digits: u32, number: u64)

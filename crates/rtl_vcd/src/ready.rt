@@ -6,19 +6,20 @@ ghost use Rattle.std.specs.Str.{bytes_eq};
 ghost use Rattle.std.specs.List.{range_with_len};
 ghost use Rattle.rtl_net.specs.Nets.{SignalView, signal_view};
 ghost use Rattle.arrayvec.specs.ArrayVec.{array_vec_len};
-ghost use Rattle.rtl_vcd.specs.Values.{code};
+ghost use Rattle.rtl_vcd_values.specs.Values.{code};
 ghost use Rattle.rtl_vcd.specs.declared.ready.Form.TheVariants as f;
 ghost use Rattle.rtl_vcd.specs.Ready as spec;
 ghost use Rattle.rtl_vcd.specs.Ready.{LiesAmong, IsReady, AreReady};
 
-use crate::change::is_other_character;
-use crate::characters::{are_same, are_same_lanes};
 use crate::ending::End;
-use crate::line::{binary_digits, character, push_code};
 use crate::page::{PAGE, Page};
-use crate::positions::{is_other_position, push_digits};
+use crate::positions::push_digits;
 use arrayvec::ArrayVec;
 use rtl_net::{Shown, Signal, SignalKind};
+use rtl_vcd_values::{
+    are_same, are_same_lanes, binary_digits, character, is_other_character, is_other_position,
+    push_code,
+};
 use std::alloc::{AllocError, Global};
 
 /// Room for the end of a line: a space, a code of ten characters, and the line's end.

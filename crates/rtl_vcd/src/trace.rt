@@ -4,7 +4,7 @@ ghost use Rattle.std.specs.Prelude.{◌≡◌, ◌++◌, if◌then◌else◌, Al
 ghost use Rattle.byte_streams.specs.Written.{IsIntact, HasFailed, Goes};
 ghost use Rattle.rtl_net.specs.Nets.{signal_view};
 ghost use Rattle.rtl_net.specs.Showing.{IsShown};
-ghost use Rattle.rtl_vcd.specs.Values.{numbered};
+ghost use Rattle.rtl_vcd_values.specs.Values.{numbered};
 ghost use Rattle.rtl_vcd.specs.Trace.{printed, changes, time_line, first_text, stamped, are_some, moment_text, end_text};
 
 use crate::change::change_line;

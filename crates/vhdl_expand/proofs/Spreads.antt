@@ -3,9 +3,9 @@ use Rattle.std.proofs.Common.{◌≡◌, ◌⊎◌, inl, inr, ℕ, ◌-◌, ◌^
 use Rattle.std.specs.Prelude.{◌≢◌, min, nat_le}
 use Rattle.std.proofs.lemmas.Bool.{cases_lt, lt-leb}
 use Rattle.vhdl_names_rules.specs.units.Statements as u
-use Rattle.vhdl_names_rules.specs.declared.vector.Value.{Value}
-use Rattle.vhdl_names_rules.specs.declared.vector.Value.TheVariants as v
-use Rattle.vhdl_names_rules.specs.views.Vectors.{value_view}
+use Rattle.vhdl_names_trees.specs.declared.vector.Value.{Value}
+use Rattle.vhdl_names_trees.specs.declared.vector.Value.TheVariants as v
+use Rattle.vhdl_names_trees.specs.views.Vectors.{value_view}
 use Rattle.vhdl_expand_rules.specs.declared.fault.ElabProblem.TheVariants.{TooMany}
 use Rattle.vhdl_expand_rules.specs.Elab.{◌>>◌, refused, unless}
 use Rattle.vhdl_expand_rules.specs.Site.{Site}

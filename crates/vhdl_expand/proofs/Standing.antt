@@ -7,8 +7,8 @@ use Rattle.vhdl_names_rules.specs.units.Expressions.{SignalPart}
 use Rattle.vhdl_names_rules.specs.units.Units as u
 use Rattle.vhdl_names_rules.specs.units.Units.{Units, Entity, Architecture, Declaration, Fixed, Port}
 use Rattle.vhdl_names_rules.specs.units.Bytes.{if_any_bytes, range_bytes, static_test_bytes, place_bytes, fixed_bytes, statements_bytes, sensitivity_bytes, process_bytes, instance_bytes, declaration_bytes, concurrent_bytes, concurrents_bytes, architecture_bytes, entity_bytes, units_bytes}
-use Rattle.vhdl_names_rules.specs.views.Integers.{range_view}
-use Rattle.vhdl_names_rules.specs.views.Tests.{static_test_view}
+use Rattle.vhdl_names_trees.specs.views.Integers.{range_view}
+use Rattle.vhdl_names_trees.specs.views.Tests.{static_test_view}
 use Rattle.vhdl_names_units.specs.declared.concurrent.Concurrent.{Concurrent}
 use Rattle.vhdl_names_units.specs.declared.concurrent.Scheme.{Scheme}
 use Rattle.vhdl_names_units.specs.declared.concurrent.Scheme.TheVariants as k

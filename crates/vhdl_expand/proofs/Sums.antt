@@ -3,8 +3,8 @@ use Rattle.std.proofs.Common.{◌≡◌, ℕ, List, [], ◌∷◌, length, map, 
 use Rattle.std.specs.Prelude.{ℤ, Contains}
 use Rattle.vhdl_names_rules.specs.units.Expressions.{Range, Value}
 use Rattle.vhdl_names_rules.specs.units.Statements as u
-use Rattle.vhdl_names_rules.specs.views.Integers.{range_view}
-use Rattle.vhdl_names_rules.specs.views.Vectors.{value_view}
+use Rattle.vhdl_names_trees.specs.views.Integers.{range_view}
+use Rattle.vhdl_names_trees.specs.views.Vectors.{value_view}
 use Rattle.vhdl_tree.specs.declared.operator.Direction.{Direction}
 use Rattle.vhdl_names_units.specs.declared.sequential.Statement.{Statement}
 use Rattle.vhdl_names_units.specs.declared.sequential.Statement.TheVariants as t

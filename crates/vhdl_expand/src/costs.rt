@@ -6,8 +6,8 @@
 //! body would be.
 
 ghost use Rattle.std.specs.Prelude.{List, [], ◌∷◌, flat_map, map, Ok};
-ghost use Rattle.vhdl_names_rules.specs.views.Integers.{range_view};
-ghost use Rattle.vhdl_names_rules.specs.views.Vectors.{value_view};
+ghost use Rattle.vhdl_names_trees.specs.views.Integers.{range_view};
+ghost use Rattle.vhdl_names_trees.specs.views.Vectors.{value_view};
 ghost use Rattle.vhdl_expand_rules.specs.Site.{in_loop};
 ghost use Rattle.vhdl_expand_bodies.specs.Sites.{IsSite, site_view};
 ghost use Rattle.vhdl_expand_operands.specs.Results.{Expands, Charges};
@@ -26,8 +26,9 @@ ghost use Rattle.vhdl_expand.specs.Unrolled.{paid, together, spread_costs, guard
 use std::alloc::Global;
 use vhdl_expand_bodies::Site;
 use vhdl_expand_rules::ElabFault;
+use vhdl_expand_statements::spread_turns;
 use vhdl_expand_tree::Budget;
-use vhdl_names_rules::Value;
+use vhdl_names_trees::Value;
 use vhdl_names_units::{Alternative, Branch, Case, If, Loop, Statement};
 
 /// Takes what a body costs from the budget: a turn for each turn of its loops and for each number
@@ -166,7 +167,7 @@ fn charge_spread(
     let Value::Computed(integer) = selector else {
         return Ok(());
     };
-    let count = site.spread_turns(alloc, integer, alternatives, at)?;
+    let count = spread_turns(site, alloc, integer, alternatives, at)?;
     // Read, so that it is known to fit a word.
     let _left = budget.turns;
     budget.charge_turns(count, at)

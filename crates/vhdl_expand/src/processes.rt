@@ -23,6 +23,7 @@ use vhdl_expand_bodies::Site;
 use vhdl_expand_declarations::{InstanceObjects, process_declarations};
 use vhdl_expand_processes::{drives, listed, read_elements};
 use vhdl_expand_rules::ElabFault;
+use vhdl_expand_statements::body;
 use vhdl_expand_tree::{Budget, Process, Sensitivity, Variable};
 use vhdl_names_units as analysed;
 use vhdl_tree::Identifier;
@@ -109,7 +110,7 @@ fn doing(
     let drives = drives(alloc, site, &process.statements)?;
     let sensitivity = sensitivity(alloc, site, process)?;
     let turns = charge_turns(alloc, site, &process.statements, process.at, budget)?;
-    let body = site.body(alloc, &process.statements)?;
+    let body = body(site, alloc, &process.statements)?;
     Ok(BodyDoing {
         drives,
         sensitivity,

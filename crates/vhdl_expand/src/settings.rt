@@ -3,7 +3,7 @@
 ghost use Rattle.std.specs.Prelude.{◌≡◌, ◌++◌, flat_map, map, option_map, IfOk, OnOk};
 ghost use Rattle.std.specs.List.{list_all};
 ghost use Rattle.vhdl_names_rules.specs.units.Units as u;
-ghost use Rattle.vhdl_names_rules.specs.views.Integers.{static_view};
+ghost use Rattle.vhdl_names_trees.specs.views.Integers.{static_view};
 ghost use Rattle.vhdl_names_units.specs.views.Answers.{fixed_view};
 ghost use Rattle.vhdl_names_units.specs.views.Declarations.{generics_view};
 ghost use Rattle.vhdl_expand_rules.specs.Tops as definition;
@@ -12,7 +12,7 @@ ghost use Rattle.vhdl_expand_declarations.specs.Generics.{actuals_view};
 
 use std::alloc::{AllocError, Global};
 use vhdl_expand_rules::{Setting, set_actual};
-use vhdl_names_rules::Static;
+use vhdl_names_trees::Static;
 use vhdl_names_units::{Fixed, GenericType, Generics};
 
 /// Whether a setting is of a generic of this declaration.

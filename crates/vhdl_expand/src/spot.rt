@@ -2,8 +2,8 @@
 
 ghost use Rattle.std.specs.Prelude.{◌≡◌};
 ghost use Rattle.vhdl_names_rules.specs.units.Bytes.{process_bytes};
-ghost use Rattle.vhdl_names_rules.specs.views.Integers.{range_view};
-ghost use Rattle.vhdl_names_rules.specs.views.Tests.{static_test_view};
+ghost use Rattle.vhdl_names_trees.specs.views.Integers.{range_view};
+ghost use Rattle.vhdl_names_trees.specs.views.Tests.{static_test_view};
 ghost use Rattle.vhdl_names_units.specs.views.Concurrent as analysed;
 ghost use Rattle.vhdl_names_units.specs.views.Declarations.{all_ports_view};
 ghost use Rattle.vhdl_names_units.specs.views.Units.{entity_view};
@@ -26,7 +26,7 @@ use vhdl_expand_bodies::Site;
 use vhdl_expand_declarations::{InstanceObjects, associations, interface};
 use vhdl_expand_rules::{ElabFault, Turns};
 use vhdl_expand_tree::{Budget, Process};
-use vhdl_names_rules::{StaticRange, StaticTest};
+use vhdl_names_trees::{StaticRange, StaticTest};
 use vhdl_names_units as analysed;
 use vhdl_names_units::Entity;
 

@@ -8,8 +8,8 @@
 ghost use Rattle.std.specs.Prelude.{◌++◌, [], ◌∷◌, map, Ok};
 ghost use Rattle.vhdl_names_rules.specs.units.Units.{generate_for, generate_if};
 ghost use Rattle.vhdl_names_rules.specs.units.Bytes.{process_bytes, instance_bytes, concurrent_bytes, concurrents_bytes, units_bytes};
-ghost use Rattle.vhdl_names_rules.specs.views.Integers.{range_view};
-ghost use Rattle.vhdl_names_rules.specs.views.Tests.{static_test_view};
+ghost use Rattle.vhdl_names_trees.specs.views.Integers.{range_view};
+ghost use Rattle.vhdl_names_trees.specs.views.Tests.{static_test_view};
 ghost use Rattle.vhdl_names_units.specs.views.Concurrent as units;
 ghost use Rattle.vhdl_names_units.specs.views.Units.{entity_view};
 ghost use Rattle.vhdl_expand_rules.specs.Expansion.{in_turn, in_branch, instance_of};
@@ -31,7 +31,7 @@ use std::alloc::Global;
 use vhdl_expand_declarations::{InstanceObjects, declarations};
 use vhdl_expand_rules::{ElabFault, ElabProblem};
 use vhdl_expand_tree::{Budget, Instance, InstancePart};
-use vhdl_names_rules::{StaticRange, StaticTest};
+use vhdl_names_trees::{StaticRange, StaticTest};
 use vhdl_names_units as analysed;
 use vhdl_names_units::{Concurrent, Entity, Generate, Scheme};
 

@@ -2,10 +2,7 @@ pub mod Places
 pub mod Chained
 pub mod Links
 pub mod TestChains
-pub mod Assigned
-pub mod Sequences
-pub mod Parts
 pub mod Placing
-pub mod Elements
+pub mod Aggregating
 pub mod Whole
-pub mod Selecting
+pub mod Kept

@@ -1,21 +1,21 @@
 -- Chains of operators on vectors and on integers that a run computes, and aggregates.
 use Rattle.std.proofs.Common.{◌≡◌, ℕ, List, [], ◌∷◌, Box, Vec, Global, Option, refl, sym, ap, ◌∙◌}
-use Rattle.vhdl_names_rules.specs.declared.integer.StaticRange.{StaticRange}
-use Rattle.vhdl_names_rules.specs.declared.vector.Computed.{Computed}
-use Rattle.vhdl_names_rules.specs.declared.vector.Computed.TheVariants as m
-use Rattle.vhdl_names_rules.specs.declared.vector.ComputedLink.{ComputedLink}
-use Rattle.vhdl_names_rules.specs.declared.vector.ComputedStart.{ComputedStart}
-use Rattle.vhdl_names_rules.specs.declared.vector.Vector.{Vector}
-use Rattle.vhdl_names_rules.specs.declared.vector.Vector.TheVariants as v
-use Rattle.vhdl_names_rules.specs.declared.vector.VectorElement.{VectorElement}
-use Rattle.vhdl_names_rules.specs.declared.vector.VectorLink.{VectorLink}
-use Rattle.vhdl_names_rules.specs.declared.vector.VectorLink.TheVariants as l
-use Rattle.vhdl_names_rules.specs.declared.vector.VectorStart.{VectorStart}
-use Rattle.vhdl_names_rules.specs.views.Integers.{option_range_view}
-use Rattle.vhdl_names_rules.specs.views.Vectors.{computed_view, computed_start_view, computed_chained, vector_view, elements_view, vector_chained}
-use Rattle.vhdl_names_rules.specs.views.Vectors as views
+use Rattle.vhdl_names_trees.specs.declared.integer.StaticRange.{StaticRange}
+use Rattle.vhdl_names_trees.specs.declared.vector.Computed.{Computed}
+use Rattle.vhdl_names_trees.specs.declared.vector.Computed.TheVariants as m
+use Rattle.vhdl_names_trees.specs.declared.vector.ComputedLink.{ComputedLink}
+use Rattle.vhdl_names_trees.specs.declared.vector.ComputedStart.{ComputedStart}
+use Rattle.vhdl_names_trees.specs.declared.vector.Vector.{Vector}
+use Rattle.vhdl_names_trees.specs.declared.vector.Vector.TheVariants as v
+use Rattle.vhdl_names_trees.specs.declared.vector.VectorElement.{VectorElement}
+use Rattle.vhdl_names_trees.specs.declared.vector.VectorLink.{VectorLink}
+use Rattle.vhdl_names_trees.specs.declared.vector.VectorLink.TheVariants as l
+use Rattle.vhdl_names_trees.specs.declared.vector.VectorStart.{VectorStart}
+use Rattle.vhdl_names_trees.specs.views.Integers.{option_range_view}
+use Rattle.vhdl_names_trees.specs.views.Vectors.{computed_view, computed_start_view, computed_chained, vector_view, elements_view, vector_chained}
+use Rattle.vhdl_names_trees.specs.views.Vectors as views
 use Rattle.vhdl_names_rules.specs.units.Expressions as u
-use Rattle.vhdl_names_rules.proofs.rows.Vectors.{view_chain, view_aggregate, view_computed_chain}
+use Rattle.vhdl_names_trees.proofs.rows.Vectors.{view_chain, view_aggregate, view_computed_chain}
 use Rattle.vhdl_expand_rules.specs.Elab.{Elab, ◌>>=◌}
 use Rattle.vhdl_expand_rules.specs.Site.{Site}
 use Rattle.vhdl_expand_rules.specs.Expressions.{computed, measured, vector}

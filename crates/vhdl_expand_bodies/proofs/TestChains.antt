@@ -6,13 +6,13 @@ use Rattle.rtl_model.specs.bodies.Body as bodies
 use Rattle.rtl_net.specs.declared.body.TestLink as m
 use Rattle.rtl_net.specs.Bodies as net
 use Rattle.rtl_net.specs.Bodies.{test_links_of}
-use Rattle.vhdl_names_rules.specs.declared.test.Test.{Test}
-use Rattle.vhdl_names_rules.specs.declared.test.Test.TheVariants as t
-use Rattle.vhdl_names_rules.specs.declared.test.TestLink.{TestLink}
-use Rattle.vhdl_names_rules.specs.declared.test.TestStart.{TestStart}
-use Rattle.vhdl_names_rules.specs.views.Tests.{test_view, test_chained}
+use Rattle.vhdl_names_trees.specs.declared.test.Test.{Test}
+use Rattle.vhdl_names_trees.specs.declared.test.Test.TheVariants as t
+use Rattle.vhdl_names_trees.specs.declared.test.TestLink.{TestLink}
+use Rattle.vhdl_names_trees.specs.declared.test.TestStart.{TestStart}
+use Rattle.vhdl_names_trees.specs.views.Tests.{test_view, test_chained}
 use Rattle.vhdl_names_rules.specs.units.Expressions as u
-use Rattle.vhdl_names_rules.proofs.rows.Tests.{view_chain}
+use Rattle.vhdl_names_trees.proofs.rows.Tests.{view_chain}
 use Rattle.vhdl_expand_rules.specs.Elab.{Elab, ◌>>=◌}
 use Rattle.vhdl_expand_rules.specs.Site.{Site, signal_elements, the_element}
 use Rattle.vhdl_expand_rules.specs.Expressions.{level_test, test}

@@ -1,4 +1,3 @@
 pub mod Sites
 pub mod Conditions
 pub mod steps
-pub mod Statements

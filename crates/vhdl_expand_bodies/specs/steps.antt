@@ -3,5 +3,3 @@ pub mod Chains
 pub mod Computed
 pub mod Vectors
 pub mod Tests
-pub mod Assignments
-pub mod Statements

@@ -3,8 +3,8 @@
 
 ghost use Rattle.std.specs.Prelude.{[], map, option_map};
 ghost use Rattle.vhdl_names_rules.specs.units.Expressions as units;
-ghost use Rattle.vhdl_names_rules.specs.views.Integers.{range_view};
-ghost use Rattle.vhdl_names_rules.specs.views.Vectors.{elements_view, vector_view};
+ghost use Rattle.vhdl_names_trees.specs.views.Integers.{range_view};
+ghost use Rattle.vhdl_names_trees.specs.views.Vectors.{elements_view, vector_view};
 ghost use Rattle.vhdl_expand_rules.specs.Declarations.{known_values};
 ghost use Rattle.vhdl_expand_rules.specs.Expressions as definition;
 ghost use Rattle.vhdl_expand_rules.specs.Kinds.{written_range};
@@ -20,7 +20,7 @@ use std::alloc::Global;
 use vhdl_expand_choices::{chosen_indexes, given_indexes};
 use vhdl_expand_operands::{Element, Indexes, Operand, Placed, both, composed};
 use vhdl_expand_rules::{ElabFault, ElabProblem, ObjectKind};
-use vhdl_names_rules::{StaticRange, Vector, VectorElement};
+use vhdl_names_trees::{StaticRange, Vector, VectorElement};
 use vhdl_values::Vec9;
 
 impl Site<'_> {

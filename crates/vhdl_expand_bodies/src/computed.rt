@@ -2,7 +2,7 @@
 //! 8.5, 9.2; numeric_std).
 
 ghost use Rattle.std.specs.Prelude.{Ok};
-ghost use Rattle.vhdl_names_rules.specs.views.Vectors.{chosen_view, computed_view};
+ghost use Rattle.vhdl_names_trees.specs.views.Vectors.{chosen_view, computed_view};
 ghost use Rattle.vhdl_expand_rules.specs.Expressions as definition;
 ghost use Rattle.vhdl_expand_rules.specs.views.Kinds.{bounds_view};
 ghost use Rattle.vhdl_expand_operands.specs.Results.{Expands};
@@ -16,14 +16,14 @@ use std::alloc::Global;
 use vhdl_expand_numbers::{Measured, Number, Row, operation};
 use vhdl_expand_operands::both;
 use vhdl_expand_rules::{Bounds, ElabFault};
-use vhdl_names_rules::{Chosen, Computed, ComputedLink};
+use vhdl_names_trees::{Chosen, Computed, ComputedLink};
 
 impl Site<'_> {
     /// An integer that a run computes; what is wrong with a static one is told at its operator, or
     /// else at byte `at`. A fault is StaticError, Length, Index or TooWide.
     #[cycle(vector)]
     #[tactic(auto, unfolding(vhdl_expand_rules::specs::Expressions::computed))]
-    pub(crate) fn computed(
+    pub fn computed(
         &self,
         alloc: Global,
         integer: &Computed,
@@ -147,7 +147,7 @@ impl Site<'_> {
     /// The row that a run chooses of a vector with these bounds, whose name starts at byte `at`.
     #[cycle(vector)]
     #[tactic(auto, unfolding(vhdl_expand_rules::specs::Expressions::chosen_row))]
-    pub(crate) fn row(
+    pub fn row(
         &self,
         alloc: Global,
         bounds: Bounds,

@@ -3,9 +3,9 @@
 
 ghost use Rattle.std.specs.Prelude.{◌≡◌};
 ghost use Rattle.rtl_net.specs.Bodies.{test_view, test_links_of};
-ghost use Rattle.vhdl_names_rules.specs.views.Integers.{static_view};
-ghost use Rattle.vhdl_names_rules.specs.views.Tests as analysed;
-ghost use Rattle.vhdl_names_rules.specs.views.Vectors.{place_view, value_view, vector_view};
+ghost use Rattle.vhdl_names_trees.specs.views.Integers.{static_view};
+ghost use Rattle.vhdl_names_trees.specs.views.Tests as analysed;
+ghost use Rattle.vhdl_names_trees.specs.views.Vectors.{place_view, value_view, vector_view};
 ghost use Rattle.vhdl_expand_rules.specs.Expressions as definition;
 ghost use Rattle.vhdl_expand_operands.specs.Results.{Expands};
 ghost use Rattle.vhdl_expand_bodies.specs.Sites.{IsSite, site_view};
@@ -20,8 +20,8 @@ use vhdl_expand_choices::{character_of, edge_test, name_of, turned};
 use vhdl_expand_numbers::{compared_to, compared_with, relation};
 use vhdl_expand_operands::both;
 use vhdl_expand_rules::ElabFault;
-use vhdl_names_rules as analysed;
-use vhdl_names_rules::{SignalPart, Static, TestStart, Value, Vector};
+use vhdl_names_trees as analysed;
+use vhdl_names_trees::{SignalPart, Static, TestStart, Value, Vector};
 use vhdl_values::{Cmp, Nine, Vec9};
 
 /// A first operand, and the logical operators after it so far.
@@ -47,11 +47,7 @@ impl TestChain {
 impl Site<'_> {
     /// A condition, expanded; a fault is StaticError, Length, Index or TooWide.
     #[cycle(condition)]
-    pub(crate) fn expanded_test(
-        &self,
-        alloc: Global,
-        test: &analysed::Test,
-    ) -> Result<Test, ElabFault>
+    pub fn expanded_test(&self, alloc: Global, test: &analysed::Test) -> Result<Test, ElabFault>
         requires { IsSite self.now }
         ensures { Expands test_view (definition.test (site_view self.now) (analysed.test_view test.now)) result }
     {

@@ -1,7 +1,7 @@
 //! Objects of integer types, expanded: what they are as numbers (IEEE 1076-2008, 5.2.3).
 
 ghost use Rattle.std.specs.Prelude.{option_map};
-ghost use Rattle.vhdl_names_rules.specs.views.Vectors.{signal_view};
+ghost use Rattle.vhdl_names_trees.specs.views.Vectors.{signal_view};
 ghost use Rattle.vhdl_expand_rules.specs.Expressions as definition;
 ghost use Rattle.vhdl_expand_rules.specs.Site as sites;
 ghost use Rattle.vhdl_expand_rules.specs.views.Integers.{range_view, Makes};
@@ -15,7 +15,7 @@ use std::alloc::Global;
 use vhdl_expand_numbers::Number;
 use vhdl_expand_operands::both;
 use vhdl_expand_rules::{ElabFault, ElabProblem, IntegerRange, ObjectKind};
-use vhdl_names_rules::{Part, Signal};
+use vhdl_names_trees::{Part, Signal};
 
 /// The range of what is an integer; a fault is Index.
 fn integer_range(kind: Option<ObjectKind>, at: usize) -> Result<IntegerRange, ElabFault>

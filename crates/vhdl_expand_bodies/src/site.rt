@@ -4,7 +4,7 @@
 ghost use Rattle.std.specs.Prelude.{◌≡◌, ℕ, ◌+◌, ◌^◌, ◌<◌, [], map, option_map, slice_get, Some, IfOk, Ok};
 ghost use Rattle.rtl_model.specs.bodies.Fits.{IsWidth};
 ghost use Rattle.rtl_net.specs.Indices.{numbers};
-ghost use Rattle.vhdl_names_rules.specs.views.Vectors.{part_view, signal_view};
+ghost use Rattle.vhdl_names_trees.specs.views.Vectors.{part_view, signal_view};
 ghost use Rattle.vhdl_expand_rules.specs.Kinds.{size};
 ghost use Rattle.vhdl_expand_rules.specs.Site as definition;
 ghost use Rattle.vhdl_expand_rules.specs.Site.{elements_count, the_element};
@@ -16,7 +16,7 @@ ghost use Rattle.vhdl_expand_bodies.specs.Sites.{ArePlaced, HasFew, IsSite, IsSh
 use crate::constant::Constant;
 use rtl_net::Indices;
 use vhdl_expand_rules::{Bounds, ElabFault, ElabProblem, Integers, ObjectKind, Run};
-use vhdl_names_rules::{Part, Signal};
+use vhdl_names_trees::{Part, Signal};
 use vhdl_values::Vec9;
 
 /// A port, a signal or a variable, and the number of its first element among those of its class.
@@ -41,7 +41,7 @@ pub struct Site<'a> {
 }
 
 /// Neighbouring elements, as bodies number them.
-pub(crate) fn elements(run: Run) -> Indices
+pub fn elements(run: Run) -> Indices
     requires { IsShort run }
     ensures { numbers result ≡ run_view run }
 {
@@ -145,12 +145,7 @@ impl Site<'_> {
 
     /// The elements of a part of a variable; a fault is StaticError or Index.
     #[tactic(auto, unfolding(vhdl_expand_rules::specs::Site::variable_elements))]
-    pub(crate) fn variable_elements(
-        &self,
-        number: usize,
-        part: &Part,
-        at: usize,
-    ) -> Result<Run, ElabFault>
+    pub fn variable_elements(&self, number: usize, part: &Part, at: usize) -> Result<Run, ElabFault>
         requires { IsSite self.now }
         ensures given { Expands run_view
             (definition.variable_elements (site_view self.now) at number (part_view part.now)) result }
@@ -198,7 +193,7 @@ impl Site<'_> {
     }
 
     /// What a variable is.
-    pub(crate) fn variable_kind(&self, number: usize) -> Option<ObjectKind>
+    pub fn variable_kind(&self, number: usize) -> Option<ObjectKind>
         ensures { option_map kind_view result ≡ slice_get (site_view self.now).variables number }
     {
         kind_of(self.variables, number)
@@ -206,7 +201,7 @@ impl Site<'_> {
 
     /// The bounds of a signal or port that is a vector; a fault is Index.
     #[tactic(auto, unfolding(vhdl_expand_rules::specs::Site::signal_bounds))]
-    pub(crate) fn signal_bounds(&self, signal: Signal, at: usize) -> Result<Bounds, ElabFault>
+    pub fn signal_bounds(&self, signal: Signal, at: usize) -> Result<Bounds, ElabFault>
         requires { IsSite self.now }
         ensures given { Expands bounds_view (definition.signal_bounds (site_view self.now) at (signal_view signal))
             result }
@@ -219,7 +214,7 @@ impl Site<'_> {
     }
 
     /// The bounds of a variable that is a vector; a fault is Index.
-    pub(crate) fn variable_bounds(&self, number: usize, at: usize) -> Result<Bounds, ElabFault>
+    pub fn variable_bounds(&self, number: usize, at: usize) -> Result<Bounds, ElabFault>
         requires { IsSite self.now }
         ensures given { Expands bounds_view (definition.variable_bounds (site_view self.now) at number) result }
         ensures few { IfOk result HasFew }

@@ -2,8 +2,8 @@
 
 ghost use Rattle.std.specs.Prelude.{◌≡◌};
 ghost use Rattle.rtl_model.specs.bodies.Body as bodies;
-ghost use Rattle.vhdl_names_rules.specs.views.Vectors as analysed;
-ghost use Rattle.vhdl_names_rules.specs.views.Vectors.{part_view, signal_view};
+ghost use Rattle.vhdl_names_trees.specs.views.Vectors as analysed;
+ghost use Rattle.vhdl_names_trees.specs.views.Vectors.{part_view, signal_view};
 ghost use Rattle.vhdl_expand_rules.specs.Expressions as definition;
 ghost use Rattle.vhdl_expand_rules.specs.Site.{signal_elements, the_element};
 ghost use Rattle.vhdl_expand_operands.specs.Operands.{operand_view};
@@ -15,11 +15,11 @@ use crate::site::{Site, element};
 use std::alloc::Global;
 use vhdl_expand_operands::{Operand, Selected, Width};
 use vhdl_expand_rules::ElabFault;
-use vhdl_names_rules::{Part, Signal, Value};
+use vhdl_names_trees::{Part, Signal, Value};
 use vhdl_values::{Nine, Vec9};
 
 /// A value of elements.
-pub(crate) fn elements_of(operand: Operand) -> Selected
+pub fn elements_of(operand: Operand) -> Selected
     ensures { selected_view result ≡ bodies.elements (operand_view operand) }
 {
     Selected {
@@ -56,7 +56,7 @@ impl Site<'_> {
 
     /// A value, expanded; a fault is StaticError, Length, Index or TooWide.
     #[tactic(auto, unfolding(vhdl_expand_rules::specs::Expressions::value))]
-    pub(crate) fn expanded_value(
+    pub fn expanded_value(
         &self,
         alloc: Global,
         value: &Value,

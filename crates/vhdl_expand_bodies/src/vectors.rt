@@ -1,9 +1,9 @@
 //! Elements and vectors of the nine values, expanded (IEEE 1076-2008, clause 9; numeric_std).
 
 ghost use Rattle.std.specs.Prelude.{◌≡◌, option_map};
-ghost use Rattle.vhdl_names_rules.specs.views.Integers.{option_range_view, range_view, static_view};
+ghost use Rattle.vhdl_names_trees.specs.views.Integers.{option_range_view, range_view, static_view};
 ghost use Rattle.vhdl_names_rules.specs.units.Expressions as units;
-ghost use Rattle.vhdl_names_rules.specs.views.Vectors.{part_view, signal_view, chosen_view, vector_view};
+ghost use Rattle.vhdl_names_trees.specs.views.Vectors.{part_view, signal_view, chosen_view, vector_view};
 ghost use Rattle.vhdl_expand_rules.specs.Expressions as definition;
 ghost use Rattle.vhdl_expand_operands.specs.Results.{Expands};
 ghost use Rattle.vhdl_expand_numbers.specs.Views.{number_view};
@@ -18,8 +18,9 @@ use std::alloc::Global;
 use vhdl_expand_numbers::{Number, listed};
 use vhdl_expand_operands::{Chain, Operand, Width, both, numeric, operator};
 use vhdl_expand_rules::{ElabFault, ElabProblem};
-use vhdl_names_rules::{
-    Chosen, Numeric, Part, Signal, Static, StaticRange, Vector, VectorLink, VectorStart,
+use vhdl_names_rules::Numeric;
+use vhdl_names_trees::{
+    Chosen, Part, Signal, Static, StaticRange, Vector, VectorLink, VectorStart,
 };
 use vhdl_values::{Counted, Nine, Vec9};
 

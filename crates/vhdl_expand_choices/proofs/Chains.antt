@@ -1,16 +1,16 @@
 -- What a chain of operators is not: a name, a literal, an object.
 use Rattle.std.proofs.Common.{◌≡◌, List, [], ◌∷◌, Option, None, Box, Vec, Global, refl, ap, ◌∙◌}
-use Rattle.vhdl_names_rules.specs.declared.vector.Computed.TheVariants as m
-use Rattle.vhdl_names_rules.specs.declared.vector.ComputedLink.{ComputedLink}
-use Rattle.vhdl_names_rules.specs.declared.vector.ComputedStart.{ComputedStart}
-use Rattle.vhdl_names_rules.specs.declared.vector.Vector.TheVariants as v
-use Rattle.vhdl_names_rules.specs.declared.vector.VectorLink.{VectorLink}
-use Rattle.vhdl_names_rules.specs.declared.vector.VectorLink.TheVariants as l
-use Rattle.vhdl_names_rules.specs.declared.vector.VectorStart.{VectorStart}
-use Rattle.vhdl_names_rules.specs.views.Vectors.{vector_view, linked, vector_chained, computed_view, computed_chained, computed_start_view}
-use Rattle.vhdl_names_rules.specs.views.Vectors as vectors
+use Rattle.vhdl_names_trees.specs.declared.vector.Computed.TheVariants as m
+use Rattle.vhdl_names_trees.specs.declared.vector.ComputedLink.{ComputedLink}
+use Rattle.vhdl_names_trees.specs.declared.vector.ComputedStart.{ComputedStart}
+use Rattle.vhdl_names_trees.specs.declared.vector.Vector.TheVariants as v
+use Rattle.vhdl_names_trees.specs.declared.vector.VectorLink.{VectorLink}
+use Rattle.vhdl_names_trees.specs.declared.vector.VectorLink.TheVariants as l
+use Rattle.vhdl_names_trees.specs.declared.vector.VectorStart.{VectorStart}
+use Rattle.vhdl_names_trees.specs.views.Vectors.{vector_view, linked, vector_chained, computed_view, computed_chained, computed_start_view}
+use Rattle.vhdl_names_trees.specs.views.Vectors as vectors
 use Rattle.vhdl_names_rules.specs.units.Expressions as u
-use Rattle.vhdl_names_rules.proofs.rows.Vectors.{view_chain, view_computed_chain}
+use Rattle.vhdl_names_trees.proofs.rows.Vectors.{view_chain, view_computed_chain}
 use Rattle.vhdl_expand_rules.specs.Computed.{Number, integers}
 use Rattle.vhdl_expand_rules.specs.Statements.{may_choose}
 use Rattle.vhdl_expand_choices.specs.Compared.{name_in, character_in}

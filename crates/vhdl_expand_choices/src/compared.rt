@@ -2,12 +2,12 @@
 //! way round (IEEE 1076-2008, 9.2.3).
 
 ghost use Rattle.std.specs.Prelude.{◌≡◌, option_map};
-ghost use Rattle.vhdl_names_rules.specs.views.Vectors.{value_view, vector_view};
+ghost use Rattle.vhdl_names_trees.specs.views.Vectors.{value_view, vector_view};
 ghost use Rattle.vhdl_expand_rules.specs.Expressions.{converse_of};
 ghost use Rattle.vhdl_expand_choices.specs.Compared as definition;
 ghost use Rattle.vhdl_expand_choices.specs.Compared.{named_view, character_view};
 
-use vhdl_names_rules::{SignalPart, Value, Vector};
+use vhdl_names_trees::{SignalPart, Value, Vector};
 use vhdl_values::{Cmp, Nine};
 
 /// A character literal, and whether it stands with no parentheses.

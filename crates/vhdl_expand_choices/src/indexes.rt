@@ -1,7 +1,7 @@
 //! The indexes of aggregates (IEEE 1076-2008, 9.3.3.3).
 
 ghost use Rattle.std.specs.Prelude.{◌≡◌, ◌++◌, map, option_map, IfOk};
-ghost use Rattle.vhdl_names_rules.specs.views.Integers.{index_view, range_view};
+ghost use Rattle.vhdl_names_trees.specs.views.Integers.{index_view, range_view};
 ghost use Rattle.vhdl_expand_rules.specs.Aggregates as indexes;
 ghost use Rattle.vhdl_expand_rules.specs.views.Integers as computed;
 ghost use Rattle.vhdl_expand_operands.specs.Placings.{indexes_view};
@@ -11,7 +11,7 @@ use crate::ranges::range_of;
 use std::alloc::Global;
 use vhdl_expand_operands::{Indexes, are_free, range_serves, serve};
 use vhdl_expand_rules::{ElabFault, Integers};
-use vhdl_names_rules::{Index, StaticRange};
+use vhdl_names_trees::{Index, StaticRange};
 
 /// The indexes of what an aggregate is given to, if it has a range; a fault is StaticError or
 /// TooWide. It takes the memory of a list.

@@ -3,7 +3,7 @@
 ghost use Rattle.std.specs.Prelude.{◌≡◌, map};
 ghost use Rattle.rtl_net.specs.Bodies as net;
 ghost use Rattle.rtl_model.specs.bodies.Fits.{width};
-ghost use Rattle.vhdl_names_rules.specs.views.Vectors.{computed_view};
+ghost use Rattle.vhdl_names_trees.specs.views.Vectors.{computed_view};
 ghost use Rattle.vhdl_names_units.specs.views.Answers.{choice_view};
 ghost use Rattle.vhdl_names_units.specs.views.Sequential.{alternative_view};
 ghost use Rattle.vhdl_expand_rules.specs.Statements as definition;
@@ -20,7 +20,7 @@ use std::alloc::Global;
 use vhdl_expand_numbers::{INTEGERS, Limits, Number};
 use vhdl_expand_operands::Width;
 use vhdl_expand_rules::{ElabFault, ElabProblem, Integers, extent};
-use vhdl_names_rules::Computed;
+use vhdl_names_trees::Computed;
 use vhdl_names_units as analysed;
 use vhdl_names_units::Alternative;
 use vhdl_tree::Direction;

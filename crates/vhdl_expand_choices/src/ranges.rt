@@ -1,13 +1,13 @@
 //! Ranges of static integers (IEEE 1076-2008, 9.3.3.3, 10.9).
 
-ghost use Rattle.vhdl_names_rules.specs.views.Integers.{index_view, range_view};
+ghost use Rattle.vhdl_names_trees.specs.views.Integers.{index_view, range_view};
 ghost use Rattle.vhdl_expand_rules.specs.Aggregates.{computed_range};
 ghost use Rattle.vhdl_expand_rules.specs.Statements as definition;
 ghost use Rattle.vhdl_expand_rules.specs.views.Integers as computed;
 ghost use Rattle.vhdl_expand_rules.specs.views.Integers.{Makes};
 
 use vhdl_expand_rules::{ElabFault, IntegerRange, Integers};
-use vhdl_names_rules::{Index, StaticRange};
+use vhdl_names_trees::{Index, StaticRange};
 use vhdl_tree::Direction;
 
 /// The range from one bound to another; a fault is StaticError.

@@ -3,7 +3,7 @@
 
 ghost use Rattle.std.specs.Prelude.{map};
 ghost use Rattle.vhdl_names_rules.specs.units.Statements as units;
-ghost use Rattle.vhdl_names_rules.specs.views.Integers.{index_view};
+ghost use Rattle.vhdl_names_trees.specs.views.Integers.{index_view};
 ghost use Rattle.vhdl_names_units.specs.views.Answers.{choice_view};
 ghost use Rattle.vhdl_names_units.specs.views.Sequential.{alternative_view};
 ghost use Rattle.vhdl_expand_rules.specs.Statements as definition;
@@ -15,7 +15,7 @@ ghost use Rattle.vhdl_expand_choices.specs.Views.{spanned_view, all_choices, put
 use crate::ranges::index_range;
 use vhdl_expand_numbers::Limits;
 use vhdl_expand_rules::{ElabFault, ElabProblem, Integers, is_null};
-use vhdl_names_rules::Index;
+use vhdl_names_trees::Index;
 use vhdl_names_units::{Alternative, Choice};
 
 /// Where a choice starts, and its numbers.

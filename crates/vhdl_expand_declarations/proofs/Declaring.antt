@@ -4,8 +4,8 @@ use Rattle.std.specs.Prelude.{⊤, ◌≢◌, OnOk, unwrap_or}
 use Rattle.std.specs.List.{AllByRecursion}
 use Rattle.vhdl_tree.specs.Tree.{Ident}
 use Rattle.vhdl_tree.specs.View.{idents_view}
-use Rattle.vhdl_names_rules.specs.views.Integers.{static_view, subtype_view}
-use Rattle.vhdl_names_rules.specs.views.Tests.{static_test_view}
+use Rattle.vhdl_names_trees.specs.views.Integers.{static_view, subtype_view}
+use Rattle.vhdl_names_trees.specs.views.Tests.{static_test_view}
 use Rattle.vhdl_names_rules.specs.units.Units as u
 use Rattle.vhdl_names_rules.specs.units.Units.{Declaration}
 use Rattle.vhdl_names_units.specs.declared.declaration.Declaration as code

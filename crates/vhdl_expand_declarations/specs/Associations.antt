@@ -1,10 +1,10 @@
 -- Ports that are associated one after another.
 use Rattle.std.specs.Prelude.{ℕ, List, [], ◌∷◌, ◌++◌, length, map, take, drop, Option, option_map, Ok}
 use Rattle.std.specs.Borrow.{Bor}
-use Rattle.vhdl_names_rules.specs.declared.vector.SignalPart as code
+use Rattle.vhdl_names_trees.specs.declared.vector.SignalPart as code
 use Rattle.vhdl_names_rules.specs.units.Expressions.{SignalPart}
 use Rattle.vhdl_names_rules.specs.units.Units as u
-use Rattle.vhdl_names_rules.specs.views.Vectors.{place_view}
+use Rattle.vhdl_names_trees.specs.views.Vectors.{place_view}
 use Rattle.vhdl_names_units.specs.declared.declaration.Ports.{Ports}
 use Rattle.vhdl_expand_tree.specs.declared.tree.Object as tree
 use Rattle.vhdl_expand_tree.specs.Views.{object_view}

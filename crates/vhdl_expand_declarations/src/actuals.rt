@@ -2,7 +2,7 @@
 
 ghost use Rattle.std.specs.Prelude.{◌≡◌, ◌≤◌, drop, flat_map, length, map, option_map, IfOk};
 ghost use Rattle.vhdl_expand_tree.specs.Views.{object_view, role_view};
-ghost use Rattle.vhdl_names_rules.specs.views.Vectors.{place_view};
+ghost use Rattle.vhdl_names_trees.specs.views.Vectors.{place_view};
 ghost use Rattle.vhdl_expand_rules.specs.Declarations as definition;
 ghost use Rattle.vhdl_expand_rules.specs.Elab.{same_length};
 ghost use Rattle.vhdl_expand_rules.specs.Computed.{covers};
@@ -23,7 +23,7 @@ use std::alloc::{AllocError, Global};
 use vhdl_expand_bodies::Site;
 use vhdl_expand_rules::{ElabFault, ElabProblem, IntegerRange, ObjectKind, Run};
 use vhdl_expand_tree::{Object, Role};
-use vhdl_names_rules::SignalPart;
+use vhdl_names_trees::SignalPart;
 use vhdl_names_units::{Actuals, Entity, Ports};
 
 /// The actual of the generic or port of this number, if it has one.

@@ -2,8 +2,8 @@
 
 ghost use Rattle.std.specs.Prelude.{◌≡◌, map};
 ghost use Rattle.vhdl_names_rules.specs.units.Units as u;
-ghost use Rattle.vhdl_names_rules.specs.views.Integers.{static_view, subtype_view};
-ghost use Rattle.vhdl_names_rules.specs.views.Tests.{static_test_view};
+ghost use Rattle.vhdl_names_trees.specs.views.Integers.{static_view, subtype_view};
+ghost use Rattle.vhdl_names_trees.specs.views.Tests.{static_test_view};
 ghost use Rattle.vhdl_names_units.specs.views.Answers.{fixed_view, form_view};
 ghost use Rattle.vhdl_names_units.specs.views.Declarations.{declaration_view};
 ghost use Rattle.vhdl_expand_rules.specs.Declarations as definition;
@@ -19,7 +19,7 @@ use vhdl_expand_bodies::{Constant, Site};
 use vhdl_expand_operands::Width;
 use vhdl_expand_processes::{fixed, kind};
 use vhdl_expand_rules::{ElabFault, ObjectKind};
-use vhdl_names_rules::{IntegerSubtype, Static, StaticTest};
+use vhdl_names_trees::{IntegerSubtype, Static, StaticTest};
 use vhdl_names_units::{Declaration, Fixed, Form};
 use vhdl_tree::Identifier;
 

@@ -4,7 +4,7 @@ ghost use Rattle.std.specs.Prelude.{◌≡◌, flat_map, length, option_map, IfO
 ghost use Rattle.rtl_model.specs.bodies.Fits.{IsWidth};
 ghost use Rattle.vhdl_tree.specs.View.{ident_view};
 ghost use Rattle.vhdl_names_rules.specs.units.Units as units;
-ghost use Rattle.vhdl_names_rules.specs.views.Integers.{subtype_view};
+ghost use Rattle.vhdl_names_trees.specs.views.Integers.{subtype_view};
 ghost use Rattle.vhdl_names_units.specs.views.Answers.{fixed_view, form_view};
 ghost use Rattle.vhdl_names_units.specs.views.Declarations.{generic_type_view, generics_view};
 ghost use Rattle.vhdl_expand_rules.specs.Declarations as definition;
@@ -25,7 +25,7 @@ use vhdl_expand_bodies::{Constant, Site};
 use vhdl_expand_operands::Width;
 use vhdl_expand_processes::{as_long, fixed, kind};
 use vhdl_expand_rules::{ElabFault, ElabProblem, ObjectKind};
-use vhdl_names_rules::IntegerSubtype;
+use vhdl_names_trees::IntegerSubtype;
 use vhdl_names_units::{Fixed, Form, GenericType, Generics};
 use vhdl_tree::Identifier;
 use vhdl_values::Vec9;

@@ -2,27 +2,27 @@
 use Rattle.std.proofs.Common.{◌≡◌, true, false, List, [], ◌∷◌, ◌++◌, Vec, Box, Global, refl, sym, ap, ◌∙◌}
 use Rattle.std.specs.Prelude.{flat_map}
 use Rattle.std.proofs.lemmas.List.{append_assoc, append-nil}
-use Rattle.vhdl_names_rules.specs.declared.vector.Vector.TheVariants as v
-use Rattle.vhdl_names_rules.specs.declared.vector.VectorElement.{VectorElement}
-use Rattle.vhdl_names_rules.specs.declared.vector.VectorElement.TheVariants as el
-use Rattle.vhdl_names_rules.specs.declared.vector.VectorLink.{VectorLink}
-use Rattle.vhdl_names_rules.specs.declared.vector.VectorLink.TheVariants as l
-use Rattle.vhdl_names_rules.specs.declared.vector.VectorStart.{VectorStart}
-use Rattle.vhdl_names_rules.specs.declared.vector.Computed.TheVariants as m
-use Rattle.vhdl_names_rules.specs.declared.vector.ComputedLink.{ComputedLink}
-use Rattle.vhdl_names_rules.specs.declared.vector.ComputedStart.{ComputedStart}
-use Rattle.vhdl_names_rules.specs.declared.test.Test.TheVariants as c
-use Rattle.vhdl_names_rules.specs.declared.test.TestLink.{TestLink}
-use Rattle.vhdl_names_rules.specs.declared.test.TestStart.{TestStart}
-use Rattle.vhdl_names_rules.specs.views.Vectors.{computed_view, computed_start_view, computed_chained, vector_view, elements_view, linked, vector_chained}
-use Rattle.vhdl_names_rules.specs.views.Vectors as vectors
-use Rattle.vhdl_names_rules.specs.views.Tests.{test_view, test_chained}
-use Rattle.vhdl_names_rules.specs.views.Tests as tests
-use Rattle.vhdl_names_rules.proofs.rows.Vectors as vector_rows
-use Rattle.vhdl_names_rules.proofs.rows.Tests as test_rows
+use Rattle.vhdl_names_trees.specs.declared.vector.Vector.TheVariants as v
+use Rattle.vhdl_names_trees.specs.declared.vector.VectorElement.{VectorElement}
+use Rattle.vhdl_names_trees.specs.declared.vector.VectorElement.TheVariants as el
+use Rattle.vhdl_names_trees.specs.declared.vector.VectorLink.{VectorLink}
+use Rattle.vhdl_names_trees.specs.declared.vector.VectorLink.TheVariants as l
+use Rattle.vhdl_names_trees.specs.declared.vector.VectorStart.{VectorStart}
+use Rattle.vhdl_names_trees.specs.declared.vector.Computed.TheVariants as m
+use Rattle.vhdl_names_trees.specs.declared.vector.ComputedLink.{ComputedLink}
+use Rattle.vhdl_names_trees.specs.declared.vector.ComputedStart.{ComputedStart}
+use Rattle.vhdl_names_trees.specs.declared.test.Test.TheVariants as c
+use Rattle.vhdl_names_trees.specs.declared.test.TestLink.{TestLink}
+use Rattle.vhdl_names_trees.specs.declared.test.TestStart.{TestStart}
+use Rattle.vhdl_names_trees.specs.views.Vectors.{computed_view, computed_start_view, computed_chained, vector_view, elements_view, linked, vector_chained}
+use Rattle.vhdl_names_trees.specs.views.Vectors as vectors
+use Rattle.vhdl_names_trees.specs.views.Tests.{test_view, test_chained}
+use Rattle.vhdl_names_trees.specs.views.Tests as tests
+use Rattle.vhdl_names_trees.proofs.rows.Vectors as vector_rows
+use Rattle.vhdl_names_trees.proofs.rows.Tests as test_rows
 use Rattle.vhdl_names_rules.specs.units.Expressions as u
 use Rattle.vhdl_expand_rules.specs.Prefixes.{computed_names, vector_names, elements_names, test_names}
-use Rattle.vhdl_expand_bodies.proofs.Elements.{is_last}
+use Rattle.vhdl_expand_bodies.proofs.Aggregating.{is_last}
 use Rattle.vhdl_expand_processes.proofs.Gathering.{adds_along}
 use Rattle.vhdl_expand_processes.specs.declared.name.Gathered.{Gathered}
 use Rattle.vhdl_expand_processes.specs.Adding.{Adds}

@@ -4,8 +4,8 @@ use Rattle.std.specs.Prelude.{flat_map}
 use Rattle.std.proofs.lemmas.List.{append_assoc}
 use Rattle.vhdl_names_rules.specs.units.Expressions as u
 use Rattle.vhdl_names_rules.specs.units.Statements as s
-use Rattle.vhdl_names_rules.specs.views.Tests.{test_view}
-use Rattle.vhdl_names_rules.specs.views.Vectors.{value_view}
+use Rattle.vhdl_names_trees.specs.views.Tests.{test_view}
+use Rattle.vhdl_names_trees.specs.views.Vectors.{value_view}
 use Rattle.vhdl_expand_rules.specs.declared.prefix.Sought.{Sought}
 use Rattle.vhdl_expand_rules.specs.declared.prefix.Sought.TheVariants.{Read, Assigned}
 use Rattle.vhdl_expand_rules.specs.Prefixes as definition

@@ -2,7 +2,7 @@
 use Rattle.std.specs.Prelude.{List, [], ◌++◌, flat_map, Option, Some, None, Vec}
 use Rattle.std.specs.Global.{Global}
 use Rattle.vhdl_names_rules.specs.units.Expressions as u
-use Rattle.vhdl_names_rules.specs.views.Tests.{test_view}
+use Rattle.vhdl_names_trees.specs.views.Tests.{test_view}
 use Rattle.vhdl_names_units.specs.declared.sequential.Statement.{Statement}
 use Rattle.vhdl_names_units.specs.declared.sequential.Branch.{Branch}
 use Rattle.vhdl_names_units.specs.declared.sequential.Alternative.{Alternative}

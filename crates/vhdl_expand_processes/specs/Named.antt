@@ -3,7 +3,7 @@ pub use Rattle.vhdl_expand_rules.specs.Prefixes.{whole_of}
 use Rattle.std.specs.Prelude.{List, map, Vec}
 use Rattle.std.specs.Global.{Global}
 use Rattle.vhdl_names_rules.specs.units.Expressions as u
-use Rattle.vhdl_names_rules.specs.views.Vectors.{place_view, signal_view}
+use Rattle.vhdl_names_trees.specs.views.Vectors.{place_view, signal_view}
 use Rattle.vhdl_expand_processes.specs.declared.name.Name.{Name}
 use Rattle.vhdl_expand_processes.specs.declared.name.Name.TheVariants as n
 

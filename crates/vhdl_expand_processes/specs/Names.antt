@@ -1,14 +1,14 @@
 -- The names that parts of values and conditions read, where the parts stand in lists.
 use Rattle.std.specs.Prelude.{List, []}
-use Rattle.vhdl_names_rules.specs.declared.vector.VectorElement.{VectorElement}
-use Rattle.vhdl_names_rules.specs.declared.vector.VectorElement.TheVariants as el
-use Rattle.vhdl_names_rules.specs.declared.vector.VectorLink.{VectorLink}
-use Rattle.vhdl_names_rules.specs.declared.vector.VectorLink.TheVariants as l
-use Rattle.vhdl_names_rules.specs.declared.test.TestLink.{TestLink}
+use Rattle.vhdl_names_trees.specs.declared.vector.VectorElement.{VectorElement}
+use Rattle.vhdl_names_trees.specs.declared.vector.VectorElement.TheVariants as el
+use Rattle.vhdl_names_trees.specs.declared.vector.VectorLink.{VectorLink}
+use Rattle.vhdl_names_trees.specs.declared.vector.VectorLink.TheVariants as l
+use Rattle.vhdl_names_trees.specs.declared.test.TestLink.{TestLink}
 use Rattle.vhdl_names_rules.specs.units.Expressions as u
-use Rattle.vhdl_names_rules.specs.declared.vector.ComputedLink.{ComputedLink}
-use Rattle.vhdl_names_rules.specs.views.Vectors.{computed_view, vector_view}
-use Rattle.vhdl_names_rules.specs.views.Tests.{test_view}
+use Rattle.vhdl_names_trees.specs.declared.vector.ComputedLink.{ComputedLink}
+use Rattle.vhdl_names_trees.specs.views.Vectors.{computed_view, vector_view}
+use Rattle.vhdl_names_trees.specs.views.Tests.{test_view}
 use Rattle.vhdl_expand_rules.specs.Prefixes as definition
 
 -- an element of an aggregate

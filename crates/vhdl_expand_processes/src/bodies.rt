@@ -4,8 +4,8 @@
 ghost use Rattle.std.specs.Prelude.{◌≡◌, ◌++◌, flat_map, map, IfOk};
 ghost use Rattle.vhdl_expand_rules.specs.Prefixes as definition;
 ghost use Rattle.vhdl_names_rules.specs.units.Statements as s;
-ghost use Rattle.vhdl_names_rules.specs.views.Tests.{test_view};
-ghost use Rattle.vhdl_names_rules.specs.views.Vectors.{chosen_view, place_view, signal_view, value_view};
+ghost use Rattle.vhdl_names_trees.specs.views.Tests.{test_view};
+ghost use Rattle.vhdl_names_trees.specs.views.Vectors.{chosen_view, place_view, signal_view, value_view};
 ghost use Rattle.vhdl_names_units.specs.declared.sequential.Case.{out-Case};
 ghost use Rattle.vhdl_names_units.specs.declared.sequential.If.{out-If};
 ghost use Rattle.vhdl_names_units.specs.views.Answers.{given_view};
@@ -18,7 +18,7 @@ use crate::name::{Gathered, Name};
 use crate::names::{of_chosen, of_given, of_test, of_value};
 use std::alloc::{AllocError, Global};
 use vhdl_expand_rules::Sought;
-use vhdl_names_rules::{Chosen, Signal, SignalPart, Test, Value};
+use vhdl_names_trees::{Chosen, Signal, SignalPart, Test, Value};
 use vhdl_names_units::{Alternative, Branch, Case, Given, If, Statement};
 
 /// The names that statements read, before loops are unrolled. It takes the memory of the list.

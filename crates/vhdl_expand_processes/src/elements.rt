@@ -3,7 +3,7 @@
 //! the left.
 
 ghost use Rattle.std.specs.Prelude.{◌≡◌, ◌++◌, map, IfOk, OnOk};
-ghost use Rattle.vhdl_names_rules.specs.views.Vectors.{place_view};
+ghost use Rattle.vhdl_names_trees.specs.views.Vectors.{place_view};
 ghost use Rattle.vhdl_expand_rules.specs.Prefixes as definition;
 ghost use Rattle.vhdl_expand_rules.specs.Site.{place_elements};
 ghost use Rattle.vhdl_expand_rules.specs.views.Kinds.{run_view};
@@ -19,7 +19,7 @@ use rtl_body_facts::order_once;
 use std::alloc::{AllocError, Global};
 use vhdl_expand_bodies::Site;
 use vhdl_expand_rules::{ElabFault, Run, is_static_part};
-use vhdl_names_rules::{Part, SignalPart};
+use vhdl_names_trees::{Part, SignalPart};
 use vhdl_names_units::Statement;
 
 /// The elements of the longest static prefix of a name; a fault is StaticError or Index, at byte 0

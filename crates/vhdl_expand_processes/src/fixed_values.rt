@@ -8,7 +8,7 @@ ghost use Rattle.vhdl_expand_rules.specs.Declarations as definition;
 ghost use Rattle.vhdl_expand_rules.specs.views.Integers.{Computes};
 ghost use Rattle.vhdl_expand_operands.specs.Results.{Expands};
 ghost use Rattle.vhdl_expand_bodies.specs.Sites.{IsSite, site_view};
-ghost use Rattle.vhdl_names_rules.specs.views.Integers.{static_view};
+ghost use Rattle.vhdl_names_trees.specs.views.Integers.{static_view};
 ghost use Rattle.vhdl_names_units.specs.views.Answers.{fixed_view};
 ghost use Rattle.vhdl_expand_processes.specs.Starting.{encoded_as};
 
@@ -16,7 +16,7 @@ use std::alloc::Global;
 use vhdl_expand_bodies::Site;
 use vhdl_expand_operands::{Selected, Width};
 use vhdl_expand_rules::{ElabFault, ElabProblem};
-use vhdl_names_rules::Static;
+use vhdl_names_trees::Static;
 use vhdl_names_units::Fixed;
 use vhdl_values::{Nine, Vec9};
 

@@ -1,12 +1,12 @@
 //! A signal's or port's name in a text, and lists of names.
 
 ghost use Rattle.std.specs.Prelude.{◌≡◌, false, [], ◌∷◌, IfOk};
-ghost use Rattle.vhdl_names_rules.specs.views.Vectors.{place_view, signal_view};
+ghost use Rattle.vhdl_names_trees.specs.views.Vectors.{place_view, signal_view};
 ghost use Rattle.vhdl_expand_processes.specs.Named.{name_view, named_by, whole_of};
 ghost use Rattle.vhdl_expand_processes.specs.Adding.{Adds};
 
 use std::alloc::{AllocError, Global};
-use vhdl_names_rules::{Signal, SignalPart};
+use vhdl_names_trees::{Signal, SignalPart};
 
 /// A name as it stands in the text, or the whole of a signal or port.
 #[derive(Clone, Copy)]

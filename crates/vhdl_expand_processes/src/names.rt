@@ -2,14 +2,14 @@
 
 ghost use Rattle.std.specs.Prelude.{◌++◌, flat_map};
 ghost use Rattle.vhdl_expand_rules.specs.Prefixes as definition;
-ghost use Rattle.vhdl_names_rules.specs.views.Tests.{test_view};
-ghost use Rattle.vhdl_names_rules.specs.views.Vectors.{chosen_view, computed_view, computed_start_view, elements_view, value_view, vector_view};
+ghost use Rattle.vhdl_names_trees.specs.views.Tests.{test_view};
+ghost use Rattle.vhdl_names_trees.specs.views.Vectors.{chosen_view, computed_view, computed_start_view, elements_view, value_view, vector_view};
 ghost use Rattle.vhdl_names_units.specs.views.Answers.{given_view};
 ghost use Rattle.vhdl_expand_processes.specs.Adding.{Adds};
 ghost use Rattle.vhdl_expand_processes.specs.Names.{computed_link_names, element_names, link_names, test_link_names};
 
 use crate::name::Gathered;
-use vhdl_names_rules::{
+use vhdl_names_trees::{
     Chosen, Computed, ComputedLink, ComputedStart, Test, TestLink, TestStart, Value, Vector,
     VectorElement, VectorLink, VectorStart,
 };

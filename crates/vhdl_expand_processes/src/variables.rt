@@ -11,7 +11,7 @@ ghost use Rattle.vhdl_expand_rules.specs.views.Kinds.{kind_view};
 ghost use Rattle.vhdl_expand_operands.specs.Results.{Expands};
 ghost use Rattle.vhdl_expand_bodies.specs.Sites.{IsSite, site_view};
 ghost use Rattle.vhdl_names_rules.specs.units.Units as units;
-ghost use Rattle.vhdl_names_rules.specs.views.Integers.{subtype_view};
+ghost use Rattle.vhdl_names_trees.specs.views.Integers.{subtype_view};
 ghost use Rattle.vhdl_names_units.specs.views.Answers.{fixed_view, form_view};
 ghost use Rattle.vhdl_expand_processes.specs.Starting.{codes_given};
 
@@ -23,7 +23,7 @@ use vhdl_expand_operands::Width;
 use vhdl_expand_rules::{
     ElabFault, ElabProblem, IntegerRange, Integers, Numbers, ObjectKind, is_null,
 };
-use vhdl_names_rules::IntegerSubtype;
+use vhdl_names_trees::IntegerSubtype;
 use vhdl_names_units::{Fixed, Form};
 use vhdl_numbers::digits_of;
 use vhdl_values::{Nine, Vec9};

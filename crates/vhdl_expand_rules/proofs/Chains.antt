@@ -3,13 +3,13 @@ use Rattle.std.proofs.Common.{◌≡◌, ℕ, Bool, true, false, if◌then◌els
 use Rattle.std.specs.Prelude.{◌==◌, ◌+ℤ◌, ◌-ℤ◌, ◌*ℤ◌, nat_abs, int_div, int_rem, pos, negsuc, IsErrAnd}
 use Rattle.vhdl_names_rules.specs.declared.operator.Arithmetic.{Arithmetic}
 use Rattle.vhdl_names_rules.specs.declared.operator.Arithmetic.TheVariants.{Add, Subtract, Multiply, Divide, Modulo, Remainder, Power}
-use Rattle.vhdl_names_rules.specs.declared.integer.Static.TheVariants as s
-use Rattle.vhdl_names_rules.specs.declared.integer.Static.{Static}
-use Rattle.vhdl_names_rules.specs.declared.integer.StaticLink.{StaticLink}
-use Rattle.vhdl_names_rules.specs.declared.integer.StaticStart.{StaticStart}
-use Rattle.vhdl_names_rules.specs.views.Integers.{static_view, start_view, static_chained}
+use Rattle.vhdl_names_trees.specs.declared.integer.Static.TheVariants as s
+use Rattle.vhdl_names_trees.specs.declared.integer.Static.{Static}
+use Rattle.vhdl_names_trees.specs.declared.integer.StaticLink.{StaticLink}
+use Rattle.vhdl_names_trees.specs.declared.integer.StaticStart.{StaticStart}
+use Rattle.vhdl_names_trees.specs.views.Integers.{static_view, start_view, static_chained}
 use Rattle.vhdl_names_rules.specs.units.Expressions as u
-use Rattle.vhdl_names_rules.proofs.rows.Integers.{view_chain}
+use Rattle.vhdl_names_trees.proofs.rows.Integers.{view_chain}
 use Rattle.vhdl_expand_rules.specs.declared.fault.ElabFault.{ElabFault}
 use Rattle.vhdl_expand_rules.specs.declared.fault.ElabProblem.TheVariants.{StaticError}
 use Rattle.vhdl_expand_rules.specs.Elab.{Elab, ◌>>=◌, Told, fault_told, refused}

@@ -1,13 +1,13 @@
 -- The truth of a chain of operators on truths over static integers.
 use Rattle.std.proofs.Common.{◌≡◌, List, [], ◌∷◌, Result, Ok, Err, Box, Vec, Global, sym, ap, ◌∙◌, subst, Bool}
 use Rattle.vhdl_values.specs.declared.kinds.Logic.{Logic}
-use Rattle.vhdl_names_rules.specs.declared.test.StaticTest.TheVariants as s
-use Rattle.vhdl_names_rules.specs.declared.test.StaticTest.{StaticTest}
-use Rattle.vhdl_names_rules.specs.declared.test.StaticTestLink.{StaticTestLink}
-use Rattle.vhdl_names_rules.specs.declared.test.StaticTestStart.{StaticTestStart}
-use Rattle.vhdl_names_rules.specs.views.Tests.{static_test_view, static_start_view, static_test_chained}
+use Rattle.vhdl_names_trees.specs.declared.test.StaticTest.TheVariants as s
+use Rattle.vhdl_names_trees.specs.declared.test.StaticTest.{StaticTest}
+use Rattle.vhdl_names_trees.specs.declared.test.StaticTestLink.{StaticTestLink}
+use Rattle.vhdl_names_trees.specs.declared.test.StaticTestStart.{StaticTestStart}
+use Rattle.vhdl_names_trees.specs.views.Tests.{static_test_view, static_start_view, static_test_chained}
 use Rattle.vhdl_names_rules.specs.units.Expressions as u
-use Rattle.vhdl_names_rules.proofs.rows.Tests.{view_static_chain}
+use Rattle.vhdl_names_trees.proofs.rows.Tests.{view_static_chain}
 use Rattle.vhdl_expand_rules.specs.declared.fault.ElabFault.{ElabFault}
 use Rattle.vhdl_expand_rules.specs.Elab.{Elab, ◌>>=◌, Told}
 use Rattle.vhdl_expand_rules.specs.Integers.{Integers, decision}

@@ -1,12 +1,12 @@
 -- Whether a chain of operators on static integers is static.
 use Rattle.std.proofs.Common.{◌≡◌, Bool, true, false, ◌&&◌, List, [], ◌∷◌, Box, Vec, Global, refl, sym, ap, ◌∙◌}
-use Rattle.vhdl_names_rules.specs.declared.integer.Static.TheVariants as s
-use Rattle.vhdl_names_rules.specs.declared.integer.Static.{Static}
-use Rattle.vhdl_names_rules.specs.declared.integer.StaticLink.{StaticLink}
-use Rattle.vhdl_names_rules.specs.declared.integer.StaticStart.{StaticStart}
-use Rattle.vhdl_names_rules.specs.views.Integers.{static_view, start_view, static_chained}
+use Rattle.vhdl_names_trees.specs.declared.integer.Static.TheVariants as s
+use Rattle.vhdl_names_trees.specs.declared.integer.Static.{Static}
+use Rattle.vhdl_names_trees.specs.declared.integer.StaticLink.{StaticLink}
+use Rattle.vhdl_names_trees.specs.declared.integer.StaticStart.{StaticStart}
+use Rattle.vhdl_names_trees.specs.views.Integers.{static_view, start_view, static_chained}
 use Rattle.vhdl_names_rules.specs.units.Expressions as u
-use Rattle.vhdl_names_rules.proofs.rows.Integers.{view_chain}
+use Rattle.vhdl_names_trees.proofs.rows.Integers.{view_chain}
 use Rattle.vhdl_names_rules.specs.Names.{is_static}
 use Rattle.vhdl_expand_rules.specs.views.Prefixes.{all_static}
 

@@ -3,8 +3,8 @@
 
 ghost use Rattle.std.specs.Prelude.{◌≡◌, Ok};
 ghost use Rattle.rtl_model.specs.bodies.Tests as tests;
-ghost use Rattle.vhdl_names_rules.specs.views.Integers.{range_view};
-ghost use Rattle.vhdl_names_rules.specs.views.Tests.{static_test_view, static_start_view};
+ghost use Rattle.vhdl_names_trees.specs.views.Integers.{range_view};
+ghost use Rattle.vhdl_names_trees.specs.views.Tests.{static_test_view, static_start_view};
 ghost use Rattle.vhdl_expand_rules.specs.Integers as definition;
 ghost use Rattle.vhdl_expand_rules.specs.views.Integers.{integers_view, Computes, Makes};
 ghost use Rattle.vhdl_expand_rules.specs.views.Decisions.{all_decided, turns_view};
@@ -12,7 +12,7 @@ ghost use Rattle.vhdl_expand_rules.specs.views.Decisions.{all_decided, turns_vie
 use crate::fault::{ElabFault, ElabProblem};
 use crate::integer::Integers;
 use crate::turns::{MAX_TURNS, Turns};
-use vhdl_names_rules::{StaticRange, StaticTest, StaticTestLink, StaticTestStart};
+use vhdl_names_trees::{StaticRange, StaticTest, StaticTestLink, StaticTestStart};
 use vhdl_tree::Direction;
 use vhdl_values::{Cmp, Logic};
 

@@ -1,7 +1,7 @@
 //! The values of static integers (IEEE 1076-2008, 9.4 and 9.2).
 
 ghost use Rattle.std.specs.Prelude.{◌≡◌, ◌+ℤ◌, pos, Ok};
-ghost use Rattle.vhdl_names_rules.specs.views.Integers.{static_view, start_view};
+ghost use Rattle.vhdl_names_trees.specs.views.Integers.{static_view, start_view};
 ghost use Rattle.vhdl_names_rules.specs.declared.operator.Arithmetic.TheVariants.{Modulo, Remainder};
 ghost use Rattle.vhdl_expand_rules.specs.Integers as definition;
 ghost use Rattle.vhdl_expand_rules.specs.views.Integers.{integers_view, range_view, Computes, Makes, in_range, with_sign, all_operated};
@@ -9,7 +9,8 @@ ghost use Rattle.vhdl_expand_rules.specs.views.Integers.{integers_view, range_vi
 use crate::fault::{ElabFault, ElabProblem};
 use crate::range::{IntegerRange, known_range};
 use vhdl_lexer::MAX_INTEGER;
-use vhdl_names_rules::{Arithmetic, Static, StaticLink, StaticStart};
+use vhdl_names_rules::Arithmetic;
+use vhdl_names_trees::{Static, StaticLink, StaticStart};
 
 /// The integers that are known where an expression stands: of generics and constants by their
 /// numbers, and of the parameters of the generates and loops round it, the outermost first. What a

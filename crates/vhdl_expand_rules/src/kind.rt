@@ -1,10 +1,10 @@
 //! What is declared, and the parts of it that names mean (IEEE 1076-2008, 5.3.2, 8.4, 8.5).
 
 ghost use Rattle.std.specs.Prelude.{◌≡◌, [], ◌∷◌, option_map};
-ghost use Rattle.vhdl_names_rules.specs.views.Integers as names;
-ghost use Rattle.vhdl_names_rules.specs.views.Integers.{static_view};
+ghost use Rattle.vhdl_names_trees.specs.views.Integers as names;
+ghost use Rattle.vhdl_names_trees.specs.views.Integers.{static_view};
 ghost use Rattle.vhdl_names_rules.specs.units.Expressions as units;
-ghost use Rattle.vhdl_names_rules.specs.views.Vectors.{part_view};
+ghost use Rattle.vhdl_names_trees.specs.views.Vectors.{part_view};
 ghost use Rattle.vhdl_expand_rules.specs.Integers.{is_same_direction};
 ghost use Rattle.vhdl_expand_rules.specs.Kinds as definition;
 ghost use Rattle.vhdl_expand_rules.specs.views.Integers.{integers_view, range_view, if_any, Computes, Makes};
@@ -15,7 +15,7 @@ use crate::decision::{extent, is_null};
 use crate::fault::{ElabFault, ElabProblem};
 use crate::integer::{Integers, as_natural};
 use crate::range::IntegerRange;
-use vhdl_names_rules::{Part, Static, StaticRange};
+use vhdl_names_trees::{Part, Static, StaticRange};
 use vhdl_tree::Direction;
 use vhdl_values::Counted;
 

@@ -1,7 +1,8 @@
 //! Integer subtypes, computed (IEEE 1076-2008, 5.2.3, 6.3).
 
 ghost use Rattle.std.specs.Prelude.{◌≡◌, option_map};
-ghost use Rattle.vhdl_names_rules.specs.views.Integers as names;
+ghost use Rattle.vhdl_names_rules.specs.views.Ranges.{base_view};
+ghost use Rattle.vhdl_names_trees.specs.views.Integers as names;
 ghost use Rattle.vhdl_expand_rules.specs.Declarations as declarations;
 ghost use Rattle.vhdl_expand_rules.specs.Integers as definition;
 ghost use Rattle.vhdl_expand_rules.specs.Kinds as kinds;
@@ -12,7 +13,8 @@ use crate::decision::is_null;
 use crate::fault::{ElabFault, ElabProblem};
 use crate::integer::Integers;
 use crate::range::IntegerRange;
-use vhdl_names_rules::{IntegerBase, IntegerSubtype, IntegerType, Static, StaticRange};
+use vhdl_names_rules::{IntegerBase, IntegerType};
+use vhdl_names_trees::{IntegerSubtype, Static, StaticRange};
 use vhdl_tree::Direction;
 
 /// Which integers a subtype has: those of a type, or those in a range.
@@ -62,7 +64,7 @@ impl Numbers {
 impl Integers<'_> {
     /// Those of a type, or in the declared range of a number.
     fn base_numbers(&self, base: IntegerBase, at: usize) -> Result<Numbers, ElabFault>
-        ensures { Makes numbers_view (definition.base_numbers (integers_view self.now) at (names.base_view base))
+        ensures { Makes numbers_view (definition.base_numbers (integers_view self.now) at (base_view base))
             result }
     {
         match base {

@@ -3,12 +3,12 @@
 
 ghost use Rattle.std.specs.Prelude.{◌≡◌};
 ghost use Rattle.vhdl_names_rules.specs.Names as names;
-ghost use Rattle.vhdl_names_rules.specs.views.Integers.{static_view, start_view};
-ghost use Rattle.vhdl_names_rules.specs.views.Vectors.{part_view};
+ghost use Rattle.vhdl_names_trees.specs.views.Integers.{static_view, start_view};
+ghost use Rattle.vhdl_names_trees.specs.views.Vectors.{part_view};
 ghost use Rattle.vhdl_expand_rules.specs.Prefixes as definition;
 ghost use Rattle.vhdl_expand_rules.specs.views.Prefixes.{all_static};
 
-use vhdl_names_rules::{Part, Static, StaticLink, StaticStart};
+use vhdl_names_trees::{Part, Static, StaticLink, StaticStart};
 
 /// Which names of a body are sought.
 #[derive(Clone, Copy)]

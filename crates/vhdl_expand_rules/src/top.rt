@@ -2,12 +2,12 @@
 
 ghost use Rattle.std.specs.Prelude.{◌≡◌, find, map, option_map, IfOk};
 ghost use Rattle.vhdl_names_rules.specs.units.Units as units;
-ghost use Rattle.vhdl_names_rules.specs.views.Integers.{static_view};
+ghost use Rattle.vhdl_names_trees.specs.views.Integers.{static_view};
 ghost use Rattle.vhdl_expand_rules.specs.Tops as definition;
 ghost use Rattle.vhdl_expand_rules.specs.views.Tops.{setting_view};
 
 use std::alloc::{AllocError, Global};
-use vhdl_names_rules::Static;
+use vhdl_names_trees::Static;
 
 /// A generic of the top, by its name in letters of either case, and its value.
 #[derive(Clone, Copy)]

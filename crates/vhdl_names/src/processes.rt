@@ -19,13 +19,14 @@ ghost use Rattle.vhdl_names_units.specs.views.Sequential.{body_view};
 
 use crate::process_labels::statement_labels_are_distinct;
 use indexmap::IndexMap;
+use vhdl_names_asked::{condition, signal};
 use vhdl_names_declarations::Counts;
 use vhdl_names_declarations::process::process_declarations;
-use vhdl_names_expressions::{condition, signal};
 use vhdl_names_registers::{Edge, alone_at, waited_edge};
-use vhdl_names_rules::{NameFault, NameProblem, SignalPart, Test};
+use vhdl_names_rules::{NameFault, NameProblem};
 use vhdl_names_sight::Sight;
 use vhdl_names_statements::analysed;
+use vhdl_names_trees::{SignalPart, Test};
 use vhdl_names_units::{Branch, Process, Sensitivity, Statement, copied_label, earlier_in, ended};
 use vhdl_tree as syntax;
 use vhdl_tree::Identifier;

@@ -9,7 +9,7 @@ ghost use Rattle.vhdl_names_rules.specs.units.Units as u;
 ghost use Rattle.vhdl_tree.specs.View.{scheme_view};
 ghost use Rattle.vhdl_names_units.specs.views.Concurrent.{generated};
 
-use vhdl_names_expressions::{static_condition, static_range};
+use vhdl_names_asked::{static_condition, static_range};
 use vhdl_names_rules::NameFault;
 use vhdl_names_sight::Sight;
 use vhdl_names_units::Scheme;

@@ -16,8 +16,8 @@ use Rattle.vhdl_names_rules.specs.Declarations.{as_kind, static_test, single_exp
 use Rattle.vhdl_names_rules.specs.problems.Broken.{Broken, ◌▸◌}
 use Rattle.vhdl_names_rules.specs.problems.Places.{start}
 use Rattle.vhdl_names_rules.specs.problems.Declarations.{standing_twice, typed_constants}
-use Rattle.vhdl_names_rules.specs.views.Integers.{static_view, subtype_view}
-use Rattle.vhdl_names_rules.specs.views.Tests.{static_test_view}
+use Rattle.vhdl_names_trees.specs.views.Integers.{static_view, subtype_view}
+use Rattle.vhdl_names_trees.specs.views.Tests.{static_test_view}
 use Rattle.vhdl_names_units.specs.views.Answers.{form_view, fixed_view}
 use Rattle.vhdl_names_values.specs.Marking.{integers_with}
 use Rattle.vhdl_names_declarations.specs.declared.constants.Constant.{Constant}

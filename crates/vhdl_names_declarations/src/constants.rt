@@ -7,7 +7,8 @@ ghost use Rattle.vhdl_names_declarations.specs.Entered.{entering, entering_varia
 ghost use Rattle.vhdl_names_rules.specs.Declarations as rules;
 ghost use Rattle.vhdl_names_rules.specs.Gives.{Gives};
 ghost use Rattle.vhdl_names_rules.specs.Subtypes.{declaring_literal};
-ghost use Rattle.vhdl_names_rules.specs.views.Integers.{base_view, subtype_view as integers_view};
+ghost use Rattle.vhdl_names_trees.specs.views.Integers.{subtype_view as integers_view};
+ghost use Rattle.vhdl_names_rules.specs.views.Ranges.{base_view};
 ghost use Rattle.vhdl_tree.specs.View as tree;
 ghost use Rattle.vhdl_names_units.specs.views.Answers.{fixed_view};
 ghost use Rattle.vhdl_names_units.specs.views.Declarations.{declaration_view};
@@ -21,12 +22,12 @@ use crate::names::copied_names;
 use crate::ports::kind_of;
 use crate::region::{Settled, hide, settle};
 use std::alloc::{AllocError, Global};
-use vhdl_names_expressions::{start, static_condition, static_integer};
+use vhdl_names_asked::static_condition;
+use vhdl_names_expressions::{start, static_integer};
 use vhdl_names_parts::is_local;
-use vhdl_names_rules::{
-    ElementKind, IntegerBase, IntegerSubtype, NameFault, NameProblem, Static, StaticTest,
-};
+use vhdl_names_rules::{ElementKind, IntegerBase, NameFault, NameProblem};
 use vhdl_names_sight::{Sight, declaration_of};
+use vhdl_names_trees::{IntegerSubtype, Static, StaticTest};
 use vhdl_names_units::{Declaration, Fixed, Form};
 use vhdl_names_values::{
     TypeClass, class_of, fixed_value, integer_subtype, integers_of, single_expression, subtype,

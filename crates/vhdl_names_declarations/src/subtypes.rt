@@ -7,7 +7,7 @@ ghost use Rattle.vhdl_names_declarations.specs.Subtyping as typed;
 ghost use Rattle.vhdl_names_rules.specs.Declarations as rules;
 ghost use Rattle.vhdl_names_rules.specs.Gives.{Gives};
 ghost use Rattle.vhdl_names_rules.specs.Visibility as visibility;
-ghost use Rattle.vhdl_names_rules.specs.views.Integers.{base_view};
+ghost use Rattle.vhdl_names_rules.specs.views.Ranges.{base_view};
 ghost use Rattle.vhdl_tree.specs.View as tree;
 ghost use Rattle.vhdl_names_sight.specs.Views.{entry_of};
 ghost use Rattle.vhdl_names_units.specs.views.Answers.{form_view};

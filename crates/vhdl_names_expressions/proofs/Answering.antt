@@ -14,8 +14,8 @@ use Rattle.vhdl_tree.specs.declared.expression.Element.{Element}
 use Rattle.vhdl_names_rules.specs.declared.fault.NameFault.{NameFault}
 use Rattle.vhdl_names_rules.specs.declared.fault.NameFault.TheVariants.{NoMemory}
 use Rattle.vhdl_names_rules.specs.declared.fault.NameProblem.TheVariants.{TypeMismatch}
-use Rattle.vhdl_names_rules.specs.declared.integer.Static as integers
-use Rattle.vhdl_names_rules.specs.declared.typed.Typed as code
+use Rattle.vhdl_names_trees.specs.declared.integer.Static as integers
+use Rattle.vhdl_names_trees.specs.declared.typed.Typed as code
 use Rattle.vhdl_names_rules.specs.Gives.{Gives}
 use Rattle.vhdl_names_rules.specs.Rules.{◌>>=◌}
 use Rattle.vhdl_names_rules.specs.Visibility.{Sight, Declared, declaration}
@@ -24,8 +24,8 @@ use Rattle.vhdl_names_rules.specs.Types.{TypedElements}
 use Rattle.vhdl_names_rules.specs.Expressions as are
 use Rattle.vhdl_names_rules.specs.Expressions.{as_integer, in_parentheses}
 use Rattle.vhdl_names_rules.specs.Operators.{Typed, as_computed, composite, inverse, raised}
-use Rattle.vhdl_names_rules.specs.views.Integers.{static_view}
-use Rattle.vhdl_names_rules.specs.views.Expressions.{typed_view}
+use Rattle.vhdl_names_trees.specs.views.Integers.{static_view}
+use Rattle.vhdl_names_trees.specs.views.Expressions.{typed_view}
 use Rattle.vhdl_names_rules.specs.problems.Broken.{Broken, Tells, refused, ◌▸◌, lacking}
 use Rattle.vhdl_names_rules.specs.problems.Places.{start}
 use Rattle.vhdl_names_rules.specs.problems.Operators.{operator_problem}

@@ -10,15 +10,15 @@ use Rattle.vhdl_tree.specs.declared.expression.Suffix.TheVariants as s
 use Rattle.vhdl_names_rules.specs.declared.fault.NameFault.{NameFault}
 use Rattle.vhdl_names_rules.specs.declared.fault.NameFault.TheVariants.{At}
 use Rattle.vhdl_names_rules.specs.declared.fault.NameProblem.TheVariants.{TypeMismatch}
-use Rattle.vhdl_names_rules.specs.declared.integer.StaticRange.{StaticRange}
-use Rattle.vhdl_names_rules.specs.declared.typed.TypedSuffix.{TypedSuffix}
+use Rattle.vhdl_names_trees.specs.declared.integer.StaticRange.{StaticRange}
+use Rattle.vhdl_names_trees.specs.declared.typed.TypedSuffix.{TypedSuffix}
 use Rattle.vhdl_names_rules.specs.units.Expressions as u
 use Rattle.vhdl_names_rules.specs.Rules.{◌>>=◌}
 use Rattle.vhdl_names_rules.specs.Visibility.{Sight}
 use Rattle.vhdl_names_rules.specs.Operators.{Typed}
 use Rattle.vhdl_names_rules.specs.Expressions as are
-use Rattle.vhdl_names_rules.specs.views.Integers.{range_view}
-use Rattle.vhdl_names_rules.specs.views.Expressions.{typed_suffix_view}
+use Rattle.vhdl_names_trees.specs.views.Integers.{range_view}
+use Rattle.vhdl_names_trees.specs.views.Expressions.{typed_suffix_view}
 use Rattle.vhdl_names_rules.specs.problems.Places.{start}
 use Rattle.vhdl_names_rules.specs.problems.Expressions.{typed, typed_suffix, typed_each, static, static_range}
 use Rattle.vhdl_names_rules.proofs.Along.{gives_along}

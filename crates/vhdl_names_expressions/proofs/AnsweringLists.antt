@@ -11,19 +11,19 @@ use Rattle.vhdl_tree.specs.declared.expression.Element.{Element, out-Element}
 use Rattle.vhdl_tree.specs.declared.expression.Range.{Range}
 use Rattle.vhdl_names_rules.specs.declared.fault.NameFault.{NameFault}
 use Rattle.vhdl_names_rules.specs.declared.fault.NameProblem.TheVariants.{TypeMismatch}
-use Rattle.vhdl_names_rules.specs.declared.integer.Index as index
-use Rattle.vhdl_names_rules.specs.declared.typed.Typed as code
-use Rattle.vhdl_names_rules.specs.declared.typed.TypedChoice as coded
-use Rattle.vhdl_names_rules.specs.declared.typed.TypedElement.{TypedElement}
+use Rattle.vhdl_names_trees.specs.declared.integer.Index as index
+use Rattle.vhdl_names_trees.specs.declared.typed.Typed as code
+use Rattle.vhdl_names_trees.specs.declared.typed.TypedChoice as coded
+use Rattle.vhdl_names_trees.specs.declared.typed.TypedElement.{TypedElement}
 use Rattle.vhdl_names_rules.specs.units.Expressions as u
 use Rattle.vhdl_names_rules.specs.Rules.{◌>>=◌, each}
 use Rattle.vhdl_names_rules.specs.Visibility.{Sight}
 use Rattle.vhdl_names_rules.specs.Types.{Typed, TypedChoice, place}
 use Rattle.vhdl_names_rules.specs.Local.{is_local}
 use Rattle.vhdl_names_rules.specs.Expressions as are
-use Rattle.vhdl_names_rules.specs.views.Integers.{index_view}
-use Rattle.vhdl_names_rules.specs.views.Expressions.{typed_view, typed_elements_view}
-use Rattle.vhdl_names_rules.specs.views.Expressions.{choice_view as typed_choice_view}
+use Rattle.vhdl_names_trees.specs.views.Integers.{index_view}
+use Rattle.vhdl_names_trees.specs.views.Expressions.{typed_view, typed_elements_view}
+use Rattle.vhdl_names_trees.specs.views.Expressions.{choice_view as typed_choice_view}
 use Rattle.vhdl_names_rules.specs.problems.Broken.{refused}
 use Rattle.vhdl_names_rules.specs.problems.Places.{start}
 use Rattle.vhdl_names_rules.specs.problems.Expressions.{typed, typed_each, typed_choice, typed_choices, typed_elements, static_range}

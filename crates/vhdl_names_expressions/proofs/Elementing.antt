@@ -5,9 +5,9 @@ use Rattle.vhdl_tree.specs.Tree as t
 use Rattle.vhdl_tree.specs.Tree.{elements_of, choices_of}
 use Rattle.vhdl_tree.specs.View.{element_view}
 use Rattle.vhdl_tree.specs.declared.expression.Element.{Element}
-use Rattle.vhdl_names_rules.specs.declared.typed.TypedElement.{TypedElement, roll-TypedElement, out-roll-TypedElement}
-use Rattle.vhdl_names_rules.specs.declared.typed.TypedChoice as code
-use Rattle.vhdl_names_rules.specs.declared.typed.Typed as coded
+use Rattle.vhdl_names_trees.specs.declared.typed.TypedElement.{TypedElement, roll-TypedElement, out-roll-TypedElement}
+use Rattle.vhdl_names_trees.specs.declared.typed.TypedChoice as code
+use Rattle.vhdl_names_trees.specs.declared.typed.Typed as coded
 use Rattle.vhdl_names_rules.specs.units.Expressions as u
 use Rattle.vhdl_names_rules.specs.Rules.{◌>>=◌, each}
 use Rattle.vhdl_names_rules.specs.Visibility.{Sight}
@@ -15,7 +15,7 @@ use Rattle.vhdl_names_rules.specs.Types as types
 use Rattle.vhdl_names_rules.specs.Types.{Typed, TypedChoice, TypedElements, place}
 use Rattle.vhdl_names_rules.specs.Local.{is_local}
 use Rattle.vhdl_names_rules.specs.Expressions.{typed, typed_elements, typed_choices, typed_choice, as_index, as_integer, static, static_range}
-use Rattle.vhdl_names_rules.specs.views.Expressions.{choice_view, typed_view, typed_elements_view, with_element}
+use Rattle.vhdl_names_trees.specs.views.Expressions.{choice_view, typed_view, typed_elements_view, with_element}
 use Rattle.vhdl_names_rules.specs.problems.Places.{start}
 use Rattle.vhdl_names_expressions.specs.Elements.{OneElement, one_element, one_element_view, typed_element}
 use Rattle.std.specs.Prelude.{◌&&◌, option_map}

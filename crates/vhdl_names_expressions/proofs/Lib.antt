@@ -1,4 +1,3 @@
-pub mod Asking
 pub mod Chains
 pub mod Choosing
 pub mod Each
@@ -8,13 +7,9 @@ pub mod BreakingForms
 pub mod BreakingElements
 pub mod Elementing
 pub mod Typing
-pub mod ObjectNames
-pub mod Filling
 pub mod Soles
 pub mod Qualifying
-pub mod Aggregating
 pub mod Namings
 pub mod Answering
 pub mod AnsweringLists
 pub mod AnsweringBounds
-pub mod Selecting

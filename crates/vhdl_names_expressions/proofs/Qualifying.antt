@@ -3,7 +3,7 @@ use Rattle.std.proofs.Common.{◌≡◌, ℕ, Bool, [], Option, Some, None, Resu
 use Rattle.std.specs.Prelude.{option_map, is_some}
 use Rattle.vhdl_names_rules.specs.declared.kind.ElementKind.{ElementKind}
 use Rattle.vhdl_names_rules.specs.declared.kind.ElementKind.TheVariants.{Element}
-use Rattle.vhdl_names_rules.specs.declared.integer.StaticRange.{StaticRange}
+use Rattle.vhdl_names_trees.specs.declared.integer.StaticRange.{StaticRange}
 use Rattle.vhdl_names_rules.specs.declared.fault.NameProblem.TheVariants.{TypeMismatch}
 use Rattle.vhdl_names_rules.specs.units.Expressions.{Range}
 use Rattle.vhdl_names_rules.specs.Visibility as visibility
@@ -13,7 +13,7 @@ use Rattle.vhdl_names_rules.specs.Types.{Typed, elements, TypedElements}
 use Rattle.vhdl_names_rules.specs.Ranges.{declared_range}
 use Rattle.vhdl_names_rules.specs.Aggregates.{aggregate}
 use Rattle.vhdl_names_rules.specs.Expressions.{qualified_by}
-use Rattle.vhdl_names_rules.specs.views.Integers.{option_range_view}
+use Rattle.vhdl_names_trees.specs.views.Integers.{option_range_view}
 use Rattle.vhdl_names_rules.specs.problems.Broken.{refused, unless}
 use Rattle.vhdl_names_rules.specs.problems.Aggregates as aggregates
 use Rattle.vhdl_names_rules.specs.problems.Expressions as broken

@@ -1,4 +1,3 @@
-pub mod Asked
 pub mod Breaking
 pub mod Chosen
 pub mod Elements

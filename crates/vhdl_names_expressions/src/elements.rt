@@ -10,24 +10,23 @@ ghost use Rattle.vhdl_names_rules.specs.Gives.{Gives};
 ghost use Rattle.vhdl_names_rules.specs.Local as local;
 ghost use Rattle.vhdl_names_rules.specs.Visibility as visibility;
 ghost use Rattle.vhdl_names_rules.specs.Ranges as ranges;
-ghost use Rattle.vhdl_names_rules.specs.views.Integers.{index_view, declared_range_view, option_range_view};
+ghost use Rattle.vhdl_names_trees.specs.views.Integers.{index_view, option_range_view};
+ghost use Rattle.vhdl_names_rules.specs.views.Ranges.{declared_range_view};
 ghost use Rattle.vhdl_names_parts.specs.Ranging.{sized_range as sized_range_of};
-ghost use Rattle.vhdl_names_rules.specs.views.Expressions.{typed_view, choice_view, typed_elements_view};
+ghost use Rattle.vhdl_names_trees.specs.views.Expressions.{typed_view, choice_view, typed_elements_view};
 ghost use Rattle.vhdl_names_sight.specs.Views.{meaning_view, entry_of};
 ghost use Rattle.vhdl_tree.specs.Tree as t;
 ghost use Rattle.vhdl_tree.specs.View.{view, ident_view, choice_view as tree_choice_view, element_view as tree_element_view};
 ghost use Rattle.vhdl_names_expressions.specs.Elements as steps;
 
 use crate::expressions::{start, typed};
-use crate::named::bounds;
+use crate::name::bounds;
 use std::alloc::{AllocError, Global};
 use vhdl_names_operators::{aggregate, enclosed};
 use vhdl_names_parts::{is_local, sized_by, sized_range};
-use vhdl_names_rules::{
-    ElementKind, Index, NameFault, NameProblem, StaticRange, Typed, TypedChoice, TypedElement,
-    without,
-};
+use vhdl_names_rules::{ElementKind, NameFault, NameProblem, without};
 use vhdl_names_sight::{Entry, Meaning, Sight, declaration_of};
+use vhdl_names_trees::{Index, StaticRange, Typed, TypedChoice, TypedElement};
 use vhdl_tree::{Choice, Element, Expr, Identifier, Range};
 
 /// The index, or the indexes of a range, that a choice at byte `at` is.
@@ -183,7 +182,7 @@ fn boxed_range(alloc: Global, entry: &Entry) -> Result<Option<Box<StaticRange>>,
         (sized_range_of (meaning_view entry.now.meaning) (option_map declared_range_view entry.now.range))) }
 {
     match sized_range(entry) {
-        Some(range) => Ok(Some(Box::new(alloc, range.range())?)),
+        Some(range) => Ok(Some(Box::new(alloc, StaticRange::declared(range))?)),
         None => Ok(None),
     }
 }

@@ -8,24 +8,25 @@ ghost use Rattle.vhdl_names_rules.specs.problems.Places as places;
 ghost use Rattle.vhdl_names_rules.specs.Expressions as rules;
 ghost use Rattle.vhdl_names_rules.specs.Gives.{Gives};
 ghost use Rattle.vhdl_names_rules.specs.declared.fault.NameProblem.TheVariants.{TypeMismatch};
-ghost use Rattle.vhdl_names_rules.specs.views.Integers.{static_view};
+ghost use Rattle.vhdl_names_trees.specs.views.Integers.{static_view};
 ghost use Rattle.vhdl_tree.specs.Tree as t;
 ghost use Rattle.vhdl_tree.specs.View.{view};
 ghost use Rattle.vhdl_names_expressions.specs.Chosen.{started, links_of};
 ghost use Rattle.vhdl_names_expressions.specs.Steps.{is_parens, enclosed_if, linked, all_linked, computed_of};
 ghost use Rattle.vhdl_names_numbers.specs.Integers.{integer_view};
 ghost use Rattle.vhdl_names_expressions.specs.Breaking.{link_breaks, all_break, started_breaks};
-ghost use Rattle.vhdl_names_rules.specs.views.Expressions.{typed_view};
+ghost use Rattle.vhdl_names_trees.specs.views.Expressions.{typed_view};
 
 use crate::elements::{qualified, typed_elements};
-use crate::named::named;
+use crate::name::named;
 use vhdl_names_numbers::{Integer, absolute, signed};
 use vhdl_names_operators::{
     bit_string_literal, character_literal, enclosed, in_parentheses, integer_literal, inverse,
     operated, power, string_literal,
 };
-use vhdl_names_rules::{NameFault, NameProblem, Static, Typed, without};
+use vhdl_names_rules::{NameFault, NameProblem, without};
 use vhdl_names_sight::Sight;
+use vhdl_names_trees::{Static, Typed};
 use vhdl_tree::{Chain, Expr, Link, Power};
 
 /// The byte at which an expression starts.

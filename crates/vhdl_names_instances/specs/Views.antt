@@ -5,10 +5,10 @@ use Rattle.std.specs.Borrow.{Bor}
 use Rattle.vhdl_tree.specs.declared.expression.Expr.{Expr}
 use Rattle.vhdl_tree.specs.Tree as t
 use Rattle.vhdl_tree.specs.View.{view}
-use Rattle.vhdl_names_rules.specs.declared.vector.SignalPart.{SignalPart}
+use Rattle.vhdl_names_trees.specs.declared.vector.SignalPart.{SignalPart}
 use Rattle.vhdl_names_rules.specs.units.Expressions as u
 use Rattle.vhdl_names_rules.specs.units.Units as units
-use Rattle.vhdl_names_rules.specs.views.Vectors.{place_view}
+use Rattle.vhdl_names_trees.specs.views.Vectors.{place_view}
 use Rattle.vhdl_names_units.specs.declared.actuals.Actuals.{Actuals}
 use Rattle.vhdl_names_units.specs.declared.answers.Fixed.{Fixed}
 use Rattle.vhdl_names_units.specs.views.Answers.{fixed_view}

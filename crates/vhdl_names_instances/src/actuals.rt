@@ -13,15 +13,17 @@ ghost use Rattle.vhdl_names_rules.specs.Statements.{signal as signal_of};
 ghost use Rattle.vhdl_names_rules.specs.declared.fault.NameProblem.TheVariants.{LeftOut};
 ghost use Rattle.vhdl_names_rules.specs.declared.kind.ObjectType.TheVariants.{Elements};
 ghost use Rattle.vhdl_names_rules.specs.Visibility as visibility;
-ghost use Rattle.vhdl_names_rules.specs.views.Vectors.{place_view};
+ghost use Rattle.vhdl_names_trees.specs.views.Vectors.{place_view};
 ghost use Rattle.vhdl_tree.specs.View.{view, name_view, attribute_view, suffix_view};
 ghost use Rattle.vhdl_names_sight.specs.Views.{meaning_view};
 ghost use Rattle.vhdl_names_units.specs.views.Answers.{signal_name_view};
 
-use vhdl_names_expressions::{name_of, signal, start, typed_suffix};
+use vhdl_names_asked::signal;
+use vhdl_names_expressions::{name_of, start, typed_suffix};
 use vhdl_names_parts::attribute_start;
-use vhdl_names_rules::{ElementKind, NameFault, NameProblem, ObjectType, SignalPart};
+use vhdl_names_rules::{ElementKind, NameFault, NameProblem, ObjectType};
 use vhdl_names_sight::{Meaning, Sight};
+use vhdl_names_trees::SignalPart;
 use vhdl_names_units::{Actuals, SignalName};
 use vhdl_tree::{Expr, Mode, Name, Suffix};
 

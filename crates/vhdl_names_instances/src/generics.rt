@@ -7,19 +7,19 @@ ghost use Rattle.vhdl_names_rules.specs.problems.Broken.{Tells};
 ghost use Rattle.vhdl_names_rules.specs.problems.Instances as broken;
 ghost use Rattle.vhdl_names_rules.specs.Gives.{Gives};
 ghost use Rattle.vhdl_names_rules.specs.Instances as rules;
-ghost use Rattle.vhdl_names_rules.specs.views.Expressions.{typed_view, typed_elements_view};
+ghost use Rattle.vhdl_names_trees.specs.views.Expressions.{typed_view, typed_elements_view};
 ghost use Rattle.vhdl_tree.specs.View.{view};
 ghost use Rattle.vhdl_names_units.specs.views.Answers.{fixed_view};
 
 use crate::actuals::entry_at;
 use std::alloc::Global;
-use vhdl_names_expressions::{given_as, start, static_condition, static_integer, typed};
+use vhdl_names_asked::{given_as, static_condition};
+use vhdl_names_expressions::{start, static_integer, typed};
 use vhdl_names_numbers::are_known;
 use vhdl_names_operators::arranged;
-use vhdl_names_rules::{
-    ElementKind, NameFault, NameProblem, ObjectType, Typed, TypedElement, without,
-};
+use vhdl_names_rules::{ElementKind, NameFault, NameProblem, ObjectType, without};
 use vhdl_names_sight::Sight;
+use vhdl_names_trees::{Typed, TypedElement};
 use vhdl_names_units::{Actuals, Fixed};
 use vhdl_names_values::as_known;
 use vhdl_tree::Expr;

@@ -3,17 +3,17 @@ use Rattle.std.proofs.Common.{◌≡◌, ℕ, ◌+◌, ◌<◌, ◌≤◌, Bool,
 use Rattle.std.proofs.lemmas.List.{at_drop_more, at_drop_all}
 use Rattle.std.specs.Prelude.{◌&&◌, ◌||◌}
 use Rattle.std.specs.List.{list_all}
-use Rattle.vhdl_names_rules.specs.declared.integer.StaticRange.{StaticRange}
-use Rattle.vhdl_names_rules.specs.declared.vector.Vector.TheVariants as v
-use Rattle.vhdl_names_rules.specs.declared.vector.VectorElement.{VectorElement}
-use Rattle.vhdl_names_rules.specs.declared.vector.VectorElement.TheVariants as e
-use Rattle.vhdl_names_rules.specs.declared.vector.VectorLink.{VectorLink}
-use Rattle.vhdl_names_rules.specs.declared.vector.VectorLink.TheVariants as l
-use Rattle.vhdl_names_rules.specs.declared.vector.VectorStart.{VectorStart}
+use Rattle.vhdl_names_trees.specs.declared.integer.StaticRange.{StaticRange}
+use Rattle.vhdl_names_trees.specs.declared.vector.Vector.TheVariants as v
+use Rattle.vhdl_names_trees.specs.declared.vector.VectorElement.{VectorElement}
+use Rattle.vhdl_names_trees.specs.declared.vector.VectorElement.TheVariants as e
+use Rattle.vhdl_names_trees.specs.declared.vector.VectorLink.{VectorLink}
+use Rattle.vhdl_names_trees.specs.declared.vector.VectorLink.TheVariants as l
+use Rattle.vhdl_names_trees.specs.declared.vector.VectorStart.{VectorStart}
 use Rattle.vhdl_names_rules.specs.units.Expressions as u
 use Rattle.vhdl_names_rules.specs.Known.{is_known, are_known}
-use Rattle.vhdl_names_rules.specs.views.Vectors.{vector_view, start_view, linked, with_element, vector_chained, elements_view}
-use Rattle.vhdl_names_rules.proofs.rows.Vectors.{view_chain, view_aggregate}
+use Rattle.vhdl_names_trees.specs.views.Vectors.{vector_view, start_view, linked, with_element, vector_chained, elements_view}
+use Rattle.vhdl_names_trees.proofs.rows.Vectors.{view_chain, view_aggregate}
 use Rattle.vhdl_names_numbers.specs.Knowing.{link_is_known, element_is_known, is_others}
 
 pub and_true : (b : Bool) → b ≡ b && true

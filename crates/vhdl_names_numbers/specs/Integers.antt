@@ -2,13 +2,13 @@
 use Rattle.std.specs.Prelude.{ℕ, Option, Some, None}
 use Rattle.vhdl_values.specs.declared.kinds.Cmp.{Cmp}
 use Rattle.vhdl_names_rules.specs.Rules.{◌>>=◌}
-use Rattle.vhdl_names_rules.specs.declared.typed.Typed.{Typed as Operand}
-use Rattle.vhdl_names_rules.specs.declared.typed.Typed.TheVariants as operand
+use Rattle.vhdl_names_trees.specs.declared.typed.Typed.{Typed as Operand}
+use Rattle.vhdl_names_trees.specs.declared.typed.Typed.TheVariants as operand
 use Rattle.vhdl_names_rules.specs.Operators.{Typed, integer, computed, integers_compared, compares}
 use Rattle.vhdl_names_rules.specs.units.Expressions as u
 use Rattle.vhdl_names_rules.specs.units.Expressions.{Vector, Test}
-use Rattle.vhdl_names_rules.specs.views.Integers.{static_view}
-use Rattle.vhdl_names_rules.specs.views.Vectors.{computed_view}
+use Rattle.vhdl_names_trees.specs.views.Integers.{static_view}
+use Rattle.vhdl_names_trees.specs.views.Vectors.{computed_view}
 use Rattle.vhdl_names_numbers.specs.declared.integer.Integer.{Integer}
 use Rattle.vhdl_names_numbers.specs.declared.integer.Integer.TheVariants as i
 

@@ -1,11 +1,11 @@
 -- Which operands name no signal and no variable.
 use Rattle.std.specs.Prelude.{Bool, true, false}
 use Rattle.vhdl_names_rules.specs.Known.{is_known}
-use Rattle.vhdl_names_rules.specs.views.Vectors.{vector_view}
-use Rattle.vhdl_names_rules.specs.declared.vector.VectorLink.{VectorLink}
-use Rattle.vhdl_names_rules.specs.declared.vector.VectorLink.TheVariants as l
-use Rattle.vhdl_names_rules.specs.declared.vector.VectorElement.{VectorElement}
-use Rattle.vhdl_names_rules.specs.declared.vector.VectorElement.TheVariants as e
+use Rattle.vhdl_names_trees.specs.views.Vectors.{vector_view}
+use Rattle.vhdl_names_trees.specs.declared.vector.VectorLink.{VectorLink}
+use Rattle.vhdl_names_trees.specs.declared.vector.VectorLink.TheVariants as l
+use Rattle.vhdl_names_trees.specs.declared.vector.VectorElement.{VectorElement}
+use Rattle.vhdl_names_trees.specs.declared.vector.VectorElement.TheVariants as e
 
 -- the right operand of an operator
 abbrev pub link_is_known : VectorLink → Bool

@@ -5,18 +5,17 @@ ghost use Rattle.std.specs.Prelude.{◌≡◌, option_map, IfErr};
 ghost use Rattle.vhdl_names_rules.specs.problems.Broken.{Tells, refused};
 ghost use Rattle.vhdl_names_rules.specs.declared.fault.NameProblem.TheVariants.{TypeMismatch};
 ghost use Rattle.vhdl_names_rules.specs.Gives.{Gives};
-ghost use Rattle.vhdl_names_rules.specs.views.Expressions.{typed_view};
+ghost use Rattle.vhdl_names_trees.specs.views.Expressions.{typed_view};
 ghost use Rattle.vhdl_names_rules.specs.declared.kind.ElementKind.TheVariants.{Unsigned};
 ghost use Rattle.vhdl_names_rules.specs.Operators as table;
-ghost use Rattle.vhdl_names_rules.specs.views.Integers.{static_view};
-ghost use Rattle.vhdl_names_rules.specs.views.Vectors.{computed_view, vector_view};
+ghost use Rattle.vhdl_names_trees.specs.views.Integers.{static_view};
+ghost use Rattle.vhdl_names_trees.specs.views.Vectors.{computed_view, vector_view};
 ghost use Rattle.vhdl_names_numbers.specs.Calls.{counted_by, encoded_by, number_by, number_problem};
 
 use crate::known::is_known;
 use std::alloc::Global;
-use vhdl_names_rules::{
-    Computed, ElementKind, NameFault, NameProblem, Static, Typed, Vector, without,
-};
+use vhdl_names_rules::{ElementKind, NameFault, NameProblem, without};
+use vhdl_names_trees::{Computed, Static, Typed, Vector};
 use vhdl_values::Counted;
 
 /// A number by a static count.

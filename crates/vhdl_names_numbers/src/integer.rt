@@ -6,12 +6,13 @@ ghost use Rattle.vhdl_names_rules.specs.declared.fault.NameProblem.TheVariants.{
 ghost use Rattle.vhdl_names_rules.specs.Expressions as rules;
 ghost use Rattle.vhdl_names_rules.specs.Gives.{Gives};
 ghost use Rattle.vhdl_names_rules.specs.Operators as table;
-ghost use Rattle.vhdl_names_rules.specs.views.Vectors.{computed_view};
-ghost use Rattle.vhdl_names_rules.specs.views.Expressions.{typed_view};
+ghost use Rattle.vhdl_names_trees.specs.views.Vectors.{computed_view};
+ghost use Rattle.vhdl_names_trees.specs.views.Expressions.{typed_view};
 ghost use Rattle.vhdl_names_numbers.specs.Integers.{integer_view, operand_of, integer_of, integers_of, both_view};
 
 use std::alloc::{AllocError, Global};
-use vhdl_names_rules::{Arithmetic, Computed, NameFault, NameProblem, Static, Typed, without};
+use vhdl_names_rules::{Arithmetic, NameFault, NameProblem, without};
+use vhdl_names_trees::{Computed, Static, Typed};
 use vhdl_tree::Sign;
 
 /// An integer, which a run may compute.

@@ -3,10 +3,10 @@
 ghost use Rattle.std.specs.Prelude.{◌≡◌};
 ghost use Rattle.std.specs.List.{list_all};
 ghost use Rattle.vhdl_names_rules.specs.Known as rules;
-ghost use Rattle.vhdl_names_rules.specs.views.Vectors.{vector_view, start_view, elements_view};
+ghost use Rattle.vhdl_names_trees.specs.views.Vectors.{vector_view, start_view, elements_view};
 ghost use Rattle.vhdl_names_numbers.specs.Knowing as steps;
 
-use vhdl_names_rules::{Vector, VectorElement, VectorLink, VectorStart};
+use vhdl_names_trees::{Vector, VectorElement, VectorLink, VectorStart};
 
 /// Whether a vector names no signal and no variable.
 #[cycle(known)]

@@ -6,16 +6,15 @@ ghost use Rattle.vhdl_names_rules.specs.declared.fault.NameProblem.TheVariants.{
 ghost use Rattle.vhdl_names_rules.specs.Expressions as rules;
 ghost use Rattle.vhdl_names_rules.specs.Gives.{Gives};
 ghost use Rattle.vhdl_names_rules.specs.Operators as table;
-ghost use Rattle.vhdl_names_rules.specs.views.Expressions.{typed_view, typed_suffix_view};
-ghost use Rattle.vhdl_names_rules.specs.views.Vectors.{computed_view, chosen_view};
+ghost use Rattle.vhdl_names_trees.specs.views.Expressions.{typed_view, typed_suffix_view};
+ghost use Rattle.vhdl_names_trees.specs.views.Vectors.{computed_view, chosen_view};
 ghost use Rattle.vhdl_names_numbers.specs.Calls.{chosen_by};
 ghost use Rattle.vhdl_names_numbers.specs.Integers.{integer_view};
 
 use crate::integer::Integer;
 use std::alloc::{AllocError, Global};
-use vhdl_names_rules::{
-    Chosen, Computed, ElementKind, NameFault, NameProblem, StaticRange, TypedSuffix, without,
-};
+use vhdl_names_rules::{ElementKind, NameFault, NameProblem, without};
+use vhdl_names_trees::{Chosen, Computed, StaticRange, TypedSuffix};
 use vhdl_tree::Direction;
 
 /// The part of a vector of a kind that a run chooses, whose name is at byte `at`, by the index or

@@ -2,15 +2,15 @@
 //! of boxes.
 
 ghost use Rattle.std.specs.Prelude.{◌≡◌, Some, IfOk};
-ghost use Rattle.vhdl_names_rules.specs.views.Expressions.{typed_view};
-ghost use Rattle.vhdl_names_rules.specs.views.Tests.{test_view};
+ghost use Rattle.vhdl_names_trees.specs.views.Expressions.{typed_view};
+ghost use Rattle.vhdl_names_trees.specs.views.Tests.{test_view};
 ghost use Rattle.vhdl_names_rules.specs.units.Expressions as units;
-ghost use Rattle.vhdl_names_rules.specs.views.Vectors.{computed_view, vector_view};
+ghost use Rattle.vhdl_names_trees.specs.views.Vectors.{computed_view, vector_view};
 ghost use Rattle.vhdl_names_numbers.specs.Integers.{integer_view, integers_related, number_beside, beside_number};
 
 use crate::integer::Integer;
 use std::alloc::{AllocError, Global};
-use vhdl_names_rules::{Computed, StaticTest, Test, Typed, Vector};
+use vhdl_names_trees::{Computed, StaticTest, Test, Typed, Vector};
 use vhdl_values::Cmp;
 
 /// A relation of two integers that a run computes, by the operator at byte `at`.

@@ -9,18 +9,18 @@ use Rattle.vhdl_names_rules.specs.declared.fault.NameFault.{NameFault}
 use Rattle.vhdl_names_rules.specs.declared.fault.NameFault.TheVariants.{At, NoMemory}
 use Rattle.vhdl_names_rules.specs.declared.fault.NameProblem.{NameProblem}
 use Rattle.vhdl_names_rules.specs.declared.fault.NameProblem.TheVariants.{WrongKind, TypeMismatch}
-use Rattle.vhdl_names_rules.specs.declared.integer.Index.{Index}
-use Rattle.vhdl_names_rules.specs.declared.typed.TypedChoice as code
-use Rattle.vhdl_names_rules.specs.declared.typed.TypedChoice.TheVariants as choice
-use Rattle.vhdl_names_rules.specs.declared.typed.TypedElement.{TypedElement, out-TypedElement}
+use Rattle.vhdl_names_trees.specs.declared.integer.Index.{Index}
+use Rattle.vhdl_names_trees.specs.declared.typed.TypedChoice as code
+use Rattle.vhdl_names_trees.specs.declared.typed.TypedChoice.TheVariants as choice
+use Rattle.vhdl_names_trees.specs.declared.typed.TypedElement.{TypedElement, out-TypedElement}
 use Rattle.vhdl_names_rules.specs.units.Expressions as u
 use Rattle.vhdl_names_rules.specs.Rules.{◌>>◌, met}
 use Rattle.vhdl_names_rules.specs.Types as types
 use Rattle.vhdl_names_rules.specs.Types.{Typed, TypedChoice}
 use Rattle.vhdl_names_rules.specs.Aggregates as are
 use Rattle.vhdl_names_rules.specs.Aggregates.{is_listed, listed_value, element_value, indexes_of}
-use Rattle.vhdl_names_rules.specs.views.Integers.{index_view}
-use Rattle.vhdl_names_rules.specs.views.Expressions.{choice_view, typed_view, typed_elements_view}
+use Rattle.vhdl_names_trees.specs.views.Integers.{index_view}
+use Rattle.vhdl_names_trees.specs.views.Expressions.{choice_view, typed_view, typed_elements_view}
 use Rattle.vhdl_names_rules.specs.problems.Broken.{Broken, Tells, ◌▸◌, unless, lacking, any_of}
 use Rattle.vhdl_names_rules.specs.problems.Aggregates as broken
 use Rattle.vhdl_names_rules.specs.problems.Aggregates.{is_named, is_only, is_end, choice_start, value_problem}

@@ -3,15 +3,15 @@ use Rattle.std.proofs.Common.{◌≡◌, ℕ, refl}
 use mathlib.Core.Former.{Count}
 use Rattle.vhdl_values.specs.declared.scalar.Nine.{Nine}
 use Rattle.vhdl_names_rules.specs.declared.kind.ElementKind.TheVariants.{Element}
-use Rattle.vhdl_names_rules.specs.declared.vector.Vector.{Vector}
-use Rattle.vhdl_names_rules.specs.declared.vector.Vector.TheVariants as v
-use Rattle.vhdl_names_rules.specs.declared.vector.Chosen.TheBlock.{Row_of-VectorLink, end_of-VectorLink, more_of-VectorLink}
-use Rattle.vhdl_names_rules.specs.declared.vector.VectorLink.{VectorLink}
-use Rattle.vhdl_names_rules.specs.declared.vector.VectorLink.TheVariants as l
+use Rattle.vhdl_names_trees.specs.declared.vector.Vector.{Vector}
+use Rattle.vhdl_names_trees.specs.declared.vector.Vector.TheVariants as v
+use Rattle.vhdl_names_trees.specs.declared.vector.Chosen.TheBlock.{Row_of-VectorLink, end_of-VectorLink, more_of-VectorLink}
+use Rattle.vhdl_names_trees.specs.declared.vector.VectorLink.{VectorLink}
+use Rattle.vhdl_names_trees.specs.declared.vector.VectorLink.TheVariants as l
 use Rattle.vhdl_names_rules.specs.Expressions as expressions
 use Rattle.vhdl_names_rules.specs.Operators.{elements}
 use Rattle.vhdl_names_rules.specs.units.Expressions as u
-use Rattle.vhdl_names_rules.specs.views.Vectors.{vector_view, links_view, linked}
+use Rattle.vhdl_names_trees.specs.views.Vectors.{vector_view, links_view, linked}
 use Rattle.vhdl_names_operators.specs.Steps.{closed}
 
 chain_kept : (left : u.Vector) (x : VectorLink) (n : Count) (row : Row_of-VectorLink n) → closed (links_view (linked left x) row) ≡ links_view (linked left x) row

@@ -7,17 +7,17 @@ use Rattle.vhdl_names_rules.specs.declared.kind.ElementKind.{ElementKind}
 use Rattle.vhdl_names_rules.specs.declared.fault.NameFault.{NameFault}
 use Rattle.vhdl_names_rules.specs.declared.fault.NameFault.TheVariants.{NoMemory}
 use Rattle.vhdl_names_rules.specs.declared.fault.NameProblem.TheVariants.{WrongKind, TypeMismatch}
-use Rattle.vhdl_names_rules.specs.declared.typed.TypedElement.{TypedElement}
-use Rattle.vhdl_names_rules.specs.declared.vector.VectorElement.{VectorElement}
-use Rattle.vhdl_names_rules.specs.declared.vector.VectorElement.TheVariants as v
+use Rattle.vhdl_names_trees.specs.declared.typed.TypedElement.{TypedElement}
+use Rattle.vhdl_names_trees.specs.declared.vector.VectorElement.{VectorElement}
+use Rattle.vhdl_names_trees.specs.declared.vector.VectorElement.TheVariants as v
 use Rattle.vhdl_names_rules.specs.units.Expressions as u
 use Rattle.vhdl_names_rules.specs.Rules.{◌>>=◌, ◌>>◌, met}
 use Rattle.vhdl_names_rules.specs.Types as types
 use Rattle.vhdl_names_rules.specs.Types.{Typed, TypedChoice, TypedElements}
 use Rattle.vhdl_names_rules.specs.Aggregates as are
 use Rattle.vhdl_names_rules.specs.Aggregates.{is_listed, is_others, is_chosen, is_place, is_local, are_arranged, are_local, have_others, have_one_choice, listed_value, element_value, indexes_of, values_of, arranged}
-use Rattle.vhdl_names_rules.specs.views.Expressions.{typed_elements_view}
-use Rattle.vhdl_names_rules.specs.views.Vectors.{with_element, elements_view}
+use Rattle.vhdl_names_trees.specs.views.Expressions.{typed_elements_view}
+use Rattle.vhdl_names_trees.specs.views.Vectors.{with_element, elements_view}
 use Rattle.vhdl_names_rules.specs.problems.Broken.{Broken, Tells, ◌▸◌, unless}
 use Rattle.vhdl_names_rules.specs.problems.Aggregates as broken
 use Rattle.vhdl_names_rules.specs.problems.Aggregates.{is_named, is_only, is_end}

@@ -8,16 +8,16 @@ use Rattle.vhdl_names_rules.specs.declared.fault.NameFault.{NameFault}
 use Rattle.vhdl_names_rules.specs.declared.fault.NameFault.TheVariants.{At}
 use Rattle.vhdl_names_rules.specs.declared.fault.NameProblem.{NameProblem}
 use Rattle.vhdl_names_rules.specs.declared.fault.NameProblem.TheVariants.{TypeMismatch, NotVisible}
-use Rattle.vhdl_names_rules.specs.declared.vector.Vector as code
-use Rattle.vhdl_names_rules.specs.declared.vector.Value as code_value
-use Rattle.vhdl_names_rules.specs.declared.typed.Typed as code_typed
-use Rattle.vhdl_names_rules.specs.declared.typed.Typed.TheVariants as t
+use Rattle.vhdl_names_trees.specs.declared.vector.Vector as code
+use Rattle.vhdl_names_trees.specs.declared.vector.Value as code_value
+use Rattle.vhdl_names_trees.specs.declared.typed.Typed as code_typed
+use Rattle.vhdl_names_trees.specs.declared.typed.Typed.TheVariants as t
 use Rattle.vhdl_names_rules.specs.units.Expressions as u
 use Rattle.vhdl_names_rules.specs.Rules.{◌>>=◌}
 use Rattle.vhdl_names_rules.specs.Operators.{Typed, integer, computed, elements, enumerated, composite, truth, is_number, equality}
 use Rattle.vhdl_names_rules.specs.problems.Broken.{Tells, refused}
 use Rattle.vhdl_names_rules.specs.problems.Operators.{is_numeric}
-use Rattle.vhdl_names_rules.specs.views.Expressions.{typed_view}
+use Rattle.vhdl_names_trees.specs.views.Expressions.{typed_view}
 use Rattle.vhdl_names_rules.proofs.laws.Rules.{some_is}
 use Rattle.vhdl_names_numbers.specs.declared.integer.Integer.{Integer}
 use Rattle.vhdl_names_numbers.specs.declared.integer.Integer.TheVariants as i

@@ -9,9 +9,9 @@ use Rattle.vhdl_tree.specs.declared.operator.Operator.{Operator}
 use Rattle.vhdl_tree.specs.declared.operator.Operator.TheVariants as op
 use Rattle.vhdl_names_rules.specs.declared.kind.ElementKind.{ElementKind}
 use Rattle.vhdl_names_rules.specs.declared.fault.NameFault.{NameFault}
-use Rattle.vhdl_names_rules.specs.declared.test.Test as code_test
-use Rattle.vhdl_names_rules.specs.declared.typed.Typed as code
-use Rattle.vhdl_names_rules.specs.declared.typed.Typed.TheVariants as t
+use Rattle.vhdl_names_trees.specs.declared.test.Test as code_test
+use Rattle.vhdl_names_trees.specs.declared.typed.Typed as code
+use Rattle.vhdl_names_trees.specs.declared.typed.Typed.TheVariants as t
 use Rattle.vhdl_names_rules.specs.units.Expressions.{Vector, Test}
 use Rattle.vhdl_names_rules.specs.Gives.{Gives}
 use Rattle.vhdl_names_rules.specs.Rules.{wider}
@@ -20,7 +20,7 @@ use Rattle.vhdl_names_rules.specs.Operators.{Typed, elements, truth, truths_rela
 use Rattle.vhdl_names_rules.specs.problems.Broken.{Tells, refused, lacking}
 use Rattle.vhdl_names_rules.specs.problems.Expressions.{is_equality}
 use Rattle.vhdl_names_rules.specs.problems.Operators.{operator_problem}
-use Rattle.vhdl_names_rules.specs.views.Expressions.{typed_view}
+use Rattle.vhdl_names_trees.specs.views.Expressions.{typed_view}
 use Rattle.vhdl_names_rules.proofs.Along.{gives_along}
 use Rattle.vhdl_names_rules.proofs.Telling.{told_of}
 use Rattle.vhdl_names_numbers.specs.declared.integer.Integer.{Integer}

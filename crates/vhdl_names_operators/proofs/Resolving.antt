@@ -10,17 +10,17 @@ use Rattle.vhdl_tree.specs.Tree as t
 use Rattle.vhdl_names_rules.specs.declared.kind.ElementKind.{ElementKind}
 use Rattle.vhdl_names_rules.specs.declared.kind.ElementKind.TheVariants.{LogicVector, Unsigned}
 use Rattle.vhdl_names_rules.specs.declared.fault.NameProblem.TheVariants.{TypeMismatch}
-use Rattle.vhdl_names_rules.specs.declared.typed.Typed as code
-use Rattle.vhdl_names_rules.specs.declared.typed.Typed.TheVariants as variant
-use Rattle.vhdl_names_rules.specs.declared.typed.Typed.TheVariants.{outs-Composite', rolls-Composite}
-use Rattle.vhdl_names_rules.specs.declared.typed.Typed.TheBlock.{shown-the_row-TypedElement-0}
-use Rattle.vhdl_names_rules.specs.declared.typed.TypedElement.{TypedElement}
+use Rattle.vhdl_names_trees.specs.declared.typed.Typed as code
+use Rattle.vhdl_names_trees.specs.declared.typed.Typed.TheVariants as variant
+use Rattle.vhdl_names_trees.specs.declared.typed.Typed.TheVariants.{outs-Composite', rolls-Composite}
+use Rattle.vhdl_names_trees.specs.declared.typed.Typed.TheBlock.{shown-the_row-TypedElement-0}
+use Rattle.vhdl_names_trees.specs.declared.typed.TypedElement.{TypedElement}
 use Rattle.vhdl_names_rules.specs.units.Expressions as u
 use Rattle.vhdl_names_rules.specs.Rules.{◌>>=◌, ◌>>◌, met}
 use Rattle.vhdl_names_rules.specs.Operators.{Typed, elements, composite, is_vector, common_kind, equal_by, equality, beside_vector}
 use Rattle.vhdl_names_rules.specs.Types.{TypedElements}
 use Rattle.vhdl_names_rules.specs.Aggregates.{aggregate}
-use Rattle.vhdl_names_rules.specs.views.Expressions.{typed_view}
+use Rattle.vhdl_names_trees.specs.views.Expressions.{typed_view}
 use Rattle.vhdl_names_rules.specs.problems.Broken.{refused, ◌▸◌, unless, lacking}
 use Rattle.vhdl_names_rules.specs.problems.Aggregates as aggregates
 use Rattle.vhdl_names_rules.specs.problems.Operators.{operator_problem}

@@ -3,15 +3,15 @@ use Rattle.std.specs.Prelude.{ℕ, Bool, true, false, not, ◌&&◌, ◌||◌, L
 use Rattle.std.specs.List.{list_all}
 use Rattle.vhdl_names_rules.specs.declared.kind.ElementKind.{ElementKind}
 use Rattle.vhdl_names_rules.specs.declared.fault.NameProblem.TheVariants.{WrongKind}
-use Rattle.vhdl_names_rules.specs.declared.typed.TypedElement.{TypedElement, out-TypedElement}
-use Rattle.vhdl_names_rules.specs.declared.vector.VectorElement.{VectorElement}
+use Rattle.vhdl_names_trees.specs.declared.typed.TypedElement.{TypedElement, out-TypedElement}
+use Rattle.vhdl_names_trees.specs.declared.vector.VectorElement.{VectorElement}
 use Rattle.vhdl_names_rules.specs.units.Expressions as u
 use Rattle.vhdl_names_rules.specs.Types as types
 use Rattle.vhdl_names_rules.specs.Types.{Typed, TypedChoice, TypedElements}
 use Rattle.vhdl_names_rules.specs.Rules.{◌>>=◌, ◌>>◌, rule}
 use Rattle.vhdl_names_rules.specs.Aggregates.{listed_value, element_value, indexes_of}
-use Rattle.vhdl_names_rules.specs.views.Expressions.{choice_view, typed_view}
-use Rattle.vhdl_names_rules.specs.views.Vectors.{with_element}
+use Rattle.vhdl_names_trees.specs.views.Expressions.{choice_view, typed_view}
+use Rattle.vhdl_names_trees.specs.views.Vectors.{with_element}
 use Rattle.vhdl_names_rules.specs.problems.Broken.{Broken, ◌▸◌}
 use Rattle.vhdl_names_rules.specs.problems.Aggregates as broken
 

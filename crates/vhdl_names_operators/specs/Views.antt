@@ -1,7 +1,7 @@
 -- What contracts see of numbers.
 use Rattle.vhdl_names_rules.specs.Operators as o
 use Rattle.vhdl_names_numbers.specs.Integers.{integer_view}
-use Rattle.vhdl_names_rules.specs.views.Vectors.{vector_view}
+use Rattle.vhdl_names_trees.specs.views.Vectors.{vector_view}
 use Rattle.vhdl_names_operators.specs.declared.numbers.Numbers.{Numbers}
 use Rattle.vhdl_names_operators.specs.declared.numbers.Numbers.TheVariants as numbers
 use Rattle.vhdl_names_rules.specs.declared.kind.ElementKind.TheVariants.{Unsigned}

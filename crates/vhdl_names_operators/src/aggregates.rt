@@ -7,15 +7,15 @@ ghost use Rattle.std.specs.Prelude.{◌≡◌, map, is_some, option_map, IfOk, I
 ghost use Rattle.vhdl_names_rules.specs.Gives.{Gives};
 ghost use Rattle.vhdl_names_rules.specs.Aggregates as rules;
 ghost use Rattle.vhdl_names_rules.specs.units.Expressions as u;
-ghost use Rattle.vhdl_names_rules.specs.views.Integers.{option_range_view, index_view};
-ghost use Rattle.vhdl_names_rules.specs.views.Vectors.{vector_view, elements_view};
-ghost use Rattle.vhdl_names_rules.specs.views.Expressions.{typed_view, choice_view, typed_elements_view};
+ghost use Rattle.vhdl_names_trees.specs.views.Integers.{option_range_view, index_view};
+ghost use Rattle.vhdl_names_trees.specs.views.Vectors.{vector_view, elements_view};
+ghost use Rattle.vhdl_names_trees.specs.views.Expressions.{typed_view, choice_view, typed_elements_view};
 ghost use Rattle.vhdl_names_operators.specs.Arranging as steps;
 
 use std::alloc::{AllocError, Global};
-use vhdl_names_rules::{
-    ElementKind, Index, NameFault, NameProblem, StaticRange, Typed, TypedChoice, TypedElement,
-    Vector, VectorElement, without,
+use vhdl_names_rules::{ElementKind, NameFault, NameProblem, without};
+use vhdl_names_trees::{
+    Index, StaticRange, Typed, TypedChoice, TypedElement, Vector, VectorElement,
 };
 
 /// What all elements of an aggregate have to be: whether it is given to what has a range, whether

@@ -5,12 +5,13 @@ ghost use Rattle.vhdl_names_rules.specs.problems.Broken.{Tells};
 ghost use Rattle.vhdl_names_rules.specs.problems.Expressions as broken;
 ghost use Rattle.std.specs.Prelude.{◌≡◌, true, IfOk, IfErr};
 ghost use Rattle.vhdl_names_rules.specs.Gives.{Gives};
-ghost use Rattle.vhdl_names_rules.specs.views.Expressions.{typed_view};
+ghost use Rattle.vhdl_names_trees.specs.views.Expressions.{typed_view};
 ghost use Rattle.vhdl_names_operators.specs.Resolving as steps;
 
 use crate::aggregates::aggregate;
 use std::alloc::Global;
-use vhdl_names_rules::{ElementKind, NameFault, NameProblem, Typed, without};
+use vhdl_names_rules::{ElementKind, NameFault, NameProblem, without};
+use vhdl_names_trees::Typed;
 use vhdl_tree::Operator;
 
 /// The kind of an operand of the nine values.

@@ -7,18 +7,19 @@ ghost use Rattle.std.specs.Prelude.{◌≡◌, ◌==◌, true, IfOk, IfErr};
 ghost use Rattle.vhdl_names_rules.specs.Gives.{Gives};
 ghost use Rattle.vhdl_names_rules.specs.Rules.{given_that};
 ghost use Rattle.vhdl_names_rules.specs.Operators as table;
-ghost use Rattle.vhdl_names_rules.specs.views.Vectors.{value_view, vector_view};
-ghost use Rattle.vhdl_names_rules.specs.views.Tests.{test_view};
+ghost use Rattle.vhdl_names_trees.specs.views.Vectors.{value_view, vector_view};
+ghost use Rattle.vhdl_names_trees.specs.views.Tests.{test_view};
 ghost use Rattle.vhdl_names_operators.specs.Steps as steps;
 ghost use Rattle.vhdl_names_operators.specs.Steps.{same_by};
 ghost use Rattle.vhdl_names_operators.specs.Resolving.{is_plain};
 ghost use Rattle.vhdl_names_numbers.specs.Integers.{integer_view};
-ghost use Rattle.vhdl_names_rules.specs.views.Expressions.{typed_view};
+ghost use Rattle.vhdl_names_trees.specs.views.Expressions.{typed_view};
 
 use std::alloc::{AllocError, Global};
 use vhdl_lexer::Language;
 use vhdl_names_numbers::{Integer, compared_to, compared_with, integers_compared};
-use vhdl_names_rules::{ElementKind, NameFault, NameProblem, Test, Typed, Value, Vector, without};
+use vhdl_names_rules::{ElementKind, NameFault, NameProblem, without};
+use vhdl_names_trees::{Test, Typed, Value, Vector};
 use vhdl_values::{Cmp, Logic};
 
 /// = or /= of two values, by equality.

@@ -8,15 +8,15 @@ ghost use Rattle.vhdl_names_rules.specs.Gives.{Gives};
 ghost use Rattle.vhdl_names_numbers.specs.Integers.{integer_view};
 ghost use Rattle.vhdl_names_operators.specs.Steps as steps;
 ghost use Rattle.vhdl_names_operators.specs.Steps.{numbers_of, calculation, comparing};
-ghost use Rattle.vhdl_names_rules.specs.views.Expressions.{typed_view};
+ghost use Rattle.vhdl_names_trees.specs.views.Expressions.{typed_view};
 ghost use Rattle.vhdl_names_operators.specs.Views.{numbers_view};
 
 use std::alloc::{AllocError, Global};
 use vhdl_names_numbers::{Integer, compared_to, compared_with, integers_compared};
 use vhdl_names_rules::{
-    Arithmetic, ElementKind, NameFault, NameProblem, Numeric, Test, Typed, Vector, VectorLink,
-    VectorOperator, without,
+    Arithmetic, ElementKind, NameFault, NameProblem, Numeric, VectorOperator, without,
 };
+use vhdl_names_trees::{Test, Typed, Vector, VectorLink};
 use vhdl_values::Cmp;
 
 /// Operands of + - * and of < <= > >=: two integers, two numbers, or a number and an integer.

@@ -10,16 +10,15 @@ ghost use Rattle.vhdl_names_rules.specs.Literals as literals;
 ghost use Rattle.vhdl_names_rules.specs.Operators as table;
 ghost use Rattle.vhdl_names_rules.specs.declared.kind.ElementKind.TheVariants.{Element, OpenVector};
 ghost use Rattle.vhdl_names_rules.specs.units.Expressions as u;
-ghost use Rattle.vhdl_names_rules.specs.views.Vectors.{vector_view};
+ghost use Rattle.vhdl_names_trees.specs.views.Vectors.{vector_view};
 ghost use Rattle.vhdl_names_operators.specs.Steps.{closed, integer_literal as integer_of};
-ghost use Rattle.vhdl_names_rules.specs.views.Expressions.{typed_view};
+ghost use Rattle.vhdl_names_trees.specs.views.Expressions.{typed_view};
 
 use crate::literals::{bit_string_values, string_values};
 use std::alloc::Global;
 use vhdl_lexer::integer_value;
-use vhdl_names_rules::{
-    ElementKind, NameFault, NameProblem, Static, Typed, Vector, nine_of, without,
-};
+use vhdl_names_rules::{ElementKind, NameFault, NameProblem, nine_of, without};
+use vhdl_names_trees::{Static, Typed, Vector};
 use vhdl_tree::Literal;
 
 /// An integer literal, of at most 2,147,483,647 (IEEE 1076-2008, 5.2.3.2); a greater one is

@@ -9,7 +9,7 @@ ghost use Rattle.vhdl_names_rules.specs.Gives.{Gives};
 ghost use Rattle.vhdl_names_rules.specs.Operators as table;
 ghost use Rattle.vhdl_names_operators.specs.Steps as steps;
 ghost use Rattle.vhdl_names_operators.specs.Resolving.{is_plain, kind_of as kind_seen, operand_breaks};
-ghost use Rattle.vhdl_names_rules.specs.views.Expressions.{typed_view};
+ghost use Rattle.vhdl_names_trees.specs.views.Expressions.{typed_view};
 
 use crate::beside::{kind_of, resolved};
 use crate::equality::equality;
@@ -17,9 +17,8 @@ use crate::numbers::{as_numbers, calculated, compared};
 use std::alloc::Global;
 use vhdl_lexer::Language;
 use vhdl_names_numbers::as_integers;
-use vhdl_names_rules::{
-    Arithmetic, NameFault, NameProblem, Numeric, Typed, Vector, VectorLink, VectorOperator, without,
-};
+use vhdl_names_rules::{Arithmetic, NameFault, NameProblem, Numeric, VectorOperator, without};
+use vhdl_names_trees::{Typed, Vector, VectorLink};
 use vhdl_tree::Operator;
 use vhdl_values::{Cmp, Logic};
 

@@ -11,17 +11,17 @@ use Rattle.vhdl_names_rules.specs.declared.kind.ElementKind.{ElementKind}
 use Rattle.vhdl_names_rules.specs.declared.kind.ElementKind.TheVariants.{Element, LogicVector, Unsigned, OpenVector}
 use Rattle.vhdl_names_rules.specs.declared.kind.ObjectType.{ObjectType}
 use Rattle.vhdl_names_rules.specs.declared.kind.ObjectType.TheVariants.{Elements}
-use Rattle.vhdl_names_rules.specs.declared.integer.Static.{Static}
-use Rattle.vhdl_names_rules.specs.declared.integer.Static.TheVariants as s
-use Rattle.vhdl_names_rules.specs.declared.integer.StaticStart.{StaticStart}
-use Rattle.vhdl_names_rules.specs.declared.integer.StaticLink.{StaticLink}
-use Rattle.vhdl_names_rules.specs.declared.vector.Vector.{Vector}
-use Rattle.vhdl_names_rules.specs.declared.vector.Vector.TheVariants as v
-use Rattle.vhdl_names_rules.specs.declared.vector.Chosen.TheBlock.{Row_of-VectorLink, end_of-VectorLink, more_of-VectorLink}
-use Rattle.vhdl_names_rules.specs.declared.vector.VectorLink.{VectorLink}
-use Rattle.vhdl_names_rules.specs.declared.vector.VectorLink.TheVariants as l
-use Rattle.vhdl_names_rules.specs.declared.vector.SignalPart.{SignalPart}
-use Rattle.vhdl_names_rules.specs.declared.vector.Part.{Part}
+use Rattle.vhdl_names_trees.specs.declared.integer.Static.{Static}
+use Rattle.vhdl_names_trees.specs.declared.integer.Static.TheVariants as s
+use Rattle.vhdl_names_trees.specs.declared.integer.StaticStart.{StaticStart}
+use Rattle.vhdl_names_trees.specs.declared.integer.StaticLink.{StaticLink}
+use Rattle.vhdl_names_trees.specs.declared.vector.Vector.{Vector}
+use Rattle.vhdl_names_trees.specs.declared.vector.Vector.TheVariants as v
+use Rattle.vhdl_names_trees.specs.declared.vector.Chosen.TheBlock.{Row_of-VectorLink, end_of-VectorLink, more_of-VectorLink}
+use Rattle.vhdl_names_trees.specs.declared.vector.VectorLink.{VectorLink}
+use Rattle.vhdl_names_trees.specs.declared.vector.VectorLink.TheVariants as l
+use Rattle.vhdl_names_trees.specs.declared.vector.SignalPart.{SignalPart}
+use Rattle.vhdl_names_trees.specs.declared.vector.Part.{Part}
 use Rattle.vhdl_names_rules.specs.declared.kind.Function.{Function}
 use Rattle.vhdl_names_rules.specs.declared.kind.Function.TheVariants.{EdgeCall, ByCount, ToUnsigned, ToInteger}
 use Rattle.vhdl_names_rules.specs.declared.fault.NameProblem.TheVariants.{TypeMismatch}
@@ -34,15 +34,15 @@ use Rattle.vhdl_names_rules.specs.Names.{arguments}
 use Rattle.vhdl_names_rules.specs.Operators as o
 use Rattle.vhdl_names_rules.specs.Operators.{integer, computed, elements, enumerated, truth, interval, composite}
 use Rattle.vhdl_names_rules.specs.units.Expressions as u
-use Rattle.vhdl_names_rules.specs.views.Integers.{static_view, start_view, static_chained}
-use Rattle.vhdl_names_rules.proofs.rows.Integers.{view_chain}
-use Rattle.vhdl_names_rules.specs.views.Vectors.{vector_view, links_view, linked}
-use Rattle.vhdl_names_rules.specs.declared.typed.Typed.{Typed}
-use Rattle.vhdl_names_rules.specs.declared.typed.TypedSuffix.{TypedSuffix}
-use Rattle.vhdl_names_rules.specs.declared.typed.TypedSuffix.TheVariants as suffix
+use Rattle.vhdl_names_trees.specs.views.Integers.{static_view, start_view, static_chained}
+use Rattle.vhdl_names_trees.proofs.rows.Integers.{view_chain}
+use Rattle.vhdl_names_trees.specs.views.Vectors.{vector_view, links_view, linked}
+use Rattle.vhdl_names_trees.specs.declared.typed.Typed.{Typed}
+use Rattle.vhdl_names_trees.specs.declared.typed.TypedSuffix.{TypedSuffix}
+use Rattle.vhdl_names_trees.specs.declared.typed.TypedSuffix.TheVariants as suffix
 use Rattle.vhdl_names_numbers.specs.Calls.{number_by, number_problem}
 use Rattle.vhdl_names_parts.specs.Steps.{sole, two, indexed, conversion, counting, encoding, edge_by, edge_call_problem, is_signal}
-use Rattle.vhdl_names_rules.specs.views.Expressions.{typed_view, typed_suffix_view}
+use Rattle.vhdl_names_trees.specs.views.Expressions.{typed_view, typed_suffix_view}
 
 -- ---- one argument
 

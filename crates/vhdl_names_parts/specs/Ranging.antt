@@ -9,7 +9,8 @@ use Rattle.vhdl_names_rules.specs.Visibility.{Meaning, Declared, DeclaredRange}
 use Rattle.vhdl_names_rules.specs.Names.{Suffix}
 use Rattle.vhdl_names_rules.specs.Ranges as rules
 use Rattle.vhdl_names_rules.specs.Ranges.{of_type, of_integers, of_vector, of_slice, range_of, reversed, bound_of, bound}
-use Rattle.vhdl_names_rules.specs.views.Integers.{range_view, declared_range_view}
+use Rattle.vhdl_names_trees.specs.views.Integers.{range_view}
+use Rattle.vhdl_names_rules.specs.views.Ranges.{declared_range_view}
 use Rattle.vhdl_names_parts.specs.declared.ranges.Ranged.{Ranged}
 use Rattle.vhdl_names_parts.specs.declared.ranges.Ranged.TheVariants as r
 

@@ -12,15 +12,15 @@ ghost use Rattle.vhdl_names_rules.specs.Visibility as visibility;
 ghost use Rattle.vhdl_names_rules.specs.declared.kind.ElementKind.TheVariants.{Element};
 ghost use Rattle.vhdl_names_rules.specs.declared.kind.Function.TheVariants.{EdgeCall};
 ghost use Rattle.vhdl_names_rules.specs.units.Expressions as units;
-ghost use Rattle.vhdl_names_rules.specs.views.Integers.{static_view, start_view};
-ghost use Rattle.vhdl_names_rules.specs.views.Vectors.{part_view, place_view, vector_view};
+ghost use Rattle.vhdl_names_trees.specs.views.Integers.{static_view, start_view};
+ghost use Rattle.vhdl_names_trees.specs.views.Vectors.{part_view, place_view, vector_view};
 ghost use Rattle.vhdl_names_parts.specs.Steps.{edge_by, edge_call_problem, is_signal};
-ghost use Rattle.vhdl_names_rules.specs.views.Expressions.{typed_view, typed_suffix_view};
+ghost use Rattle.vhdl_names_trees.specs.views.Expressions.{typed_view, typed_suffix_view};
 
 use crate::parts::sole_argument;
-use vhdl_names_rules::{
-    ElementKind, NameFault, NameProblem, Part, SignalPart, Static, StaticLink, StaticStart, Test,
-    Typed, TypedSuffix, Vector, without,
+use vhdl_names_rules::{ElementKind, NameFault, NameProblem, without};
+use vhdl_names_trees::{
+    Part, SignalPart, Static, StaticLink, StaticStart, Test, Typed, TypedSuffix, Vector,
 };
 use vhdl_values::Edge;
 

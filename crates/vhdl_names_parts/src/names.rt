@@ -10,22 +10,23 @@ ghost use Rattle.vhdl_names_rules.specs.Gives.{Gives};
 ghost use Rattle.vhdl_names_rules.specs.Names as rules;
 ghost use Rattle.vhdl_names_rules.specs.Operators as table;
 ghost use Rattle.vhdl_names_rules.specs.Visibility as visibility;
-ghost use Rattle.vhdl_names_rules.specs.views.Integers.{static_view};
-ghost use Rattle.vhdl_names_rules.specs.views.Vectors.{signal_view, vector_view, value_view};
+ghost use Rattle.vhdl_names_trees.specs.views.Integers.{static_view};
+ghost use Rattle.vhdl_names_trees.specs.views.Vectors.{signal_view, vector_view, value_view};
 ghost use Rattle.vhdl_tree.specs.View.{attribute_view};
 ghost use Rattle.vhdl_names_parts.specs.Steps.{conversion, counting, encoding, two};
 ghost use Rattle.vhdl_names_sight.specs.Views.{meaning_view};
-ghost use Rattle.vhdl_names_rules.specs.views.Expressions.{typed_view, typed_suffix_view};
+ghost use Rattle.vhdl_names_trees.specs.views.Expressions.{typed_view, typed_suffix_view};
 
 use crate::edges::{edge_of, edge_signal};
 use crate::parts::{if_plain, part, sole_argument, two_arguments};
 use std::alloc::{AllocError, Global};
 use vhdl_names_numbers::{count_of, encoded, number_of};
-use vhdl_names_rules::{
-    AnyPart, Computed, ElementKind, Function, NameFault, NameProblem, ObjectType, Part, Signal,
-    SignalPart, Static, StaticTest, Test, Typed, TypedSuffix, Value, Vector, without,
-};
+use vhdl_names_rules::{ElementKind, Function, NameFault, NameProblem, ObjectType, without};
 use vhdl_names_sight::Meaning;
+use vhdl_names_trees::{
+    AnyPart, Computed, Part, Signal, SignalPart, Static, StaticTest, Test, Typed, TypedSuffix,
+    Value, Vector,
+};
 use vhdl_tree::Attribute;
 use vhdl_values::{Counted, Nine};
 

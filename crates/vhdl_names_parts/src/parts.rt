@@ -6,16 +6,14 @@ ghost use Rattle.vhdl_names_rules.specs.declared.fault.NameProblem.TheVariants.{
 ghost use Rattle.std.specs.Prelude.{◌≡◌, option_map, IfErr};
 ghost use Rattle.vhdl_names_rules.specs.Gives.{Gives};
 ghost use Rattle.vhdl_names_rules.specs.Names as rules;
-ghost use Rattle.vhdl_names_rules.specs.views.Vectors.{part_view};
+ghost use Rattle.vhdl_names_trees.specs.views.Vectors.{part_view};
 ghost use Rattle.vhdl_names_parts.specs.Steps.{sole, two, indexed};
-ghost use Rattle.vhdl_names_rules.specs.views.Expressions.{any_part_view};
-ghost use Rattle.vhdl_names_rules.specs.views.Expressions.{typed_view, typed_suffix_view};
+ghost use Rattle.vhdl_names_trees.specs.views.Expressions.{any_part_view};
+ghost use Rattle.vhdl_names_trees.specs.views.Expressions.{typed_view, typed_suffix_view};
 
 use vhdl_names_numbers::chosen;
-use vhdl_names_rules::{
-    AnyPart, Chosen, ElementKind, NameFault, NameProblem, ObjectType, Part, Typed, TypedSuffix,
-    without,
-};
+use vhdl_names_rules::{ElementKind, NameFault, NameProblem, ObjectType, without};
+use vhdl_names_trees::{AnyPart, Chosen, Part, Typed, TypedSuffix};
 
 /// The argument that stands alone.
 pub(crate) fn sole_argument(mut arguments: Vec<Typed>) -> Option<Typed>

@@ -8,8 +8,9 @@ ghost use Rattle.vhdl_names_rules.specs.Gives.{Gives};
 ghost use Rattle.vhdl_names_rules.specs.Ranges as rules;
 ghost use Rattle.vhdl_names_rules.specs.Names.{Suffix};
 ghost use Rattle.vhdl_names_rules.specs.Visibility.{Name};
-ghost use Rattle.vhdl_names_rules.specs.views.Integers.{static_view, range_view, declared_range_view};
-ghost use Rattle.vhdl_names_rules.specs.views.Expressions.{typed_view, typed_suffix_view};
+ghost use Rattle.vhdl_names_trees.specs.views.Integers.{static_view, range_view};
+ghost use Rattle.vhdl_names_rules.specs.views.Ranges.{declared_range_view};
+ghost use Rattle.vhdl_names_trees.specs.views.Expressions.{typed_view, typed_suffix_view};
 ghost use Rattle.vhdl_names_sight.specs.Views.{meaning_view, entry_of};
 ghost use Rattle.vhdl_names_parts.specs.Ranging as steps;
 ghost use Rattle.vhdl_names_parts.specs.Ranging.{ranged_view};
@@ -18,11 +19,9 @@ ghost use Rattle.vhdl_tree.specs.View.{attribute_view};
 use crate::names::attribute_start;
 use std::alloc::{AllocError, Global};
 use vhdl_lexer::{Language, MAX_INTEGER};
-use vhdl_names_rules::{
-    Bound, DeclaredRange, IntegerType, NameFault, NameProblem, Static, StaticRange, Typed,
-    TypedSuffix,
-};
+use vhdl_names_rules::{Bound, DeclaredRange, IntegerType, NameFault, NameProblem};
 use vhdl_names_sight::{Entry, Meaning};
+use vhdl_names_trees::{Static, StaticRange, Typed, TypedSuffix};
 use vhdl_tree::{Attribute, Direction};
 
 /// What has a range: an integer type, a subtype of integers with a range, a vector or a subtype of
@@ -207,7 +206,7 @@ fn attribute_of(
             let Some(range) = range_of(ranged) else {
                 return Ok(None);
             };
-            return Ok(Some(Typed::Interval(Box::new(alloc, range.range())?)));
+            return Ok(Some(Typed::Interval(Box::new(alloc, StaticRange::declared(range))?)));
         }
         Attribute::Name(name) => name,
     };
@@ -295,7 +294,9 @@ pub fn named_range(entry: &Entry, suffix: &TypedSuffix) -> Option<StaticRange>
         ≡ rules.named_range None (entry_of n entry.now) (typed_suffix_view suffix.now) }
 {
     match (suffix, &entry.meaning, entry.range) {
-        (TypedSuffix::Plain, Meaning::IntegerType(_), Some(range)) => Some(range.range()),
+        (TypedSuffix::Plain, Meaning::IntegerType(_), Some(range)) => {
+            Some(StaticRange::declared(range))
+        }
         _ => None,
     }
 }
@@ -323,7 +324,7 @@ pub fn sized_by(alloc: Global, entry: &Entry, value: Typed, at: usize) -> Result
     };
     match value {
         Typed::Elements(kind, vector) => {
-            let vector = vector.sized(alloc, at, range.range())?;
+            let vector = vector.sized(alloc, at, StaticRange::declared(range))?;
             Ok(Typed::Elements(kind, vector))
         }
         value => Ok(value),

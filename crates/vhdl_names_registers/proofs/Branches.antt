@@ -5,7 +5,7 @@ use Rattle.std.specs.List.{slice_get}
 use denote.Ref.{Bor}
 use Rattle.std.proofs.lemmas.List.{reverse-append, drop_more}
 use Rattle.vhdl_names_rules.specs.units.Statements as s
-use Rattle.vhdl_names_rules.specs.views.Tests.{test_view}
+use Rattle.vhdl_names_trees.specs.views.Tests.{test_view}
 use Rattle.vhdl_names_rules.specs.Registers.{behind, has_register}
 use Rattle.vhdl_names_units.specs.declared.sequential.Statement.{Statement}
 use Rattle.vhdl_names_units.specs.declared.sequential.Statement.TheVariants as t

@@ -8,7 +8,7 @@ use Rattle.vhdl_names_rules.specs.Statements.{alone}
 use Rattle.vhdl_names_rules.specs.Edges.{Edge, conditions, at_edge}
 use Rattle.vhdl_names_rules.specs.Registers.{gate_under, edge_first, last_edge_first}
 use Rattle.vhdl_names_rules.proofs.laws.Rules.{some_is}
-use Rattle.vhdl_names_rules.specs.views.Tests.{test_view}
+use Rattle.vhdl_names_trees.specs.views.Tests.{test_view}
 use Rattle.vhdl_names_units.specs.declared.sequential.Branch.{Branch}
 use Rattle.vhdl_names_units.specs.declared.sequential.If.{If, out-If, roll-If, out-roll-If}
 use Rattle.vhdl_names_units.specs.declared.sequential.Statement.{Statement}

@@ -1,15 +1,15 @@
 -- Static integers, compared operator by operator from the last.
 use Rattle.std.proofs.Common.{◌≡◌, ℕ, suc, ◌+◌, Bool, true, false, ◌&&◌, Box, Global, List, [], ◌∷◌, Some, None, refl, ap, sym, ◌∙◌}
 use mathlib.Core.Former.{Count}
-use Rattle.vhdl_names_rules.specs.declared.integer.Static.{Static}
-use Rattle.vhdl_names_rules.specs.declared.integer.Static.TheVariants as t
+use Rattle.vhdl_names_trees.specs.declared.integer.Static.{Static}
+use Rattle.vhdl_names_trees.specs.declared.integer.Static.TheVariants as t
 use Rattle.vhdl_names_rules.specs.declared.operator.Arithmetic.{Arithmetic}
 use Rattle.vhdl_names_rules.specs.declared.operator.Bound.{Bound}
 use Rattle.vhdl_names_rules.specs.units.Expressions as u
-use Rattle.vhdl_names_rules.specs.declared.integer.Static.TheBlock.{Row_of-StaticLink, end_of-StaticLink, more_of-StaticLink}
-use Rattle.vhdl_names_rules.specs.declared.integer.StaticLink.{StaticLink}
-use Rattle.vhdl_names_rules.specs.declared.integer.StaticStart.{StaticStart}
-use Rattle.vhdl_names_rules.specs.views.Integers.{static_view, start_view, links_view, static_chained}
+use Rattle.vhdl_names_trees.specs.declared.integer.Static.TheBlock.{Row_of-StaticLink, end_of-StaticLink, more_of-StaticLink}
+use Rattle.vhdl_names_trees.specs.declared.integer.StaticLink.{StaticLink}
+use Rattle.vhdl_names_trees.specs.declared.integer.StaticStart.{StaticStart}
+use Rattle.vhdl_names_trees.specs.views.Integers.{static_view, start_view, links_view, static_chained}
 use Rattle.vhdl_names_rules.specs.Edges.{same_operator, same_index}
 use Rattle.vhdl_names_rules.proofs.laws.Rules.{some_is}
 use Rattle.vhdl_names_registers.specs.Spines.{Operated, last_of, size}

@@ -4,7 +4,7 @@ use Rattle.std.specs.Prelude.{option_map}
 use Rattle.vhdl_values.specs.declared.kinds.Edge.{Edge as EdgeKind}
 use Rattle.vhdl_names_rules.specs.units.Expressions as u
 use Rattle.vhdl_names_rules.specs.units.Expressions.{SignalPart, Value, Test}
-use Rattle.vhdl_names_rules.specs.views.Parted.{values_alike}
+use Rattle.vhdl_names_trees.specs.views.Parted.{values_alike}
 use Rattle.vhdl_names_rules.specs.Rules.{◌>>=◌, then_some}
 use Rattle.vhdl_names_rules.specs.Names.{is_static_part}
 use Rattle.vhdl_names_rules.specs.Edges.{Edge, edge, edge_to, level, waited_level}

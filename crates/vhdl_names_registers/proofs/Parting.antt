@@ -3,18 +3,18 @@ use Rattle.std.proofs.Common.{◌≡◌, ℕ, ◌+◌, ◌<◌, Box, Global, Lis
 use mathlib.Core.Former.{Count}
 use Rattle.vhdl_values.specs.declared.kinds.Logic.{Logic}
 use Rattle.vhdl_values.specs.declared.kinds.Edge.{Edge as EdgeKind}
-use Rattle.vhdl_names_rules.specs.declared.integer.StaticLink.{StaticLink}
-use Rattle.vhdl_names_rules.specs.declared.test.Test.{Test}
-use Rattle.vhdl_names_rules.specs.declared.test.Test.TheVariants as t
-use Rattle.vhdl_names_rules.specs.declared.test.Test.TheBlock.{Row_of-TestLink, end_of-TestLink, more_of-TestLink}
-use Rattle.vhdl_names_rules.specs.declared.vector.SignalPart.{SignalPart}
-use Rattle.vhdl_names_rules.specs.declared.vector.Value.{Value}
-use Rattle.vhdl_names_rules.specs.declared.vector.Value.TheVariants as e
-use Rattle.vhdl_names_rules.specs.declared.vector.Vector.{Vector}
-use Rattle.vhdl_names_rules.specs.declared.vector.Vector.TheVariants as v
-use Rattle.vhdl_names_rules.specs.declared.vector.Chosen.TheBlock.{Row_of-VectorLink, end_of-VectorLink, more_of-VectorLink}
-use Rattle.vhdl_names_rules.specs.declared.vector.VectorLink.{VectorLink}
-use Rattle.vhdl_names_rules.specs.declared.vector.VectorLink.TheVariants as k
+use Rattle.vhdl_names_trees.specs.declared.integer.StaticLink.{StaticLink}
+use Rattle.vhdl_names_trees.specs.declared.test.Test.{Test}
+use Rattle.vhdl_names_trees.specs.declared.test.Test.TheVariants as t
+use Rattle.vhdl_names_trees.specs.declared.test.Test.TheBlock.{Row_of-TestLink, end_of-TestLink, more_of-TestLink}
+use Rattle.vhdl_names_trees.specs.declared.vector.SignalPart.{SignalPart}
+use Rattle.vhdl_names_trees.specs.declared.vector.Value.{Value}
+use Rattle.vhdl_names_trees.specs.declared.vector.Value.TheVariants as e
+use Rattle.vhdl_names_trees.specs.declared.vector.Vector.{Vector}
+use Rattle.vhdl_names_trees.specs.declared.vector.Vector.TheVariants as v
+use Rattle.vhdl_names_trees.specs.declared.vector.Chosen.TheBlock.{Row_of-VectorLink, end_of-VectorLink, more_of-VectorLink}
+use Rattle.vhdl_names_trees.specs.declared.vector.VectorLink.{VectorLink}
+use Rattle.vhdl_names_trees.specs.declared.vector.VectorLink.TheVariants as k
 use Rattle.vhdl_values.specs.declared.scalar.Nine.{Nine}
 use Rattle.vhdl_names_units.specs.declared.sequential.Statement.{Statement}
 use Rattle.vhdl_names_units.specs.declared.sequential.Statement.TheVariants as st
@@ -33,12 +33,12 @@ use Rattle.vhdl_names_rules.specs.Registers.{ends_in_edge}
 use Rattle.std.proofs.lemmas.List.{take_more}
 use Rattle.vhdl_names_registers.specs.Branching.{only_condition}
 use Rattle.vhdl_names_rules.specs.units.Expressions as u
-use Rattle.vhdl_names_rules.specs.views.Integers.{static_view, static_chained}
-use Rattle.vhdl_names_rules.specs.declared.test.TestLink.{TestLink}
-use Rattle.vhdl_names_rules.proofs.rows.Tests.{chained-after}
-use Rattle.vhdl_names_rules.specs.views.Tests.{test_view, links_view, test_chained}
-use Rattle.vhdl_names_rules.specs.views.Vectors.{place_view, vector_view, value_view, linked}
-use Rattle.vhdl_names_rules.specs.views.Vectors.{links_view as vector_links}
+use Rattle.vhdl_names_trees.specs.views.Integers.{static_view, static_chained}
+use Rattle.vhdl_names_trees.specs.declared.test.TestLink.{TestLink}
+use Rattle.vhdl_names_trees.proofs.rows.Tests.{chained-after}
+use Rattle.vhdl_names_trees.specs.views.Tests.{test_view, links_view, test_chained}
+use Rattle.vhdl_names_trees.specs.views.Vectors.{place_view, vector_view, value_view, linked}
+use Rattle.vhdl_names_trees.specs.views.Vectors.{links_view as vector_links}
 use Rattle.vhdl_names_rules.specs.Edges.{level, conditions, gated}
 use Rattle.vhdl_names_registers.specs.Looking.{signal_of, character_of, signal_in, character_in}
 use Rattle.vhdl_names_registers.specs.Spines.{last_of}

@@ -8,11 +8,11 @@ use Rattle.std.proofs.lemmas.List.{append-nil, reverse-append, get_or_read, take
 use Rattle.std.proofs.lemmas.List.Sums.{sum_by_push}
 use Rattle.vhdl_values.specs.declared.kinds.Edge.{Edge as EdgeKind}
 use Rattle.vhdl_values.specs.declared.kinds.Logic.TheVariants.{And}
-use Rattle.vhdl_names_rules.specs.declared.test.Test.{Test as CodeTest}
+use Rattle.vhdl_names_trees.specs.declared.test.Test.{Test as CodeTest}
 use Rattle.vhdl_names_rules.specs.units.Expressions as u
 use Rattle.vhdl_names_rules.specs.units.Expressions.{SignalPart, Test}
-use Rattle.vhdl_names_rules.specs.views.Tests.{test_view}
-use Rattle.vhdl_names_rules.specs.views.Parted.{parted, is_call, event_of}
+use Rattle.vhdl_names_trees.specs.views.Tests.{test_view}
+use Rattle.vhdl_names_trees.specs.views.Parted.{parted, is_call, event_of}
 use Rattle.vhdl_names_rules.specs.Rules.{◌>>=◌, then_some}
 use Rattle.vhdl_names_rules.proofs.laws.Rules.{comes, some_is}
 use Rattle.vhdl_names_rules.specs.Edges.{Edge, edge, conditions, looks_for_event, taken, start_of, level_of, begun, gated, with_none, edge_alone, waited_level, waited_edge}

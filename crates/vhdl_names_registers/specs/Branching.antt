@@ -1,10 +1,10 @@
 -- Ifs of the code.
 use Rattle.std.specs.Prelude.{ℕ, Bool, false, List, map, Option, Some, None}
 use denote.Ref.{Bor}
-use Rattle.vhdl_names_rules.specs.declared.test.Test.{Test as CodeTest}
+use Rattle.vhdl_names_trees.specs.declared.test.Test.{Test as CodeTest}
 use Rattle.vhdl_names_rules.specs.units.Expressions.{Test}
 use Rattle.vhdl_names_rules.specs.units.Statements as s
-use Rattle.vhdl_names_rules.specs.views.Tests.{test_view}
+use Rattle.vhdl_names_trees.specs.views.Tests.{test_view}
 use Rattle.vhdl_names_rules.specs.Registers.{are_one_edge}
 use Rattle.vhdl_names_units.specs.declared.sequential.Statement.{Statement}
 use Rattle.vhdl_names_units.specs.declared.sequential.Branch.{Branch}

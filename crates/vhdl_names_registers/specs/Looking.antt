@@ -6,10 +6,10 @@ use Rattle.vhdl_values.specs.declared.scalar.Nine.{Nine}
 use Rattle.vhdl_values.specs.declared.kinds.Logic.{Logic}
 use Rattle.vhdl_values.specs.declared.kinds.Logic.TheVariants.{And}
 use Rattle.vhdl_values.specs.declared.kinds.Edge.{Edge as EdgeKind}
-use Rattle.vhdl_names_rules.specs.declared.vector.SignalPart.{SignalPart as CodePart}
+use Rattle.vhdl_names_trees.specs.declared.vector.SignalPart.{SignalPart as CodePart}
 use Rattle.vhdl_names_rules.specs.units.Expressions as u
 use Rattle.vhdl_names_rules.specs.units.Expressions.{SignalPart, Vector, Value, Test}
-use Rattle.vhdl_names_rules.specs.views.Vectors.{place_view}
+use Rattle.vhdl_names_trees.specs.views.Vectors.{place_view}
 use Rattle.vhdl_names_rules.specs.Edges.{Edge, edge, conditions, gated, level_of}
 use Rattle.vhdl_names_registers.specs.declared.seen.NamedEdge.{NamedEdge}
 use Rattle.vhdl_names_registers.specs.declared.seen.Start.{Start}

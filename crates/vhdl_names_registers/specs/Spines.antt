@@ -1,11 +1,11 @@
 -- Static integers of the code, operator by operator from the last.
 use Rattle.std.specs.Prelude.{ℕ, suc, ◌+◌, List, Option, Some, None}
-use Rattle.vhdl_names_rules.specs.declared.integer.StaticStart.{StaticStart}
-use Rattle.vhdl_names_rules.specs.declared.integer.StaticLink.{StaticLink}
+use Rattle.vhdl_names_trees.specs.declared.integer.StaticStart.{StaticStart}
+use Rattle.vhdl_names_trees.specs.declared.integer.StaticLink.{StaticLink}
 use Rattle.vhdl_names_rules.specs.declared.operator.Arithmetic.{Arithmetic}
 use Rattle.vhdl_names_rules.specs.units.Expressions as u
 use Rattle.vhdl_names_rules.specs.units.Expressions.{Static}
-use Rattle.vhdl_names_rules.specs.views.Integers.{static_view, start_view, static_chained}
+use Rattle.vhdl_names_trees.specs.views.Integers.{static_view, start_view, static_chained}
 use Rattle.vhdl_names_registers.specs.declared.same.Prefix.{Prefix}
 use Rattle.vhdl_names_registers.specs.declared.same.Prefix.TheVariants.{Whole, Chain}
 use Rattle.vhdl_names_registers.specs.declared.same.Last.{Last}

@@ -1,10 +1,10 @@
 -- Edges and conditions of the code.
 use Rattle.std.specs.Prelude.{List, map, Vec}
 use Rattle.std.specs.Global.{Global}
-use Rattle.vhdl_names_rules.specs.declared.test.Test.{Test as CodeTest}
+use Rattle.vhdl_names_trees.specs.declared.test.Test.{Test as CodeTest}
 use Rattle.vhdl_names_rules.specs.units.Expressions.{Test}
-use Rattle.vhdl_names_rules.specs.views.Tests.{test_view}
-use Rattle.vhdl_names_rules.specs.views.Vectors.{place_view}
+use Rattle.vhdl_names_trees.specs.views.Tests.{test_view}
+use Rattle.vhdl_names_trees.specs.views.Vectors.{place_view}
 use Rattle.vhdl_names_rules.specs.Edges as edges
 use Rattle.vhdl_names_registers.specs.declared.conditions.Edge.{Edge}
 use Rattle.vhdl_names_registers.specs.declared.conditions.Gated.{Gated}

@@ -5,14 +5,14 @@ ghost use Rattle.vhdl_names_registers.specs.Taking as spec;
 ghost use Rattle.vhdl_names_registers.specs.Looking.{is_gated, signal_in};
 ghost use Rattle.vhdl_names_registers.specs.Views.{edge_view, tests_view, gated_view};
 ghost use Rattle.vhdl_names_rules.specs.Edges as edges;
-ghost use Rattle.vhdl_names_rules.specs.views.Tests.{test_view};
-ghost use Rattle.vhdl_names_rules.specs.views.Vectors.{place_view, value_view};
+ghost use Rattle.vhdl_names_trees.specs.views.Tests.{test_view};
+ghost use Rattle.vhdl_names_trees.specs.views.Vectors.{place_view, value_view};
 
 use crate::gates::edge_of;
 use crate::seen::{character_in, edge_to, level_of};
 use std::alloc::{AllocError, Global};
 use vhdl_names_parts::is_static_part;
-use vhdl_names_rules::{SignalPart, Test, Value};
+use vhdl_names_trees::{SignalPart, Test, Value};
 use vhdl_values::Logic;
 
 /// An edge of a signal.

@@ -4,11 +4,11 @@ ghost use Rattle.std.specs.Prelude.{◌≡◌, option_map};
 ghost use Rattle.vhdl_names_registers.specs.Looking as spec;
 ghost use Rattle.vhdl_names_rules.specs.Edges as edges;
 ghost use Rattle.vhdl_names_rules.specs.Registers as rules;
-ghost use Rattle.vhdl_names_rules.specs.views.Tests.{test_view};
+ghost use Rattle.vhdl_names_trees.specs.views.Tests.{test_view};
 
 use crate::same::{same_kind, same_place};
 use crate::seen::{Many, NamedEdge, Seen, Start, seen_in};
-use vhdl_names_rules::Test;
+use vhdl_names_trees::Test;
 
 /// An edge that no other condition stands in the way of, and whether it is all of them.
 #[derive(Clone, Copy)]

@@ -5,13 +5,13 @@ ghost use Rattle.vhdl_names_registers.specs.Branching as spec;
 ghost use Rattle.vhdl_names_rules.specs.Statements.{alone};
 ghost use Rattle.vhdl_names_rules.specs.Registers as rules;
 ghost use Rattle.vhdl_names_rules.specs.units.Statements as units;
-ghost use Rattle.vhdl_names_rules.specs.views.Tests.{test_view};
+ghost use Rattle.vhdl_names_trees.specs.views.Tests.{test_view};
 ghost use Rattle.vhdl_names_units.specs.views.Sequential.{body_view};
 
 use crate::conditions::{Gated, edge_and_gate};
 use crate::gates::{are_one_edge, gate_of, is_gated};
 use std::alloc::{AllocError, Global};
-use vhdl_names_rules::Test;
+use vhdl_names_trees::Test;
 use vhdl_names_units::{Branch, If, Statement};
 
 /// An if of one branch that starts at byte `at`, as the only statement.

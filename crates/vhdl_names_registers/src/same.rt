@@ -4,12 +4,11 @@
 ghost use Rattle.std.specs.Prelude.{◌≡◌, Some, None, option_map};
 ghost use Rattle.vhdl_names_registers.specs.Spines as spec;
 ghost use Rattle.vhdl_names_rules.specs.Edges as edges;
-ghost use Rattle.vhdl_names_rules.specs.views.Integers.{static_view};
-ghost use Rattle.vhdl_names_rules.specs.views.Vectors.{signal_view, part_view, place_view};
+ghost use Rattle.vhdl_names_trees.specs.views.Integers.{static_view};
+ghost use Rattle.vhdl_names_trees.specs.views.Vectors.{signal_view, part_view, place_view};
 
-use vhdl_names_rules::{
-    Arithmetic, Bound, Part, Signal, SignalPart, Static, StaticLink, StaticStart,
-};
+use vhdl_names_rules::{Arithmetic, Bound};
+use vhdl_names_trees::{Part, Signal, SignalPart, Static, StaticLink, StaticStart};
 use vhdl_values::Edge;
 
 /// Whether two edges are of one kind.

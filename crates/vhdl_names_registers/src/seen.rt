@@ -3,11 +3,11 @@
 ghost use Rattle.std.specs.Prelude.{◌≡◌, option_map};
 ghost use Rattle.vhdl_names_registers.specs.Looking as spec;
 ghost use Rattle.vhdl_names_rules.specs.Edges as edges;
-ghost use Rattle.vhdl_names_rules.specs.views.Tests.{test_view};
-ghost use Rattle.vhdl_names_rules.specs.views.Vectors.{vector_view, value_view};
+ghost use Rattle.vhdl_names_trees.specs.views.Tests.{test_view};
+ghost use Rattle.vhdl_names_trees.specs.views.Vectors.{vector_view, value_view};
 
 use crate::same::same_place;
-use vhdl_names_rules::{SignalPart, Test, Value, Vector};
+use vhdl_names_trees::{SignalPart, Test, Value, Vector};
 use vhdl_values::{Edge, Logic, Nine};
 
 /// An edge of a signal, and where it is named.

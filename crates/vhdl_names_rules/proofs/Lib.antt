@@ -1,5 +1,4 @@
 pub mod laws
-pub mod rows
 pub mod Telling
 pub mod Along
 pub mod Memory

@@ -6,28 +6,15 @@
 //! the rule bears, and at which byte: what a fault of names tells.
 #![tactic(auto)]
 
-mod chains;
 mod fault;
-mod integer;
 mod kind;
 mod literal;
 mod operator;
+mod range;
 pub mod rule_laws;
-mod test;
-mod typed;
-mod vector;
 
 pub use fault::{NameFault, NameProblem, without};
-pub use integer::{
-    DeclaredRange, Index, IntegerBase, IntegerSubtype, Static, StaticLink, StaticRange,
-    StaticStart, TargetRange,
-};
 pub use kind::{ElementKind, Function, ObjectType};
 pub use literal::nine_of;
 pub use operator::{Arithmetic, Bound, IntegerType, Numeric, VectorOperator};
-pub use test::{StaticTest, StaticTestLink, StaticTestStart, Test, TestLink, TestStart};
-pub use typed::{Typed, TypedChoice, TypedElement, TypedSuffix};
-pub use vector::{
-    AnyPart, Chosen, Computed, ComputedLink, ComputedStart, Part, Signal, SignalPart, Value,
-    Vector, VectorElement, VectorLink, VectorStart,
-};
+pub use range::{DeclaredRange, IntegerBase};

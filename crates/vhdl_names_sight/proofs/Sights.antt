@@ -7,7 +7,7 @@ use Rattle.std.proofs.lemmas.Slice.Eq.{bytes_eq-Decides}
 use Rattle.std.proofs.lemmas.List.{take_more, map-append, reverse-append}
 use Rattle.std.proofs.lemmas.List.Folds.{find-append}
 use Rattle.vhdl_names_rules.specs.Visibility as visibility
-use Rattle.vhdl_names_rules.specs.views.Integers.{declared_range_view}
+use Rattle.vhdl_names_rules.specs.views.Ranges.{declared_range_view}
 use Rattle.vhdl_names_sight.specs.declared.meaning.Entry.{Entry}
 use Rattle.vhdl_names_sight.specs.declared.meaning.Meaning.{Meaning}
 use Rattle.vhdl_names_sight.specs.declared.meaning.Declared.{Declared}

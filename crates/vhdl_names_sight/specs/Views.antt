@@ -4,7 +4,7 @@ use Rattle.std.specs.Global.{Global}
 use Rattle.indexmap.specs.IndexMap.{IndexMap}
 use Rattle.vhdl_names_rules.specs.Visibility as visibility
 use Rattle.vhdl_names_rules.specs.Visibility.{Name}
-use Rattle.vhdl_names_rules.specs.views.Integers.{declared_range_view}
+use Rattle.vhdl_names_rules.specs.views.Ranges.{declared_range_view}
 use Rattle.vhdl_names_sight.specs.declared.meaning.Meaning.{Meaning}
 use Rattle.vhdl_names_sight.specs.declared.meaning.Meaning.TheVariants as m
 use Rattle.vhdl_names_sight.specs.declared.meaning.Entry.{Entry}

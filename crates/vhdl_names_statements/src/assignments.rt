@@ -16,7 +16,7 @@ use crate::choices::{Divided, arranged, covered};
 use crate::conditional::{alone, conditional, single};
 use crate::selecting::selecting;
 use std::alloc::{AllocError, Global};
-use vhdl_names_expressions::{selector, target};
+use vhdl_names_asked::{selector, target};
 use vhdl_names_rules::{NameFault, ObjectType};
 use vhdl_names_sight::Sight;
 use vhdl_names_units::{Alternative, Process, Sensitivity, Statement, copied_label};

@@ -13,7 +13,7 @@ ghost use Rattle.vhdl_names_units.specs.views.Sequential as views;
 
 use crate::selecting::assigned_to;
 use std::alloc::{AllocError, Global};
-use vhdl_names_expressions::{assigned as value_assigned, condition, target};
+use vhdl_names_asked::{assigned as value_assigned, condition, target};
 use vhdl_names_rules::NameFault;
 use vhdl_names_sight::Sight;
 use vhdl_names_units::{Branch, Statement};

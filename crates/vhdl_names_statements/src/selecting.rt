@@ -4,7 +4,7 @@ ghost use Rattle.std.specs.Prelude.{◌≡◌, ◌∷◌, [], if◌then◌else�
 ghost use Rattle.vhdl_names_rules.specs.Choices as rules;
 ghost use Rattle.vhdl_names_rules.specs.Operators.{negated};
 ghost use Rattle.vhdl_names_rules.specs.Statements.{assigned_to as assigned_to_target};
-ghost use Rattle.vhdl_names_rules.specs.views.Tests.{test_view};
+ghost use Rattle.vhdl_names_trees.specs.views.Tests.{test_view};
 ghost use Rattle.vhdl_names_statements.specs.steps.Cases as steps;
 ghost use Rattle.vhdl_names_statements.specs.steps.Deciding as deciding;
 ghost use Rattle.vhdl_names_units.specs.views.Answers.{assigned_view, choice_view, selector_view};
@@ -14,7 +14,8 @@ ghost use Rattle.vhdl_names_units.specs.views.Targets.{target_view};
 use crate::choices::Divided;
 use crate::conditional::single;
 use std::alloc::{AllocError, Global};
-use vhdl_names_rules::{AnyPart, ObjectType, Part, Static, StaticTest, Test, Value, Vector};
+use vhdl_names_rules::ObjectType;
+use vhdl_names_trees::{AnyPart, Part, Static, StaticTest, Test, Value, Vector};
 use vhdl_names_units::{
     Alternative, Assigned, Branch, Choice, Given, Object, Selector, Statement, Target,
 };

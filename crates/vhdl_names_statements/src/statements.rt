@@ -20,7 +20,7 @@ ghost use Rattle.vhdl_names_statements.specs.steps.Told as told;
 use crate::choices::{Divided, arranged, choice_lists, covered};
 use crate::conditional::{assigned, conditional};
 use crate::selecting::selecting;
-use vhdl_names_expressions::{condition, selector, static_range};
+use vhdl_names_asked::{condition, selector, static_range};
 use vhdl_names_rules::{NameFault, ObjectType};
 use vhdl_names_sight::{Declared, Meaning, Sight};
 use vhdl_names_units::{Alternative, Branch, Statement, ended};

@@ -2,13 +2,15 @@
 
 ghost use Rattle.std.specs.Prelude.{◌≡◌, option_map};
 ghost use Rattle.vhdl_names_rules.specs.Statements as statements;
-ghost use Rattle.vhdl_names_rules.specs.views.Integers.{declared_range_view, target_range_view};
-ghost use Rattle.vhdl_names_rules.specs.views.Vectors.{part_view};
+ghost use Rattle.vhdl_names_trees.specs.views.Integers.{target_range_view};
+ghost use Rattle.vhdl_names_rules.specs.views.Ranges.{declared_range_view};
+ghost use Rattle.vhdl_names_trees.specs.views.Vectors.{part_view};
 
 use drops::take_apart;
-use vhdl_names_rules::{
-    AnyPart, DeclaredRange, Index, IntegerSubtype, ObjectType, Part, Signal, SignalPart, Static,
-    StaticRange, StaticTest, TargetRange, Test, Value, Vector, VectorElement,
+use vhdl_names_rules::{DeclaredRange, ObjectType};
+use vhdl_names_trees::{
+    AnyPart, Index, IntegerSubtype, Part, Signal, SignalPart, Static, StaticRange, StaticTest,
+    TargetRange, Test, Value, Vector, VectorElement,
 };
 use vhdl_tree::{Direction, Mode};
 use vhdl_values::Nine;

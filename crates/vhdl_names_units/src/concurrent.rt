@@ -8,7 +8,7 @@ use crate::answers::Fixed;
 use crate::declaration::Declaration;
 use crate::sequential::Statement;
 use drops::take_apart;
-use vhdl_names_rules::{SignalPart, StaticRange, StaticTest};
+use vhdl_names_trees::{SignalPart, StaticRange, StaticTest};
 use vhdl_tree::Identifier;
 
 /// What resumes a process.

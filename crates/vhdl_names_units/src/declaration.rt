@@ -3,7 +3,7 @@
 
 use crate::answers::{Fixed, Form};
 use drops::take_apart;
-use vhdl_names_rules::{IntegerSubtype, Static, StaticRange, StaticTest};
+use vhdl_names_trees::{IntegerSubtype, Static, StaticRange, StaticTest};
 use vhdl_tree::{Identifier, Mode};
 
 /// What a generic is: an integer, a boolean, or of the nine values.

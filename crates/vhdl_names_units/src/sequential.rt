@@ -2,9 +2,9 @@
 
 ghost use Rattle.std.specs.Prelude.{◌≡◌, IfOk, IfErr};
 ghost use Rattle.vhdl_names_rules.specs.units.Statements as units;
-ghost use Rattle.vhdl_names_rules.specs.views.Integers.{range_view};
-ghost use Rattle.vhdl_names_rules.specs.views.Tests.{test_view};
-ghost use Rattle.vhdl_names_rules.specs.views.Vectors.{value_view};
+ghost use Rattle.vhdl_names_trees.specs.views.Integers.{range_view};
+ghost use Rattle.vhdl_names_trees.specs.views.Tests.{test_view};
+ghost use Rattle.vhdl_names_trees.specs.views.Vectors.{value_view};
 ghost use Rattle.vhdl_names_units.specs.views.Answers.{given_view, choices_view};
 ghost use Rattle.vhdl_names_units.specs.views.Targets.{target_view};
 ghost use Rattle.vhdl_names_units.specs.declared.sequential.If.{If};
@@ -13,7 +13,7 @@ ghost use Rattle.vhdl_names_units.specs.views.Sequential as views;
 
 use crate::answers::{Choice, Given, Object, Target};
 use drops::take_apart;
-use vhdl_names_rules::{AnyPart, Chosen, Part, Signal, SignalPart, StaticRange, Test, Value};
+use vhdl_names_trees::{AnyPart, Chosen, Part, Signal, SignalPart, StaticRange, Test, Value};
 
 /// A sequential statement.
 #[cycle(statement)]

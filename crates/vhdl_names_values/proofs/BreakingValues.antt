@@ -43,8 +43,8 @@ use Rattle.vhdl_names_rules.specs.Subtypes.{marked, one_range}
 use Rattle.vhdl_names_values.specs.Fixing.{suffixed_value, filled_with}
 use Rattle.vhdl_names_values.specs.Marking.{marked_alone}
 use Rattle.vhdl_names_expressions.proofs.Breaking.{told_fault, in_turn}
-use Rattle.vhdl_names_expressions.proofs.Filling.{no_vectors, of_vectors}
-use Rattle.vhdl_names_expressions.proofs.ObjectNames.{behind_name}
+use Rattle.vhdl_names_asked.proofs.Filling.{no_vectors, of_vectors}
+use Rattle.vhdl_names_asked.proofs.ObjectNames.{behind_name}
 use Rattle.vhdl_names_expressions.proofs.Choosing.{chain_is_no_literal}
 
 -- ---- literals

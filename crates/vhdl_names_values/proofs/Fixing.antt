@@ -19,15 +19,15 @@ use Rattle.vhdl_names_rules.specs.Operators as o
 use Rattle.vhdl_names_rules.specs.Operators.{integer, computed, elements, enumerated, truth, interval, composite}
 use Rattle.vhdl_names_rules.specs.Expressions.{typed, typed_each, typed_suffix, sliced, is_one_name, suffix_of}
 use Rattle.vhdl_names_rules.specs.Subtypes as r
-use Rattle.vhdl_names_rules.specs.declared.typed.Typed.{Typed}
+use Rattle.vhdl_names_trees.specs.declared.typed.Typed.{Typed}
 use Rattle.vhdl_names_parts.specs.Steps.{two}
-use Rattle.vhdl_names_rules.specs.views.Expressions.{typed_view}
+use Rattle.vhdl_names_trees.specs.views.Expressions.{typed_view}
 use Rattle.vhdl_names_parts.proofs.Meant.{both_views, two_map}
-use Rattle.vhdl_names_expressions.specs.Asked.{unattributed}
+use Rattle.vhdl_names_asked.specs.Asked.{unattributed}
 use Rattle.vhdl_names_rules.specs.Instances.{as_name}
 use Rattle.vhdl_names_expressions.specs.Chosen.{as_character}
 use Rattle.vhdl_names_values.specs.Fixing.{encoded_fixed, suffixed_value, filled_with}
-use Rattle.vhdl_names_expressions.proofs.Asking.{both}
+use Rattle.vhdl_names_asked.proofs.Asking.{both}
 use Rattle.vhdl_names_expressions.proofs.Choosing.{no_literal, chain_is_no_character}
 
 -- ---- to_unsigned

@@ -10,7 +10,7 @@ ghost use Rattle.vhdl_names_rules.specs.Rules.{each};
 ghost use Rattle.vhdl_names_rules.specs.declared.fault.NameProblem.TheVariants.{LeftOut};
 ghost use Rattle.vhdl_names_rules.specs.declared.kind.ObjectType.TheVariants.{Elements, Enumeration, Integers, Booleans};
 ghost use Rattle.vhdl_names_rules.specs.problems.Places.{choice_place};
-ghost use Rattle.vhdl_names_rules.specs.views.Expressions.{choice_view as typed_choice_view};
+ghost use Rattle.vhdl_names_trees.specs.views.Expressions.{choice_view as typed_choice_view};
 ghost use Rattle.vhdl_tree.specs.Tree as t;
 ghost use Rattle.vhdl_tree.specs.View.{view, ident_view, suffix_view, attribute_view, choice_view as tree_choice_view};
 ghost use Rattle.vhdl_names_sight.specs.Views.{meaning_view};
@@ -21,8 +21,9 @@ ghost use Rattle.vhdl_names_units.specs.views.Answers.{choice_view, choices_view
 use crate::literals::{literal_values, no_literal};
 use std::alloc::Global;
 use vhdl_names_expressions::{name_of, start, typed_choice};
-use vhdl_names_rules::{ElementKind, NameFault, NameProblem, ObjectType, TypedChoice, without};
+use vhdl_names_rules::{ElementKind, NameFault, NameProblem, ObjectType, without};
 use vhdl_names_sight::{Meaning, Sight, meaning_of};
+use vhdl_names_trees::TypedChoice;
 use vhdl_names_units::Choice;
 use vhdl_tree::{Choice as TreeChoice, Expr, Name, Suffix};
 

@@ -8,15 +8,17 @@ ghost use Rattle.vhdl_names_rules.specs.problems.Subtypes as broken;
 ghost use Rattle.vhdl_names_rules.specs.Declarations.{single_expression as single_expression_of};
 ghost use Rattle.vhdl_names_rules.specs.Gives.{Gives};
 ghost use Rattle.vhdl_names_rules.specs.Subtypes as rules;
-ghost use Rattle.vhdl_names_rules.specs.views.Integers.{target_range_view};
+ghost use Rattle.vhdl_names_trees.specs.views.Integers.{target_range_view};
 ghost use Rattle.vhdl_tree.specs.Tree as t;
 ghost use Rattle.vhdl_tree.specs.View.{view, value_view};
 ghost use Rattle.vhdl_names_units.specs.views.Answers.{fixed_view};
 
 use crate::fixed::{wider_expression, wider_value};
-use vhdl_names_expressions::{static_condition, static_integer};
-use vhdl_names_rules::{NameFault, NameProblem, ObjectType, TargetRange};
+use vhdl_names_asked::static_condition;
+use vhdl_names_expressions::static_integer;
+use vhdl_names_rules::{NameFault, NameProblem, ObjectType};
 use vhdl_names_sight::Sight;
+use vhdl_names_trees::TargetRange;
 use vhdl_names_units::Fixed;
 use vhdl_tree::{Expr, Value as TreeValue};
 

@@ -12,8 +12,8 @@ ghost use Rattle.vhdl_names_rules.specs.declared.kind.ObjectType.TheVariants.{El
 ghost use Rattle.vhdl_tree.specs.Tree as t;
 ghost use Rattle.vhdl_tree.specs.View.{view, ident_view, suffix_view, attribute_view, value_view as tree_value_view};
 ghost use Rattle.vhdl_names_sight.specs.Views.{meaning_view};
-ghost use Rattle.vhdl_names_rules.specs.views.Expressions.{typed_view, typed_suffix_view};
-ghost use Rattle.vhdl_names_rules.specs.views.Integers.{target_range_view};
+ghost use Rattle.vhdl_names_trees.specs.views.Expressions.{typed_view, typed_suffix_view};
+ghost use Rattle.vhdl_names_trees.specs.views.Integers.{target_range_view};
 ghost use Rattle.vhdl_names_expressions.specs.Chosen.{as_character};
 ghost use Rattle.vhdl_names_values.specs.Fixing as steps;
 ghost use Rattle.vhdl_names_values.specs.Fixing.{encoded_fixed, filled_with, suffixed_value, known_given};
@@ -22,14 +22,15 @@ ghost use Rattle.vhdl_names_units.specs.views.Answers.{fixed_view, given_view};
 use crate::literals::{literal_values, no_literal};
 use std::alloc::Global;
 use vhdl_lexer::Language;
-use vhdl_names_expressions::{given, given_expression, name_of, start, unattributed};
+use vhdl_names_asked::{given, given_expression, unattributed};
+use vhdl_names_expressions::{name_of, start};
 use vhdl_names_numbers::is_known;
 use vhdl_names_parts::two_arguments;
 use vhdl_names_rules::{
-    ElementKind, Function, NameFault, NameProblem, ObjectType, TargetRange, Typed, TypedSuffix,
-    Value, nine_of, without,
+    ElementKind, Function, NameFault, NameProblem, ObjectType, nine_of, without,
 };
 use vhdl_names_sight::{Meaning, Sight};
+use vhdl_names_trees::{TargetRange, Typed, TypedSuffix, Value};
 use vhdl_names_units::{Fixed, Given};
 use vhdl_tree::{Expr, Name, Value as TreeValue};
 

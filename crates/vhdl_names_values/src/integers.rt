@@ -7,15 +7,17 @@ ghost use Rattle.vhdl_names_rules.specs.declared.fault.NameProblem.TheVariants.{
 ghost use Rattle.vhdl_names_rules.specs.Gives.{Gives};
 ghost use Rattle.vhdl_names_rules.specs.Subtypes as rules;
 ghost use Rattle.vhdl_names_rules.specs.Visibility as visibility;
-ghost use Rattle.vhdl_names_rules.specs.views.Integers.{range_view, base_view, subtype_view};
+ghost use Rattle.vhdl_names_trees.specs.views.Integers.{range_view, subtype_view};
+ghost use Rattle.vhdl_names_rules.specs.views.Ranges.{base_view};
 ghost use Rattle.vhdl_names_sight.specs.Views.{entry_of};
 ghost use Rattle.vhdl_names_values.specs.Marking as steps;
 ghost use Rattle.vhdl_names_values.specs.Constraining.{constraint_breaks};
 ghost use Rattle.vhdl_tree.specs.View.{constraint_view, subtype_view as tree_subtype_view, discrete_range_view};
 
-use vhdl_names_expressions::{range_start, static_range};
-use vhdl_names_rules::{IntegerBase, IntegerSubtype, NameFault, NameProblem, StaticRange};
+use vhdl_names_asked::{range_start, static_range};
+use vhdl_names_rules::{IntegerBase, NameFault, NameProblem};
 use vhdl_names_sight::{Entry, Meaning, Sight};
+use vhdl_names_trees::{IntegerSubtype, StaticRange};
 use vhdl_tree::{Constraint, Direction, DiscreteRange, Subtype as TreeSubtype};
 
 /// The integers of a type, or of a subtype with a range.

@@ -7,7 +7,7 @@ ghost use Rattle.vhdl_names_rules.specs.problems.Broken.{Tells};
 ghost use Rattle.vhdl_names_rules.specs.problems.Subtypes as broken;
 ghost use Rattle.vhdl_names_rules.specs.Gives.{Gives};
 ghost use Rattle.vhdl_names_rules.specs.Subtypes as rules;
-ghost use Rattle.vhdl_names_rules.specs.views.Integers.{base_view};
+ghost use Rattle.vhdl_names_rules.specs.views.Ranges.{base_view};
 ghost use Rattle.vhdl_tree.specs.View as trees;
 ghost use Rattle.vhdl_names_sight.specs.Views.{meaning_view};
 ghost use Rattle.vhdl_names_values.specs.Classes.{type_class_view};

@@ -11,9 +11,10 @@ ghost use Rattle.vhdl_names_sight.specs.Views.{meaning_view, entry_of};
 ghost use Rattle.vhdl_names_values.specs.Marking as steps;
 ghost use Rattle.vhdl_names_units.specs.views.Answers.{subtype_view};
 
-use vhdl_names_expressions::static_range;
+use vhdl_names_asked::static_range;
 use vhdl_names_rules::{ElementKind, NameFault, NameProblem, ObjectType};
 use vhdl_names_sight::{Entry, Meaning, Sight, declaration_of};
+use vhdl_names_trees::StaticRange;
 use vhdl_names_units::{Form, Subtype};
 use vhdl_tree::{Constraint, Subtype as TreeSubtype};
 
@@ -44,7 +45,7 @@ fn marked_alone(entry: &Entry) -> Option<Subtype>
         }),
         (Meaning::VectorType(kind, is_resolved), Some(range)) => Some(Subtype {
             object_type: ObjectType::Elements(*kind),
-            form: Form::Vector(range.range()),
+            form: Form::Vector(StaticRange::declared(range)),
             is_resolved: *is_resolved,
         }),
         (Meaning::EnumerationType { number, count }, None) => Some(Subtype {

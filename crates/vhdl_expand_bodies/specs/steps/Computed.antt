@@ -1,6 +1,6 @@
 -- Integers that a run computes, as the code comes to their parts.
-use Rattle.vhdl_names_rules.specs.declared.vector.ComputedLink.{ComputedLink}
-use Rattle.vhdl_names_rules.specs.views.Vectors.{computed_view}
+use Rattle.vhdl_names_trees.specs.declared.vector.ComputedLink.{ComputedLink}
+use Rattle.vhdl_names_trees.specs.views.Vectors.{computed_view}
 use Rattle.vhdl_expand_rules.specs.Elab.{Elab, ◌>>=◌}
 use Rattle.vhdl_expand_rules.specs.Site.{Site}
 use Rattle.vhdl_expand_rules.specs.Expressions.{computed, measured}

@@ -2,9 +2,9 @@
 use Rattle.std.specs.Prelude.{ℕ, Bool, false, Option, Some, None, Ok}
 use Rattle.vhdl_values.specs.declared.scalar.Nine.{Nine}
 use Rattle.vhdl_values.specs.declared.kinds.Cmp.{Cmp}
-use Rattle.vhdl_names_rules.specs.declared.test.TestLink.{TestLink}
-use Rattle.vhdl_names_rules.specs.declared.test.TestStart.{TestStart}
-use Rattle.vhdl_names_rules.specs.views.Tests.{test_view}
+use Rattle.vhdl_names_trees.specs.declared.test.TestLink.{TestLink}
+use Rattle.vhdl_names_trees.specs.declared.test.TestStart.{TestStart}
+use Rattle.vhdl_names_trees.specs.views.Tests.{test_view}
 use Rattle.vhdl_names_rules.specs.units.Expressions.{Static, SignalPart, Vector, Value}
 use Rattle.rtl_model.specs.bodies.Body as bodies
 use Rattle.vhdl_expand_rules.specs.Elab.{Elab, ◌>>=◌}

@@ -4,13 +4,13 @@ use Rattle.vhdl_values.specs.declared.scalar.Nine.{Nine}
 use Rattle.vhdl_values.specs.declared.kinds.Counted.{Counted}
 use Rattle.vhdl_values.specs.Numbers.{digits_of}
 use Rattle.vhdl_names_rules.specs.declared.operator.Numeric.{Numeric}
-use Rattle.vhdl_names_rules.specs.declared.vector.VectorElement.{VectorElement}
-use Rattle.vhdl_names_rules.specs.declared.vector.VectorElement.TheVariants as v
-use Rattle.vhdl_names_rules.specs.declared.vector.VectorLink.{VectorLink}
-use Rattle.vhdl_names_rules.specs.declared.vector.VectorLink.TheVariants as l
-use Rattle.vhdl_names_rules.specs.declared.vector.VectorStart.{VectorStart}
-use Rattle.vhdl_names_rules.specs.views.Integers.{static_view, index_view}
-use Rattle.vhdl_names_rules.specs.views.Vectors.{computed_view, vector_view}
+use Rattle.vhdl_names_trees.specs.declared.vector.VectorElement.{VectorElement}
+use Rattle.vhdl_names_trees.specs.declared.vector.VectorElement.TheVariants as v
+use Rattle.vhdl_names_trees.specs.declared.vector.VectorLink.{VectorLink}
+use Rattle.vhdl_names_trees.specs.declared.vector.VectorLink.TheVariants as l
+use Rattle.vhdl_names_trees.specs.declared.vector.VectorStart.{VectorStart}
+use Rattle.vhdl_names_trees.specs.views.Integers.{static_view, index_view}
+use Rattle.vhdl_names_trees.specs.views.Vectors.{computed_view, vector_view}
 use Rattle.vhdl_names_rules.specs.units.Expressions.{Static, Range, Signal, Part, Vector}
 use Rattle.rtl_model.specs.bodies.Body as bodies
 use Rattle.rtl_model.specs.bodies.Fits.{width}

@@ -1,7 +1,7 @@
 -- What contracts see of truths over static integers, and of turns.
 use Rattle.std.specs.Prelude.{Bool, List, [], ◌∷◌, ℤ, Ok}
-use Rattle.vhdl_names_rules.specs.declared.test.StaticTestLink.{StaticTestLink}
-use Rattle.vhdl_names_rules.specs.views.Tests.{static_test_view}
+use Rattle.vhdl_names_trees.specs.declared.test.StaticTestLink.{StaticTestLink}
+use Rattle.vhdl_names_trees.specs.views.Tests.{static_test_view}
 use Rattle.rtl_model.specs.bodies.Tests.{truth}
 use Rattle.vhdl_expand_rules.specs.declared.turns.Turns.{Turns}
 use Rattle.vhdl_expand_rules.specs.Elab.{Elab, ◌>>=◌}

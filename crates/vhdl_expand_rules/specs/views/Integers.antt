@@ -1,7 +1,7 @@
 -- What contracts see of the code's static integers, and of what it computes.
 use Rattle.std.specs.Prelude.{◌≡◌, ℕ, List, [], ◌∷◌, ◌++◌, map, ℤ, Option, Some, None, Result, Ok, Err, if◌then◌else◌, ◌+ℤ◌}
-use Rattle.vhdl_names_rules.specs.declared.integer.StaticLink.{StaticLink}
-use Rattle.vhdl_names_rules.specs.views.Integers.{static_view}
+use Rattle.vhdl_names_trees.specs.declared.integer.StaticLink.{StaticLink}
+use Rattle.vhdl_names_trees.specs.views.Integers.{static_view}
 use Rattle.vhdl_expand_rules.specs.declared.fault.ElabFault.{ElabFault}
 use Rattle.vhdl_expand_rules.specs.declared.fault.ElabProblem.TheVariants.{StaticError}
 use Rattle.vhdl_expand_rules.specs.declared.integer.Integers.{Integers}

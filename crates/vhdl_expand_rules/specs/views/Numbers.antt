@@ -1,8 +1,8 @@
 -- What contracts see of the integers that a subtype of the code has.
 use Rattle.std.specs.Prelude.{ℕ, Option, Some}
-use Rattle.vhdl_names_rules.specs.declared.integer.StaticRange.{StaticRange}
+use Rattle.vhdl_names_trees.specs.declared.integer.StaticRange.{StaticRange}
 use Rattle.vhdl_names_rules.specs.units.Expressions.{Range}
-use Rattle.vhdl_names_rules.specs.views.Integers as names
+use Rattle.vhdl_names_trees.specs.views.Integers as names
 use Rattle.vhdl_expand_rules.specs.declared.numbers.Numbers.{Numbers}
 use Rattle.vhdl_expand_rules.specs.declared.numbers.Numbers.TheVariants as n
 use Rattle.vhdl_expand_rules.specs.Integers as definition

@@ -9,9 +9,9 @@ use Rattle.vhdl_names_rules.specs.Expressions.{typed, typed_each, typed_elements
 use Rattle.vhdl_names_rules.specs.Operators.{composite}
 use Rattle.vhdl_names_rules.specs.Types.{place}
 use Rattle.vhdl_names_rules.specs.units.Expressions as u
-use Rattle.vhdl_names_rules.specs.views.Integers.{static_view, range_view, index_view}
-use Rattle.vhdl_names_rules.specs.views.Expressions.{typed_view, typed_suffix_view, typed_elements_view}
-use Rattle.vhdl_names_rules.specs.views.Expressions.{choice_view as typed_choice_view}
+use Rattle.vhdl_names_trees.specs.views.Integers.{static_view, range_view, index_view}
+use Rattle.vhdl_names_trees.specs.views.Expressions.{typed_view, typed_suffix_view, typed_elements_view}
+use Rattle.vhdl_names_trees.specs.views.Expressions.{choice_view as typed_choice_view}
 use Rattle.vhdl_names_rules.specs.problems.Places as places
 use Rattle.vhdl_names_rules.specs.problems.Expressions as broken
 use Rattle.vhdl_names_sight.specs.Views.{entry_of}
@@ -203,90 +203,90 @@ expressions::computed_integer-returns-in-Err t c =
 
 -- ---- names
 
-pub named::named-returns-in_err-entry : goal.named::named-returns-in_err-entry
-named::named-returns-in_err-entry t c =
+pub name::named-returns-in_err-entry : goal.name::named-returns-in_err-entry
+name::named-returns-in_err-entry t c =
     let n = c.args.name.now in
     declaration_passed c.args.sight.now (ident_view n.identifier) (suffix_view n.suffix) (option_map attribute_view n.attribute) _ _ c.from_residual.ensures.1
     (record { given = c.in_err-entry.ensures.declared; told = c.in_err-entry.ensures.told })
 
-pub named::named-returns-in_err-suffix : goal.named::named-returns-in_err-suffix
-named::named-returns-in_err-suffix t c =
+pub name::named-returns-in_err-suffix : goal.name::named-returns-in_err-suffix
+name::named-returns-in_err-suffix t c =
     let n = c.args.name.now in
     suffix_passed c.args.sight.now (ident_view n.identifier) (suffix_view n.suffix) (option_map attribute_view n.attribute) (entry_of n.identifier.text.items c.in_ok-entry.entry.now)
     c.in_ok-entry.ensures.declared _ _ c.from_residual-in_err-suffix.ensures.1 c.in_err-suffix.ensures
 
-pub named::named-returns : goal.named::named-returns
-named::named-returns t c =
+pub name::named-returns : goal.name::named-returns
+name::named-returns t c =
     let n = c.args.name.now in
     let text = n.identifier.text.items in
     named_answers c.args.sight.now (ident_view n.identifier) (suffix_view n.suffix) (option_map attribute_view n.attribute) (entry_of text c.in_ok-entry.entry.now) c.in_ok-entry.ensures.declared
     (typed_suffix_view c.in_ok-suffix.suffix) _ c.in_ok-suffix.ensures.given (record { given = c.named_as.ensures.given text; told = c.named_as.ensures.told text })
 
-pub named::typed_suffix-returns-in-Arguments : goal.named::typed_suffix-returns-in-Arguments
-named::typed_suffix-returns-in-Arguments t c =
+pub name::typed_suffix-returns-in-Arguments : goal.name::typed_suffix-returns-in-Arguments
+name::typed_suffix-returns-in-Arguments t c =
     arguments_answer c.args.sight.now c.args.suffix.now c.in-Arguments.all c.deref.result.now _ c.in-Arguments.is c.deref.ensures.value c.arguments.ensures
 
-pub named::typed_suffix-returns-in-Range : goal.named::typed_suffix-returns-in-Range
-named::typed_suffix-returns-in-Range t c =
+pub name::typed_suffix-returns-in-Range : goal.name::typed_suffix-returns-in-Range
+name::typed_suffix-returns-in-Range t c =
     let s = c.args.sight.now in
     along typed_suffix_view _ _ _ _ _ (slice_as s c.args.suffix.now c.in-Range.range c.deref-in-Range.result.now c.in-Range.is c.deref-in-Range.ensures)
     (slice_broken s c.args.suffix.now c.in-Range.range c.deref-in-Range.result.now c.in-Range.is c.deref-in-Range.ensures) c.slice_bounds.ensures
 
-pub named::slice_bounds-returns-in_err-left : goal.named::slice_bounds-returns-in_err-left
-named::slice_bounds-returns-in_err-left t c = slice_left_passed c.args.sight.now c.args.range.now _ _ c.from_residual.ensures.1 c.in_err-left.ensures
+pub name::slice_bounds-returns-in_err-left : goal.name::slice_bounds-returns-in_err-left
+name::slice_bounds-returns-in_err-left t c = slice_left_passed c.args.sight.now c.args.range.now _ _ c.from_residual.ensures.1 c.in_err-left.ensures
 
-pub named::slice_bounds-returns-in_err-right : goal.named::slice_bounds-returns-in_err-right
-named::slice_bounds-returns-in_err-right t c =
+pub name::slice_bounds-returns-in_err-right : goal.name::slice_bounds-returns-in_err-right
+name::slice_bounds-returns-in_err-right t c =
     slice_right_passed c.args.sight.now c.args.range.now (integer_view c.in_ok-left.left) _ _ c.in_ok-left.ensures.given c.from_residual-in_err-right.ensures.1 c.in_err-right.ensures
 
-pub named::slice_bounds-returns-in_err-sliced : goal.named::slice_bounds-returns-in_err-sliced
-named::slice_bounds-returns-in_err-sliced t c = out_of_memory typed_suffix_view _ _ _ c.from_residual-in_err-sliced.ensures.1
+pub name::slice_bounds-returns-in_err-sliced : goal.name::slice_bounds-returns-in_err-sliced
+name::slice_bounds-returns-in_err-sliced t c = out_of_memory typed_suffix_view _ _ _ c.from_residual-in_err-sliced.ensures.1
 
-pub named::slice_bounds-returns-clause-given : goal.named::slice_bounds-returns-clause-given
-named::slice_bounds-returns-clause-given t c =
+pub name::slice_bounds-returns-clause-given : goal.name::slice_bounds-returns-clause-given
+name::slice_bounds-returns-clause-given t c =
     let w = c.args.range.now in
     both_bounds c.args.sight.now (view w.left) w.direction (view w.right) (integer_view c.in_ok-left.left) (integer_view c.in_ok-right.right) c.in_ok-left.ensures.given c.in_ok-right.ensures.given
     ∙ c.in_ok-sliced.ensures
 
-pub named::arguments-returns-clause-given : goal.named::arguments-returns-clause-given
-named::arguments-returns-clause-given t c =
+pub name::arguments-returns-clause-given : goal.name::arguments-returns-clause-given
+name::arguments-returns-clause-given t c =
     ap (option_map (suffix_of (is_one_name (exprs_of (map view c.args.all.now))))) c.in_ok-typed.ensures.given
     ∙ ap Some (sym (c.suffix_of.ensures ∙ ap (λ b. suffix_of b (map typed_view c.in_ok-typed.typed.items)) c.is_one_name.ensures))
 
-pub named::typed_each-loop-argument-init : goal.named::typed_each-loop-argument-init
-named::typed_each-loop-argument-init t c =
+pub name::typed_each-loop-argument-init : goal.name::typed_each-loop-argument-init
+name::typed_each-loop-argument-init t c =
     let all = typed_each c.args.sight.now (exprs_of (map view c.args.arguments.now)) in
     (none_before all ∙ ap (λ xs. front (map typed_view xs) all) (sym c.new-done.ensures.items), refl)
 
-pub named::typed_each-loop-argument-preserved : goal.named::typed_each-loop-argument-preserved
-named::typed_each-loop-argument-preserved t c =
+pub name::typed_each-loop-argument-preserved : goal.name::typed_each-loop-argument-preserved
+name::typed_each-loop-argument-preserved t c =
     let l = c.loop-argument in
     arguments_go c.args.sight.now c.args.arguments.now l.done.items l.argument-index c.argument-item.result c.in_ok-value.value c.push.new.self.items l.invariant (omega arith) c.argument-item.is
     c.in_ok-value.ensures.given c.in_ok-push.ensures.items
 
-pub named::typed_each-returns-in_err-value : goal.named::typed_each-returns-in_err-value
-named::typed_each-returns-in_err-value t c =
+pub name::typed_each-returns-in_err-value : goal.name::typed_each-returns-in_err-value
+name::typed_each-returns-in_err-value t c =
     let l = c.loop-argument in
     arguments_passed c.args.sight.now c.args.arguments.now l.done.items l.argument-index c.argument-item.result _ _ l.invariant (omega arith) c.argument-item.is c.from_residual.ensures.1 c.in_err-value.ensures
 
-pub named::typed_each-returns-in_err-push : goal.named::typed_each-returns-in_err-push
-named::typed_each-returns-in_err-push t c = out_of_memory (λ v. map typed_view v.items) _ _ _ c.from_residual-in_err-push.ensures.1
+pub name::typed_each-returns-in_err-push : goal.name::typed_each-returns-in_err-push
+name::typed_each-returns-in_err-push t c = out_of_memory (λ v. map typed_view v.items) _ _ _ c.from_residual-in_err-push.ensures.1
 
-pub named::typed_each-returns-clause-given : goal.named::typed_each-returns-clause-given
-named::typed_each-returns-clause-given t c =
+pub name::typed_each-returns-clause-given : goal.name::typed_each-returns-clause-given
+name::typed_each-returns-clause-given t c =
     each_typed_ends c.args.sight.now _ (map typed_view c.loop-argument.done.items) c.args.arguments.now c.loop-argument.argument-index c.loop-argument.invariant.0 (omega arith)
 
 -- ---- bounds
 
-pub named::bounds-returns-in_err-left : goal.named::bounds-returns-in_err-left
-named::bounds-returns-in_err-left t c = bounds_left_passed c.args.sight.now (tree_range_view c.args.range.now) _ _ c.from_residual.ensures.1 c.in_err-left.ensures
+pub name::bounds-returns-in_err-left : goal.name::bounds-returns-in_err-left
+name::bounds-returns-in_err-left t c = bounds_left_passed c.args.sight.now (tree_range_view c.args.range.now) _ _ c.from_residual.ensures.1 c.in_err-left.ensures
 
-pub named::bounds-returns-in_err-right : goal.named::bounds-returns-in_err-right
-named::bounds-returns-in_err-right t c =
+pub name::bounds-returns-in_err-right : goal.name::bounds-returns-in_err-right
+name::bounds-returns-in_err-right t c =
     bounds_right_passed c.args.sight.now (tree_range_view c.args.range.now) (static_view c.in_ok-left.left) _ _ c.in_ok-left.ensures.given c.from_residual-in_err-right.ensures.1 c.in_err-right.ensures
 
-pub named::bounds-returns-clause-given : goal.named::bounds-returns-clause-given
-named::bounds-returns-clause-given t c =
+pub name::bounds-returns-clause-given : goal.name::bounds-returns-clause-given
+name::bounds-returns-clause-given t c =
     bounds_are c.args.sight.now (tree_range_view c.args.range.now) (static_view c.in_ok-left.left) (static_view c.in_ok-right.right) c.in_ok-left.ensures.given c.in_ok-right.ensures.given
 
 -- ---- qualified expressions

@@ -6,8 +6,8 @@ use Rattle.vhdl_names_rules.specs.Rules.{each}
 use Rattle.vhdl_names_rules.specs.problems.Expressions.{typed_each, typed_elements, typed_choices}
 use Rattle.vhdl_names_expressions.specs.Breaking.{all_break}
 use Rattle.vhdl_names_expressions.specs.Steps.{all_linked}
-use Rattle.vhdl_names_rules.specs.views.Expressions.{typed_view}
-use Rattle.vhdl_names_rules.specs.views.Expressions.{choice_view as typed_choice_view}
+use Rattle.vhdl_names_trees.specs.views.Expressions.{typed_view}
+use Rattle.vhdl_names_trees.specs.views.Expressions.{choice_view as typed_choice_view}
 use Rattle.vhdl_names_expressions.specs.Elements.{one_element_view}
 use Rattle.vhdl_names_expressions.proofs.Chains.{front}
 use Rattle.vhdl_names_expressions.proofs.Each.{behind}
@@ -21,8 +21,8 @@ invariant-expressions::links-loop-next l =
     × (all_break l.sight (Some (typed_view l.fn.first)) l.links ≡ all_break l.sight (Some (typed_view l.done)) (drop l.next-index l.links))
 
 -- what is done, and then the arguments that are left, is the whole, and what they break first, the whole breaks first
-abbrev pub invariant-named::typed_each-loop-argument : goal.invariant-named::typed_each-loop-argument
-invariant-named::typed_each-loop-argument l =
+abbrev pub invariant-name::typed_each-loop-argument : goal.invariant-name::typed_each-loop-argument
+invariant-name::typed_each-loop-argument l =
     (are.typed_each l.sight (exprs_of (map view l.arguments))
     ≡ front (map typed_view l.done.items) (are.typed_each l.sight (exprs_of (map view (drop l.argument-index l.arguments)))))
     × (typed_each l.sight (exprs_of (map view l.arguments)) ≡ typed_each l.sight (exprs_of (map view (drop l.argument-index l.arguments))))

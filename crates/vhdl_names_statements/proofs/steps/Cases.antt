@@ -19,7 +19,7 @@ use Rattle.vhdl_names_rules.specs.Expressions.{typed}
 use Rattle.vhdl_names_rules.specs.Choices as rules
 use Rattle.vhdl_names_rules.specs.Choices.{Selector, choices, covered, selector, selecting, only_last_others, is_last_others, is_others, are_distinct_choices, are_named, names_all, same_choice}
 use Rattle.vhdl_names_rules.specs.Statements.{statement, statements, alternatives, choice_lists}
-use Rattle.vhdl_names_expressions.specs.Asked.{selected_by}
+use Rattle.vhdl_names_asked.specs.Asked.{selected_by}
 use Rattle.vhdl_names_units.specs.views.Sequential.{Chosen, chosen_by, statements_of, alternatives_of, last_alternative}
 use Rattle.vhdl_names_statements.specs.steps.Sequential.{all_labelled}
 use Rattle.vhdl_names_statements.specs.steps.Cases as steps

@@ -15,7 +15,7 @@ use Rattle.vhdl_names_rules.specs.Statements.{Target, signal_target, alone, cond
 use Rattle.vhdl_names_rules.specs.Statements.{assignment as one}
 use Rattle.vhdl_names_rules.specs.Concurrent as rules
 use Rattle.vhdl_names_rules.specs.Concurrent.{assigning}
-use Rattle.vhdl_names_expressions.specs.Asked.{selected_by}
+use Rattle.vhdl_names_asked.specs.Asked.{selected_by}
 use Rattle.vhdl_names_units.specs.views.Sequential.{Chosen, chosen_by, statements_of}
 use Rattle.vhdl_names_statements.specs.steps.Cases.{all_choices, cover, covering, arranged}
 use Rattle.vhdl_names_statements.specs.steps.Sequential as sequential

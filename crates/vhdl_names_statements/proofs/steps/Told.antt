@@ -18,7 +18,7 @@ use Rattle.vhdl_names_rules.specs.Expressions as are
 use Rattle.vhdl_names_rules.specs.Choices.{Selector, selector}
 use Rattle.vhdl_names_rules.specs.Choices as chosen
 use Rattle.vhdl_names_rules.proofs.laws.Rules.{comes}
-use Rattle.vhdl_names_expressions.specs.Asked.{selected_by}
+use Rattle.vhdl_names_asked.specs.Asked.{selected_by}
 use Rattle.vhdl_names_units.specs.views.Sequential.{Guarded, Chosen, statements_of}
 use Rattle.vhdl_names_rules.specs.problems.Broken.{Broken, Tells, ◌▸◌, where_given, any_of}
 use Rattle.vhdl_names_rules.specs.problems.Expressions.{condition, static_range}

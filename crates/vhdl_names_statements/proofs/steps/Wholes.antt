@@ -13,8 +13,8 @@ use Rattle.vhdl_names_rules.specs.Names.{Suffix, AnyPart, fixed, free, place_of,
 use Rattle.vhdl_names_rules.specs.Expressions as expressions
 use Rattle.vhdl_names_rules.specs.Expressions.{Assigned, typed_suffix, value_given, value_assigned}
 use Rattle.vhdl_names_rules.specs.Statements.{Target, part_target, target_of, assigned_signal, assigned_variable, as_signal_target, as_variable_target, mode_of, is_input, signal_target, variable_target, target_by}
-use Rattle.vhdl_names_rules.specs.views.Expressions.{any_part_view}
-use Rattle.vhdl_names_rules.specs.views.Vectors.{signal_view}
+use Rattle.vhdl_names_trees.specs.views.Expressions.{any_part_view}
+use Rattle.vhdl_names_trees.specs.views.Vectors.{signal_view}
 use Rattle.vhdl_names_rules.proofs.laws.Rules.{comes, kept, some_is}
 use Rattle.vhdl_names_rules.proofs.kept.Keeping.{mapped}
 use Rattle.vhdl_names_units.specs.declared.answers.Object.{Object}

@@ -14,7 +14,7 @@ use Rattle.vhdl_names_rules.specs.Rules.{◌>>=◌, ◌>>◌, rule, each}
 use Rattle.vhdl_names_rules.specs.Visibility.{Name, Sight, label_ends, is_among, are_distinct}
 use Rattle.vhdl_names_rules.specs.Choices as rules
 use Rattle.vhdl_names_rules.specs.Choices.{choices, only_last_others, is_last_others, names_all}
-use Rattle.vhdl_names_expressions.specs.Asked.{selected_by}
+use Rattle.vhdl_names_asked.specs.Asked.{selected_by}
 use Rattle.vhdl_names_units.specs.views.Answers.{choices_view}
 use Rattle.vhdl_names_units.specs.views.Sequential.{Chosen, chosen_by, statements_of, alternatives_of, alternatives_view, body_view, last_alternative}
 use Rattle.vhdl_names_statements.specs.declared.choices.Divided.{Divided}

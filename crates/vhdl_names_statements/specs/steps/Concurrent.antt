@@ -10,7 +10,7 @@ use Rattle.vhdl_names_rules.specs.Visibility.{Sight}
 use Rattle.vhdl_names_rules.specs.Choices.{choices, selecting}
 use Rattle.vhdl_names_rules.specs.Statements.{signal_target}
 use Rattle.vhdl_names_rules.specs.Concurrent.{assigning}
-use Rattle.vhdl_names_expressions.specs.Asked.{selected_by}
+use Rattle.vhdl_names_asked.specs.Asked.{selected_by}
 use Rattle.vhdl_names_units.specs.views.Sequential.{Chosen, chosen_by}
 use Rattle.vhdl_names_statements.specs.steps.Cases.{covering, arranged}
 use Rattle.vhdl_names_statements.specs.steps.Sequential.{alone, conditionally}

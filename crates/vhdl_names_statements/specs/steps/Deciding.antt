@@ -10,7 +10,7 @@ use Rattle.vhdl_names_rules.specs.Expressions as expressions
 use Rattle.vhdl_names_rules.specs.Expressions.{Assigned}
 use Rattle.vhdl_names_rules.specs.Choices.{always}
 use Rattle.vhdl_names_rules.specs.Statements.{alone}
-use Rattle.vhdl_names_rules.specs.views.Expressions.{any_part_view}
+use Rattle.vhdl_names_trees.specs.views.Expressions.{any_part_view}
 use Rattle.vhdl_names_units.specs.declared.answers.Object.{Object}
 use Rattle.vhdl_names_units.specs.declared.answers.Target.{Target}
 use Rattle.vhdl_names_units.specs.views.Sequential.{Guarded, guarded_by, Chosen, branches_of}

@@ -1,12 +1,12 @@
 -- The statements in a `Vec`, as contracts see them.
 use Rattle.std.proofs.Common.{◌≡◌, ℕ, map, Vec, Option, Some, None, Global, refl, sym, ap, ◌∙◌}
 use mathlib.Core.Former.{Count}
-use Rattle.vhdl_names_rules.specs.declared.integer.StaticRange.{StaticRange}
-use Rattle.vhdl_names_rules.specs.declared.vector.Value.{Value}
+use Rattle.vhdl_names_trees.specs.declared.integer.StaticRange.{StaticRange}
+use Rattle.vhdl_names_trees.specs.declared.vector.Value.{Value}
 use Rattle.vhdl_names_rules.specs.units.Statements as s
-use Rattle.vhdl_names_rules.specs.views.Integers.{range_view}
-use Rattle.vhdl_names_rules.specs.views.Vectors.{value_view}
-use Rattle.vhdl_names_rules.specs.views.Tests.{test_view}
+use Rattle.vhdl_names_trees.specs.views.Integers.{range_view}
+use Rattle.vhdl_names_trees.specs.views.Vectors.{value_view}
+use Rattle.vhdl_names_trees.specs.views.Tests.{test_view}
 use Rattle.vhdl_names_units.specs.views.Answers.{choices_view}
 use Rattle.vhdl_names_units.specs.declared.answers.Choice.{Choice}
 use Rattle.vhdl_names_units.specs.declared.sequential.Statement.{Statement}

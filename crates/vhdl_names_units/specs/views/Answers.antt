@@ -1,10 +1,11 @@
 -- Names, values, choices and subtype indications of the code.
 use Rattle.std.specs.Prelude.{List, map, option_map, Vec}
 use Rattle.std.specs.Global.{Global}
-use Rattle.vhdl_names_rules.specs.views.Integers as integers
-use Rattle.vhdl_names_rules.specs.views.Integers.{static_view, range_view, declared_range_view, index_view}
-use Rattle.vhdl_names_rules.specs.views.Vectors.{vector_view, value_view, place_view, part_view, elements_view}
-use Rattle.vhdl_names_rules.specs.views.Tests.{static_test_view, test_view}
+use Rattle.vhdl_names_trees.specs.views.Integers as integers
+use Rattle.vhdl_names_trees.specs.views.Integers.{static_view, range_view, index_view}
+use Rattle.vhdl_names_rules.specs.views.Ranges.{declared_range_view}
+use Rattle.vhdl_names_trees.specs.views.Vectors.{vector_view, value_view, place_view, part_view, elements_view}
+use Rattle.vhdl_names_trees.specs.views.Tests.{static_test_view, test_view}
 use Rattle.vhdl_names_rules.specs.declared.kind.ObjectType.{ObjectType}
 use Rattle.vhdl_names_rules.specs.Expressions as r
 use Rattle.vhdl_names_rules.specs.Choices as h

@@ -3,9 +3,9 @@ use Rattle.std.specs.Prelude.{ℕ, List, [], ◌∷◌, map, option_map, Vec}
 use Rattle.std.specs.Global.{Global}
 use Rattle.vhdl_tree.specs.declared.expression.Identifier.{Identifier}
 use Rattle.vhdl_names_rules.specs.units.Units as u
-use Rattle.vhdl_names_rules.specs.views.Integers.{range_view}
-use Rattle.vhdl_names_rules.specs.views.Vectors.{place_view}
-use Rattle.vhdl_names_rules.specs.views.Tests.{static_test_view}
+use Rattle.vhdl_names_trees.specs.views.Integers.{range_view}
+use Rattle.vhdl_names_trees.specs.views.Vectors.{place_view}
+use Rattle.vhdl_names_trees.specs.views.Tests.{static_test_view}
 use Rattle.vhdl_names_units.specs.views.Actuals.{each_actual}
 use Rattle.vhdl_names_units.specs.views.Sequential.{statements_of, statements_view}
 use Rattle.vhdl_names_units.specs.views.Declarations.{declarations_view}

@@ -4,8 +4,8 @@ use Rattle.std.specs.Global.{Global}
 use Rattle.vhdl_tree.specs.View.{idents_view}
 use Rattle.vhdl_names_rules.specs.units.Units as u
 use Rattle.vhdl_names_rules.specs.Declarations.{for_each}
-use Rattle.vhdl_names_rules.specs.views.Integers.{static_view, range_view, subtype_view}
-use Rattle.vhdl_names_rules.specs.views.Tests.{static_test_view}
+use Rattle.vhdl_names_trees.specs.views.Integers.{static_view, range_view, subtype_view}
+use Rattle.vhdl_names_trees.specs.views.Tests.{static_test_view}
 use Rattle.vhdl_names_units.specs.views.Answers.{form_view, fixed_view}
 use Rattle.vhdl_names_units.specs.declared.declaration.GenericType.{GenericType}
 use Rattle.vhdl_names_units.specs.declared.declaration.GenericType.TheVariants as gt

@@ -3,9 +3,9 @@ use Rattle.std.specs.Prelude.{ℕ, option_map}
 use Rattle.vhdl_names_rules.specs.Names.{AnyPart}
 use Rattle.vhdl_names_rules.specs.Statements as q
 use Rattle.vhdl_names_rules.specs.units.Statements as s
-use Rattle.vhdl_names_rules.specs.views.Integers.{declared_range_view}
-use Rattle.vhdl_names_rules.specs.views.Vectors.{signal_view}
-use Rattle.vhdl_names_rules.specs.views.Expressions.{any_part_view}
+use Rattle.vhdl_names_rules.specs.views.Ranges.{declared_range_view}
+use Rattle.vhdl_names_trees.specs.views.Vectors.{signal_view}
+use Rattle.vhdl_names_trees.specs.views.Expressions.{any_part_view}
 use Rattle.vhdl_names_units.specs.declared.answers.Object.{Object}
 use Rattle.vhdl_names_units.specs.declared.answers.Object.TheVariants as o
 use Rattle.vhdl_names_units.specs.declared.answers.Target.{Target}

@@ -2,8 +2,8 @@ use Rattle.std.proofs.Common.{◌≡◌, ◌==◌, not, map, slice_index, sym, a
 use Rattle.std.proofs.lemmas.Bool.{not-true}
 use Rattle.std.proofs.lemmas.List.{take_all}
 use Rattle.std.proofs.lemmas.Slice.Eq.{bytes_eq-Decides}
-use Rattle.rtl_vcd.specs.Values.{character}
-use Rattle.rtl_vcd.proofs.Printing.{other_at}
+use Rattle.rtl_vcd_values.specs.Values.{character}
+use Rattle.rtl_vcd_values.proofs.Printing.{other_at}
 use Rattle.rtl_vcd.proofs.change.has_other_characters.Goals as goal
 
 pub returns-then-is_other_character : goal.returns-then-is_other_character

@@ -1,5 +1,5 @@
 use Rattle.std.specs.Prelude.{◌≡◌, map, take, slice_index}
-use Rattle.rtl_vcd.specs.Values.{character}
+use Rattle.rtl_vcd_values.specs.Values.{character}
 use Rattle.rtl_vcd.proofs.change.has_other_characters.Given as goal
 
 -- the nets before this one print as before

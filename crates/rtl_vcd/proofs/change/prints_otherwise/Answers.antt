@@ -1,7 +1,7 @@
 use Rattle.std.proofs.Common.{◌≡◌, List, ℕ, map, not, slice_index, ap, subst, ◌∙◌}
 use Rattle.std.specs.Str.{bytes_eq}
-use Rattle.rtl_vcd.specs.Values.{character, code}
-use Rattle.rtl_vcd.proofs.Printing.{characters_tell}
+use Rattle.rtl_vcd_values.specs.Values.{character, code}
+use Rattle.rtl_vcd_values.proofs.Printing.{characters_tell}
 use Rattle.rtl_vcd.proofs.change.prints_otherwise.Goals as goal
 
 pub returns-in_default : goal.returns-in_default

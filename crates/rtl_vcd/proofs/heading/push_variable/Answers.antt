@@ -2,7 +2,7 @@ use Rattle.std.proofs.Common.{◌≡◌, ◌++◌, [], length, ◌∙◌, subst,
 use Rattle.std.specs.Prelude.{decimal}
 use Rattle.byte_streams.specs.Written.{Goes}
 use Rattle.byte_streams.proofs.Writing.{Goes-append}
-use Rattle.rtl_vcd.specs.Values as values
+use Rattle.rtl_vcd_values.specs.Values as values
 use Rattle.rtl_vcd.proofs.heading.push_variable.Goals as goal
 
 pub returns : goal.returns

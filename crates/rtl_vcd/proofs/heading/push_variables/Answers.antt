@@ -1,7 +1,7 @@
 use Rattle.std.proofs.Common.{◌≡◌, ◌++◌, map, take, arith, ap, ◌∙◌}
 use Rattle.byte_streams.proofs.Writing.{Goes-append, Goes-nil}
 use Rattle.rtl_net.specs.Nets.{signal_view}
-use Rattle.rtl_vcd.specs.Values.{numbered}
+use Rattle.rtl_vcd_values.specs.Values.{numbered}
 use Rattle.rtl_vcd.specs.Header.{variable_line_in}
 use Rattle.rtl_vcd.proofs.Names.{numbered_more}
 use Rattle.rtl_vcd.proofs.Scopes.{front_is_none, rest_is_none, own, above, up_to}

@@ -2,7 +2,7 @@ use Rattle.std.specs.Prelude.{◌-◌, ◌<◌, ◌≤◌, ℕ, map, take, lengt
 use Rattle.byte_streams.specs.Written.{Goes}
 use Rattle.rtl_net.specs.declared.signal.Signal.{Signal}
 use Rattle.rtl_net.specs.Nets.{signal_view}
-use Rattle.rtl_vcd.specs.Values.{numbered}
+use Rattle.rtl_vcd_values.specs.Values.{numbered}
 use Rattle.rtl_vcd.specs.Header.{variable_line_in}
 use Rattle.rtl_vcd.proofs.heading.push_variables.Given as goal
 

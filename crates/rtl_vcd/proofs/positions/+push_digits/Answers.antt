@@ -1,6 +1,6 @@
 use Rattle.std.proofs.Common.{◌-◌, ◌++◌, ap, ◌∙◌, arith, append_assoc}
-use Rattle.rtl_vcd.specs.Values.{binary}
-use Rattle.rtl_vcd.proofs.Binaries.{first_digit}
+use Rattle.rtl_vcd_values.specs.Values.{binary}
+use Rattle.rtl_vcd_values.proofs.Binaries.{first_digit}
 use Rattle.rtl_vcd.proofs.positions.+push_digits.Goals as goal
 
 pub returns-clause-digits : goal.returns-clause-digits

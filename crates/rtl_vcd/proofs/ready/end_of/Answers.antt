@@ -1,6 +1,6 @@
 use Rattle.std.proofs.Common.{length, ap, arith, length-append}
-use Rattle.rtl_vcd.specs.Values.{code}
-use Rattle.rtl_vcd.proofs.Digits.{code_short}
+use Rattle.rtl_vcd_values.specs.Values.{code}
+use Rattle.rtl_vcd_values.proofs.Digits.{code_short}
 use Rattle.rtl_vcd.proofs.ready.end_of.Goals as goal
 
 pub of-requires : goal.of-requires

@@ -1,7 +1,7 @@
 use Rattle.std.proofs.Common.{◌≡◌, ◌++◌, length, take, codes, arith, subst, sym, ap, ap₂, ◌∙◌, slice_index, Some}
 use Rattle.std.specs.List.{range_with_len}
 use Rattle.rtl_net.specs.Nets.{signal_view}
-use Rattle.rtl_vcd.specs.Values.{code}
+use Rattle.rtl_vcd_values.specs.Values.{code}
 use Rattle.rtl_vcd.specs.Ready.{behind, form_of}
 use Rattle.rtl_vcd.proofs.Forms.{elements_short, run_line}
 use Rattle.rtl_vcd.proofs.ready.run_of.Goals as goal

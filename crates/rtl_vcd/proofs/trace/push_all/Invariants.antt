@@ -1,7 +1,7 @@
 use Rattle.std.specs.Prelude.{map, take}
 use Rattle.byte_streams.specs.Written.{Goes}
 use Rattle.rtl_net.specs.Nets.{signal_view}
-use Rattle.rtl_vcd.specs.Values.{numbered}
+use Rattle.rtl_vcd_values.specs.Values.{numbered}
 use Rattle.rtl_vcd.specs.Trace.{printed}
 use Rattle.rtl_vcd.proofs.trace.push_all.Given as goal
 

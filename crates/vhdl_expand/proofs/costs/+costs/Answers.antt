@@ -2,8 +2,8 @@ use Rattle.std.proofs.Common.{◌<◌, [], ◌∷◌, ◌++◌, length, map, Ok,
 use Rattle.std.specs.Prelude.{◌≢◌, flat_map}
 use Rattle.vhdl_names_rules.specs.units.Bytes.{range_bytes, value_bytes, statement_bytes, statements_bytes, branches_bytes, alternatives_bytes}
 use Rattle.vhdl_names_rules.specs.units.Statements as units
-use Rattle.vhdl_names_rules.specs.views.Integers.{range_view}
-use Rattle.vhdl_names_rules.specs.views.Vectors.{value_view}
+use Rattle.vhdl_names_trees.specs.views.Integers.{range_view}
+use Rattle.vhdl_names_trees.specs.views.Vectors.{value_view}
 use Rattle.vhdl_names_units.specs.declared.sequential.Case.{out-Case}
 use Rattle.vhdl_names_units.specs.declared.sequential.If.{out-If}
 use Rattle.vhdl_names_units.specs.declared.sequential.Statement.TheVariants as variants

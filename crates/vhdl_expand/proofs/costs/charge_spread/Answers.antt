@@ -1,6 +1,6 @@
 use Rattle.std.proofs.Common.{◌<◌, ◌^◌, ◌∷◌, [], map, rules, ap, sym, ◌∙◌}
-use Rattle.vhdl_names_rules.specs.declared.vector.Value.{Value}
-use Rattle.vhdl_names_rules.specs.views.Vectors.{computed_view, value_view}
+use Rattle.vhdl_names_trees.specs.declared.vector.Value.{Value}
+use Rattle.vhdl_names_trees.specs.views.Vectors.{computed_view, value_view}
 use Rattle.vhdl_names_units.specs.views.Sequential as analysed
 use Rattle.vhdl_expand_rules.specs.Statements.{or_none, spread_count}
 use Rattle.vhdl_expand_rules.proofs.Steps.{given, ok}

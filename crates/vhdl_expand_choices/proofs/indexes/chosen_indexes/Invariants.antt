@@ -1,6 +1,6 @@
 use Rattle.std.proofs.Common.{◌≡◌, ◌++◌, map, drop}
 use Rattle.std.specs.Prelude.{option_map}
-use Rattle.vhdl_names_rules.specs.views.Integers.{index_view}
+use Rattle.vhdl_names_trees.specs.views.Integers.{index_view}
 use Rattle.vhdl_expand_rules.specs.Aggregates.{chosen_indexes}
 use Rattle.vhdl_expand_rules.specs.views.Integers.{integers_view}
 use Rattle.vhdl_expand_operands.specs.Placings.{indexes_view}

@@ -2,7 +2,7 @@ use Rattle.std.proofs.Common.{◌≡◌, true, false, [], ◌∷◌, ◌++◌, m
 use Rattle.std.specs.Prelude.{FitsSigned}
 use Rattle.std.proofs.lemmas.Grind.{common_steps}
 use Rattle.std.proofs.lemmas.List.{map-append}
-use Rattle.vhdl_names_rules.specs.views.Integers.{index_view}
+use Rattle.vhdl_names_trees.specs.views.Integers.{index_view}
 use Rattle.vhdl_expand_rules.specs.Computed.{covers}
 use Rattle.vhdl_expand_rules.specs.Integers.{is_null}
 use Rattle.vhdl_expand_rules.specs.Kinds.{range_span}

@@ -2,7 +2,7 @@ use Rattle.std.proofs.Common.{◌≡◌, Err, ◌<◌, ◌≤◌, length, map, r
 use Rattle.std.specs.Prelude.{◌≢◌}
 use Rattle.std.proofs.lemmas.List.{length-set}
 use Rattle.vhdl_tree.specs.declared.expression.Identifier.{Identifier}
-use Rattle.vhdl_names_rules.specs.views.Vectors.{place_view}
+use Rattle.vhdl_names_trees.specs.views.Vectors.{place_view}
 use Rattle.vhdl_names_units.specs.views.Declarations.{ports_view}
 use Rattle.vhdl_expand_rules.specs.declared.fault.ElabFault.TheVariants.{NoMemory}
 use Rattle.vhdl_expand_bodies.specs.Sites.{site_view}

@@ -4,8 +4,8 @@ use Rattle.vhdl_tree.specs.Tree.{Ident}
 use Rattle.vhdl_tree.specs.View.{ident_view}
 use Rattle.vhdl_tree.specs.declared.expression.Identifier.{Identifier}
 use Rattle.vhdl_names_rules.specs.units.Units as u
-use Rattle.vhdl_names_rules.specs.views.Integers.{static_view, range_view, subtype_view}
-use Rattle.vhdl_names_rules.specs.views.Tests.{static_test_view}
+use Rattle.vhdl_names_trees.specs.views.Integers.{static_view, range_view, subtype_view}
+use Rattle.vhdl_names_trees.specs.views.Tests.{static_test_view}
 use Rattle.vhdl_names_units.specs.declared.declaration.Declaration.{Declaration}
 use Rattle.vhdl_names_units.specs.views.Answers.{fixed_view, form_view}
 use Rattle.vhdl_names_units.specs.views.Declarations.{declaration_view, object_view}

@@ -5,7 +5,7 @@ use Rattle.std.specs.Prelude.{slice_get, unwrap_or}
 use Rattle.std.proofs.lemmas.Grind.{common_steps}
 use Rattle.std.proofs.lemmas.Int.{ints}
 use Rattle.vhdl_tree.specs.declared.expression.Identifier.{Identifier}
-use Rattle.vhdl_names_rules.specs.views.Integers.{static_view, subtype_view}
+use Rattle.vhdl_names_trees.specs.views.Integers.{static_view, subtype_view}
 use Rattle.vhdl_expand_rules.specs.Declarations.{declared}
 use Rattle.vhdl_expand_rules.specs.Elab.{fault_told}
 use Rattle.vhdl_expand_rules.specs.Integers.{integer_of}

@@ -5,7 +5,7 @@ use Rattle.std.proofs.lemmas.Grind.{common_steps}
 use Rattle.std.proofs.lemmas.Int.{ints}
 use Rattle.vhdl_tree.specs.declared.expression.Identifier.{Identifier}
 use Rattle.vhdl_names_rules.specs.units.Units as u
-use Rattle.vhdl_names_rules.specs.views.Tests.{static_test_view}
+use Rattle.vhdl_names_trees.specs.views.Tests.{static_test_view}
 use Rattle.vhdl_expand_rules.specs.Declarations.{declared}
 use Rattle.vhdl_expand_rules.proofs.Steps.{given}
 use Rattle.vhdl_expand_bodies.specs.Sites.{site_view}

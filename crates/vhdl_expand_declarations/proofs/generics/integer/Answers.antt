@@ -1,4 +1,4 @@
-use Rattle.vhdl_names_rules.specs.views.Integers.{subtype_view}
+use Rattle.vhdl_names_trees.specs.views.Integers.{subtype_view}
 use Rattle.vhdl_expand_bodies.specs.Sites.{site_view}
 use Rattle.vhdl_expand_declarations.proofs.Told.{same_at}
 use Rattle.vhdl_expand_declarations.proofs.Valued.{no_integer_given}

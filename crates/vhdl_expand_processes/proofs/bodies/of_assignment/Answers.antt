@@ -1,6 +1,6 @@
 use Rattle.std.proofs.Common.{ap}
 use Rattle.vhdl_names_rules.specs.units.Statements as s
-use Rattle.vhdl_names_rules.specs.views.Vectors.{place_view}
+use Rattle.vhdl_names_trees.specs.views.Vectors.{place_view}
 use Rattle.vhdl_names_units.specs.views.Answers.{given_view}
 use Rattle.vhdl_expand_rules.specs.Prefixes.{statement_names}
 use Rattle.vhdl_expand_processes.proofs.Gathering.{adds_along}

@@ -1,5 +1,5 @@
 use Rattle.std.proofs.Common.{ap}
-use Rattle.vhdl_names_rules.specs.views.Vectors.{chosen_view, signal_view}
+use Rattle.vhdl_names_trees.specs.views.Vectors.{chosen_view, signal_view}
 use Rattle.vhdl_names_units.specs.views.Answers.{given_view}
 use Rattle.vhdl_expand_rules.specs.Prefixes.{chosen_assignment_names}
 use Rattle.vhdl_expand_processes.proofs.Gathering.{adds_along, adds_both}

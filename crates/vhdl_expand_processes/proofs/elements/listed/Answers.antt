@@ -1,6 +1,6 @@
 use Rattle.std.proofs.Common.{◌≡◌, Err, ◌<◌, length, map, arith, rules}
 use Rattle.std.specs.Prelude.{◌≢◌}
-use Rattle.vhdl_names_rules.specs.views.Vectors.{place_view}
+use Rattle.vhdl_names_trees.specs.views.Vectors.{place_view}
 use Rattle.vhdl_expand_rules.specs.declared.fault.ElabFault.TheVariants.{NoMemory}
 use Rattle.vhdl_expand_rules.specs.Prefixes.{names_elements}
 use Rattle.vhdl_expand_bodies.specs.Sites.{site_view}

@@ -1,8 +1,8 @@
 use Rattle.std.proofs.Common.{◌++◌, refl, ap, ◌∙◌}
 use Rattle.std.specs.Prelude.{flat_map}
-use Rattle.vhdl_names_rules.specs.declared.test.Test.{Test}
-use Rattle.vhdl_names_rules.specs.declared.test.TestStart.{TestStart}
-use Rattle.vhdl_names_rules.specs.views.Tests.{test_view}
+use Rattle.vhdl_names_trees.specs.declared.test.Test.{Test}
+use Rattle.vhdl_names_trees.specs.declared.test.TestStart.{TestStart}
+use Rattle.vhdl_names_trees.specs.views.Tests.{test_view}
 use Rattle.vhdl_expand_rules.specs.Prefixes.{test_names}
 use Rattle.vhdl_expand_processes.specs.Names.{test_link_names}
 use Rattle.vhdl_expand_processes.proofs.Gathering.{nothing_more, adds_along, adds_both, left_next, left_none}

@@ -1,15 +1,15 @@
 use Rattle.std.proofs.Common.{◌≡◌, true, false, ◌∷◌, ◌++◌, refl, sym, ap, ◌∙◌, arith, rules}
 use Rattle.std.proofs.lemmas.Grind.{common_steps}
 use Rattle.std.specs.Prelude.{flat_map}
-use Rattle.vhdl_names_rules.specs.declared.vector.Vector.{Vector}
-use Rattle.vhdl_names_rules.specs.declared.vector.VectorStart.{VectorStart}
-use Rattle.vhdl_names_rules.specs.declared.vector.Computed.{Computed}
-use Rattle.vhdl_names_rules.specs.declared.vector.ComputedStart.{ComputedStart}
-use Rattle.vhdl_names_rules.specs.declared.vector.Chosen.{Chosen}
-use Rattle.vhdl_names_rules.specs.views.Vectors.{signal_view, computed_view, computed_start_view, chosen_view, vector_view, elements_view}
-use Rattle.vhdl_names_rules.proofs.rows.Vectors.{view_aggregate}
+use Rattle.vhdl_names_trees.specs.declared.vector.Vector.{Vector}
+use Rattle.vhdl_names_trees.specs.declared.vector.VectorStart.{VectorStart}
+use Rattle.vhdl_names_trees.specs.declared.vector.Computed.{Computed}
+use Rattle.vhdl_names_trees.specs.declared.vector.ComputedStart.{ComputedStart}
+use Rattle.vhdl_names_trees.specs.declared.vector.Chosen.{Chosen}
+use Rattle.vhdl_names_trees.specs.views.Vectors.{signal_view, computed_view, computed_start_view, chosen_view, vector_view, elements_view}
+use Rattle.vhdl_names_trees.proofs.rows.Vectors.{view_aggregate}
 use Rattle.vhdl_expand_rules.specs.Prefixes.{whole_of, computed_names, chosen_names, vector_names, elements_names}
-use Rattle.vhdl_expand_bodies.proofs.Elements.{is_last}
+use Rattle.vhdl_expand_bodies.proofs.Aggregating.{is_last}
 use Rattle.vhdl_expand_processes.specs.Names.{computed_link_names, element_names, link_names}
 use Rattle.vhdl_expand_processes.proofs.Gathering.{nothing_more, adds_along, adds_both, next_of, last_of, none_of, left_next, left_none}
 use Rattle.vhdl_expand_processes.proofs.Reading.{chain_names, computed_chain_names, elements_more, elements_last, chain_adds}

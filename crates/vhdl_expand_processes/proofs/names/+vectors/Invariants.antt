@@ -1,5 +1,5 @@
 use Rattle.std.proofs.Common.{drop}
-use Rattle.vhdl_names_rules.specs.views.Vectors.{elements_view}
+use Rattle.vhdl_names_trees.specs.views.Vectors.{elements_view}
 use Rattle.vhdl_expand_rules.specs.Prefixes.{elements_names}
 use Rattle.vhdl_expand_processes.specs.Names.{computed_link_names, link_names}
 use Rattle.vhdl_expand_processes.proofs.Gathering.{Left, LeftOf}

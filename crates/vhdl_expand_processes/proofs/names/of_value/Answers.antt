@@ -1,6 +1,6 @@
 use Rattle.std.proofs.Common.{ap}
-use Rattle.vhdl_names_rules.specs.declared.vector.Value.{Value}
-use Rattle.vhdl_names_rules.specs.views.Vectors.{value_view}
+use Rattle.vhdl_names_trees.specs.declared.vector.Value.{Value}
+use Rattle.vhdl_names_trees.specs.views.Vectors.{value_view}
 use Rattle.vhdl_expand_rules.specs.Prefixes.{value_names}
 use Rattle.vhdl_expand_processes.proofs.Gathering.{adds_along}
 use Rattle.vhdl_expand_processes.proofs.names.of_value.Goals as goal

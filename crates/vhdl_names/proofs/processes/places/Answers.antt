@@ -9,7 +9,7 @@ use Rattle.vhdl_names_rules.proofs.kept.Statements.{signal_kept}
 use Rattle.vhdl_names_units.specs.Lists.{in_turn, one_more}
 use Rattle.vhdl_names_units.proofs.Behind.{next_told, next_left}
 use Rattle.vhdl_names_units.proofs.Lists.{each_in_turn}
-use Rattle.vhdl_names_rules.specs.views.Vectors.{place_view}
+use Rattle.vhdl_names_trees.specs.views.Vectors.{place_view}
 use Rattle.vhdl_names.specs.AllPlaces.{all_places_view}
 use Rattle.vhdl_names.specs.steps.Processes.{place_of}
 use Rattle.vhdl_names_rules.proofs.Memory.{memory_gives, memory_told}

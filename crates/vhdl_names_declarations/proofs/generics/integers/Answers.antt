@@ -2,7 +2,8 @@ use Rattle.vhdl_tree.specs.View as tree
 use Rattle.vhdl_names_rules.specs.problems.Broken.{of_any}
 use Rattle.vhdl_names_rules.specs.problems.Expressions as expressions_broken
 use Rattle.vhdl_names_rules.specs.problems.Subtypes as subtypes_broken
-use Rattle.vhdl_names_rules.specs.views.Integers.{base_view, subtype_view}
+use Rattle.vhdl_names_trees.specs.views.Integers.{subtype_view}
+use Rattle.vhdl_names_rules.specs.views.Ranges.{base_view}
 use Rattle.vhdl_names_rules.proofs.Passing.{told_first, told_second}
 use Rattle.vhdl_names_declarations.proofs.Constancy.{integers_kept}
 use Rattle.vhdl_names_declarations.proofs.generics.integers.Goals as goal

@@ -9,7 +9,7 @@ use Rattle.vhdl_names_rules.specs.problems.Broken.{Tells}
 use Rattle.vhdl_names_rules.specs.Subtypes as subtypes
 use Rattle.vhdl_names_rules.specs.Subtypes.{class_of, integers_of}
 use Rattle.vhdl_names_rules.specs.Visibility.{declaration}
-use Rattle.vhdl_names_rules.specs.views.Integers.{base_view}
+use Rattle.vhdl_names_rules.specs.views.Ranges.{base_view}
 use Rattle.vhdl_names_rules.specs.problems.Declarations as broken
 use Rattle.vhdl_names_rules.proofs.Passing.{told_first}
 use Rattle.vhdl_names_sight.specs.Views.{entry_of}

@@ -2,7 +2,8 @@ use Rattle.std.proofs.Common.{◌≡◌, ap, sym, ◌∙◌}
 use Rattle.vhdl_tree.specs.View as tree
 use Rattle.vhdl_names_rules.specs.units.Units as u
 use Rattle.vhdl_names_rules.specs.Declarations.{if_ranged}
-use Rattle.vhdl_names_rules.specs.views.Integers.{base_view, subtype_view}
+use Rattle.vhdl_names_trees.specs.views.Integers.{subtype_view}
+use Rattle.vhdl_names_rules.specs.views.Ranges.{base_view}
 use Rattle.vhdl_names_sight.specs.Views.{entry_of}
 use Rattle.vhdl_names_declarations.specs.Subtyping as typed
 use Rattle.vhdl_names_declarations.proofs.Subtypings.{integers_given}

@@ -4,7 +4,7 @@ use Rattle.vhdl_tree.specs.View as tree
 use Rattle.vhdl_names_rules.specs.Subtypes as subtypes
 use Rattle.vhdl_names_rules.specs.Subtypes.{integers_of}
 use Rattle.vhdl_names_rules.specs.Visibility.{declaration}
-use Rattle.vhdl_names_rules.specs.views.Integers.{base_view}
+use Rattle.vhdl_names_rules.specs.views.Ranges.{base_view}
 use Rattle.vhdl_names_rules.specs.problems.Declarations as broken
 use Rattle.vhdl_names_rules.proofs.Passing.{told_first}
 use Rattle.vhdl_names_sight.specs.Views.{entry_of}

@@ -1,7 +1,7 @@
 use Rattle.std.proofs.Common.{sym, ◌∙◌}
 use Rattle.vhdl_names_rules.specs.declared.fault.NameFault.TheVariants.{At}
 use Rattle.vhdl_names_rules.specs.declared.fault.NameProblem.TheVariants.{TypeMismatch}
-use Rattle.vhdl_names_rules.specs.views.Expressions.{typed_view, typed_elements_view}
+use Rattle.vhdl_names_trees.specs.views.Expressions.{typed_view, typed_elements_view}
 use Rattle.vhdl_names_rules.proofs.Along.{gives_along}
 use Rattle.vhdl_names_expressions.proofs.Breaking.{told_as, told_fault}
 use Rattle.vhdl_names_expressions.proofs.Qualifying.{element_alone, element_alone_breaks, no_element, no_element_breaks}

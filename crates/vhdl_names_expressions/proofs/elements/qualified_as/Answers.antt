@@ -1,7 +1,7 @@
 use Rattle.std.proofs.Common.{option_map, sym, ap, ◌∙◌}
 use Rattle.vhdl_names_rules.specs.declared.fault.NameFault.TheVariants.{At}
-use Rattle.vhdl_names_rules.specs.views.Integers.{declared_range_view}
-use Rattle.vhdl_names_rules.specs.views.Expressions.{typed_view, typed_elements_view}
+use Rattle.vhdl_names_rules.specs.views.Ranges.{declared_range_view}
+use Rattle.vhdl_names_trees.specs.views.Expressions.{typed_view, typed_elements_view}
 use Rattle.vhdl_names_rules.specs.problems.Broken.{refused}
 use Rattle.vhdl_names_rules.proofs.Along.{gives_along}
 use Rattle.vhdl_names_expressions.proofs.Breaking.{told_as, told_fault}

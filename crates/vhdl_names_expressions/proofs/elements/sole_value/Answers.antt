@@ -1,5 +1,5 @@
 use Rattle.std.proofs.Common.{arith, sym, ap, ◌∙◌}
-use Rattle.vhdl_names_rules.specs.views.Expressions.{typed_elements_view}
+use Rattle.vhdl_names_trees.specs.views.Expressions.{typed_elements_view}
 use Rattle.vhdl_names_expressions.specs.Elements.{is_sole}
 use Rattle.vhdl_names_expressions.proofs.Soles.{sole_first, sole_taken, not_sole}
 use Rattle.vhdl_names_expressions.proofs.elements.sole_value.Goals as goal

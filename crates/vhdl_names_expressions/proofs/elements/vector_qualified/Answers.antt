@@ -1,7 +1,8 @@
 use Rattle.std.proofs.Common.{option_map, sym, ap, ◌∙◌}
 use Rattle.vhdl_names_rules.specs.Types.{elements}
-use Rattle.vhdl_names_rules.specs.views.Integers.{declared_range_view, option_range_view}
-use Rattle.vhdl_names_rules.specs.views.Expressions.{typed_view, typed_elements_view}
+use Rattle.vhdl_names_trees.specs.views.Integers.{option_range_view}
+use Rattle.vhdl_names_rules.specs.views.Ranges.{declared_range_view}
+use Rattle.vhdl_names_trees.specs.views.Expressions.{typed_view, typed_elements_view}
 use Rattle.vhdl_names_sight.specs.Views.{meaning_view}
 use Rattle.vhdl_names_rules.proofs.Along.{gives_along}
 use Rattle.vhdl_names_rules.proofs.Memory.{memory_gives, memory_told}

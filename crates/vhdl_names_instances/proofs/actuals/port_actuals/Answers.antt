@@ -2,7 +2,7 @@ use Rattle.std.proofs.Common.{arith, ◌≡◌, ◌≢◌, ◌≤◌, suc, ◌+�
 use Rattle.std.specs.Prelude.{option_map}
 use Rattle.std.proofs.lemmas.List.{at_drop_all, length_push, map-append}
 use Rattle.vhdl_names_rules.specs.declared.fault.NameFault.TheVariants.{NoMemory}
-use Rattle.vhdl_names_rules.specs.views.Vectors.{place_view}
+use Rattle.vhdl_names_trees.specs.views.Vectors.{place_view}
 use Rattle.vhdl_names_units.specs.views.Actuals.{each_actual}
 use Rattle.vhdl_names_expressions.proofs.Each.{behind, none_behind}
 use Rattle.vhdl_names_instances.specs.Views.{actual_view, places_view}

@@ -4,7 +4,7 @@ use Rattle.vhdl_names_rules.specs.declared.fault.NameProblem.TheVariants.{LeftOu
 use Rattle.vhdl_names_rules.specs.Statements.{signal}
 use Rattle.vhdl_names_rules.specs.problems.Broken.{Tells, ◌▸◌, refused}
 use Rattle.vhdl_names_rules.specs.problems.Statements.{named}
-use Rattle.vhdl_names_rules.specs.views.Expressions.{typed_suffix_view}
+use Rattle.vhdl_names_trees.specs.views.Expressions.{typed_suffix_view}
 use Rattle.vhdl_names_rules.proofs.Passing.{told_by}
 use Rattle.vhdl_names_units.specs.views.Answers.{signal_name_view}
 use Rattle.vhdl_names_instances.proofs.Actual.{value_is_no_signal, suffix_told, value_told}

@@ -2,8 +2,8 @@ use Rattle.std.proofs.Common.{true, false, refl, sym, ap, ◌∙◌}
 use Rattle.vhdl_names_rules.specs.declared.fault.NameFault.TheVariants.{At}
 use Rattle.vhdl_names_rules.specs.declared.fault.NameProblem.TheVariants.{TypeMismatch, LeftOut}
 use Rattle.vhdl_names_rules.specs.Known.{are_known}
-use Rattle.vhdl_names_rules.specs.views.Expressions.{typed_elements_view}
-use Rattle.vhdl_names_rules.specs.views.Vectors.{elements_view}
+use Rattle.vhdl_names_trees.specs.views.Expressions.{typed_elements_view}
+use Rattle.vhdl_names_trees.specs.views.Vectors.{elements_view}
 use Rattle.vhdl_names_units.specs.views.Answers.{fixed_view}
 use Rattle.vhdl_names_rules.proofs.Passing.{passed_on, told_by}
 use Rattle.vhdl_names_expressions.proofs.Breaking.{told_fault}

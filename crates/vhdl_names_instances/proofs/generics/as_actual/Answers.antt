@@ -1,10 +1,10 @@
 use Rattle.std.proofs.Common.{sym, ap, ◌∙◌}
 use Rattle.vhdl_names_rules.specs.Instances.{value_as_actual}
-use Rattle.vhdl_names_rules.specs.views.Expressions.{typed_view}
+use Rattle.vhdl_names_trees.specs.views.Expressions.{typed_view}
 use Rattle.vhdl_names_rules.specs.problems.Instances.{given_value}
 use Rattle.vhdl_names_units.specs.views.Answers.{fixed_view}
 use Rattle.vhdl_names_rules.proofs.Along.{gives_along}
-use Rattle.vhdl_names_rules.proofs.rows.Composites.{view_composite}
+use Rattle.vhdl_names_trees.proofs.rows.Composites.{view_composite}
 use Rattle.vhdl_names_operators.proofs.Resolving.{plain}
 use Rattle.vhdl_names_expressions.proofs.Breaking.{told_as}
 use Rattle.vhdl_names_instances.proofs.Valued.{actual_plain, breaks_plain}

@@ -1,7 +1,7 @@
 use Rattle.std.proofs.Common.{sym, ap}
 use Rattle.vhdl_tree.specs.View.{view}
 use Rattle.vhdl_names_rules.specs.Expressions as expressions
-use Rattle.vhdl_names_rules.specs.views.Expressions.{typed_view}
+use Rattle.vhdl_names_trees.specs.views.Expressions.{typed_view}
 use Rattle.vhdl_names_rules.specs.problems.Broken.{where_given}
 use Rattle.vhdl_names_rules.specs.problems.Expressions as broken
 use Rattle.vhdl_names_rules.specs.problems.Places.{start}

@@ -2,7 +2,7 @@ use Rattle.std.proofs.Common.{◌≡◌, ◌+◌, ◌<◌, ◌≤◌, true, fals
 use Rattle.std.specs.Prelude.{◌&&◌, ◌||◌}
 use Rattle.std.specs.List.{list_all}
 use Rattle.vhdl_names_rules.specs.Known.{is_known, are_known}
-use Rattle.vhdl_names_rules.specs.views.Vectors.{vector_view, start_view, elements_view}
+use Rattle.vhdl_names_trees.specs.views.Vectors.{vector_view, start_view, elements_view}
 use Rattle.vhdl_names_numbers.specs.Knowing.{link_is_known, is_others}
 use Rattle.vhdl_names_numbers.proofs.Knowing.{is_known_chain, is_known_aggregate, next_known, none_known}
 use Rattle.vhdl_names_numbers.proofs.known.+known.Goals as goal

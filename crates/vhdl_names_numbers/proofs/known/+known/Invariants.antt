@@ -1,7 +1,7 @@
 use Rattle.std.proofs.Common.{◌≡◌, drop}
 use Rattle.std.specs.List.{list_all}
 use Rattle.vhdl_names_rules.specs.Known.{are_known}
-use Rattle.vhdl_names_rules.specs.views.Vectors.{elements_view}
+use Rattle.vhdl_names_trees.specs.views.Vectors.{elements_view}
 use Rattle.vhdl_names_numbers.specs.Knowing.{link_is_known}
 use Rattle.vhdl_names_numbers.proofs.known.+known.Given as goal
 

@@ -1,11 +1,11 @@
 use Rattle.std.proofs.Common.{◌≡◌, Option, Some, None, Box, Global, refl, ap, sym, ◌∙◌}
 use Rattle.std.specs.Prelude.{option_map, is_some}
-use Rattle.vhdl_names_rules.specs.declared.integer.StaticRange.{StaticRange}
+use Rattle.vhdl_names_trees.specs.declared.integer.StaticRange.{StaticRange}
 use Rattle.vhdl_names_rules.specs.units.Expressions as u
 use Rattle.vhdl_names_rules.specs.Aggregates.{arranged}
-use Rattle.vhdl_names_rules.specs.views.Integers.{option_range_view}
-use Rattle.vhdl_names_rules.specs.views.Vectors.{vector_view}
-use Rattle.vhdl_names_rules.specs.views.Expressions.{typed_elements_view}
+use Rattle.vhdl_names_trees.specs.views.Integers.{option_range_view}
+use Rattle.vhdl_names_trees.specs.views.Vectors.{vector_view}
+use Rattle.vhdl_names_trees.specs.views.Expressions.{typed_elements_view}
 use Rattle.vhdl_names_rules.specs.problems.Aggregates as broken
 use Rattle.vhdl_names_rules.proofs.Passing.{passed_on, told_by}
 use Rattle.vhdl_names_rules.proofs.Telling.{told_same}

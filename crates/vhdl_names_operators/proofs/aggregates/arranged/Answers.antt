@@ -1,9 +1,9 @@
 use Rattle.std.proofs.Common.{◌≡◌, ◌+◌, List, Vec, Global, length, sym, ap, subst, ◌∙◌, arith}
 use Rattle.std.proofs.lemmas.List.{nil_from_length}
-use Rattle.vhdl_names_rules.specs.declared.typed.TypedElement.{TypedElement}
-use Rattle.vhdl_names_rules.specs.declared.vector.VectorElement.{VectorElement}
-use Rattle.vhdl_names_rules.specs.views.Vectors.{elements_view}
-use Rattle.vhdl_names_rules.specs.views.Expressions.{typed_elements_view}
+use Rattle.vhdl_names_trees.specs.declared.typed.TypedElement.{TypedElement}
+use Rattle.vhdl_names_trees.specs.declared.vector.VectorElement.{VectorElement}
+use Rattle.vhdl_names_trees.specs.views.Vectors.{elements_view}
+use Rattle.vhdl_names_trees.specs.views.Expressions.{typed_elements_view}
 use Rattle.vhdl_names_rules.specs.problems.Aggregates as broken
 use Rattle.vhdl_names_rules.proofs.Passing.{passed_on, told_by}
 use Rattle.vhdl_names_rules.proofs.Telling.{behind_kept}

@@ -1,6 +1,6 @@
 use Rattle.std.proofs.Common.{◌≡◌, ◌+◌, length}
 use Rattle.vhdl_names_rules.specs.problems.Aggregates as broken
-use Rattle.vhdl_names_rules.specs.views.Expressions.{typed_elements_view}
+use Rattle.vhdl_names_trees.specs.views.Expressions.{typed_elements_view}
 use Rattle.vhdl_names_operators.proofs.Composing.{Fills}
 use Rattle.vhdl_names_operators.proofs.aggregates.arranged.Given as goal
 

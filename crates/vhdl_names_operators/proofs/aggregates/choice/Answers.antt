@@ -1,6 +1,6 @@
 use Rattle.std.proofs.Common.{ap, sym, ◌∙◌}
 use Rattle.vhdl_names_rules.specs.declared.fault.NameProblem.TheVariants.{WrongKind}
-use Rattle.vhdl_names_rules.specs.views.Expressions.{choice_view}
+use Rattle.vhdl_names_trees.specs.views.Expressions.{choice_view}
 use Rattle.vhdl_names_rules.specs.problems.Broken.{unless}
 use Rattle.vhdl_names_rules.proofs.Telling.{unless_kept}
 use Rattle.vhdl_names_operators.proofs.Arranging.{choice_is}

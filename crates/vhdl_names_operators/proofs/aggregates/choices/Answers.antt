@@ -1,6 +1,6 @@
 use Rattle.std.proofs.Common.{◌≡◌, ℕ, not, map, IfOk, IfErr, sym, ap, subst, ◌∙◌}
 use Rattle.vhdl_names_rules.specs.declared.fault.NameProblem.TheVariants.{WrongKind}
-use Rattle.vhdl_names_rules.specs.views.Expressions.{choice_view}
+use Rattle.vhdl_names_trees.specs.views.Expressions.{choice_view}
 use Rattle.vhdl_names_rules.specs.problems.Broken.{Tells, nothing, ◌▸◌, unless, any_of}
 use Rattle.vhdl_names_rules.specs.problems.Aggregates as broken
 use Rattle.vhdl_names_rules.proofs.Telling.{told_same, unless_kept}

@@ -1,7 +1,7 @@
 use Rattle.std.proofs.Common.{◌≡◌, drop, map}
 use Rattle.vhdl_names_rules.specs.problems.Broken.{any_of}
 use Rattle.vhdl_names_rules.specs.problems.Aggregates as broken
-use Rattle.vhdl_names_rules.specs.views.Expressions.{choice_view}
+use Rattle.vhdl_names_trees.specs.views.Expressions.{choice_view}
 use Rattle.vhdl_names_operators.proofs.aggregates.chosen.Given as goal
 
 -- what the choices that are left break first, all break first

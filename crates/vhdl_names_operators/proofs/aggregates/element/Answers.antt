@@ -1,8 +1,8 @@
 use Rattle.std.proofs.Common.{◌≡◌, List, map, subst}
-use Rattle.vhdl_names_rules.specs.declared.typed.TypedChoice.{TypedChoice}
+use Rattle.vhdl_names_trees.specs.declared.typed.TypedChoice.{TypedChoice}
 use Rattle.vhdl_names_rules.specs.problems.Broken.{Tells, nothing}
 use Rattle.vhdl_names_rules.specs.problems.Aggregates as broken
-use Rattle.vhdl_names_rules.specs.views.Expressions.{choice_view}
+use Rattle.vhdl_names_trees.specs.views.Expressions.{choice_view}
 use Rattle.vhdl_names_rules.proofs.Along.{gives_along}
 use Rattle.vhdl_names_rules.proofs.Passing.{passed_on, told_by}
 use Rattle.vhdl_names_rules.proofs.Telling.{told_left, told_right, told_on}

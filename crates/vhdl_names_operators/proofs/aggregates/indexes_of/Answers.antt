@@ -1,10 +1,10 @@
 use Rattle.std.proofs.Common.{◌++◌, List, map, sym, ap, ◌∙◌, append-nil}
 use Rattle.std.proofs.lemmas.List.{nil_from_length}
-use Rattle.vhdl_names_rules.specs.declared.typed.TypedChoice.{TypedChoice}
+use Rattle.vhdl_names_trees.specs.declared.typed.TypedChoice.{TypedChoice}
 use Rattle.vhdl_names_rules.specs.units.Expressions as u
 use Rattle.vhdl_names_rules.specs.Aggregates as are
-use Rattle.vhdl_names_rules.specs.views.Integers.{index_view}
-use Rattle.vhdl_names_rules.specs.views.Expressions.{choice_view}
+use Rattle.vhdl_names_trees.specs.views.Integers.{index_view}
+use Rattle.vhdl_names_trees.specs.views.Expressions.{choice_view}
 use Rattle.vhdl_names_operators.proofs.Arranging.{index_next, no_index, index_pushed}
 use Rattle.vhdl_names_operators.proofs.aggregates.indexes_of.Goals as goal
 

@@ -1,7 +1,7 @@
 use Rattle.std.proofs.Common.{◌≡◌, ◌++◌, map}
 use Rattle.vhdl_names_rules.specs.Aggregates as rules
-use Rattle.vhdl_names_rules.specs.views.Integers.{index_view}
-use Rattle.vhdl_names_rules.specs.views.Expressions.{choice_view}
+use Rattle.vhdl_names_trees.specs.views.Integers.{index_view}
+use Rattle.vhdl_names_trees.specs.views.Expressions.{choice_view}
 use Rattle.vhdl_names_operators.proofs.aggregates.indexes_of.Given as goal
 
 -- the indexes so far, and those that are left

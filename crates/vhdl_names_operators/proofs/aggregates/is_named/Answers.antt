@@ -1,5 +1,5 @@
 use Rattle.std.proofs.Common.{ℕ, ◌==◌, not, sym, ap, ◌∙◌}
-use Rattle.vhdl_names_rules.specs.declared.typed.TypedElement.{out-TypedElement}
+use Rattle.vhdl_names_trees.specs.declared.typed.TypedElement.{out-TypedElement}
 use Rattle.vhdl_names_operators.proofs.Arranging.{first_named, none_named}
 use Rattle.vhdl_names_operators.proofs.aggregates.is_named.Goals as goal
 

@@ -1,5 +1,5 @@
 use Rattle.std.proofs.Common.{ℕ, ◌==◌, vec_len, sym, ap, ◌∙◌, arith}
-use Rattle.vhdl_names_rules.specs.declared.typed.TypedElement.{TypedElement, out-TypedElement}
+use Rattle.vhdl_names_trees.specs.declared.typed.TypedElement.{TypedElement, out-TypedElement}
 use Rattle.vhdl_names_operators.proofs.Arranging.{one_only, not_only}
 use Rattle.vhdl_names_operators.proofs.aggregates.is_only.Goals as goal
 

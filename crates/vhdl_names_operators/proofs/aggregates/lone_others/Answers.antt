@@ -1,6 +1,6 @@
 use Rattle.std.proofs.Common.{List, [], ◌∷◌, map, sym, ap, ◌∙◌, arith}
-use Rattle.vhdl_names_rules.specs.declared.typed.TypedChoice.{TypedChoice}
-use Rattle.vhdl_names_rules.specs.views.Expressions.{choice_view}
+use Rattle.vhdl_names_trees.specs.declared.typed.TypedChoice.{TypedChoice}
+use Rattle.vhdl_names_trees.specs.views.Expressions.{choice_view}
 use Rattle.vhdl_names_operators.specs.Arranging.{lone_others}
 use Rattle.vhdl_names_operators.proofs.Arranging.{none_first, not_lone, one_choice}
 use Rattle.vhdl_names_operators.proofs.aggregates.lone_others.Goals as goal

@@ -1,10 +1,10 @@
 use Rattle.std.proofs.Common.{sym, ap, ◌∙◌}
 use Rattle.std.specs.Prelude.{option_map}
 use Rattle.vhdl_names_rules.specs.Operators.{elements}
-use Rattle.vhdl_names_rules.specs.views.Expressions.{typed_view}
+use Rattle.vhdl_names_trees.specs.views.Expressions.{typed_view}
 use Rattle.vhdl_names_rules.proofs.Passing.{passed_on, told_by}
 use Rattle.vhdl_names_rules.proofs.Telling.{told_same}
-use Rattle.vhdl_names_rules.proofs.rows.Composites.{view_composite}
+use Rattle.vhdl_names_trees.proofs.rows.Composites.{view_composite}
 use Rattle.vhdl_names_operators.proofs.Resolving.{plain, plain_resolved, placed_resolved, placed_breaks, no_place, no_place_breaks}
 use Rattle.vhdl_names_operators.proofs.beside.resolved.Goals as goal
 

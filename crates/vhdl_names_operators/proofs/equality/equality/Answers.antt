@@ -1,6 +1,6 @@
 use Rattle.std.proofs.Common.{ap, ◌∙◌}
-use Rattle.vhdl_names_rules.specs.declared.typed.Typed.TheVariants as t
-use Rattle.vhdl_names_rules.specs.views.Expressions.{typed_view}
+use Rattle.vhdl_names_trees.specs.declared.typed.Typed.TheVariants as t
+use Rattle.vhdl_names_trees.specs.views.Expressions.{typed_view}
 use Rattle.vhdl_names_rules.proofs.Along.{gives_along}
 use Rattle.vhdl_names_numbers.specs.Integers.{integer_view}
 use Rattle.vhdl_names_operators.specs.Steps.{equality}

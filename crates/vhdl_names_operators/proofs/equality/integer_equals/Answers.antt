@@ -1,8 +1,8 @@
 use Rattle.std.proofs.Common.{ap, ◌∙◌}
 use Rattle.std.specs.Prelude.{option_map}
 use Rattle.vhdl_names_rules.specs.Operators.{elements, truth, equality}
-use Rattle.vhdl_names_rules.specs.views.Expressions.{typed_view}
-use Rattle.vhdl_names_rules.specs.views.Vectors.{vector_view}
+use Rattle.vhdl_names_trees.specs.views.Expressions.{typed_view}
+use Rattle.vhdl_names_trees.specs.views.Vectors.{vector_view}
 use Rattle.vhdl_names_numbers.specs.Integers.{integer_view}
 use Rattle.vhdl_names_operators.specs.Steps.{same_by}
 use Rattle.vhdl_names_operators.proofs.Numbering.{no_elements, equals_number, equals_no_number, integers_equal, behind_integer, mismatch_told}

@@ -1,7 +1,7 @@
 use Rattle.std.proofs.Common.{ap, ◌∙◌}
 use Rattle.vhdl_names_rules.specs.Operators.{truth}
-use Rattle.vhdl_names_rules.specs.views.Expressions.{typed_view}
-use Rattle.vhdl_names_rules.specs.views.Tests.{test_view}
+use Rattle.vhdl_names_trees.specs.views.Expressions.{typed_view}
+use Rattle.vhdl_names_trees.specs.views.Tests.{test_view}
 use Rattle.vhdl_names_rules.proofs.Along.{gives_along}
 use Rattle.vhdl_names_operators.specs.Steps.{equality}
 use Rattle.vhdl_names_operators.proofs.Numbering.{mismatch_told}

@@ -2,8 +2,8 @@ use Rattle.std.proofs.Common.{◌&&◌, sym, ap, ◌∙◌}
 use Rattle.vhdl_names_rules.specs.declared.kind.ElementKind.TheVariants.{Unsigned}
 use Rattle.vhdl_names_rules.specs.Operators.{elements, is_number}
 use Rattle.vhdl_names_rules.specs.problems.Operators.{is_numeric}
-use Rattle.vhdl_names_rules.specs.views.Expressions.{typed_view}
-use Rattle.vhdl_names_rules.specs.views.Vectors.{vector_view}
+use Rattle.vhdl_names_trees.specs.views.Expressions.{typed_view}
+use Rattle.vhdl_names_trees.specs.views.Vectors.{vector_view}
 use Rattle.vhdl_names_rules.proofs.Along.{gives_along}
 use Rattle.vhdl_names_numbers.specs.Integers.{integer_view}
 use Rattle.vhdl_names_numbers.proofs.Knowing.{and_true, and_false}

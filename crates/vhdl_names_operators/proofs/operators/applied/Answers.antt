@@ -1,6 +1,6 @@
 use Rattle.std.proofs.Common.{refl}
 use Rattle.vhdl_tree.specs.declared.operator.Operator.TheVariants as op
-use Rattle.vhdl_names_rules.specs.views.Expressions.{typed_view}
+use Rattle.vhdl_names_trees.specs.views.Expressions.{typed_view}
 use Rattle.vhdl_names_rules.proofs.Along.{gives_along}
 use Rattle.vhdl_names_rules.proofs.Telling.{told_of}
 use Rattle.vhdl_names_operators.proofs.Relating.{other_given, other_told, equal_is, unequal_is}

@@ -1,5 +1,5 @@
 use Rattle.std.proofs.Common.{◌≡◌, Some, ap, sym, ◌∙◌}
-use Rattle.vhdl_names_rules.specs.views.Expressions.{typed_view}
+use Rattle.vhdl_names_trees.specs.views.Expressions.{typed_view}
 use Rattle.vhdl_names_rules.proofs.Along.{gives_along}
 use Rattle.vhdl_names_rules.proofs.Passing.{passed_on, told_by}
 use Rattle.vhdl_names_rules.proofs.Telling.{told_left, told_right, told_same, told_on}

@@ -2,7 +2,7 @@ use Rattle.std.proofs.Common.{◌≡◌, true, false, ap, sym, ◌∙◌}
 use Rattle.std.specs.Prelude.{◌&&◌}
 use Rattle.std.specs.List.{list_all}
 use Rattle.vhdl_names_rules.specs.Names.{is_static}
-use Rattle.vhdl_names_rules.specs.views.Integers.{static_view, start_view}
+use Rattle.vhdl_names_trees.specs.views.Integers.{static_view, start_view}
 use Rattle.vhdl_names_parts.proofs.Meant.{is_static_chain}
 use Rattle.vhdl_names_parts.proofs.edges.+is_static.Goals as goal
 

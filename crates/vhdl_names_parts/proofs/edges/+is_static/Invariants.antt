@@ -1,7 +1,7 @@
 use Rattle.std.proofs.Common.{◌≡◌, drop}
 use Rattle.std.specs.List.{list_all}
 use Rattle.vhdl_names_rules.specs.Names as rules
-use Rattle.vhdl_names_rules.specs.views.Integers.{static_view}
+use Rattle.vhdl_names_trees.specs.views.Integers.{static_view}
 use Rattle.vhdl_names_parts.proofs.edges.+is_static.Given as goal
 
 -- the operands so far are static

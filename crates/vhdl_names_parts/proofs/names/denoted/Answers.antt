@@ -1,7 +1,7 @@
 use Rattle.std.proofs.Common.{ℕ, ap, sym, ◌∙◌}
 use Rattle.vhdl_names_rules.specs.Names.{if_plain, known}
 use Rattle.vhdl_names_rules.specs.units.Expressions.{number}
-use Rattle.vhdl_names_rules.specs.views.Expressions.{typed_view, typed_suffix_view}
+use Rattle.vhdl_names_trees.specs.views.Expressions.{typed_view, typed_suffix_view}
 use Rattle.vhdl_names_rules.proofs.Along.{gives_along}
 use Rattle.vhdl_names_rules.proofs.Telling.{told_of}
 use Rattle.vhdl_names_parts.proofs.names.denoted.Goals as goal

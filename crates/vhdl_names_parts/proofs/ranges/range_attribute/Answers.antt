@@ -1,6 +1,6 @@
 use Rattle.std.proofs.Common.{ap}
 use Rattle.vhdl_names_rules.specs.problems.Expressions.{of_ranged}
-use Rattle.vhdl_names_rules.specs.views.Expressions.{typed_suffix_view}
+use Rattle.vhdl_names_trees.specs.views.Expressions.{typed_suffix_view}
 use Rattle.vhdl_names_rules.proofs.Telling.{told_same}
 use Rattle.vhdl_names_sight.specs.Views.{entry_of}
 use Rattle.vhdl_tree.specs.View.{attribute_view}

@@ -1,8 +1,8 @@
 use Rattle.std.proofs.Common.{◌≡◌, ◌<◌, List, [], ◌∷◌, ◌++◌, map, reverse, subst, ap, sym, ◌∙◌}
 use Rattle.std.specs.List.{sum_by}
-use Rattle.vhdl_names_rules.specs.declared.test.Test.{Test}
+use Rattle.vhdl_names_trees.specs.declared.test.Test.{Test}
 use Rattle.vhdl_names_rules.specs.units.Expressions as u
-use Rattle.vhdl_names_rules.specs.views.Tests.{test_view}
+use Rattle.vhdl_names_trees.specs.views.Tests.{test_view}
 use Rattle.vhdl_names_registers.proofs.Branches.{none_left}
 use Rattle.vhdl_names_registers.proofs.Parting.{vec_len_is}
 use Rattle.vhdl_names_registers.proofs.Taking.{all_of, size_of, all_of_one, both_left, both_smaller, one_left, one_smaller}

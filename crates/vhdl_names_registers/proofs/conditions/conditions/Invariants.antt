@@ -1,7 +1,7 @@
 use Rattle.std.proofs.Common.{◌≡◌}
 use Rattle.std.specs.List.{sum_by}
 use Rattle.vhdl_names_rules.specs.Edges as edges
-use Rattle.vhdl_names_rules.specs.views.Tests.{test_view}
+use Rattle.vhdl_names_trees.specs.views.Tests.{test_view}
 use Rattle.vhdl_names_registers.proofs.Taking.{all_of, size_of}
 use Rattle.vhdl_names_registers.proofs.conditions.conditions.Given as goal
 

@@ -1,6 +1,6 @@
 use Rattle.std.proofs.Common.{◌≡◌, Some, sym, ap, ◌∙◌}
 use Rattle.std.specs.Prelude.{is_some, option_map}
-use Rattle.vhdl_names_rules.specs.views.Tests.{test_view}
+use Rattle.vhdl_names_trees.specs.views.Tests.{test_view}
 use Rattle.vhdl_names_rules.specs.Edges.{conditions}
 use Rattle.vhdl_names_registers.specs.declared.conditions.Edge.{Edge}
 use Rattle.vhdl_names_registers.specs.Taking.{edge_taken}

@@ -1,7 +1,7 @@
 use Rattle.std.proofs.Common.{sym, ap, ◌∙◌}
 use Rattle.std.specs.Prelude.{option_map}
-use Rattle.vhdl_names_rules.specs.declared.vector.Value.{Value}
-use Rattle.vhdl_names_rules.specs.views.Vectors.{place_view, value_view}
+use Rattle.vhdl_names_trees.specs.declared.vector.Value.{Value}
+use Rattle.vhdl_names_trees.specs.views.Vectors.{place_view, value_view}
 use Rattle.vhdl_names_registers.specs.Looking.{signal_in}
 use Rattle.vhdl_names_registers.proofs.Parting.{no_elements_signal, signal_if_any}
 use Rattle.vhdl_names_registers.proofs.conditions.into_signal.Goals as goal

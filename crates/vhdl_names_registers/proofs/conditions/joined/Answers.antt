@@ -1,8 +1,8 @@
 use Rattle.std.proofs.Common.{List, map, Some, sym, ap, ◌∙◌}
-use Rattle.vhdl_names_rules.specs.declared.test.Test.{Test}
+use Rattle.vhdl_names_trees.specs.declared.test.Test.{Test}
 use Rattle.vhdl_names_rules.specs.units.Expressions as u
 use Rattle.vhdl_names_rules.specs.Edges as edges
-use Rattle.vhdl_names_rules.specs.views.Tests.{test_view}
+use Rattle.vhdl_names_trees.specs.views.Tests.{test_view}
 use Rattle.vhdl_names_registers.proofs.Branches.{none_left}
 use Rattle.vhdl_names_registers.proofs.conditions.joined.Goals as goal
 

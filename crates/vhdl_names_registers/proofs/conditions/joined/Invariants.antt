@@ -1,6 +1,6 @@
 use Rattle.std.proofs.Common.{◌≡◌, map, Some}
 use Rattle.vhdl_names_rules.specs.Edges as edges
-use Rattle.vhdl_names_rules.specs.views.Tests.{test_view}
+use Rattle.vhdl_names_trees.specs.views.Tests.{test_view}
 use Rattle.vhdl_names_registers.specs.Taking.{all_joined}
 use Rattle.vhdl_names_registers.specs.Views.{tests_view}
 use Rattle.vhdl_names_registers.proofs.conditions.joined.Given as goal

@@ -1,8 +1,8 @@
 use Rattle.std.proofs.Common.{List, Option, sym, ap, ◌∙◌}
-use Rattle.vhdl_names_rules.specs.declared.test.Test.{Test as CodeTest}
+use Rattle.vhdl_names_trees.specs.declared.test.Test.{Test as CodeTest}
 use Rattle.vhdl_names_rules.specs.units.Expressions.{Test}
-use Rattle.vhdl_names_rules.specs.views.Tests.{test_view}
-use Rattle.vhdl_names_rules.specs.views.Vectors.{place_view}
+use Rattle.vhdl_names_trees.specs.views.Tests.{test_view}
+use Rattle.vhdl_names_trees.specs.views.Vectors.{place_view}
 use Rattle.vhdl_names_rules.specs.Edges.{Edge, begun}
 use Rattle.vhdl_names_registers.specs.Views.{tests_view}
 use Rattle.vhdl_names_registers.proofs.Taking.{begun_by, begins_event, begins_none}

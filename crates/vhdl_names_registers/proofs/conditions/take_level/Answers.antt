@@ -1,8 +1,8 @@
 use Rattle.std.proofs.Common.{◌<◌, ◌≤◌, List, Some, Vec, Global, length, map, ap, ◌∙◌, arith}
-use Rattle.vhdl_names_rules.specs.declared.test.Test.{Test}
+use Rattle.vhdl_names_trees.specs.declared.test.Test.{Test}
 use Rattle.vhdl_names_rules.specs.Edges.{edge, taken, level_of}
-use Rattle.vhdl_names_rules.specs.views.Tests.{test_view}
-use Rattle.vhdl_names_rules.specs.views.Vectors.{place_view}
+use Rattle.vhdl_names_trees.specs.views.Tests.{test_view}
+use Rattle.vhdl_names_trees.specs.views.Vectors.{place_view}
 use Rattle.vhdl_names_registers.specs.Views.{tests_view}
 use Rattle.vhdl_names_registers.proofs.Parting.{vec_len_is}
 use Rattle.vhdl_names_registers.proofs.Taking.{has_level, no_level_kind, none_below, none_found, taken_at}

@@ -1,7 +1,7 @@
 use Rattle.std.proofs.Common.{◌≡◌, map, take, None}
 use Rattle.vhdl_names_rules.specs.Edges.{taken, level_of}
-use Rattle.vhdl_names_rules.specs.views.Tests.{test_view}
-use Rattle.vhdl_names_rules.specs.views.Vectors.{place_view}
+use Rattle.vhdl_names_trees.specs.views.Tests.{test_view}
+use Rattle.vhdl_names_trees.specs.views.Vectors.{place_view}
 use Rattle.vhdl_names_registers.proofs.conditions.take_level.Given as goal
 
 abbrev pub invariant-loop-index : goal.invariant-loop-index

@@ -1,7 +1,7 @@
 use Rattle.std.proofs.Common.{◌<◌, ◌≤◌, List, Some, Vec, Global, length, map, sym, ap, ◌∙◌, arith}
-use Rattle.vhdl_names_rules.specs.declared.test.Test.{Test}
+use Rattle.vhdl_names_trees.specs.declared.test.Test.{Test}
 use Rattle.vhdl_names_rules.specs.Edges.{taken, start_of}
-use Rattle.vhdl_names_rules.specs.views.Tests.{test_view}
+use Rattle.vhdl_names_trees.specs.views.Tests.{test_view}
 use Rattle.vhdl_names_registers.specs.Views.{tests_view}
 use Rattle.vhdl_names_registers.proofs.Parting.{vec_len_is}
 use Rattle.vhdl_names_registers.proofs.Taking.{start_taken, no_start, none_below, none_found}

@@ -1,6 +1,6 @@
 use Rattle.std.proofs.Common.{◌≡◌, map, take, None}
 use Rattle.vhdl_names_rules.specs.Edges.{taken, start_of}
-use Rattle.vhdl_names_rules.specs.views.Tests.{test_view}
+use Rattle.vhdl_names_trees.specs.views.Tests.{test_view}
 use Rattle.vhdl_names_registers.proofs.conditions.take_start.Given as goal
 
 abbrev pub invariant-loop-index : goal.invariant-loop-index

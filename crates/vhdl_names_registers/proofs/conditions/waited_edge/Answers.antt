@@ -1,6 +1,6 @@
 use Rattle.std.proofs.Common.{not, sym, ap, ◌∙◌}
 use Rattle.std.specs.Prelude.{is_some}
-use Rattle.vhdl_names_rules.specs.views.Tests.{test_view}
+use Rattle.vhdl_names_trees.specs.views.Tests.{test_view}
 use Rattle.vhdl_names_registers.specs.Looking.{edge_named}
 use Rattle.vhdl_names_registers.specs.Taking.{edge_taken}
 use Rattle.vhdl_names_registers.specs.Views.{edge_view, tests_view}

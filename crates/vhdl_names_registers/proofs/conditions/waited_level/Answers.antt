@@ -3,8 +3,8 @@ use Rattle.std.specs.Prelude.{option_map}
 use Rattle.vhdl_values.specs.declared.scalar.Nine.{Nine}
 use Rattle.vhdl_names_rules.specs.Rules.{◌>>=◌, then_some}
 use Rattle.vhdl_names_rules.specs.Edges.{edge, edge_to}
-use Rattle.vhdl_names_rules.specs.views.Tests.{test_view}
-use Rattle.vhdl_names_rules.specs.views.Vectors.{place_view, value_view}
+use Rattle.vhdl_names_trees.specs.views.Tests.{test_view}
+use Rattle.vhdl_names_trees.specs.views.Vectors.{place_view, value_view}
 use Rattle.vhdl_names_registers.specs.Looking.{signal_in}
 use Rattle.vhdl_names_registers.specs.Views.{edge_view}
 use Rattle.vhdl_names_registers.proofs.Levels.{waited_none, waited_some}

@@ -1,6 +1,6 @@
 use Rattle.std.proofs.Common.{cond, None, sym, ap, ◌∙◌}
 use Rattle.std.specs.Prelude.{option_map}
-use Rattle.vhdl_names_rules.specs.views.Tests.{test_view}
+use Rattle.vhdl_names_trees.specs.views.Tests.{test_view}
 use Rattle.vhdl_names_registers.specs.Looking.{SeenView, seen, start_view, gate_view, is_one}
 use Rattle.vhdl_names_registers.specs.Looking as look
 use Rattle.vhdl_names_registers.proofs.Gating.{gate_is, no_gate_is}

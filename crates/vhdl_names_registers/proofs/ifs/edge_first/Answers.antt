@@ -1,10 +1,10 @@
 use Rattle.std.proofs.Common.{sym, ap, ◌∙◌}
 use Rattle.vhdl_names_rules.specs.units.Statements as s
-use Rattle.vhdl_names_rules.specs.views.Tests.{test_view}
+use Rattle.vhdl_names_trees.specs.views.Tests.{test_view}
 use Rattle.vhdl_names_rules.specs.Statements.{alone}
 use Rattle.vhdl_names_rules.specs.Edges.{conditions, gated, at_edge}
 use Rattle.vhdl_names_rules.specs.Registers as rules
-use Rattle.vhdl_names_rules.specs.declared.test.Test.{Test}
+use Rattle.vhdl_names_trees.specs.declared.test.Test.{Test}
 use Rattle.vhdl_names_units.specs.views.Sequential.{Guarded, body_view}
 use Rattle.vhdl_names_registers.specs.Looking.{is_gated}
 use Rattle.vhdl_names_registers.specs.Views.{edge_view}

@@ -1,5 +1,5 @@
 use Rattle.std.proofs.Common.{length, ◌-◌, map, sym, ap, ◌∙◌, arith}
-use Rattle.vhdl_names_rules.specs.views.Tests.{test_view}
+use Rattle.vhdl_names_trees.specs.views.Tests.{test_view}
 use Rattle.vhdl_names_rules.specs.Edges.{conditions, gated}
 use Rattle.vhdl_names_rules.specs.Registers.{ends_in_edge}
 use Rattle.vhdl_names_registers.specs.Looking.{gate_view, gate_among}

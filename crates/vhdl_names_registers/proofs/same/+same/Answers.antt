@@ -1,6 +1,6 @@
 use Rattle.std.proofs.Common.{◌&&◌, Bool, sym, ap, ◌∙◌, arith}
 use Rattle.vhdl_names_rules.specs.Edges.{same_operator, same_index}
-use Rattle.vhdl_names_rules.specs.views.Integers.{static_view}
+use Rattle.vhdl_names_trees.specs.views.Integers.{static_view}
 use Rattle.vhdl_names_registers.specs.Spines.{last_of, prefix_view, last_view}
 use Rattle.vhdl_names_registers.proofs.Indices.{by_last, last_differ, lasts_differ, size_by_last, and_before, no_operand, chain_has_last, number_differs, generic_differs, constant_differs, parameter_differs, negated_differs, absolute_differs, bound_differs, other_differs}
 use Rattle.vhdl_names_registers.proofs.same.+same.Goals as goal

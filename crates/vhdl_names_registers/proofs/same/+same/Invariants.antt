@@ -1,6 +1,6 @@
 use Rattle.std.proofs.Common.{◌≡◌, ◌≤◌, ◌*◌, suc}
 use Rattle.vhdl_names_rules.specs.Edges as edges
-use Rattle.vhdl_names_rules.specs.views.Integers.{static_view}
+use Rattle.vhdl_names_trees.specs.views.Integers.{static_view}
 use Rattle.vhdl_names_registers.specs.Spines.{size, prefix_view}
 use Rattle.vhdl_names_registers.proofs.same.+same.Given as goal
 

@@ -1,5 +1,5 @@
 use Rattle.std.proofs.Common.{ap, sym, ◌∙◌}
-use Rattle.vhdl_names_rules.specs.views.Integers.{start_view, static_chained}
+use Rattle.vhdl_names_trees.specs.views.Integers.{start_view, static_chained}
 use Rattle.vhdl_names_registers.specs.Spines.{last_of}
 use Rattle.vhdl_names_registers.proofs.Parting.{last_link}
 use Rattle.vhdl_names_registers.proofs.same.last_of_chain.Goals as goal

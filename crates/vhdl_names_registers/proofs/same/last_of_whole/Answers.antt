@@ -1,6 +1,6 @@
 use Rattle.std.proofs.Common.{sym, ap, ◌∙◌}
-use Rattle.vhdl_names_rules.specs.views.Integers.{static_view, start_view, static_chained}
-use Rattle.vhdl_names_rules.proofs.rows.Integers.{view_chain}
+use Rattle.vhdl_names_trees.specs.views.Integers.{static_view, start_view, static_chained}
+use Rattle.vhdl_names_trees.proofs.rows.Integers.{view_chain}
 use Rattle.vhdl_names_registers.specs.Spines.{last_of}
 use Rattle.vhdl_names_registers.proofs.same.last_of_whole.Goals as goal
 

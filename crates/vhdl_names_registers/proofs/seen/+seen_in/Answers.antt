@@ -1,11 +1,11 @@
 use Rattle.std.proofs.Common.{List, sym, ap, ◌∙◌}
 use Rattle.std.specs.Prelude.{option_map}
 use Rattle.std.proofs.lemmas.List.{take_all}
-use Rattle.vhdl_names_rules.specs.declared.test.Test.{Test}
-use Rattle.vhdl_names_rules.specs.declared.test.TestLink.{TestLink}
-use Rattle.vhdl_names_rules.specs.declared.test.TestStart.{TestStart}
-use Rattle.vhdl_names_rules.specs.views.Tests.{test_view, test_chained}
-use Rattle.vhdl_names_rules.proofs.rows.Tests.{view_chain}
+use Rattle.vhdl_names_trees.specs.declared.test.Test.{Test}
+use Rattle.vhdl_names_trees.specs.declared.test.TestLink.{TestLink}
+use Rattle.vhdl_names_trees.specs.declared.test.TestStart.{TestStart}
+use Rattle.vhdl_names_trees.specs.views.Tests.{test_view, test_chained}
+use Rattle.vhdl_names_trees.proofs.rows.Tests.{view_chain}
 use Rattle.vhdl_names_registers.specs.Looking.{named_view, seen, seen_view, joined_by}
 use Rattle.vhdl_names_registers.proofs.Parting.{begin_view, chained_more}
 use Rattle.vhdl_names_registers.proofs.seen.+seen_in.Goals as goal

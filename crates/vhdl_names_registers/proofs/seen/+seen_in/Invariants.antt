@@ -1,6 +1,6 @@
 use Rattle.std.proofs.Common.{◌≡◌, take}
 use Rattle.std.specs.Prelude.{option_map}
-use Rattle.vhdl_names_rules.specs.views.Tests.{test_chained}
+use Rattle.vhdl_names_trees.specs.views.Tests.{test_chained}
 use Rattle.vhdl_names_registers.specs.Looking.{named_view, seen, seen_view}
 use Rattle.vhdl_names_registers.proofs.Parting.{begin_view}
 use Rattle.vhdl_names_registers.proofs.seen.+seen_in.Given as goal

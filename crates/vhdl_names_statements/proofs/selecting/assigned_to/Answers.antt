@@ -5,8 +5,8 @@ use Rattle.vhdl_names_rules.specs.units.Expressions as u
 use Rattle.vhdl_names_rules.specs.units.Statements as s
 use Rattle.vhdl_names_rules.specs.Names.{AnyPart, fixed}
 use Rattle.vhdl_names_rules.specs.Statements as rules
-use Rattle.vhdl_names_rules.specs.views.Expressions.{any_part_view}
-use Rattle.vhdl_names_rules.specs.views.Tests.{test_view}
+use Rattle.vhdl_names_trees.specs.views.Expressions.{any_part_view}
+use Rattle.vhdl_names_trees.specs.views.Tests.{test_view}
 use Rattle.vhdl_names_units.specs.views.Answers.{assigned_view}
 use Rattle.vhdl_names_units.specs.views.Sequential.{statement_view}
 use Rattle.vhdl_names_units.specs.views.Targets.{assigned_by, target_view}

@@ -2,7 +2,7 @@ use Rattle.std.proofs.Common.{◌≡◌, ◌∷◌, [], ap, ◌∙◌}
 use Rattle.vhdl_names_rules.specs.Names.{fixed}
 use Rattle.vhdl_names_rules.specs.units.Expressions.{whole}
 use Rattle.vhdl_names_rules.specs.units.Statements.{single}
-use Rattle.vhdl_names_rules.specs.views.Vectors.{value_view}
+use Rattle.vhdl_names_trees.specs.views.Vectors.{value_view}
 use Rattle.vhdl_names_units.specs.views.Sequential.{body_view, statement_view, statements_of, statements_view}
 use Rattle.vhdl_names_units.specs.views.Targets.{assigned_by}
 use Rattle.vhdl_names_statements.specs.steps.Deciding.{boolean_assigned}

@@ -1,5 +1,5 @@
 use Rattle.std.proofs.Common.{◌≡◌, ◌++◌, map}
-use Rattle.vhdl_names_rules.specs.views.Tests.{test_view}
+use Rattle.vhdl_names_trees.specs.views.Tests.{test_view}
 use Rattle.vhdl_names_units.specs.views.Sequential.{alternative_view, alternatives_view, branches_view}
 use Rattle.vhdl_names_statements.specs.steps.Deciding.{branches_by}
 use Rattle.vhdl_names_statements.proofs.selecting.branches_by.Given as goal

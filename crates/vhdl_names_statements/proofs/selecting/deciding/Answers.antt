@@ -1,6 +1,6 @@
 use Rattle.std.proofs.Common.{◌≡◌, IfOk, map, ap, sym, subst, ◌∙◌}
 use Rattle.vhdl_names_rules.specs.Choices.{read_only}
-use Rattle.vhdl_names_rules.specs.views.Tests.{test_view}
+use Rattle.vhdl_names_trees.specs.views.Tests.{test_view}
 use Rattle.vhdl_names_units.specs.views.Answers.{choices_view}
 use Rattle.vhdl_names_units.specs.views.Sequential.{alternative_view, alternatives_view, body_view, statement_view}
 use Rattle.vhdl_names_statements.specs.steps.Deciding.{both, decided, sole_truth}

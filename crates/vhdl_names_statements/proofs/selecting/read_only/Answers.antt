@@ -1,6 +1,6 @@
 use Rattle.std.proofs.Common.{◌≡◌, IfOk, ap, subst, ◌∙◌}
 use Rattle.vhdl_names_rules.specs.Choices.{nothing_done}
-use Rattle.vhdl_names_rules.specs.views.Tests.{test_view}
+use Rattle.vhdl_names_trees.specs.views.Tests.{test_view}
 use Rattle.vhdl_names_units.specs.views.Sequential.{body_view, statement_view}
 use Rattle.vhdl_names_statements.specs.steps.Deciding.{either}
 use Rattle.vhdl_names_statements.proofs.selecting.read_only.Goals as goal

@@ -1,6 +1,6 @@
 use Rattle.std.proofs.Common.{◌≡◌, IfOk, ap, subst, ◌∙◌}
 use Rattle.vhdl_values.specs.declared.scalar.Nine.TheVariants.{One}
-use Rattle.vhdl_names_rules.specs.views.Tests.{test_view}
+use Rattle.vhdl_names_trees.specs.views.Tests.{test_view}
 use Rattle.vhdl_names_units.specs.views.Sequential.{body_view, statement_view}
 use Rattle.vhdl_names_statements.specs.steps.Deciding.{either, boolean_assigned}
 use Rattle.vhdl_names_statements.proofs.selecting.truth_assigned.Goals as goal

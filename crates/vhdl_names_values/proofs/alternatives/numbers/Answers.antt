@@ -10,7 +10,7 @@ use Rattle.vhdl_names_rules.specs.problems.Broken.{lacking}
 use Rattle.vhdl_names_rules.specs.problems.Choices as broken
 use Rattle.vhdl_names_rules.specs.problems.Expressions as expressions_broken
 use Rattle.vhdl_names_rules.specs.problems.Places.{choice_place}
-use Rattle.vhdl_names_rules.specs.views.Expressions.{choice_view as typed_choice_view}
+use Rattle.vhdl_names_trees.specs.views.Expressions.{choice_view as typed_choice_view}
 use Rattle.vhdl_names_rules.proofs.Along.{gives_along}
 use Rattle.vhdl_names_rules.proofs.Passing.{passed_on, told_first}
 use Rattle.vhdl_names_rules.proofs.kept.Expressions.{typed_choice_kept}

@@ -3,7 +3,7 @@ use Rattle.vhdl_tree.specs.Tree as t
 use Rattle.vhdl_tree.specs.View.{view, value_view}
 use Rattle.vhdl_names_rules.specs.Subtypes.{fixed_value}
 use Rattle.vhdl_names_rules.specs.problems.Subtypes as broken
-use Rattle.vhdl_names_rules.specs.views.Integers.{target_range_view}
+use Rattle.vhdl_names_trees.specs.views.Integers.{target_range_view}
 use Rattle.vhdl_names_rules.proofs.Along.{gives_along}
 use Rattle.vhdl_names_rules.proofs.Passing.{passed_on, told_by}
 use Rattle.vhdl_names_rules.proofs.Telling.{told_same}

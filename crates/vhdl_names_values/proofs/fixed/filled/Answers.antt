@@ -3,7 +3,7 @@ use Rattle.vhdl_names_rules.specs.declared.fault.NameFault.TheVariants.{At}
 use Rattle.vhdl_names_rules.specs.declared.fault.NameProblem.TheVariants.{TypeMismatch, LeftOut}
 use Rattle.vhdl_names_rules.specs.problems.Expressions.{is_vector_type}
 use Rattle.vhdl_names_expressions.proofs.Breaking.{told_fault}
-use Rattle.vhdl_names_expressions.proofs.Filling.{not_vector}
+use Rattle.vhdl_names_asked.proofs.Filling.{not_vector}
 use Rattle.vhdl_names_values.proofs.BreakingValues.{no_character, no_vector, none_of_nine}
 use Rattle.vhdl_names_values.proofs.fixed.filled.Goals as goal
 use Rattle.vhdl_names_values.proofs.fixed.filled.Goals.{in_default-object_type-via-in-Elements+else-is_vector, in_default-object_type-via-in_default-object_type}

@@ -6,14 +6,14 @@ use Rattle.vhdl_names_rules.specs.Names.{Suffix}
 use Rattle.vhdl_names_rules.specs.problems.Broken.{lacking}
 use Rattle.vhdl_names_rules.specs.problems.Subtypes.{suffixed_problem, value_of}
 use Rattle.vhdl_names_sight.specs.Views.{entry_of}
-use Rattle.vhdl_names_rules.specs.views.Expressions.{typed_suffix_view}
+use Rattle.vhdl_names_trees.specs.views.Expressions.{typed_suffix_view}
 use Rattle.vhdl_names_units.specs.views.Answers.{fixed_view}
 use Rattle.vhdl_names_rules.proofs.Passing.{passed_on, told_first}
 use Rattle.vhdl_names_values.specs.Fixing.{suffixed_value}
 use Rattle.vhdl_names_rules.proofs.Along.{gives_along}
 use Rattle.vhdl_names_values.proofs.Fixing.{name_fixed}
 use Rattle.vhdl_names_expressions.proofs.Breaking.{told_as, refused_told}
-use Rattle.vhdl_names_expressions.proofs.ObjectNames.{name_told}
+use Rattle.vhdl_names_asked.proofs.ObjectNames.{name_told}
 use Rattle.vhdl_names_values.proofs.BreakingValues.{fixed_as, value_is}
 use Rattle.vhdl_names_values.proofs.fixed.fixed_name.Goals as goal
 

@@ -1,7 +1,7 @@
 use Rattle.std.proofs.Common.{option_map, refl, ap}
 use Rattle.vhdl_tree.specs.View.{value_view}
 use Rattle.vhdl_names_rules.specs.Rules.{◌>>=◌}
-use Rattle.vhdl_names_rules.specs.views.Integers.{target_range_view}
+use Rattle.vhdl_names_trees.specs.views.Integers.{target_range_view}
 use Rattle.vhdl_names_units.specs.views.Answers.{fixed_view, given_view}
 use Rattle.vhdl_names_rules.specs.Expressions.{value_given}
 use Rattle.vhdl_names_rules.specs.problems.Expressions as broken

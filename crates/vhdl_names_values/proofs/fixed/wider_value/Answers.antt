@@ -2,7 +2,7 @@ use Rattle.std.proofs.Common.{option_map, sym, ap, ◌∙◌}
 use Rattle.vhdl_tree.specs.Tree as t
 use Rattle.vhdl_tree.specs.View.{view, value_view}
 use Rattle.vhdl_names_rules.specs.Visibility.{Sight}
-use Rattle.vhdl_names_rules.specs.views.Integers.{target_range_view}
+use Rattle.vhdl_names_trees.specs.views.Integers.{target_range_view}
 use Rattle.vhdl_names_units.specs.views.Answers.{fixed_view}
 use Rattle.vhdl_names_rules.specs.problems.Subtypes as broken
 use Rattle.vhdl_names_rules.proofs.Along.{gives_along}

@@ -1,6 +1,7 @@
 use Rattle.std.proofs.Common.{option_map, sym, ap, ◌∙◌}
 use Rattle.vhdl_tree.specs.View.{constraint_view}
-use Rattle.vhdl_names_rules.specs.views.Integers.{base_view, subtype_view}
+use Rattle.vhdl_names_trees.specs.views.Integers.{subtype_view}
+use Rattle.vhdl_names_rules.specs.views.Ranges.{base_view}
 use Rattle.vhdl_names_rules.specs.problems.Broken.{of_any}
 use Rattle.vhdl_names_rules.proofs.Telling.{told_same}
 use Rattle.vhdl_names_rules.proofs.Passing.{passed_on, told_by}

@@ -5,7 +5,7 @@ use Rattle.vhdl_names_rules.specs.declared.fault.NameProblem.TheVariants.{LeftOu
 use Rattle.vhdl_names_rules.specs.Rules.{◌>>=◌, ◌>>◌, met}
 use Rattle.vhdl_names_rules.specs.Expressions.{static_range}
 use Rattle.vhdl_names_rules.specs.Subtypes.{is_range, value_range}
-use Rattle.vhdl_names_rules.specs.views.Integers.{range_view}
+use Rattle.vhdl_names_trees.specs.views.Integers.{range_view}
 use Rattle.vhdl_names_rules.specs.problems.Broken.{nothing, refused, unless}
 use Rattle.vhdl_names_rules.specs.problems.Places.{range_start}
 use Rattle.vhdl_names_rules.specs.problems.Expressions as broken

@@ -5,7 +5,7 @@ use Rattle.vhdl_names_rules.specs.Rules.{◌>>=◌}
 use Rattle.vhdl_names_rules.specs.Subtypes as subtypes
 use Rattle.vhdl_names_rules.specs.Subtypes.{class_of, integers_of}
 use Rattle.vhdl_names_rules.specs.Visibility.{declaration}
-use Rattle.vhdl_names_rules.specs.views.Integers.{base_view}
+use Rattle.vhdl_names_rules.specs.views.Ranges.{base_view}
 use Rattle.vhdl_names_rules.specs.problems.Subtypes as broken
 use Rattle.vhdl_names_rules.proofs.Along.{gives_along}
 use Rattle.vhdl_names_rules.proofs.Passing.{passed_on, told_first}

@@ -4,7 +4,8 @@ use Rattle.vhdl_names_sight.specs.Views.{meaning_view, entry_of}
 use Rattle.vhdl_names_rules.specs.declared.fault.NameProblem.TheVariants.{LeftOut}
 use Rattle.vhdl_names_rules.specs.Rules.{◌>>=◌}
 use Rattle.vhdl_names_rules.specs.Subtypes.{marked, one_range, index_range}
-use Rattle.vhdl_names_rules.specs.views.Integers.{range_view, declared_range_view}
+use Rattle.vhdl_names_trees.specs.views.Integers.{range_view}
+use Rattle.vhdl_names_rules.specs.views.Ranges.{declared_range_view}
 use Rattle.vhdl_names_units.specs.views.Answers.{subtype_view}
 use Rattle.vhdl_names_rules.specs.problems.Broken.{unless}
 use Rattle.vhdl_names_rules.specs.problems.Subtypes.{mark_problem, marked_by, is_marked, constraint}

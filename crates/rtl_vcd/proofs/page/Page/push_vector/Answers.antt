@@ -1,6 +1,6 @@
 use Rattle.std.proofs.Common.{◌≡◌, ◌<◌, ◌++◌, length, map, take, sym, ap, ◌∙◌, arith, append-nil, length-take-le}
 use Rattle.std.specs.Prelude.{codes}
-use Rattle.rtl_vcd.specs.Values.{character}
+use Rattle.rtl_vcd_values.specs.Values.{character}
 use Rattle.rtl_vcd.proofs.Pages.{vector_kept, vector_line}
 use Rattle.rtl_vcd.proofs.page.Page.push_vector.Goals as goal
 

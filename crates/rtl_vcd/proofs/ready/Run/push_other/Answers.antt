@@ -1,9 +1,9 @@
 use Rattle.std.proofs.Common.{◌≤◌, ◌+◌, ◌-◌, ◌++◌, [], length, take, drop, ap, ◌∙◌, sym, subst, arith, slice_index}
 use Rattle.std.proofs.lemmas.List.{length-map}
 use Rattle.std.specs.Prelude.{codes, if◌then◌else◌}
-use Rattle.rtl_vcd.specs.Values.{character}
+use Rattle.rtl_vcd_values.specs.Values.{character}
 use Rattle.rtl_vcd.specs.Ready.{beginning, elements_as}
-use Rattle.rtl_vcd.proofs.Binaries.{length-binary}
+use Rattle.rtl_vcd_values.proofs.Binaries.{length-binary}
 use Rattle.rtl_vcd.proofs.Forms.{several_is, line_by, other_by}
 use Rattle.rtl_vcd.proofs.ready.Run.push_other.Goals as goal
 

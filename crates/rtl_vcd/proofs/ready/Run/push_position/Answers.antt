@@ -1,7 +1,7 @@
 use Rattle.std.proofs.Common.{◌≡◌, ℕ, Bool, List, not, ◌++◌, ◌∷◌, [], ap, ◌∙◌, slice_index, sym, length, arith, length-append}
 use Rattle.std.specs.Prelude.{codes}
 use Rattle.std.specs.Str.{bytes_eq}
-use Rattle.rtl_vcd.specs.Values.{binary}
+use Rattle.rtl_vcd_values.specs.Values.{binary}
 use Rattle.rtl_vcd.specs.Ready.{beginning, elements}
 use Rattle.rtl_vcd.proofs.Forms.{position_is, line_behind, other_by}
 use Rattle.rtl_vcd.proofs.ready.Run.push_position.Goals as goal

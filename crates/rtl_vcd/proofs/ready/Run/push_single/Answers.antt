@@ -1,7 +1,7 @@
 use Rattle.std.proofs.Common.{◌++◌, ◌∷◌, [], ap, ◌∙◌, slice_index, sym, take}
-use Rattle.rtl_vcd.specs.Values.{character}
+use Rattle.rtl_vcd_values.specs.Values.{character}
 use Rattle.rtl_vcd.specs.Ready.{beginning}
-use Rattle.rtl_vcd.proofs.Puts.{alone_tells}
+use Rattle.rtl_vcd_values.proofs.Puts.{alone_tells}
 use Rattle.rtl_vcd.proofs.Forms.{single_is, line_by, other_by}
 use Rattle.rtl_vcd.proofs.ready.Run.push_single.Goals as goal
 

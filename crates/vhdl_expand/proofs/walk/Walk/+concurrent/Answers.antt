@@ -17,8 +17,8 @@ use Rattle.vhdl_expand_tree.specs.Views.{budget_view, object_view, parts_of}
 use Rattle.vhdl_expand_declarations.specs.Views.{declared_view}
 use Rattle.vhdl_expand.proofs.Nested.{outermost, instance_made, not_expanded, no_unit, instance_here, instance_behind, expanded_here}
 use Rattle.vhdl_expand.proofs.Stopping.{deep_told, bare_told, many_told, declared_told, nets_told, inside_told, unit_found, interface_told, associated_told, inner_told}
-use Rattle.vhdl_names_rules.specs.views.Integers.{range_view}
-use Rattle.vhdl_names_rules.specs.views.Tests.{static_test_view}
+use Rattle.vhdl_names_trees.specs.views.Integers.{range_view}
+use Rattle.vhdl_names_trees.specs.views.Tests.{static_test_view}
 use Rattle.vhdl_names_units.specs.views.Concurrent as units
 use Rattle.vhdl_names_units.proofs.rows.Concurrent.{view_generate}
 use Rattle.vhdl_expand_rules.specs.declared.fault.ElabFault.TheVariants.{NoMemory}

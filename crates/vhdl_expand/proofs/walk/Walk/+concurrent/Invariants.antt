@@ -1,5 +1,5 @@
 use Rattle.std.proofs.Common.{◌+◌, map, drop}
-use Rattle.vhdl_names_rules.specs.views.Integers.{range_view}
+use Rattle.vhdl_names_trees.specs.views.Integers.{range_view}
 use Rattle.vhdl_names_units.specs.views.Concurrent as units
 use Rattle.vhdl_expand_rules.specs.Integers.{numbers_from}
 use Rattle.vhdl_expand_tree.proofs.Alike.{Alike}

@@ -5,8 +5,8 @@ use Rattle.std.proofs.lemmas.List.{map-append}
 use Rattle.rtl_model.specs.bodies.Body as bodies
 use Rattle.rtl_model.specs.bodies.Fits.{IsWidth}
 use Rattle.vhdl_names_rules.specs.units.Expressions.{Static}
-use Rattle.vhdl_names_rules.specs.views.Integers.{static_view}
-use Rattle.vhdl_names_rules.specs.views.Vectors.{vector_view, elements_view}
+use Rattle.vhdl_names_trees.specs.views.Integers.{static_view}
+use Rattle.vhdl_names_trees.specs.views.Vectors.{vector_view, elements_view}
 use Rattle.vhdl_expand_rules.specs.declared.fault.ElabFault.{ElabFault}
 use Rattle.vhdl_expand_rules.specs.Elab.{◌>>=◌}
 use Rattle.vhdl_expand_rules.specs.Integers.{Integers}
@@ -14,7 +14,7 @@ use Rattle.vhdl_expand_rules.specs.Kinds.{size_of}
 use Rattle.vhdl_expand_rules.specs.views.Integers.{integers_view, Computes}
 use Rattle.vhdl_expand_rules.specs.Aggregates.{composed}
 use Rattle.vhdl_expand_operands.specs.Placings.{indexes_view, placed_view}
-use Rattle.vhdl_expand_bodies.proofs.Elements.{is_last, elements_go, elements_last, elements_stop, elements_end}
+use Rattle.vhdl_expand_bodies.proofs.Aggregating.{is_last, elements_go, elements_last, elements_stop, elements_end}
 use Rattle.vhdl_expand_operands.proofs.Several.{behind}
 use Rattle.vhdl_expand_operands.specs.Operands.{operand_view}
 use Rattle.vhdl_expand_numbers.specs.Views.{number_view}

@@ -1,6 +1,6 @@
 use Rattle.std.proofs.Common.{◌≡◌, [], map, drop}
 use Rattle.std.specs.Prelude.{option_map}
-use Rattle.vhdl_names_rules.specs.views.Vectors.{computed_view, elements_view}
+use Rattle.vhdl_names_trees.specs.views.Vectors.{computed_view, elements_view}
 use Rattle.vhdl_expand_rules.specs.Expressions.{elements, measured}
 use Rattle.vhdl_expand_operands.specs.Placings.{indexes_view, placed_view}
 use Rattle.vhdl_expand_operands.proofs.Several.{behind}

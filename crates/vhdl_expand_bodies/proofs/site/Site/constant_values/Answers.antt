@@ -4,7 +4,7 @@ use Rattle.std.specs.Borrow.{Bor}
 use Rattle.vhdl_expand_bodies.specs.declared.constant.Constant.{Constant}
 use Rattle.vhdl_expand_rules.specs.views.Integers.{integers_view}
 use Rattle.vhdl_expand_rules.specs.views.Kinds.{kind_view}
-use Rattle.vhdl_names_rules.specs.views.Vectors.{part_view}
+use Rattle.vhdl_names_trees.specs.views.Vectors.{part_view}
 use Rattle.vhdl_expand_bodies.specs.Sites.{constant_view, site_view}
 use Rattle.vhdl_expand_bodies.proofs.Places.{places-short, constant-given}
 use Rattle.vhdl_expand_bodies.proofs.site.Site.constant_values.Goals as goal

@@ -1,7 +1,7 @@
 use Rattle.std.proofs.Common.{◌≡◌, Some, arith}
 use Rattle.std.specs.Prelude.{slice_get}
 use Rattle.vhdl_expand_rules.specs.views.Integers.{integers_view}
-use Rattle.vhdl_names_rules.specs.views.Vectors.{part_view}
+use Rattle.vhdl_names_trees.specs.views.Vectors.{part_view}
 use Rattle.vhdl_expand_bodies.proofs.Places.{part-given, part-fits}
 use Rattle.vhdl_expand_operands.proofs.Several.{there}
 use Rattle.vhdl_expand_bodies.proofs.site.Site.part_elements.Goals as goal

@@ -1,7 +1,7 @@
 use Rattle.std.proofs.Common.{◌≡◌, Result, Ok, sym, ap, ◌∙◌, subst}
 use Rattle.std.specs.Prelude.{option_map}
 use Rattle.rtl_model.specs.bodies.Fits.{width}
-use Rattle.vhdl_names_rules.specs.views.Vectors.{signal_view}
+use Rattle.vhdl_names_trees.specs.views.Vectors.{signal_view}
 use Rattle.vhdl_expand_rules.specs.declared.fault.ElabFault.{ElabFault}
 use Rattle.vhdl_expand_rules.specs.declared.range.IntegerRange.{IntegerRange}
 use Rattle.vhdl_expand_rules.specs.Site.{signal_kind, integer_range}

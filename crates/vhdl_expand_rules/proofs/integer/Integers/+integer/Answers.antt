@@ -7,8 +7,8 @@ use Rattle.std.proofs.lemmas.Grind.{common_steps}
 use Rattle.vhdl_tree.specs.declared.operator.Direction.{Direction}
 use Rattle.vhdl_names_rules.specs.declared.operator.Bound.{Bound}
 use Rattle.vhdl_names_rules.specs.units.Expressions as u
-use Rattle.vhdl_names_rules.specs.views.Integers.{static_view}
-use Rattle.vhdl_names_rules.specs.declared.integer.StaticLink.{StaticLink}
+use Rattle.vhdl_names_trees.specs.views.Integers.{static_view}
+use Rattle.vhdl_names_trees.specs.declared.integer.StaticLink.{StaticLink}
 use Rattle.vhdl_expand_rules.specs.Elab.{◌>>=◌, Told, fault_told}
 use Rattle.vhdl_expand_rules.specs.Integers as definition
 use Rattle.vhdl_expand_rules.specs.views.Integers.{integers_view, range_view, all_operated}

@@ -1,6 +1,6 @@
 use Rattle.std.proofs.Common.{◌≡◌, ℕ, ◌+◌, Bool, ap, ◌∙◌}
 use Rattle.std.specs.Prelude.{if◌then◌else◌}
-use Rattle.vhdl_names_rules.specs.views.Integers.{declared_range_view}
+use Rattle.vhdl_names_rules.specs.views.Ranges.{declared_range_view}
 use Rattle.vhdl_names_declarations.proofs.Counting.{some_seen}
 use Rattle.vhdl_names_declarations.proofs.counts.Counts.with.Goals as goal
 

@@ -1,0 +1,5 @@
+pub mod Assigned
+pub mod Sequences
+pub mod Parts
+pub mod Counted
+pub mod Selecting

@@ -1,8 +1,0 @@
-use Rattle.std.proofs.Common.{◌∙◌}
-use Rattle.vhdl_names_rules.specs.views.Tests.{start_view}
-use Rattle.vhdl_names_rules.proofs.rows.Tests.{chained-after}
-use Rattle.vhdl_names_rules.proofs.chains.chain_with.Goals as goal
-
-pub returns : goal.returns
-returns c =
-    c.chained.ensures ∙ chained-after (start_view c.args.start.value) c.args.links.items _ _ c.in_ok-push.ensures.items

@@ -1,5 +1,0 @@
-use Rattle.vhdl_names_rules.proofs.rows.Tests.{not_fixed}
-use Rattle.vhdl_names_rules.proofs.test.Test.as_fixed.Goals as goal
-
-pub returns-in_default-clause-other : goal.returns-in_default-clause-other
-returns-in_default-clause-other c = not_fixed c.args.self c.in_default.not-Fixed

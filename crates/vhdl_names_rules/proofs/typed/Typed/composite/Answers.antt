@@ -1,5 +1,0 @@
-use Rattle.vhdl_names_rules.proofs.rows.Composites.{view_composite}
-use Rattle.vhdl_names_rules.proofs.typed.Typed.composite.Goals as goal
-
-pub returns : goal.returns
-returns c = view_composite c.args.at c.args.elements

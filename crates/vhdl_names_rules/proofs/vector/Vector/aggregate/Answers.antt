@@ -1,5 +1,0 @@
-use Rattle.vhdl_names_rules.proofs.rows.Vectors.{view_aggregate}
-use Rattle.vhdl_names_rules.proofs.vector.Vector.aggregate.Goals as goal
-
-pub returns : goal.returns
-returns c = view_aggregate c.args.at c.args.range c.args.elements
